@@ -1,8 +1,10 @@
 mod Choices
 mod Held
 mod Marked
+mod Overlaid
 mod Pieces
 mod Plain
+mod Read
 mod Sampled
 mod Seen
 mod Segmented

@@ -17,21 +17,36 @@ png_picture bytes b png shown = record { png = λ _. shown; other = λ other. le
 pub other_picture : (bytes : List ℕ) (b : Bitmap) → is_png bytes ≡ false → IsSeenIn bytes b → IsPictureOf bytes b
 other_picture bytes b other seen = record { png = λ png. let never : true ≡ false = sym png ∙ other in cc; other = λ _. seen }
 
--- the image of colours
-abbrev pub image : ℕ → ℕ → List (List ℕ) → Option (ℕ × ℕ) → Image
-image across down colours density = record { across = across; down = down; pixels = map rgba colours; density = density }
-
 abbrev pub bitmap : ℕ → ℕ → List ℕ → Bitmap
 bitmap across down shades = record { across = across; down = down; marks = dark_of_shades shades }
 
+-- the colours are those of the pixels of the image of a file
+pub record AreOf (bytes : List ℕ) (i : Image) (across down : ℕ) (colours : List (List ℕ)) : Type 0 where
+  pub shown : image_of bytes ≡ Some i
+  pub width : across ≡ i.across
+  pub height : down ≡ i.down
+  pub same : map rgba colours ≡ i.pixels
+
 -- the pixels of colours are those of their image
-pub shown_by : (bytes : List ℕ) (across down : ℕ) (colours : List (List ℕ)) (density : Option (ℕ × ℕ)) (b : Bitmap)
-    → image_of bytes ≡ Some (image across down colours density) → b ≡ bitmap across down (map lightness_of colours) → IsShownBy bytes b
-shown_by bytes across down colours density b shown same =
-    record { image = image across down colours density; shown = shown; same = same ∙ ap (bitmap across down) (sym (map-map shade_lightness rgba colours)) }
+pub shown_by : (bytes : List ℕ) (i : Image) (across down : ℕ) (colours : List (List ℕ)) (b : Bitmap)
+    → AreOf bytes i across down colours → b ≡ bitmap across down (map lightness_of colours) → IsShownBy bytes b
+shown_by bytes i across down colours b of same = record {
+  image = i;
+  shown = of.shown;
+  same = same ∙ ap (λ n. bitmap n down (map lightness_of colours)) of.width ∙ ap (λ n. bitmap i.across n (map lightness_of colours)) of.height
+      ∙ ap (bitmap i.across i.down) (sym (map-map shade_lightness rgba colours) ∙ ap (map shade_lightness) of.same);
+}
 
 -- and too many colours are too many of their image
-pub large_image : (bytes : List ℕ) (across down : ℕ) (colours : List (List ℕ)) (density : Option (ℕ × ℕ)) (e : unscanned.Unscanned)
-    → image_of bytes ≡ Some (image across down colours density) → IsColoursRefusal (length colours) across down e → IsUnseen bytes (Unscanned e)
-large_image bytes across down colours density e shown refusal =
-    inr (image across down colours density, (shown, subst (λ n. IsColoursRefusal n across down e) (sym (length-map colours rgba)) refusal))
+pub large_image : (bytes : List ℕ) (i : Image) (across down : ℕ) (colours : List (List ℕ)) (e : unscanned.Unscanned)
+    → AreOf bytes i across down colours → IsColoursRefusal (length colours) across down e → IsUnseen bytes (Unscanned e)
+large_image bytes i across down colours e of refusal =
+    let count : length colours ≡ length i.pixels = sym (length-map colours rgba) ∙ ap length of.same in
+    inr (
+      i,
+      (
+        of.shown,
+        subst (λ n. IsColoursRefusal (length i.pixels) i.across n e) of.height (subst (λ n. IsColoursRefusal (length i.pixels) n down e) of.width
+            (subst (λ n. IsColoursRefusal n across down e) count refusal)),
+      ),
+    )

@@ -1,12 +1,16 @@
--- What each format draws of a square of modules.
-use Rattle.std.specs.Prelude.{◌≡◌, ℕ, ◌+◌, ◌*◌, ◌/◌, Bool, true, false, List, [], ◌∷◌, ◌++◌, Option, codes, encode_utf8, slice_get, if◌then◌else◌}
+-- What the formats are called, what is known of each, and what it draws of a square of modules.
+use Rattle.std.specs.Prelude.{◌≡◌, ℕ, zero, suc, ◌+◌, ◌*◌, ◌/◌, Bool, true, false, List, [], ◌∷◌, ◌++◌, Option, Some, None, codes, encode_utf8, slice_get, max, unwrap_or, if◌then◌else◌}
+use Rattle.std.specs.Borrow.{Bor}
 use Rattle.std.specs.Option.{option_map}
+use Rattle.std.specs.Str.{str_eq_ignore_ascii_case}
 use Rattle.qrcode_types.specs.declared.types.Color.{Color}
-use Rattle.qrcode_render.specs.Eps.{eps_text}
-use Rattle.qrcode_render.specs.Files.{pgm_file, pbm_file}
+use Rattle.qrcode_render.specs.Eps.{eps_sized_text, eps_text}
+use Rattle.qrcode_render.specs.Files.{pgm_file, pbm_file, ppm_file}
 use Rattle.qrcode_render.specs.Layout.{Layout, layout}
 use Rattle.qrcode_render.specs.Paths.{xml_head, IsPathOf}
+use Rattle.qrcode_render.specs.Pdf.{IsPdfOf}
 use Rattle.qrcode_render.specs.Picture.{picture}
+use Rattle.qrcode_render.specs.Printers.{escpos_file, tspl_file, xbm_file, zpl_file}
 use Rattle.qrcode_render.specs.Setting.{Setting}
 use Rattle.qrcode_render.specs.Texts.{text_of, dense_text, raw_bytes}
 use Rattle.qrcode_render.specs.Pic.{pic_text}
@@ -16,16 +20,90 @@ use Rattle.qrcode_png.specs.Shown.{IsFileOf}
 use Rattle.qrcode_png.specs.declared.picture.Color as png
 use Rattle.goqlanis_core.specs.Terminal.{coloured_text}
 use Rattle.goqlanis_core.specs.declared.formats.Format.{Format}
-use Rattle.goqlanis_core.specs.declared.formats.Format.TheVariants.{HalfBlocks, LightHalfBlocks, Terminal, Chars, Png, Svg, SvgPath, Eps, Pic, Pbm, Pgm, Grey}
+use Rattle.goqlanis_core.specs.declared.formats.Format.TheVariants.{HalfBlocks, LightHalfBlocks, Terminal, Chars, Png, Svg, SvgPath, Eps, Pic, Pbm, Pgm, Grey, Pdf, Zpl, Tspl, EscPos, Xbm, Ppm}
+use Rattle.goqlanis_core.specs.declared.formats.Row as code
 use Rattle.goqlanis_core.specs.declared.picture.Ink.{Ink}
 use Rattle.goqlanis_core.specs.declared.picture.Picture.{Picture}
 
-abbrev pub format_numbered : ℕ → Option Format  -- the format of a number in C, in this order from 0 on
-format_numbered n = slice_get (HalfBlocks ∷ LightHalfBlocks ∷ Svg ∷ Pic ∷ Grey ∷ Png ∷ Eps ∷ Pbm ∷ SvgPath ∷ Pgm ∷ []) n
+-- a format, its name and its file extension
+abbrev pub Row : Type 0
+Row = Format × List ℕ × Option (List ℕ)
 
--- the most pixels along a side: of PNG what a file may have, and of characters more than a terminal or a page shows
+-- the formats of the program
+unfoldable pub formats : List Row
+formats =
+    (HalfBlocks, codes "half-blocks", Some (codes "txt")) ∷
+    (Terminal, codes "terminal", None) ∷
+    (Chars, codes "text", None) ∷
+    (Png, codes "png", Some (codes "png")) ∷
+    (Svg, codes "svg", Some (codes "svg")) ∷
+    (Eps, codes "eps", Some (codes "eps")) ∷
+    (Pic, codes "pic", Some (codes "pic")) ∷
+    (Pbm, codes "pbm", Some (codes "pbm")) ∷
+    (Pgm, codes "pgm", Some (codes "pgm")) ∷
+    (Pdf, codes "pdf", Some (codes "pdf")) ∷
+    (Zpl, codes "zpl", Some (codes "zpl")) ∷
+    (Tspl, codes "tspl", Some (codes "tspl")) ∷
+    (EscPos, codes "escpos", Some (codes "escpos")) ∷
+    (Xbm, codes "xbm", Some (codes "xbm")) ∷
+    (Ppm, codes "ppm", Some (codes "ppm")) ∷ []
+
+abbrev pub row_of : code.Row → Row  -- a row of the code's table
+row_of row = (row.format, row.name.now, option_map (λ text. text.now) row.ending)
+
+abbrev pub is_known : Option (List ℕ) → List ℕ → Bool  -- a name is the known one, in capitals or not
+is_known None name = false
+is_known (Some known) name = str_eq_ignore_ascii_case known name
+
+abbrev pub named_among : List Row → List ℕ → Option Format  -- the first with a name
+named_among [] name = None
+named_among (row ∷ rows) name = if is_known (Some row.1) name then Some row.0 else named_among rows name
+
+abbrev pub ending_among : List Row → List ℕ → Option Format  -- the first with a file extension
+ending_among [] ending = None
+ending_among (row ∷ rows) ending = if is_known row.2 ending then Some row.0 else ending_among rows ending
+
+abbrev pub format_named : List ℕ → Option Format  -- the format that a name says
+format_named name = named_among formats name
+
+abbrev pub format_of_ending : List ℕ → Option Format  -- the format that a file extension says
+format_of_ending ending = ending_among formats ending
+
+abbrev pub is_text : Format → Bool  -- it is a text, and no bytes for a file
+is_text Png = false
+is_text Pbm = false
+is_text Pgm = false
+is_text Grey = false
+is_text Pdf = false
+is_text Tspl = false
+is_text EscPos = false
+is_text Ppm = false
+is_text f = true
+
+abbrev pub has_colours : Format → Bool  -- its caller chooses the colours of dark and light modules
+has_colours Png = true
+has_colours Svg = true
+has_colours SvgPath = true
+has_colours Eps = true
+has_colours Pdf = true
+has_colours Ppm = true
+has_colours f = false
+
+abbrev pub pixels : Format → ℕ  -- the pixels of a module where nothing else is asked for: texts that are read as they stand have one
+pixels HalfBlocks = 1
+pixels LightHalfBlocks = 1
+pixels Terminal = 1
+pixels Chars = 1
+pixels Pic = 1
+pixels f = 8
+
+abbrev pub format_numbered : ℕ → Option Format  -- the format of a number in C, in this order from 0 on
+format_numbered n = slice_get (HalfBlocks ∷ LightHalfBlocks ∷ Svg ∷ Pic ∷ Grey ∷ Png ∷ Eps ∷ Pbm ∷ SvgPath ∷ Pgm ∷ Pdf ∷ Zpl ∷ Tspl ∷ EscPos ∷ Xbm ∷ Ppm ∷ []) n
+
+-- the most pixels along a side: of PNG and ESC/POS what their numbers hold, and of characters more than a terminal or a page shows
 abbrev pub greatest_side : Format → ℕ
 greatest_side Png = 65535
+greatest_side EscPos = 65535
 greatest_side HalfBlocks = 4096
 greatest_side LightHalfBlocks = 4096
 greatest_side Terminal = 4096
@@ -83,6 +161,18 @@ eps_ink c = record { red = c.red; green = c.green; blue = c.blue }
 abbrev pub png_ink : Shade → png.Color  -- a colour of PNG
 png_ink c = record { 0 = c.red ∷ c.green ∷ c.blue ∷ c.opacity ∷ [] }
 
+-- the text of EPS, in points, or of so many dots to an inch
+abbrev pub eps_in : Option ℕ → Layout → List Color → eps.Color → eps.Color → List ℕ
+eps_in None at s dark light = eps_text at s dark light
+eps_in (Some zero) at s dark light = eps_text at s dark light
+eps_in (Some (suc n)) at s dark light = eps_sized_text (suc n) at s dark light
+
+abbrev pub rgb : Shade → List ℕ  -- red, green and blue
+rgb c = c.red ∷ c.green ∷ c.blue ∷ []
+
+abbrev pub pdf_dots : Option ℕ → ℕ  -- the pixels of an inch in PDF: those that are given, or points
+pdf_dots dpi = max (unwrap_or dpi 72) 1
+
 abbrev pub per_metre : ℕ → ℕ  -- dots per inch as dots per metre, to the nearest: an inch is 0.0254 metres
 per_metre dpi = (10000 * dpi + 127) / 254
 
@@ -107,8 +197,14 @@ IsDrawnIn Png v at s bytes =
     IsFileOf (picture at s) (dark_of v (png_ink v.dark) (png_ink v.light)) (light_of v (png_ink v.dark) (png_ink v.light)) (option_map per_metre v.dpi) bytes
 IsDrawnIn Svg v at s bytes = bytes ≡ svg_text at s (dark_of v v.dark.name v.light.name) (light_of v v.dark.name v.light.name)
 IsDrawnIn SvgPath v at s bytes = IsPathOf xml_head (dark_of v v.dark.name v.light.name) (light_of v v.dark.name v.light.name) (picture at s) bytes
-IsDrawnIn Eps v at s bytes = bytes ≡ eps_text at s (dark_of v (eps_ink v.dark) (eps_ink v.light)) (light_of v (eps_ink v.dark) (eps_ink v.light))
+IsDrawnIn Eps v at s bytes = bytes ≡ eps_in v.dpi at s (dark_of v (eps_ink v.dark) (eps_ink v.light)) (light_of v (eps_ink v.dark) (eps_ink v.light))
 IsDrawnIn Pic v at s bytes = bytes ≡ pic_text at s
 IsDrawnIn Pbm v at s bytes = bytes ≡ pbm_file (dark_of v true false) (light_of v true false) (picture at s)
 IsDrawnIn Pgm v at s bytes = bytes ≡ pgm_file (dark_of v 0 255) (light_of v 0 255) (picture at s)
 IsDrawnIn Grey v at s bytes = bytes ≡ raw_bytes (dark_of v (0 ∷ []) (255 ∷ [])) (light_of v (0 ∷ []) (255 ∷ [])) (picture at s)
+IsDrawnIn Pdf v at s bytes = IsPdfOf (pdf_dots v.dpi) (dark_of v (rgb v.dark) (rgb v.light)) (light_of v (rgb v.dark) (rgb v.light)) (picture at s) bytes
+IsDrawnIn Zpl v at s bytes = bytes ≡ zpl_file (dark_of v true false) (light_of v true false) (picture at s)
+IsDrawnIn Tspl v at s bytes = bytes ≡ tspl_file (dark_of v true false) (light_of v true false) (picture at s)
+IsDrawnIn EscPos v at s bytes = bytes ≡ escpos_file (dark_of v true false) (light_of v true false) (picture at s)
+IsDrawnIn Xbm v at s bytes = bytes ≡ xbm_file (dark_of v true false) (light_of v true false) (picture at s)
+IsDrawnIn Ppm v at s bytes = bytes ≡ ppm_file (dark_of v (rgb v.dark) (rgb v.light)) (light_of v (rgb v.dark) (rgb v.light)) (picture at s)

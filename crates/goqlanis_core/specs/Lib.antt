@@ -1,10 +1,12 @@
+pub mod Areas
+pub mod Codes
 pub mod Colours
 pub mod Drawings
 pub mod Elements
 pub mod Formats
 pub mod HandedOn
 pub mod Masks
-pub mod Names
+pub mod Overlays
 pub mod Scans
 pub mod Segments
 pub mod Symbols

@@ -40,19 +40,17 @@ header_in (Bytes m n) = []
 abbrev pub headers_in : List Part → List Header  -- the headers among parts
 headers_in parts = flat_map header_in parts
 
--- The reading of that square: that of the headers and segments in the first position in which there are some, and its headers. The bytes are those of the
--- segments, behind FNC1 with separators: where there is no header the reading as bytes in the first position in which the square has one, and where FNC1 stands in
--- front, and no other header, what a reader finds behind it.
+-- The reading of that square: the headers and segments in the first position in which there are some. The bytes are those of the segments, behind FNC1 with
+-- separators: where there is no header the reading as bytes in the first position in which the square has one, and where FNC1 stands in front, and no other
+-- header, what a reader finds behind it.
 pub record IsReadAs (scan : Scan) : Type 0 where
   pub bytes : List ℕ
-  pub parts : List Part
   pub first : IsFirstPartsReading scan.square.count scan.square.modules.items scan.any.position scan.any.is_inverted scan.any.reading.version
-      scan.any.reading.ec_level scan.any.reading.mask bytes parts scan.any.reading.wrong.items
-  pub among : scan.headers.items ≡ headers_in parts
-  pub handed : scan.any.reading.data.items ≡ handed_on false parts bytes
-  pub plain : scan.headers.items ≡ [] → IsFirstReading scan.square.count scan.square.modules.items scan.any.position scan.any.is_inverted
+      scan.any.reading.ec_level scan.any.reading.mask bytes scan.parts.items scan.any.reading.wrong.items
+  pub handed : scan.any.reading.data.items ≡ handed_on false scan.parts.items bytes
+  pub plain : headers_in scan.parts.items ≡ [] → IsFirstReading scan.square.count scan.square.modules.items scan.any.position scan.any.is_inverted
       scan.any.reading.version scan.any.reading.ec_level scan.any.reading.mask scan.any.reading.data.items scan.any.reading.wrong.items
-  pub marked : (p : gs1.Position) (segments : List Part) → parts ≡ Front (fnc1 p) ∷ segments → headers_in segments ≡ []
+  pub marked : (p : gs1.Position) (segments : List Part) → scan.parts.items ≡ Front (fnc1 p) ∷ segments → headers_in segments ≡ []
       → ReadsMarkedOnly (seen scan.square.count scan.any.position scan.any.is_inverted scan.square.modules.items) p scan.any.reading.data.items
 
 -- what is read is the square of modules that stand in a grid, each as the pixel at its centre is; of its scale the whole pixels are told, and no zone

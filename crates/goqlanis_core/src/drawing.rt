@@ -1,12 +1,13 @@
 //! Drawings for requests.
 
-ghost use Rattle.std.specs.Prelude.{◌≡◌, ◌≤◌, ◌⊎◌, map, unwrap_or, IfOk, IfErr};
+ghost use Rattle.std.specs.Prelude.{◌≡◌, ◌≤◌, ◌⊎◌, length, map, unwrap_or, IfOk, IfErr, IsOkUnless};
 ghost use Rattle.qrcode_types.specs.declared.types.QrError.TheVariants.{InvalidVersion, OutOfMemory};
 ghost use Rattle.qrcode.specs.Pictures.{quiet_zone};
 ghost use Rattle.qrcode_gs1.specs.Items.{item};
 ghost use Rattle.qrcode_gs1.specs.declared.symbol.errors.SymbolError.TheVariants.{Symbol};
-ghost use Rattle.goqlanis_core.specs.Drawings.{IsShownIn, scale_for};
+ghost use Rattle.goqlanis_core.specs.Drawings.{IsShownIn, layout_for, scale_for, view_for};
 ghost use Rattle.goqlanis_core.specs.Elements.{IsElementsIn, IsElementsRefused, IsApplicationIn, IsApplicationRefused};
+ghost use Rattle.goqlanis_core.specs.Formats.{IsDrawnIn};
 ghost use Rattle.goqlanis_core.specs.Masks.{IsMaskless, LacksMask};
 ghost use Rattle.goqlanis_core.specs.Segments.{AreRefused, IsLeastHeld, IsSymbolOfSegments};
 ghost use Rattle.goqlanis_core.specs.Symbols.{IsSymbolIn, IsSymbolOf, IsRefusedFor, IsRefusalOf};
@@ -19,7 +20,7 @@ use crate::request::{Choice, Request};
 use crate::segments::{Segment, symbol_of};
 use qrcode::QrCode;
 use qrcode::bits::Manner;
-use qrcode::types::{EcLevel, QrResult};
+use qrcode::types::{Color, EcLevel, QrResult};
 use qrcode_gs1::elements::Element;
 use qrcode_gs1::symbol::errors::SymbolResult;
 use std::alloc::Global;
@@ -152,19 +153,34 @@ pub fn drawing_of(alloc: Global, request: &Request<'_>, code: QrCode) -> QrResul
         ⊎ ((e ≡ InvalidVersion) × LacksMask request.now.mask code.version)) }
 {
     let modules = modules_under(alloc, &code, request.mask)?;
+    let bytes = modules_drawn(alloc, request, &code, &modules)?;
+    Ok(Drawing { code, bytes })
+}
+
+/// Modules of a symbol, drawn as a request asks for.
+pub(crate) fn modules_drawn(
+    alloc: Global,
+    request: &Request<'_>,
+    code: &QrCode,
+    modules: &[Color],
+) -> QrResult<Vec<u8>>
+    requires { length modules.now ≡ length code.now.modules }
+    ensures drawn { IfOk result (λ bytes. IsDrawnIn request.now.format (view_for request.now)
+        (layout_for request.now code.now.version) modules.now bytes.items) }
+    ensures memory { IsOkUnless result OutOfMemory }
+{
     let picture = Picture {
-        modules: &modules,
+        modules,
         width: code.width() as u32,
-        zone: quiet_zone(request, &code),
-        scale: scale(request, &code).max(1),
+        zone: quiet_zone(request, code),
+        scale: scale(request, code).max(1),
         dark: request.dark,
         light: request.light,
         is_inverted: request.is_inverted,
         dpi: request.dpi,
         ends_lines: true,
     };
-    let bytes = draw_in(alloc, request.format, &picture)?;
-    Ok(Drawing { code, bytes })
+    draw_in(alloc, request.format, &picture)
 }
 
 /// The modules of the quiet zone at each side.

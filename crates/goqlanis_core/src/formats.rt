@@ -2,11 +2,11 @@
 
 ghost use Rattle.std.specs.Prelude.{◌≡◌, map};
 ghost use Rattle.std.specs.Option.{option_map};
-ghost use Rattle.goqlanis_core.specs.Formats.{format_numbered, greatest_side};
-ghost use Rattle.goqlanis_core.specs.Names.{ending_among, format_named, format_of_ending, has_colours, is_known, is_text, named_among, pixels, row_of};
+ghost use Rattle.goqlanis_core.specs.Formats.{ending_among, format_named, format_numbered, format_of_ending, greatest_side, has_colours, is_known, is_text, named_among, pixels, row_of};
 
 use Format::{
-    Chars, Eps, Grey, HalfBlocks, LightHalfBlocks, Pbm, Pgm, Pic, Png, Svg, SvgPath, Terminal,
+    Chars, Eps, EscPos, Grey, HalfBlocks, LightHalfBlocks, Pbm, Pdf, Pgm, Pic, Png, Ppm, Svg,
+    SvgPath, Terminal, Tspl, Xbm, Zpl,
 };
 
 /// How modules are drawn.
@@ -36,6 +36,18 @@ pub enum Format {
     Pgm,
     /// The bytes of a grey map without its head: 0 for a dark pixel, 255 for a light one.
     Grey,
+    /// A PDF file of one page, in which a pixel is a point unless there are dots per inch.
+    Pdf,
+    /// What a label printer takes that speaks ZPL II, a text.
+    Zpl,
+    /// What a label printer takes that speaks TSPL.
+    Tspl,
+    /// What a receipt printer takes that speaks ESC/POS, of at most 65,535 pixels a side.
+    EscPos,
+    /// A text in C of black and white pixels, eight in a byte.
+    Xbm,
+    /// A file of red, green and blue of each pixel.
+    Ppm,
 }
 
 /// What a format of the program is called.
@@ -59,6 +71,12 @@ pub static FORMATS: &[Row] = &[
     Row { format: Pic, name: "pic", ending: Some("pic") },
     Row { format: Pbm, name: "pbm", ending: Some("pbm") },
     Row { format: Pgm, name: "pgm", ending: Some("pgm") },
+    Row { format: Pdf, name: "pdf", ending: Some("pdf") },
+    Row { format: Zpl, name: "zpl", ending: Some("zpl") },
+    Row { format: Tspl, name: "tspl", ending: Some("tspl") },
+    Row { format: EscPos, name: "escpos", ending: Some("escpos") },
+    Row { format: Xbm, name: "xbm", ending: Some("xbm") },
+    Row { format: Ppm, name: "ppm", ending: Some("ppm") },
 ];
 
 // The formats of the library for C, in the order of their numbers, from 0 on.
@@ -73,6 +91,12 @@ static IN_C: &[Format] = &[
     Pbm,
     SvgPath,
     Pgm,
+    Pdf,
+    Zpl,
+    Tspl,
+    EscPos,
+    Xbm,
+    Ppm,
 ];
 
 /// The format of a number in C.
@@ -135,14 +159,14 @@ impl Format {
     pub fn is_text(self) -> bool
         ensures { result ≡ is_text self }
     {
-        !matches!(self, Png | Pbm | Pgm | Grey)
+        !matches!(self, Png | Pbm | Pgm | Grey | Pdf | Tspl | EscPos | Ppm)
     }
 
     /// Whether its caller chooses its colours.
     pub fn has_colours(self) -> bool
         ensures { result ≡ has_colours self }
     {
-        matches!(self, Png | Svg | SvgPath | Eps)
+        matches!(self, Png | Svg | SvgPath | Eps | Pdf | Ppm)
     }
 
     /// The pixels of a module where nothing else is asked for.
@@ -150,20 +174,20 @@ impl Format {
         ensures { result ≡ pixels self }
     {
         match self {
-            Png | Svg | SvgPath | Eps | Pbm | Pgm | Grey => 8,
             HalfBlocks | LightHalfBlocks | Terminal | Chars | Pic => 1,
+            _ => 8,
         }
     }
 
-    /// The most pixels along a side: of PNG what a file may have, and of characters more than a
-    /// terminal or a page shows.
+    /// The most pixels along a side: of PNG and ESC/POS what their numbers hold, and of characters more
+    /// than a terminal or a page shows.
     pub fn greatest_side(self) -> u32
         ensures { result ≡ greatest_side self }
     {
         match self {
-            Png => 65_535,
+            Png | EscPos => 65_535,
             HalfBlocks | LightHalfBlocks | Terminal | Chars => 4_096,
-            Svg | SvgPath | Eps | Pic | Pbm | Pgm | Grey => u32::MAX,
+            _ => u32::MAX,
         }
     }
 }

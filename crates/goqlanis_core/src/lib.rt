@@ -2,12 +2,15 @@
 //! either.
 #![tactic(auto)]
 
+pub mod areas;
+mod codes;
 pub mod colours;
 mod drawing;
 mod elements;
 pub mod formats;
 pub mod laws;
 pub mod masking;
+pub mod overlays;
 pub mod picture;
 mod refusal;
 pub mod render;
@@ -16,6 +19,7 @@ mod scanning;
 mod segments;
 mod terminal;
 
+pub use codes::{Codes, Missed, read_codes, read_picture};
 pub use drawing::{
     Drawing, draw, draw_elements, draw_for_application, draw_segments, drawing_of, quiet_zone,
     scale, symbol_in,
@@ -28,5 +32,5 @@ pub use refusal::{
     segments_refusal_text,
 };
 pub use request::{Choice, Request, manner_of};
-pub use scanning::{Scan, Unread, read_picture};
+pub use scanning::{Scan, Unread};
 pub use segments::{Segment, unwritable};

@@ -2,17 +2,20 @@
 
 ghost use Rattle.std.specs.Prelude.{◌≡◌, ◌^◌, ◌<◌, true, false, string_bytes, IsTrue, IfOk, IsOkUnless};
 ghost use Rattle.qrcode_types.specs.declared.types.QrError.TheVariants.{OutOfMemory};
+ghost use Rattle.qrcode_render.specs.Picture.{picture};
+ghost use Rattle.qrcode_render.specs.Printers.{packed_file};
 ghost use Rattle.qrcode_render.specs.Setting.{fits};
-ghost use Rattle.goqlanis_core.specs.Formats.{IsDrawnIn, ended, eps_ink, half_block_text, layout_of, per_metre, png_ink, setting_of, shade_of, view_of};
-ghost use Rattle.goqlanis_core.specs.declared.formats.Format.TheVariants.{Png};
+ghost use Rattle.goqlanis_core.specs.Formats.{IsDrawnIn, dark_of, ended, eps_ink, half_block_text, layout_of, light_of, per_metre, png_ink, rgb, setting_of, shade_of, view_of};
+ghost use Rattle.goqlanis_core.specs.declared.formats.Format.TheVariants.{Eps, Pdf, Png};
 
 use crate::formats::Format;
 use crate::picture::{Ink, Picture};
 use crate::terminal::coloured;
 use qrcode::render::image::Luma;
+use qrcode::render::packed::{Dot, Packing};
 use qrcode::render::pbm::Bit;
 use qrcode::render::unicode::Dense1x2;
-use qrcode::render::{Pixel, Renderer, eps, pgm, pic, svg};
+use qrcode::render::{Pixel, Renderer, eps, escpos, pdf, pgm, pic, ppm, svg, tspl, xbm, zpl};
 use qrcode::types::QrResult;
 use qrcode_png::with_density;
 use std::alloc::Global;
@@ -44,12 +47,38 @@ pub fn draw_in(alloc: Global, format: Format, picture: &Picture<'_>) -> QrResult
             let (dark, light) = (svg::Path(dark.name), svg::Path(light.name));
             Ok(drawn(alloc, picture, dark, light)?.into_bytes())
         }
-        Format::Eps => Ok(drawn(alloc, picture, eps_ink(dark), eps_ink(light))?.into_bytes()),
+        Format::Eps => eps(alloc, picture),
         Format::Pic => Ok(drawn(alloc, picture, pic::Color, pic::Color)?.into_bytes()),
         Format::Pbm => drawn(alloc, picture, Bit::Black, Bit::White),
         Format::Pgm => drawn(alloc, picture, pgm::Grey(0), pgm::Grey(255)),
         Format::Grey => Ok(drawn(alloc, picture, Luma([0]), Luma([255]))?.into_raw()),
+        Format::Pdf => pdf(alloc, picture),
+        Format::Ppm => drawn(
+            alloc,
+            picture,
+            ppm::Color(rgb(dark)),
+            ppm::Color(rgb(light)),
+        ),
+        Format::Zpl => dots::<zpl::Graphic>(alloc, picture),
+        Format::Tspl => dots::<tspl::Bitmap>(alloc, picture),
+        Format::EscPos => dots::<escpos::Raster>(alloc, picture),
+        Format::Xbm => dots::<xbm::Text>(alloc, picture),
     }
+}
+
+// A picture of black and white pixels, eight in a byte.
+fn dots<F: Packing>(alloc: Global, shown: &Picture<'_>) -> QrResult<Vec<u8>>
+    ensures picture { IfOk result (λ file. file.items ≡ packed_file F.before F.row_of F.behind
+        (dark_of (view_of shown.now) true false) (light_of (view_of shown.now) true false)
+        (picture (layout_of shown.now) shown.now.modules.now)) }
+    ensures memory { IsOkUnless result OutOfMemory }
+{
+    drawn(
+        alloc,
+        shown,
+        Dot::<F>::of(Bit::Black),
+        Dot::<F>::of(Bit::White),
+    )
 }
 
 // A picture of pixels that stand for dark and light unless these are exchanged.
@@ -97,6 +126,41 @@ fn png(alloc: Global, picture: &Picture<'_>) -> QrResult<Vec<u8>>
         None => renderer.build(alloc),
         Some(dpi) => with_density(alloc, &renderer, per_metre(dpi)),
     }
+}
+
+// An EPS text.
+fn eps(alloc: Global, picture: &Picture<'_>) -> QrResult<Vec<u8>>
+    ensures text { IfOk result (λ text. IsDrawnIn Eps (view_of picture.now)
+        (layout_of picture.now) picture.now.modules.now text.items) }
+    ensures memory { IsOkUnless result OutOfMemory }
+{
+    let renderer = renderer(picture, eps_ink(picture.dark), eps_ink(picture.light));
+    let text = match picture.dpi {
+        Some(dpi) if dpi > 0 => eps::with_density(alloc, &renderer, u32::from(dpi))?,
+        _ => renderer.build(alloc)?,
+    };
+    Ok(text.into_bytes())
+}
+
+// A PDF file.
+fn pdf(alloc: Global, picture: &Picture<'_>) -> QrResult<Vec<u8>>
+    ensures shows { IfOk result (λ file. IsDrawnIn Pdf (view_of picture.now)
+        (layout_of picture.now) picture.now.modules.now file.items) }
+    ensures memory { IsOkUnless result OutOfMemory }
+{
+    let (dark, light) = (
+        pdf::Color(rgb(picture.dark)),
+        pdf::Color(rgb(picture.light)),
+    );
+    let dots = picture.dpi.unwrap_or(72).max(1);
+    pdf::with_density(alloc, &renderer(picture, dark, light), u32::from(dots))
+}
+
+// Red, green and blue.
+fn rgb(ink: Ink<'_>) -> [u8; 3]
+    ensures value { result ≡ rgb (shade_of ink.entry) }
+{
+    [ink.red, ink.green, ink.blue]
 }
 
 // Dots per inch as dots per metre, to the nearest; an inch is 0.0254 metres.

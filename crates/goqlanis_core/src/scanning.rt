@@ -6,11 +6,11 @@ ghost use Rattle.qrcode_reader.specs.scan.Squares.{inverted};
 ghost use Rattle.qrcode_reader.specs.Positions.{IsFirstPartsReading};
 ghost use Rattle.goqlanis_core.specs.declared.scanning.Unread.TheVariants.{OutOfMemory};
 ghost use Rattle.goqlanis_core.specs.HandedOn.{byte_count, is_fnc1, part_on, handed_on};
-ghost use Rattle.goqlanis_core.specs.Scans.{header_in, headers_in, IsFoundIn, IsPictureOf, IsReadAs, IsSampledIn, IsScanOf, IsShownBy, IsSquareOf, IsUnreadPicture, IsUnreadIn, IsUnseen, is_png, is_jpeg, unread_as};
+ghost use Rattle.goqlanis_core.specs.Scans.{IsFoundIn, IsPictureOf, IsReadAs, IsSampledIn, IsScanOf, IsShownBy, IsSquareOf, IsUnreadPicture, IsUnreadIn, IsUnseen, is_png, is_jpeg, unread_as};
 
 use qrcode::types::Mode;
 use qrcode_reader::scan::{
-    Grid, Pixels, Square, Unscanned, grids_of, pixels_of, pixels_of_colours, sampled_at, square_of,
+    Grid, Pixels, Square, Unscanned, pixels_of, pixels_of_colours, square_of,
 };
 use qrcode_reader::spell::{Header, Part, Parts};
 use qrcode_reader::{AnyPartsReading, AnyReading, Reading, read_any_parts};
@@ -30,9 +30,8 @@ pub struct Scan {
     /// What the square is read as, and in which position: the bytes of the segments, behind FNC1
     /// with separators.
     pub any: AnyReading,
-    /// The headers between the segments, as the number of a character set or the indicator of an
-    /// application, in their order.
-    pub headers: Vec<Header>,
+    /// The headers and the segments that it is read as, in their order.
+    pub parts: Vec<Part>,
 }
 
 /// Why a picture is not read.
@@ -92,24 +91,6 @@ fn cause_text(cause: Unscanned) -> &'static str {
     }
 }
 
-/// Reads a picture: its pixels, the square of modules that these show, and the symbol that the
-/// square is in one of the positions.
-#[tactic(auto, using(crate::proofs::WhyUnread::unread_picture, crate::proofs::WhyUnread::unseen_picture))]
-pub fn read_picture(alloc: Global, bytes: &[u8]) -> Result<Scan, Unread>
-    ensures value { IfOk result (IsScanOf bytes.now) }
-    ensures causes { IfErr result (IsUnreadPicture bytes.now) }
-{
-    let pixels = match pixels_in(alloc, bytes) {
-        Ok(pixels) => pixels,
-        Err(cause) => return Err(cause),
-    };
-    if pixels.has_dark_edge() {
-        read_inverted(alloc, &pixels)
-    } else {
-        read_pixels(alloc, &pixels, false)
-    }
-}
-
 // Whether bytes begin as a PNG file does.
 fn is_png(bytes: &[u8]) -> bool
     ensures { result ≡ is_png bytes.now }
@@ -126,7 +107,7 @@ fn is_jpeg(bytes: &[u8]) -> bool
 
 // The pixels of a picture.
 #[tactic(auto, using(crate::proofs::Seen::png_picture, crate::proofs::Seen::other_picture))]
-fn pixels_in(alloc: Global, bytes: &[u8]) -> Result<Pixels, Unread>
+pub(crate) fn pixels_in(alloc: Global, bytes: &[u8]) -> Result<Pixels, Unread>
     ensures value { IfOk result (IsPictureOf bytes.now) }
     ensures causes { IfErr result (IsUnseen bytes.now) }
 {
@@ -154,48 +135,17 @@ fn png_pixels(alloc: Global, bytes: &[u8]) -> Result<Pixels, Unread>
         Err(qrcode_png::Unread::OutOfMemory) => return Err(Unread::OutOfMemory),
         Err(cause) => return Err(Unread::Png(cause)),
     };
-    let (across, down) = (picture.across as usize, picture.down as usize);
-    match pixels_of_colours(alloc, across, down, &picture.pixels) {
+    let (across, down) = picture.sides();
+    let colours = picture.pixels(alloc)?;
+    match pixels_of_colours(alloc, across as usize, down as usize, &colours) {
         Ok(pixels) => Ok(pixels),
         Err(cause) => Err(Unread::Unscanned(cause)),
     }
 }
 
-// Reads pixels with dark and light exchanged.
-fn read_inverted(alloc: Global, pixels: &Pixels) -> Result<Scan, Unread>
-    ensures square { IfOk result (λ scan. IsFoundIn scan (inverted pixels.now)) }
-    ensures inverted { IfOk result (λ scan. scan.is_inverted ≡ true) }
-    ensures read { IfOk result IsReadAs }
-    ensures causes { IfErr result (IsUnreadIn (inverted pixels.now)) }
-{
-    let pixels = pixels.inverted(alloc)?;
-    read_pixels(alloc, &pixels, true)
-}
-
-// Reads pixels, which may have dark and light exchanged: the square in a margin, where they show
-// one that is read, or else the first one between finder patterns that is.
-fn read_pixels(alloc: Global, pixels: &Pixels, is_inverted: bool) -> Result<Scan, Unread>
-    ensures square { IfOk result (λ scan. IsFoundIn scan pixels.now) }
-    ensures inverted { IfOk result (λ scan. scan.is_inverted ≡ is_inverted) }
-    ensures read { IfOk result IsReadAs }
-    ensures causes { IfErr result (IsUnreadIn pixels.now) }
-{
-    let cause = match read_clean(alloc, pixels, is_inverted) {
-        Ok(scan) => return Ok(scan),
-        Err(cause) => cause,
-    };
-    match cause {
-        Unread::OutOfMemory => Err(cause),
-        _ => match read_found(alloc, pixels, is_inverted)? {
-            Some(scan) => Ok(scan),
-            None => Err(cause),
-        },
-    }
-}
-
 // Reads the square in a margin of pixels.
 #[tactic(auto, using(crate::proofs::WhyUnread::unread_square))]
-fn read_clean(alloc: Global, pixels: &Pixels, is_inverted: bool) -> Result<Scan, Unread>
+pub(crate) fn read_clean(alloc: Global, pixels: &Pixels, is_inverted: bool) -> Result<Scan, Unread>
     ensures square { IfOk result (λ scan. IsSquareOf scan pixels.now) }
     ensures clean { IfOk result (λ scan. scan.grid ≡ None) }
     ensures inverted { IfOk result (λ scan. scan.is_inverted ≡ is_inverted) }
@@ -212,51 +162,6 @@ fn read_clean(alloc: Global, pixels: &Pixels, is_inverted: bool) -> Result<Scan,
     Ok(scan_of(alloc, square, None, is_inverted, any)?)
 }
 
-// Reads the first square between finder patterns that is read.
-fn read_found(alloc: Global, pixels: &Pixels, is_inverted: bool) -> Result<Option<Scan>, AllocError>
-    ensures square { IfOk result (λ found. IfSome found (λ scan. IsSampledIn scan pixels.now)) }
-    ensures inverted { IfOk result (λ found. IfSome found (λ scan.
-        scan.is_inverted ≡ is_inverted)) }
-    ensures read { IfOk result (λ found. IfSome found IsReadAs) }
-{
-    for grid in &grids_of(alloc, pixels)? {
-        match read_grid(alloc, pixels, grid, is_inverted)? {
-            Some(scan) => return Ok(Some(scan)),
-            None => {}
-        }
-    }
-    Ok(None)
-}
-
-// Reads the square in a grid.
-fn read_grid(
-    alloc: Global,
-    pixels: &Pixels,
-    grid: &Grid,
-    is_inverted: bool,
-) -> Result<Option<Scan>, AllocError>
-    ensures square { IfOk result (λ found. IfSome found (λ scan. IsSampledIn scan pixels.now)) }
-    ensures inverted { IfOk result (λ found. IfSome found (λ scan.
-        scan.is_inverted ≡ is_inverted)) }
-    ensures read { IfOk result (λ found. IfSome found IsReadAs) }
-{
-    let Some(modules) = sampled_at(alloc, pixels, grid)? else {
-        return Ok(None);
-    };
-    let any = match read_any_parts(alloc, &modules) {
-        Ok(any) => any,
-        Err(qrcode_reader::Unread::OutOfMemory) => return Err(AllocError),
-        Err(_) => return Ok(None),
-    };
-    let square = Square {
-        count: grid.count,
-        zone: 0,
-        scale: grid.across / grid.parts,
-        modules,
-    };
-    Ok(Some(scan_of(alloc, square, Some(*grid), is_inverted, any)?))
-}
-
 // Why a square of so many modules a side is not read.
 fn no_symbol(count: usize, error: qrcode_reader::Unread) -> Unread
     ensures { result ≡ unread_as count error }
@@ -268,7 +173,7 @@ fn no_symbol(count: usize, error: qrcode_reader::Unread) -> Unread
 }
 
 // What is read of a picture, by the headers and segments of its square.
-fn scan_of(
+pub(crate) fn scan_of(
     alloc: Global,
     square: Square,
     grid: Option<Grid>,
@@ -283,7 +188,6 @@ fn scan_of(
     ensures read { IfOk result IsReadAs }
 {
     let read = any.reading;
-    let headers = headers_of(alloc, &read.parts.parts)?;
     let data = handed_on(alloc, &read.parts)?;
     Ok(Scan {
         square,
@@ -300,30 +204,8 @@ fn scan_of(
                 wrong: read.wrong,
             },
         },
-        headers,
+        parts: read.parts.parts,
     })
-}
-
-// The headers among parts.
-fn headers_of(alloc: Global, parts: &[Part]) -> Result<Vec<Header>, AllocError>
-    ensures { IfOk result (λ headers. headers.items ≡ headers_in parts.now) }
-{
-    let mut headers = Vec::new(alloc);
-    for part in parts {
-        push_header(&mut headers, *part)?;
-    }
-    Ok(headers)
-}
-
-// Appends the header that a part is; a segment is none.
-fn push_header(headers: &mut Vec<Header>, part: Part) -> Result<(), AllocError>
-    ensures { OnOk result (headers.new.items ≡ headers.old.items ++ header_in part) }
-{
-    match part {
-        Part::Front(header) => headers.push(header)?,
-        Part::Bytes(_, _) => {}
-    }
-    Ok(())
 }
 
 // The bytes that are read of parts (ISO/IEC 18004:2006, 6.4.8).

@@ -39,7 +39,8 @@ const LINKS: u32 = 40;
 struct Folder {
     // As it is written, with the slash behind it.
     name: String,
-    // The way to it: by the number of what is open; or its name, where it may not be read.
+    // The way to it: by the number of what is open; or its name, where it may not be read, or where
+    // there is no /proc.
     way: String,
     _open: Option<File>,
 }
@@ -51,7 +52,12 @@ fn opened(rt: &HostRuntime, path: &str) -> Result<Folder, AllocError> {
     let open = File::open(rt, place).ok();
     let way = match &open {
         Some(file) => format!(in rt.alloc(); "/proc/self/fd/{}/", file.as_raw_fd())?,
-        None => String::from_str(rt.alloc(), name.as_str())?,
+        None => String::new(rt.alloc()),
+    };
+    let way = if fs::metadata(rt, way.as_str()).is_ok() {
+        way
+    } else {
+        String::from_str(rt.alloc(), name.as_str())?
     };
     Ok(Folder {
         name,

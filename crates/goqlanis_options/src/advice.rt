@@ -2,7 +2,7 @@
 //! of 80 characters.
 
 use crate::nearest::Nearest;
-use crate::options::{ADVICE, Task, task_named, worded_tasks};
+use crate::options::{ADVICE, TASKS, Task, task_named};
 use clap::error::Error;
 use std::alloc::{AllocError, Global};
 
@@ -74,7 +74,7 @@ fn command_help(
         return later_command(alloc, words);
     }
     let mut nearest = Nearest::to(word);
-    for task in worded_tasks() {
+    for task in TASKS {
         nearest.consider(alloc, task.word)?;
     }
     match nearest.name() {

@@ -1,7 +1,8 @@
 //! From the command line to what is asked for.
 
 use crate::colours::{Colours, check_transparency};
-use crate::sizes::{Sizes, sizes_of};
+use crate::logos::{AskedLogo, logo_of};
+use crate::sizes::{Sizes, has_dots, sizes_of};
 use crate::warnings::warn;
 use clap::ArgMatches;
 use clap::parser::ValueSource;
@@ -61,6 +62,8 @@ pub struct Asked<'a> {
     pub hundredths: Option<u64>,
     /// The pixels of a printed inch, where they are known.
     pub dots: Option<u16>,
+    /// What is asked of the middle of a code, where something is.
+    pub logo: Option<AskedLogo<'a>>,
     pub reporting: Option<Reporting>,
 }
 
@@ -83,6 +86,7 @@ pub fn asked_for<'a>(
         request,
         hundredths: sizes.hundredths,
         dots: sizes.dots,
+        logo: logo_of(alloc, given, format)?,
         reporting: reporting_of(given),
         manner: manner_of(given),
         source: source_of(given),
@@ -121,6 +125,8 @@ static CONFLICTS: &[(&str, &str, &str)] = &[
     ("symbol-version", "min-version",
         "--symbol-version and --min-version do not go together: use one of them"),
     ("scale", "size", "--scale and --size do not go together: use one of them"),
+    ("scale", "module", "--scale and --module do not go together: use one of them"),
+    ("size", "module", "--size and --module do not go together: use one of them"),
     ("segment", "trim", "--segment and --trim do not go together: use one of them"),
     ("segment", "lines", "--segment and --lines do not go together: use one of them"),
     ("segment", "bytes", "--segment and --bytes do not go together: use one of them"),
@@ -262,7 +268,7 @@ fn request_of<'a>(
         zone: given.get_one::<u8>("quiet-zone"),
         scale: sizes.scale,
         size: sizes.side,
-        dpi: given.get_one::<u16>("dpi"),
+        dpi: sizes.dpi,
         dark: colours.dark.ink(),
         light: colours.light.ink(),
         is_inverted: given.get_flag("invert"),
@@ -273,11 +279,11 @@ fn request_of<'a>(
 fn unsuitable_option(given: &ArgMatches<'_>, format: Format) -> Option<&'static str> {
     let has_colours = format.has_colours();
     if !has_colours && given.contains_id("dark") {
-        Some("--dark: only PNG, SVG and EPS have colours; add --format png, svg or eps")
+        Some("--dark: only PNG, SVG, EPS, PDF and PPM have colours; add --format png, svg or eps")
     } else if !has_colours && given.contains_id("light") {
-        Some("--light: only PNG, SVG and EPS have colours; add --format png, svg or eps")
-    } else if format != Format::Png && given.contains_id("dpi") {
-        Some("--dpi: only PNG has a resolution; in EPS a pixel is a point, 72 to an inch")
+        Some("--light: only PNG, SVG, EPS, PDF and PPM have colours; add --format png, svg or eps")
+    } else if !has_dots(format) && given.contains_id("dpi") {
+        Some("--dpi: text, SVG and PIC have no resolution; use another --format, e.g. png")
     } else if format == Format::Pic && given.get_flag("invert") {
         Some("--invert: PIC draws no light modules; use another --format")
     } else {

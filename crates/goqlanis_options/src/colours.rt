@@ -85,8 +85,11 @@ fn unknown_colour(alloc: Global, option: &str, text: &str) -> Result<String, All
 /// Refuses colours that are not opaque in a format that has none of these.
 pub fn check_transparency(alloc: Global, format: Format, colours: &Colours) -> Result<(), Failure> {
     let is_opaque = colours.dark.colour.opacity == 255 && colours.light.colour.opacity == 255;
-    if format == Format::Eps && !is_opaque {
-        return usage(alloc, "EPS has no transparency: use --format png or svg");
+    if matches!(format, Format::Eps | Format::Pdf | Format::Ppm) && !is_opaque {
+        return usage(
+            alloc,
+            "EPS, PDF and PPM have no transparency: use --format png or svg",
+        );
     }
     Ok(())
 }

@@ -1,6 +1,6 @@
 //! The command line, as `clap` reads it.
 
-use crate::options::{EXAMPLES, Entry, Group, OTHER_NAMES, Takes, Task, worded_tasks};
+use crate::options::{EXAMPLES, Entry, OTHER_NAMES, TASKS, Takes, Task};
 use clap::builder::ValueParser;
 use clap::{Arg, ArgAction, Command};
 use std::alloc::{AllocError, Global};
@@ -24,9 +24,9 @@ pub fn end_of_help(alloc: Global, task: &Task) -> Result<String, AllocError> {
     let mut text = String::new(alloc);
     if task.word.is_empty() {
         text.push_str("Commands (goqlanis wifi --help lists the options of wifi):\n")?;
-        for other in worded_tasks() {
+        for other in TASKS {
             let (word, about) = (other.word, other.about);
-            write!(text, "  {word:7}  {about}\n")?;
+            write!(text, "  {word:9}  {about}\n")?;
         }
         write!(text, "\n{EXAMPLES}")?;
     }
@@ -44,8 +44,8 @@ fn arguments<'a>(alloc: Global, task: &Task) -> Result<Vec<Arg<'a>>, AllocError>
             arg
         })?;
     }
-    for group in task.groups() {
-        push_group(alloc, &mut arguments, group)?;
+    for (heading, entry) in task.all_options(alloc)? {
+        arguments.push(argument(alloc, entry)?.help_heading(heading))?;
     }
     let help = Arg::new(alloc, "help")
         .short('h')
@@ -53,18 +53,6 @@ fn arguments<'a>(alloc: Global, task: &Task) -> Result<Vec<Arg<'a>>, AllocError>
         .help("Print help");
     arguments.push(help.action(ArgAction::Help).help_heading("Other"))?;
     Ok(arguments)
-}
-
-// Appends options under their heading.
-fn push_group<'a>(
-    alloc: Global,
-    arguments: &mut Vec<Arg<'a>>,
-    group: Group,
-) -> Result<(), AllocError> {
-    for entry in group.options {
-        arguments.push(argument(alloc, *entry)?.help_heading(group.heading))?;
-    }
-    Ok(())
 }
 
 // An option. A negative number behind it is its value.

@@ -1,6 +1,6 @@
 //! The completions of shells, made from the tables of options.
 
-use crate::options::{DRAWING, Entry, Takes, Task, worded_tasks};
+use crate::options::{DRAWING, Entry, TASKS, Takes, Task};
 use std::alloc::{AllocError, Global};
 
 /// A shell.
@@ -69,7 +69,7 @@ pub fn completions_of(alloc: Global, shell: Shell) -> Result<String, AllocError>
     };
     let words = all_words(alloc)?;
     let mut text = format!(in alloc; "{start}{words}{middle}")?;
-    for task in worded_tasks() {
+    for task in TASKS {
         push_task(&mut text, shell, task, task.word)?;
     }
     push_task(&mut text, shell, &DRAWING, words.as_str())?;
@@ -80,7 +80,7 @@ pub fn completions_of(alloc: Global, shell: Shell) -> Result<String, AllocError>
 // The commands.
 fn all_words(alloc: Global) -> Result<String, AllocError> {
     let mut words = String::new(alloc);
-    for task in worded_tasks() {
+    for task in TASKS {
         let word = task.word;
         write!(words, " {word}")?;
     }
@@ -108,7 +108,7 @@ fn push_task(text: &mut String, shell: Shell, task: &Task, words: &str) -> Resul
         Shell::Fish => {}
     }
     let seen = format!(in *text.allocator(); "{not}__fish_seen_subcommand_from {words}")?;
-    for entry in &task.all_options(*text.allocator())? {
+    for (_, entry) in &task.all_options(*text.allocator())? {
         push_option(text, shell, seen.as_str(), entry)?;
     }
     match shell {
@@ -173,8 +173,11 @@ fn value_of(alloc: Global, shell: Shell, takes: Takes) -> Result<String, AllocEr
 fn quoted_help(alloc: Global, shell: Shell, help: &str) -> Result<String, AllocError> {
     let mut text = String::new(alloc);
     for character in help.chars() {
-        if matches!((shell, character), (Shell::Zsh, '[' | ']' | ':')) {
-            text.push('\\')?;
+        match (shell, character) {
+            (Shell::Zsh, '[' | ']' | ':') => text.push('\\')?,
+            // A quote stands between the end of the quotes and their new beginning.
+            (_, '\'') => text.push_str("'\\'")?,
+            _ => {}
         }
         text.push(character)?;
     }

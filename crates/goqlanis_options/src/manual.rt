@@ -1,6 +1,6 @@
 //! The manual page.
 
-use crate::options::{DRAWING, EXAMPLES, Entry, Takes, Task, worded_tasks};
+use crate::options::{DRAWING, EXAMPLES, Entry, TASKS, Takes, Task};
 use std::alloc::{AllocError, Global};
 
 static START: &str = ".TH GOQLANIS 1
@@ -31,9 +31,11 @@ static END: &str = ".SH EXIT STATUS
 /// The manual page, in the language of `man`, unless memory runs out.
 pub fn manual_page(alloc: Global) -> Result<String, AllocError> {
     let mut text = String::from_str(alloc, START)?;
-    push_options(&mut text, &DRAWING.all_options(alloc)?)?;
+    for (_, entry) in &DRAWING.all_options(alloc)? {
+        push_option(&mut text, entry)?;
+    }
     text.push_str(WORDS)?;
-    for task in worded_tasks() {
+    for task in TASKS {
         push_task(&mut text, task)?;
     }
     text.push_str(END)?;
@@ -51,12 +53,7 @@ fn push_task(text: &mut String, task: &Task) -> Result<(), AllocError> {
         let plain = format!(in *text.allocator(); "{name}: {help}.\n")?;
         push_plain(text, plain.as_str())?;
     }
-    push_options(text, task.options)
-}
-
-// Options and what they do.
-fn push_options(text: &mut String, entries: &[Entry]) -> Result<(), AllocError> {
-    for entry in entries {
+    for entry in &task.own_options(*text.allocator())? {
         push_option(text, entry)?;
     }
     Ok(())

@@ -26,12 +26,14 @@ impl<'a> Nearest<'a> {
         }
     }
 
-    /// Considers a name: it is near with one letter wrong, or two of a word of more than four.
+    /// Considers a name in small letters: it is near with one letter wrong, or two of a word of more
+    /// than four, in capitals or not.
     pub fn consider(&mut self, alloc: Global, name: &'static str) -> Result<(), AllocError> {
         if self.word.len() > LONGEST {
             return Ok(());
         }
-        let distance = damerau_levenshtein(alloc, self.word, name)?;
+        let word = self.word.to_ascii_lowercase(alloc)?;
+        let distance = damerau_levenshtein(alloc, word.as_str(), name)?;
         if distance < self.distance {
             self.distance = distance;
             self.name = Some(name);

@@ -26,58 +26,51 @@ macro_rules! entry {
     };
 }
 
-mod fields;
+pub mod fields;
 mod habits;
 mod symbols;
+mod tasks;
 
-use fields::{
-    BILL, ELEMENTS, EVENT, MAIL, MECARD, OTP, PAYMENT, PIX, PLACE, PROMPTPAY, SMS, TEL, UPI, VCARD,
-    WIFI,
-};
 pub use habits::{ADVICE, OTHER_NAMES, OTHER_WORDS};
-use symbols::{
-    ABOUT, DATA, JOINING, LEVELS, LOOKS, MARKS, MASKS, ONE_CODE, READING, SEVERAL, TEXTS,
-};
+use symbols::{ABOUT, DATA, LEVELS, LOOKS, MARKS, MASKS, ONE_CODE, TEXTS};
 pub use symbols::{DRAWING, EXAMPLES};
+use tasks::options_of;
+pub use tasks::{TASKS, entry_of};
 
 /// What an option takes.
 #[derive(Clone, Copy)]
 pub enum Takes {
     /// Nothing.
     Nothing,
-    /// A text, by the name that stands for it.
+    /// A text, for which help shows this name.
     Text(&'static str),
-    /// Such a text, which is wanted.
+    /// The same, and it must be given.
     Wanted(&'static str),
-    /// Such a text, more than once.
+    /// The same, and it may be given more than once.
     Texts(&'static str),
     /// The path of a file.
     Path,
-    /// One of some words, by the name that stands for it.
+    /// One of these words, for which help shows this name.
     Word(&'static str, &'static [&'static str]),
-    /// A whole number from one to another, which are named so.
+    /// A whole number from one to another, for which help shows this name.
     Number(&'static str, u64, u64),
 }
 
 /// An option.
 #[derive(Clone, Copy)]
 pub struct Entry {
-    /// Its name behind two hyphens.
+    /// Its name, after two hyphens.
     pub long: &'static str,
-    /// Its letter behind one.
+    /// Its letter, after one hyphen.
     pub short: Option<char>,
-    /// What stands behind it.
+    /// What follows it.
     pub takes: Takes,
     /// What help and the manual say of it.
     pub help: &'static str,
 }
 
-/// Options under a heading of the help.
-#[derive(Clone, Copy)]
-pub struct Group {
-    pub heading: &'static str,
-    pub options: &'static [Entry],
-}
+/// An option, and its heading in the help.
+pub type Headed = (&'static str, Entry);
 
 /// What a task does.
 #[derive(Clone, Copy)]
@@ -96,14 +89,14 @@ pub enum Purpose {
     Elements,
 }
 
-/// What stands on the command line beside options.
+/// An argument that is not an option.
 #[derive(Clone, Copy)]
 pub struct Operand {
     /// What help calls it.
     pub name: &'static str,
     /// What help and the manual say of it.
     pub help: &'static str,
-    /// Whether there may be several of it, and one at least.
+    /// Whether it is given once or more often.
     pub is_many: bool,
 }
 
@@ -116,23 +109,16 @@ pub struct Task {
     pub about: &'static str,
     /// What is done.
     pub purpose: Purpose,
-    /// Its own options, without those of drawing that go with it.
+    /// Its own options, without those of drawing that go with it; none of a payload, whose fields
+    /// say them.
     pub options: &'static [Entry],
-}
-
-/// What words ask for, in the order of the manual.
-pub fn worded_tasks() -> [&'static Task; 18] {
-    [
-        &READING, &SEVERAL, &JOINING, &WIFI, &MECARD, &VCARD, &PAYMENT, &BILL, &UPI, &PIX,
-        &PROMPTPAY, &MAIL, &PLACE, &TEL, &SMS, &OTP, &EVENT, &ELEMENTS,
-    ]
 }
 
 /// The task of a command, by its name or by an older one, where there is such a command.
 pub fn task_named(word: &str) -> Option<&'static Task> {
     let older = OTHER_WORDS.iter().find(|(older, _)| *older == word);
     let word = older.map_or(word, |(_, newer)| *newer);
-    worded_tasks().into_iter().find(|task| task.word == word)
+    TASKS.iter().find(|task| task.word == word)
 }
 
 impl Task {
@@ -141,7 +127,7 @@ impl Task {
         !matches!(self.purpose, Purpose::Read | Purpose::Join)
     }
 
-    /// What it takes beside options.
+    /// The argument that it takes besides options.
     pub fn operand(&self) -> Option<Operand> {
         let (name, help) = match self.purpose {
             Purpose::Draw | Purpose::Several => (
@@ -171,18 +157,28 @@ impl Task {
         })
     }
 
-    /// All options that it takes, unless memory runs out.
-    pub fn all_options(&self, alloc: Global) -> Result<Vec<Entry>, AllocError> {
+    /// Its own options, unless memory runs out.
+    pub fn own_options(&self, alloc: Global) -> Result<Vec<Entry>, AllocError> {
+        match self.purpose {
+            Purpose::Content(kind) => options_of(alloc, kind),
+            _ => Vec::from_slice(alloc, self.options),
+        }
+    }
+
+    /// Its own options, and those of drawing that go with them: none that gives the data where its
+    /// own do, and none that says the level where the format does. It fails only where memory runs
+    /// out.
+    pub fn all_options(&self, alloc: Global) -> Result<Vec<Headed>, AllocError> {
+        let own = self.own_options(alloc)?;
         let mut all = Vec::new(alloc);
-        for group in self.groups() {
-            all.extend_from_slice(group.options)?;
+        for (heading, options) in self.groups(&own) {
+            push_under(&mut all, heading, options)?;
         }
         Ok(all)
     }
 
-    /// Its own options, and those of drawing that go with them: none that gives the data where its
-    /// own do, and none that says the level where the format does.
-    pub fn groups(&self) -> [Group; 9] {
+    // Its own options and those of drawing, each group under its heading.
+    fn groups<'a>(&self, own: &'a [Entry]) -> [(&'static str, &'a [Entry]); 9] {
         let (data, mark, level, text, one) = match self.purpose {
             Purpose::Draw => (DATA, MARKS, LEVELS, TEXTS, ONE_CODE),
             Purpose::Several => (DATA, NONE, LEVELS, NONE, NONE),
@@ -199,15 +195,15 @@ impl Task {
         };
         let about = if self.word.is_empty() { ABOUT } else { NONE };
         [
-            options_under("Input", data),
-            options_under(self.heading(), self.options),
-            options_under("Input", mark),
-            options_under("Input", one),
-            options_under("Code", level),
-            options_under("Code", text),
-            options_under("Code", code),
-            options_under("Output", output),
-            options_under("Other", about),
+            ("Input", data),
+            (self.heading(), own),
+            ("Input", mark),
+            ("Input", one),
+            ("Code", level),
+            ("Code", text),
+            ("Code", code),
+            ("Output", output),
+            ("Other", about),
         ]
     }
 
@@ -226,8 +222,16 @@ impl Task {
     }
 }
 
-fn options_under(heading: &'static str, options: &'static [Entry]) -> Group {
-    Group { heading, options }
+// Appends options under a heading.
+fn push_under(
+    all: &mut Vec<Headed>,
+    heading: &'static str,
+    options: &[Entry],
+) -> Result<(), AllocError> {
+    for entry in options {
+        all.push((heading, *entry))?;
+    }
+    Ok(())
 }
 
 // No options.

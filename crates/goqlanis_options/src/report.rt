@@ -1,7 +1,7 @@
 //! What was made, on standard error: `--verbose` and `--json`.
 
 use crate::asked::{Asked, Reporting};
-use crate::warnings::{Decimal, hundredths_of, warn_of_size};
+use crate::warnings::{Decimal, hundredths_of, warn_of_modules, warn_of_size};
 use goqlanis_core::{Drawing, VersionName, quiet_zone, scale};
 use qrcode::types::EcLevel;
 use std::alloc::{AllocError, Global};
@@ -31,6 +31,7 @@ pub fn show_report(
     let report = report_of(asked, drawing);
     let zone = report.zone.saturating_mul(2);
     warn_of_size(rt, asked, report.modules.saturating_add(zone));
+    warn_of_modules(rt, asked, report.scale);
     let text = match asked.reporting {
         None => return Ok(()),
         Some(Reporting::Lines) => lines(rt.alloc(), &report)?,
@@ -66,23 +67,16 @@ fn report_of(asked: &Asked<'_>, drawing: &Drawing) -> Report {
 
 // A report in lines.
 fn lines(alloc: Global, report: &Report) -> Result<String, AllocError> {
-    let Report {
-        version,
-        level,
-        mask,
-        modules,
-        zone,
-        scale,
-        side,
-        dots,
-    } = report;
-    let mut text = format!(in alloc;
-        "version {version}, level {level:?}, mask {mask}
-modules: {modules} by {modules}; pixels of a module: {scale}; quiet zone: {zone}
-size: {side} by {side} pixels"
+    let (version, level, mask) = (report.version, report.level, report.mask);
+    let (modules, zone, scale, side) = (report.modules, report.zone, report.scale, report.side);
+    let mut text = format!(in alloc; "version {version}, level {level:?}, mask {mask}\n")?;
+    write!(
+        text,
+        "modules: {modules} by {modules}; pixels of a module: {scale}; quiet zone: {zone}\n"
     )?;
-    if let Some(dots) = *dots {
-        let side = Decimal(hundredths_of(*side, dots));
+    write!(text, "size: {side} by {side} pixels")?;
+    if let Some(dots) = report.dots {
+        let side = Decimal(hundredths_of(side, dots));
         write!(text, ", {side} mm at {dots} per inch")?;
     }
     text.push_str("\n")?;
@@ -91,22 +85,21 @@ size: {side} by {side} pixels"
 
 // A report as a line of JSON.
 fn json(alloc: Global, report: &Report) -> Result<String, AllocError> {
-    let Report {
-        version,
-        level,
-        mask,
-        modules,
-        zone,
-        scale,
-        side,
-        dots,
-    } = report;
+    let (version, level, mask) = (report.version, report.level, report.mask);
     let mut text = format!(in alloc;
-        "{{\"version\": \"{version}\", \"level\": \"{level:?}\", \"mask\": {mask}, \
-        \"modules\": {modules}, \"quiet_zone\": {zone}, \"scale\": {scale}, \"pixels\": {side}"
+        "{{\"version\": \"{version}\", \"level\": \"{level:?}\", \"mask\": {mask}"
     )?;
-    if let Some(dots) = *dots {
-        let side = Decimal(hundredths_of(*side, dots));
+    let numbers = [
+        ("modules", report.modules),
+        ("quiet_zone", report.zone),
+        ("scale", report.scale),
+        ("pixels", report.side),
+    ];
+    for (name, number) in numbers {
+        write!(text, ", \"{name}\": {number}")?;
+    }
+    if let Some(dots) = report.dots {
+        let side = Decimal(hundredths_of(report.side, dots));
         write!(text, ", \"millimetres\": {side}")?;
     }
     text.push_str("}\n")?;

@@ -61,6 +61,20 @@ pub fn warn_of_size(rt: &HostRuntime, asked: &Asked<'_>, modules: u32) {
     }
 }
 
+/// Warns of modules of so many pixels that are under a quarter of a millimetre on paper.
+pub fn warn_of_modules(rt: &HostRuntime, asked: &Asked<'_>, scale: u32) {
+    let Some(dots) = asked.dots else {
+        return;
+    };
+    let side = hundredths_of(scale, dots);
+    if !asked.is_by_line && side < 25 {
+        let side = Decimal(side);
+        let _ = eprintln!(rt;
+            "goqlanis: warning: modules of {side} mm are under the 0.25 mm that many readers need"
+        );
+    }
+}
+
 /// The hundredths of millimetres of so many pixels, of which an inch has so many.
 pub fn hundredths_of(pixels: u32, dots: u16) -> u64 {
     if dots == 0 {

@@ -8,6 +8,7 @@ ghost use Rattle.goqlanis_core.specs.Elements.{IsApplicationIn, IsElementsIn};
 ghost use Rattle.goqlanis_run.specs.Labels.{label_text};
 
 use crate::contents::Elements;
+use crate::logos::redrawn;
 use crate::segments::{characters_of, is_empty, pieces, segments};
 use goqlanis_core::{
     Drawing, Request, Segment, application_refusal_text, draw, draw_elements, draw_for_application,
@@ -131,7 +132,7 @@ pub(crate) fn application_drawing(
     if data.is_empty() {
         return refused(
             alloc,
-            "ELEMENTS: behind --application they are its data, as \"AA1234BBB112text\"",
+            "ELEMENTS: after --application, give its data, e.g. \"AA1234BBB112text\"",
         );
     }
     let bytes = data.as_bytes();
@@ -153,7 +154,11 @@ pub(crate) fn write_drawing(
 ) -> Result<ExitCode, Failure> {
     check_size(rt.alloc(), &asked.request, drawing)?;
     show_report(rt, asked, drawing)?;
-    let bytes = drawing.bytes.as_slice();
+    let with_logo = redrawn(rt.alloc(), asked, &drawing.code)?;
+    let bytes = match &with_logo {
+        Some(bytes) => bytes.as_slice(),
+        None => drawing.bytes.as_slice(),
+    };
     match asked.target {
         Target::File(path) => write_file(rt, path, bytes),
         Target::Terminal if !asked.request.format.is_text() && rt.stdout().is_terminal() => {

@@ -4,8 +4,11 @@
 mod contents;
 mod drawing;
 mod lines;
+mod listing;
+mod logos;
 mod names;
 mod reading;
+mod readings;
 mod segments;
 mod several;
 mod tasks;

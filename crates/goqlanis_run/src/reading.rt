@@ -1,27 +1,56 @@
-//! `goqlanis read`: a picture, read back.
+//! `goqlanis read`: the codes of a picture, read back.
 
+use crate::listing::listed;
+use crate::readings::{described, other_set};
 use clap::ArgMatches;
-use goqlanis_core::{Scan, Unread, read_picture};
+use goqlanis_core::{Codes, Scan, Unread, read_codes};
 use goqlanis_files::failure::Failure;
 use goqlanis_files::streams::{MOST_PICTURE, read_file, read_standard_input, write_data};
-use qrcode::types::Version;
-use qrcode_reader::spell::Header;
-use qrcode_reader::{Position, Reading, WrongCodeword};
 use std::alloc::{AllocError, Global};
 use std::process::ExitCode;
 
-/// Reads the picture that the command line names, and writes its data.
+/// Reads the picture that the command line names, and writes the data of its codes.
 pub(crate) fn read(rt: &HostRuntime, given: &ArgMatches<'_>) -> Result<ExitCode, Failure> {
-    let scan = scan_of(rt, given.get_str("PICTURE").unwrap_or("-"))?;
+    let codes = codes_of(rt, given.get_str("PICTURE").unwrap_or("-"))?;
+    let scans = codes.scans.as_slice();
     if given.get_flag("verbose") {
-        let text = description(rt.alloc(), &scan)?;
-        let _ = eprint!(rt; "{text}");
+        for scan in scans {
+            let text = described(rt.alloc(), scan)?;
+            let _ = eprint!(rt; "{text}");
+        }
     }
-    write_data(rt, given.get_str("output"), &scan.any.reading.data)
+    for scan in scans {
+        warn_of_set(rt, scan);
+    }
+    let output = given.get_str("output");
+    if given.get_flag("json") {
+        write_data(rt, output, listed(rt.alloc(), scans)?.as_bytes())
+    } else {
+        write_all(rt, output, scans)
+    }
 }
 
-/// What is read of a picture, which a file holds, or standard input where its name is -.
-pub(crate) fn scan_of(rt: &HostRuntime, path: &str) -> Result<Scan, Failure> {
+// Writes the data of codes: as it is where there is one, and otherwise each in a line.
+fn write_all(rt: &HostRuntime, output: Option<&str>, scans: &[Scan]) -> Result<ExitCode, Failure> {
+    match scans {
+        [only] => write_data(rt, output, &only.any.reading.data),
+        scans => write_data(rt, output, &lines_of(rt.alloc(), scans)?),
+    }
+}
+
+// The data of codes, a line feed behind each.
+fn lines_of(alloc: Global, scans: &[Scan]) -> Result<Vec<u8>, AllocError> {
+    let mut lines = Vec::new(alloc);
+    for scan in scans {
+        lines.extend_from_slice(&scan.any.reading.data)?;
+        lines.push(b'\n')?;
+    }
+    Ok(lines)
+}
+
+/// What is read of a picture, which a file holds, or standard input where its name is -. It warns of
+/// codes that are not read.
+pub(crate) fn codes_of(rt: &HostRuntime, path: &str) -> Result<Codes, Failure> {
     let alloc = rt.alloc();
     let (name, bytes) = if path == "-" {
         let bytes = read_standard_input(rt, "a picture", MOST_PICTURE)?;
@@ -29,113 +58,35 @@ pub(crate) fn scan_of(rt: &HostRuntime, path: &str) -> Result<Scan, Failure> {
     } else {
         (path, read_file(rt, path, MOST_PICTURE)?)
     };
-    match read_picture(alloc, &bytes) {
-        Ok(scan) => Ok(scan),
+    match read_codes(alloc, &bytes) {
+        Ok(codes) => {
+            warn_of_missed(rt, &codes);
+            Ok(codes)
+        }
         Err(Unread::OutOfMemory) => Err(Failure::OutOfMemory),
         Err(error) => { Err(Failure::Refused(format!(in alloc; "cannot read {name}: {error}")?)) }
     }
 }
 
-// What was read, in lines.
-fn description(alloc: Global, scan: &Scan) -> Result<String, AllocError> {
-    let mut text = String::new(alloc);
-    push_symbol(&mut text, &scan.any.reading)?;
-    push_square(&mut text, scan)?;
-    push_wrong(&mut text, &scan.any.reading.wrong)?;
-    for header in &scan.headers {
-        push_header(&mut text, *header)?;
-    }
-    Ok(text)
-}
-
-// What a symbol is, in a line.
-fn push_symbol(text: &mut String, reading: &Reading) -> Result<(), AllocError> {
-    let level = reading.ec_level;
-    let (kind, number, mask) = match reading.version {
-        Version::Normal(number) => ("", number, reading.mask.number()),
-        Version::Micro(number) => ("M", number, reading.mask.micro_number()),
-    };
-    write!(
-        text,
-        "version {kind}{number}, level {level:?}, mask {mask}\n"
-    )
-}
-
-// The square of modules, and how it stands in its picture, in two lines.
-fn push_square(text: &mut String, scan: &Scan) -> Result<(), AllocError> {
-    let (count, zone, scale) = (scan.square.count, scan.square.zone, scan.square.scale);
-    let place = position_text(scan.any.position);
-    let shades = if scan.is_inverted != scan.any.is_inverted {
-        ", dark and light exchanged"
-    } else {
-        ""
-    };
-    write!(
-        text,
-        "modules: {count} by {count}; pixels of a module: {scale}; quiet zone: {zone}
-position: {place}{shades}\n"
-    )
-}
-
-// What a header says, in a line.
-fn push_header(text: &mut String, header: Header) -> Result<(), AllocError> {
-    match header {
-        Header::Eci(number) => write!(
-            text,
-            "header: ECI {number}, the number of a character set\n"
-        ),
-        Header::Fnc1First => text.push_str("header: FNC1 in first position, elements of GS1\n"),
-        Header::Fnc1Second(indicator) => push_application(text, indicator),
-        Header::StructuredAppend {
-            place,
-            last,
-            parity,
-        } => {
-            let (number, count) = (place.saturating_add(1), last.saturating_add(1));
-            write!(
-                text,
-                "header: symbol {number} of {count}; all data has parity {parity}\n"
-            )
+// Warns of codes that are not read.
+fn warn_of_missed(rt: &HostRuntime, codes: &Codes) {
+    for missed in &codes.missed {
+        if !codes.has_read(&missed.grid) {
+            let (count, cause) = (missed.grid.count, missed.cause);
+            let (x, y) = missed.corner();
+            let _ = eprintln!(rt;
+                "goqlanis: warning: a code of {count} by {count} modules, at column {x} and row {y} \
+                of pixels, is not read: {cause}"
+            );
         }
     }
 }
 
-// FNC1 in second position, and its application: two digits, or a letter, which stands as its code
-// and 100.
-fn push_application(text: &mut String, indicator: u8) -> Result<(), AllocError> {
-    text.push_str("header: FNC1 in second position, application ")?;
-    let code = indicator.saturating_sub(100);
-    if code.is_ascii_alphabetic() {
-        let letter = char::from(code);
-        write!(text, "{letter}\n")
-    } else {
-        write!(text, "{indicator:02}\n")
+// Warns of a text in another character set than UTF-8 or ASCII.
+fn warn_of_set(rt: &HostRuntime, scan: &Scan) {
+    if let Some(set) = other_set(&scan.parts) {
+        let _ = eprintln!(rt;
+            "goqlanis: warning: the data has text in {set}, which is written as its bytes"
+        );
     }
-}
-
-// How a symbol stands in its picture.
-fn position_text(position: Position) -> &'static str {
-    match position {
-        Position::Upright => "upright",
-        Position::TurnedLeft => "turned by a quarter against the clock",
-        Position::UpsideDown => "upside down",
-        Position::TurnedRight => "turned by a quarter with the clock",
-        Position::Mirrored => "left and right exchanged",
-        Position::Flipped => "top and bottom exchanged",
-        Position::Transposed => "columns and rows exchanged",
-        Position::Antitransposed => "columns and rows exchanged, from the other corner",
-    }
-}
-
-// How many codewords are wrong, and which.
-fn push_wrong(text: &mut String, wrong: &[WrongCodeword]) -> Result<(), AllocError> {
-    let count = wrong.len();
-    write!(text, "wrong codewords: {count}")?;
-    let mut sign = ", by block and place from 0: ";
-    for each in wrong {
-        let (block, place) = (each.block, each.place);
-        write!(text, "{sign}{block}.{place}")?;
-        sign = ", ";
-    }
-    text.push_str("\n")
 }

@@ -98,6 +98,14 @@ static MODES: &[(&str, Mode)] = &[
     ("kanji", Mode::Kanji),
 ];
 
+/// The name of a mode.
+pub(crate) fn mode_name(mode: Mode) -> &'static str {
+    match MODES.iter().find(|(_, known)| *known == mode) {
+        Some((name, _)) => *name,
+        None => "",
+    }
+}
+
 // The mode of a name.
 fn mode_named(name: &str) -> Option<Mode> {
     let (_, mode) = MODES

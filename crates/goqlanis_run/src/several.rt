@@ -2,7 +2,7 @@
 
 use crate::drawing::{check_empty, manner, write_drawing};
 use crate::names::{Item, check_names, name_of};
-use crate::reading::scan_of;
+use crate::reading::codes_of;
 use clap::ArgMatches;
 use goqlanis_core::{Drawing, Grouped, Scan, drawing_of};
 use goqlanis_files::failure::{Failure, refused};
@@ -12,7 +12,7 @@ use qrcode::QrCode;
 use qrcode::types::QrError;
 use qrcode_append::errors::JoinError;
 use qrcode_append::{Part, encode_among, encode_counted, join};
-use qrcode_reader::spell::Header;
+use qrcode_reader::spell::{self, Header};
 use std::alloc::{AllocError, Global};
 use std::fs;
 use std::process::ExitCode;
@@ -119,21 +119,24 @@ pub(crate) fn join_pictures(rt: &HostRuntime, given: &ArgMatches<'_>) -> Result<
             "{count} pictures: a split has at most {MOST_SYMBOLS} codes; name those of one"
         )?));
     }
-    let mut scans = Vec::new(rt.alloc());
+    let (mut sources, mut scans) = (Vec::new(rt.alloc()), Vec::new(rt.alloc()));
     for name in names {
-        scans.push(scan_of(rt, name)?)?;
+        for scan in codes_of(rt, name)?.scans {
+            sources.push(*name)?;
+            scans.push(scan)?;
+        }
     }
     match scans.as_slice() {
-        [only] if only.headers.iter().all(|header| !is_place(*header)) => {
+        [only] if only.parts.iter().all(|part| !is_place(*part)) => {
             write_data(rt, output, &only.any.reading.data)
         }
-        scans => write_data(rt, output, &joined(rt.alloc(), names, scans)?),
+        scans => write_data(rt, output, &joined(rt.alloc(), &sources, scans)?),
     }
 }
 
 // Whether a header is the place of one of several symbols.
-fn is_place(header: Header) -> bool {
-    matches!(header, Header::StructuredAppend { .. })
+fn is_place(part: spell::Part) -> bool {
+    matches!(part, spell::Part::Front(Header::StructuredAppend { .. }))
 }
 
 // The data of pictures of these names, one behind the other by their headers.
@@ -150,12 +153,14 @@ fn joined(alloc: Global, names: &[&str], scans: &[Scan]) -> Result<Vec<u8>, Fail
 
 // The part that a picture of a name shows.
 fn part_of<'a>(alloc: Global, name: &str, scan: &'a Scan) -> Result<Part<'a>, Failure> {
-    for header in &scan.headers {
-        if let Header::StructuredAppend {
-            place,
-            last,
-            parity,
-        } = *header
+    for part in &scan.parts {
+        if let spell::Part::Front(
+            Header::StructuredAppend {
+                place,
+                last,
+                parity,
+            },
+        ) = *part
         {
             let bytes = scan.any.reading.data.as_slice();
             return Ok(Part {

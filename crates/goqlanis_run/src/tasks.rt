@@ -5,10 +5,12 @@ use crate::drawing::{
     application_drawing, draw_one, elements_drawing, segments_drawing, write_drawing,
 };
 use crate::lines::draw_lines;
+use crate::logos::{SWISS_CROSS, logo_file, with_file};
 use crate::reading::read;
 use crate::several::{MOST_IN_SEVERAL, draw_several, join_pictures};
 use clap::ArgMatches;
 use clap::error::{Error, ErrorKind};
+use goqlanis_core::Format;
 use goqlanis_files::failure::{Failure, refused, status};
 use goqlanis_files::streams::{Escaped, MOST_DATA, print, read_file, read_standard_input};
 use goqlanis_options::advice::{advice, wrapped_help};
@@ -147,6 +149,8 @@ fn make<'a>(
     colours: &'a Colours,
 ) -> Result<ExitCode, Failure> {
     let asked = asked_for(rt, given, colours)?;
+    let file = logo_file(rt, &asked)?;
+    let asked = with_file(asked, &file);
     match purpose {
         Purpose::Several => { draw_several(rt, given, &asked, &data(rt, &asked, MOST_IN_SEVERAL)?) }
         Purpose::Content(kind) => draw_content(rt, kind, given, &asked),
@@ -199,7 +203,13 @@ fn draw_content(
     if matches!(kind, Kind::Wifi) {
         warn_of_password(rt, given);
     }
-    draw_one(rt, asked, text.as_bytes())
+    match (kind, asked.request.format) {
+        (Kind::Bill, Format::Svg | Format::Eps) => {
+            let logo = Some(SWISS_CROSS);
+            draw_one(rt, &Asked { logo, ..*asked }, text.as_bytes())
+        }
+        _ => draw_one(rt, asked, text.as_bytes()),
+    }
 }
 
 // The bytes that a symbol of a bill's level and largest version always holds.

@@ -3,7 +3,7 @@
 use super::Takes::{Nothing, Number, Path, Text, Texts, Word};
 use super::{Entry, Purpose, Task};
 
-// The names of formats.
+// From formats.rt of goqlanis_core, by bindings/same:
 const FORMATS: &[&str] = &[
     "half-blocks",
     "terminal",
@@ -14,7 +14,14 @@ const FORMATS: &[&str] = &[
     "pic",
     "pbm",
     "pgm",
+    "pdf",
+    "zpl",
+    "tspl",
+    "escpos",
+    "xbm",
+    "ppm",
 ];
+// Up to here.
 
 /// A code of data.
 #[rattlefmt::skip]
@@ -81,19 +88,28 @@ pub static MASKS: &[Entry] = &[
 pub static LOOKS: &[Entry] = &[
     entry!("output", 'o', Path, "Write to FILE, atomically; - is standard output"),
     entry!("format", 'f', Word("FORMAT", FORMATS),
-        "Output format [default: by the file extension, .txt .png .svg .eps .pic .pbm or .pgm]"),
+        "Output format [default: by the file extension]"),
     entry!("quiet-zone", 'q', Number("MODULES", 0, 255),
         "Quiet zone on each side, 0 to 255 [default: 4, Micro QR 2]"),
     entry!("scale", 's', Number("PIXELS", 1, 1000),
         "Pixels per module, 1 to 1,000 [default: 8; 1 for text and PIC]"),
     entry!("size", Text("SIZE"),
-        "Largest side, in pixels or millimetres, e.g. 300 or 30mm; modules get whole pixels"),
-    entry!("dpi", Number("N", 1, 65535), "Resolution of PNG, in pixels per inch, 1 to 65,535"),
+        "Largest side, in pixels, mm, cm, in or pt, e.g. 300 or 30mm; modules get whole pixels"),
+    entry!("module", Text("LENGTH"), "Side of a module, e.g. 0.5mm, to the nearest pixel"),
+    entry!("dpi", Number("N", 1, 65535), "Resolution of pixels, per inch, 1 to 65,535"),
     entry!("dark", Text("COLOUR"),
-        "Colour of dark modules in PNG, SVG and EPS, e.g. \"#008\" or navy [default: black]"),
+        "Colour of dark modules in PNG, SVG, EPS, PDF and PPM, e.g. \"#008\" or navy [default: black]"),
     entry!("light", Text("COLOUR"),
         "Colour of light modules, or transparent [default: white]"),
     entry!("invert", Nothing, "Swap dark and light"),
+    entry!("logo", Path,
+        "Draw an SVG or PNG file in the middle, in SVG; the code is readable whatever it shows"),
+    entry!("logo-area", Nothing, "Only leave the area of a logo light, in any format"),
+    entry!("logo-size", Text("SIZE"),
+        "Side of the area, in modules or percent of the code's, e.g. 9 or 20% [default: the largest \
+        that leaves half of what each block may lose]"),
+    entry!("logo-margin", Number("MODULES", 0, 20), "Light modules around the logo [default: 1]"),
+    entry!("keep-alignment", Nothing, "Keep the area off alignment patterns, for weak readers"),
     entry!("verbose", Nothing, "Report version, level, mask and sizes on standard error"),
     entry!("json", Nothing, "The same report as a line of JSON"),
 ];
@@ -105,43 +121,6 @@ pub static ABOUT: &[Entry] = &[
     entry!("manual", Nothing, "Write the manual page, for man -l"),
     entry!("version", 'V', Nothing, "Write the version of the program"),
 ];
-
-/// A picture, read.
-#[rattlefmt::skip]
-pub static READING: Task = Task {
-    word: "read",
-    about: "Decode a clean picture of a QR code",
-    purpose: Purpose::Read,
-    options: &[
-        entry!("output", 'o', Path, "Write the data to FILE, atomically; - is standard output"),
-        entry!("verbose", 'v', Nothing,
-            "Report version, level, mask, position and corrected errors on standard error"),
-    ],
-};
-
-/// Data, split over several codes.
-#[rattlefmt::skip]
-pub static SEVERAL: Task = Task {
-    word: "split",
-    about: "Split data over up to 16 codes (structured append)",
-    purpose: Purpose::Several,
-    options: &[
-        entry!("count", Number("N", 1, 16),
-            "Number of codes, 1 to 16, in the smallest version that does [default: as few as fit]"),
-        entry!("max-version", Text("VERSION"), "Largest version to use, 1 to 40 [default: 40]"),
-    ],
-};
-
-/// Pictures of a split, read.
-#[rattlefmt::skip]
-pub static JOINING: Task = Task {
-    word: "join",
-    about: "Decode the codes of a split and join their data",
-    purpose: Purpose::Join,
-    options: &[
-        entry!("output", 'o', Path, "Write the data to FILE, atomically; - is standard output"),
-    ],
-};
 
 /// Examples, as the help shows them.
 pub const EXAMPLES: &str = "Examples:

@@ -162,15 +162,15 @@ fn no_bracket(alloc: Global) -> Failure {
     wrong(
         alloc,
         "ELEMENTS",
-        "they begin with an identifier in round brackets",
-        ", as (01)09521234543213",
+        "start with an identifier in round brackets",
+        ", e.g. (01)09521234543213",
     )
 }
 
 // The refusal of a bracket that is not closed.
 fn not_closed(alloc: Global) -> Failure {
-    let what = "an opening bracket has no closing one behind it";
-    wrong(alloc, "ELEMENTS", what, "; a value has ( as \\(")
+    let what = "an opening bracket is never closed";
+    wrong(alloc, "ELEMENTS", what, "; write ( in a value as \\(")
 }
 
 // Appends what is wrong with a value, and what would help.
@@ -195,7 +195,7 @@ fn push_length(
     (least, most): (usize, usize),
     count: usize,
 ) -> Result<(), AllocError> {
-    write!(text, "its value has {count} characters; it wants {least}")?;
+    write!(text, "its value has {count} characters; it needs {least}")?;
     if least < most {
         write!(text, " to {most}")?;
     }

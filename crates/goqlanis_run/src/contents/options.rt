@@ -2,11 +2,12 @@
 
 ghost use Rattle.std.specs.Prelude.{◌≡◌, IfOk, string_bytes};
 ghost use Rattle.qrcode_payloads.specs.Texts.{payload_text};
-ghost use Rattle.goqlanis_run.specs.Options.{name_of, texts_in};
+ghost use Rattle.goqlanis_run.specs.Options.{texts_in};
 
 use super::refusals::refusal_of;
 use clap::ArgMatches;
 use goqlanis_files::failure::Failure;
+use goqlanis_options::options::fields::option_of;
 use qrcode_contents::fields::errors::Field;
 use qrcode_payloads::given::Given;
 use qrcode_payloads::kinds::Kind;
@@ -23,76 +24,11 @@ impl Given for Options<'_, '_> {
     ghost fields = { λ options. texts_in options.given.now };
 
     fn text(&self, field: Field) -> &str {
-        let name = name_of(field);
+        let (name, _, _) = option_of(field);
         match self.given.get_str(name) {
             Some(text) => text,
             None => "",
         }
-    }
-}
-
-/// The option that gives a field; empty for the whole text.
-pub(crate) fn name_of(field: Field) -> &'static str
-    ensures { result.now ≡ name_of field }
-{
-    match field {
-        Field::Ssid => "ssid",
-        Field::Password => "password",
-        Field::Security => "security",
-        Field::Hidden => "hidden",
-        Field::Bic => "bic",
-        Field::Name => "name",
-        Field::Family => "family",
-        Field::Given => "given",
-        Field::Organisation => "organisation",
-        Field::Title => "title",
-        Field::Phone => "phone",
-        Field::Mobile => "mobile",
-        Field::WorkPhone => "work-phone",
-        Field::HomePhone => "home-phone",
-        Field::Email => "email",
-        Field::Url => "url",
-        Field::Birthday => "birthday",
-        Field::Note => "note",
-        Field::Street => "street",
-        Field::Number => "number",
-        Field::City => "city",
-        Field::Region => "region",
-        Field::PostalCode => "code",
-        Field::Country => "country",
-        Field::DebtorName => "debtor-name",
-        Field::DebtorStreet => "debtor-street",
-        Field::DebtorNumber => "debtor-number",
-        Field::DebtorPostalCode => "debtor-code",
-        Field::DebtorCity => "debtor-city",
-        Field::DebtorCountry => "debtor-country",
-        Field::Iban => "iban",
-        Field::Amount => "amount",
-        Field::Currency => "currency",
-        Field::Purpose => "purpose",
-        Field::Reference => "reference",
-        Field::Message => "message",
-        Field::Information => "information",
-        Field::Subject => "subject",
-        Field::Latitude => "latitude",
-        Field::Longitude => "longitude",
-        Field::Secret => "secret",
-        Field::Issuer => "issuer",
-        Field::Account => "account",
-        Field::Algorithm => "algorithm",
-        Field::Digits => "digits",
-        Field::Period => "period",
-        Field::Counter => "counter",
-        Field::Uid => "uid",
-        Field::Stamp => "stamp",
-        Field::Begin => "begin",
-        Field::End => "end",
-        Field::Summary => "summary",
-        Field::Location => "location",
-        Field::Description => "description",
-        Field::Payee => "payee",
-        Field::Category => "category",
-        Field::Whole => "",
     }
 }
 
@@ -109,6 +45,6 @@ pub(crate) fn payload_of(
 {
     match text_of(alloc, kind, &Options { given }) {
         Ok(text) => Ok(text),
-        Err(error) => Err(refusal_of(alloc, error)?),
+        Err(error) => Err(refusal_of(alloc, kind, error)?),
     }
 }

@@ -1,4 +1,4 @@
-use Rattle.goqlanis_core.specs.Names.{formats}
+use Rattle.goqlanis_core.specs.Formats.{formats}
 use Rattle.goqlanis_core.proofs.formats.format_of_ending.Goals as goal
 
 -- the table of the code is the defined one

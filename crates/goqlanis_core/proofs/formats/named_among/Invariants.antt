@@ -1,5 +1,5 @@
 use Rattle.std.proofs.Common.{◌≡◌, drop, map}
-use Rattle.goqlanis_core.specs.Names.{row_of, named_among}
+use Rattle.goqlanis_core.specs.Formats.{row_of, named_among}
 use Rattle.goqlanis_core.proofs.formats.named_among.Given as goal
 
 abbrev pub invariant-loop-row : goal.invariant-loop-row

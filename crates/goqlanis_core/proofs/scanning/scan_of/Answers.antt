@@ -2,7 +2,6 @@ use Rattle.std.proofs.Common.{◌≡◌, ◌∙◌, false, sym, subst, rules}
 use Rattle.qrcode_gs1.specs.symbol.Reading.{ReadsMarkedOnly}
 use Rattle.qrcode_reader.specs.Positions.{seen, IsFirstReading}
 use Rattle.goqlanis_core.specs.HandedOn.{handed_on}
-use Rattle.goqlanis_core.specs.Scans.{headers_in}
 use Rattle.goqlanis_core.proofs.Marked.{read_marked}
 use Rattle.goqlanis_core.proofs.Plain.{first_plain, plain_on}
 use Rattle.goqlanis_core.proofs.scanning.scan_of.Goals as goal
@@ -13,19 +12,15 @@ returns-clause-read c =
     let any = c.args.any in
     let r = any.reading in
     let square = seen s.count any.position any.is_inverted s.modules.items in
-    let among : c.in_ok-headers.headers.items ≡ headers_in r.parts.parts.items = search rules in
     let handed : c.in_ok-data.data.items ≡ handed_on false r.parts.parts.items r.parts.bytes.items = search rules in
     record {
       bytes = r.parts.bytes.items;
-      parts = r.parts.parts.items;
       first = c.requires;
-      among = among;
       handed = handed;
       plain = λ none.
-          let bare = sym among ∙ none in
-          let same = handed ∙ plain_on square r.version r.ec_level r.mask r.parts.bytes.items r.parts.parts.items r.wrong.items bare c.requires.read in
+          let same = handed ∙ plain_on square r.version r.ec_level r.mask r.parts.bytes.items r.parts.parts.items r.wrong.items none c.requires.read in
           subst (λ bytes. IsFirstReading s.count s.modules.items any.position any.is_inverted r.version r.ec_level r.mask bytes r.wrong.items) (sym same)
-          (first_plain s.count s.modules.items any.position any.is_inverted r.version r.ec_level r.mask r.parts.bytes.items r.parts.parts.items r.wrong.items bare c.requires);
+          (first_plain s.count s.modules.items any.position any.is_inverted r.version r.ec_level r.mask r.parts.bytes.items r.parts.parts.items r.wrong.items none c.requires);
       marked = λ p segments are none.
           subst (ReadsMarkedOnly square p) (sym handed)
           (read_marked square r.version r.ec_level r.mask r.parts.bytes.items r.parts.parts.items r.wrong.items p segments are none c.requires.read);

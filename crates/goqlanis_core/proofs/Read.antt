@@ -1,0 +1,95 @@
+-- The codes that are read of a picture.
+use Rattle.std.proofs.Common.{◌≡◌, ◌∙◌, ◌≤◌, ◌*◌, ◌⊎◌, ◌++◌, ◌∷◌, [], ℕ, Bool, true, false, List, None, All, length, take, drop, sym, subst, inl, inr}
+use Rattle.std.proofs.lemmas.List.Elements.{All-append, All-cons, All-drop, All-nil, All-push, All-take, All-weaker}
+use Rattle.std.specs.Prelude.{if◌then◌else◌, insert, slice_index_or}
+use Rattle.qrcode_types.specs.declared.types.Color.{Color}
+use Rattle.qrcode_render.specs.Bitmap.{Bitmap}
+use Rattle.qrcode_reader.specs.scan.Grids.{IsSampled}
+use Rattle.qrcode_reader.specs.scan.Squares.{has_dark_edge, inverted}
+use Rattle.qrcode_reader.specs.Readings.{IsPartsCause}
+use Rattle.qrcode_reader.specs.declared.scan.grids.Grid.{Grid}
+use Rattle.qrcode_reader.specs.declared.refusals.Unread as reading
+use Rattle.goqlanis_core.specs.Codes.{AreCodesIn, IsCodeIn, IsMissedIn, IsMissedOf}
+use Rattle.goqlanis_core.specs.Scans.{IsFoundIn, IsPictureOf, IsReadAs, IsScanOf, IsSquareOf}
+use Rattle.goqlanis_core.specs.declared.scanning.Scan.{Scan}
+use Rattle.goqlanis_core.specs.declared.codes.Codes.{Codes}
+use Rattle.goqlanis_core.specs.declared.codes.Missed.{Missed}
+use Rattle.goqlanis_core.proofs.Sampled.{sampled_length}
+use Rattle.goqlanis_core.proofs.WhyUnread.{HasNone}
+
+-- no codes yet
+pub no_code : (b : Bitmap) (i : Bool) (codes : Codes) → codes.scans.items ≡ [] → codes.missed.items ≡ [] → AreCodesIn b i codes
+no_code b i codes none no_missed =
+    record { scans = subst (All (IsCodeIn b i)) (sym none) (All-nil (IsCodeIn b i)); missed = subst (All (IsMissedIn b)) (sym no_missed) (All-nil (IsMissedIn b)) }
+
+-- the one in a margin
+pub only_code : (b : Bitmap) (i : Bool) (codes : Codes) (scan : Scan) → codes.scans.items ≡ scan ∷ [] → codes.missed.items ≡ [] → IsSquareOf scan b → scan.grid ≡ None
+    → scan.is_inverted ≡ i → IsReadAs scan → AreCodesIn b i codes
+only_code b i codes scan same no_missed square clean inverted read = record {
+  scans = subst (All (IsCodeIn b i)) (sym same)
+      (All-cons (IsCodeIn b i) scan [] (record { inverted = inverted; square = record { found = inl (clean, square) }; read = read }) (All-nil (IsCodeIn b i)));
+  missed = subst (All (IsMissedIn b)) (sym no_missed) (All-nil (IsMissedIn b));
+}
+
+-- one more, or one more that is not read
+pub code_added : (b : Bitmap) (i : Bool) (old new : Codes) (x : Scan) → ((n : ℕ) × (new.scans.items ≡ insert old.scans.items n x)) → new.missed.items ≡ old.missed.items → IsCodeIn b i x
+    → AreCodesIn b i old → AreCodesIn b i new
+code_added b i old new x same as_before code are =
+    let n = same.0 in
+    let xs = old.scans.items in
+    record {
+      scans = subst (All (IsCodeIn b i)) (sym same.1)
+          (All-append (IsCodeIn b i) (take n xs) (x ∷ drop n xs) (All-take (IsCodeIn b i) n xs are.scans)
+          (All-cons (IsCodeIn b i) x (drop n xs) code (All-drop (IsCodeIn b i) n xs are.scans)));
+      missed = subst (All (IsMissedIn b)) (sym as_before) are.missed;
+    }
+
+pub missed_added : (b : Bitmap) (i : Bool) (old new : Codes) (x : Missed) → (new.missed.items ≡ old.missed.items) ⊎ (new.missed.items ≡ old.missed.items ++ x ∷ [])
+    → new.scans.items ≡ old.scans.items → IsMissedIn b x → AreCodesIn b i old → AreCodesIn b i new
+missed_added b i old new x same as_before missed are = record {
+  scans = subst (All (IsCodeIn b i)) (sym as_before) are.scans;
+  missed = elim same [
+    | inl e ↦ subst (All (IsMissedIn b)) (sym e) are.missed
+    | inr e ↦ subst (All (IsMissedIn b)) (sym e) (All-push (IsMissedIn b) old.missed.items x are.missed missed)
+  ];
+}
+
+-- what stands in a grid and is not read
+pub missed_code : (b : Bitmap) (g : Grid) (modules : List Color) (e : reading.Unread) → IsSampled b g modules → ¬ (e ≡ reading.TheVariants.OutOfMemory)
+    → (e ≡ reading.TheVariants.OutOfMemory) ⊎ (IsPartsCause modules e × ((side : ℕ) → side * side ≡ length modules → HasNone side modules)) → IsMissedIn b (record { grid = g; cause = e })
+missed_code b g modules e sampled other why = elim why [
+  | inl memory ↦ absurd (other memory)
+  | inr both ↦ record { modules = modules; sampled = sampled; cause = both.0; none = both.1 g.count (sampled_length b g modules sampled) }
+]
+
+-- the first of the codes of a picture is one
+pub first_scan : (bytes : List ℕ) (scans : List Scan) (scan : Scan) → 1 ≤ length scans → scan ≡ slice_index_or scans 0 scan → All (IsScanOf bytes) scans → IsScanOf bytes scan
+first_scan bytes scans scan some first all = subst (IsScanOf bytes) (sym first) (all 0 scan some)
+
+-- codes in the pixels of a picture are codes of it, with dark and light exchanged where the first row is dark
+in_picture : (bytes : List ℕ) (b : Bitmap) (i : Bool) (scan : Scan) → IsPictureOf bytes b → has_dark_edge b ≡ i → IsCodeIn (if i then inverted b else b) i scan → IsScanOf bytes scan
+in_picture bytes b i scan seen is code = record {
+  pixels = b;
+  seen = seen;
+  edge = code.inverted ∙ sym is;
+  square = subst (λ (j : Bool). IsFoundIn scan (if j then inverted b else b)) (sym code.inverted) code.square;
+  read = code.read;
+}
+
+missed_in_picture : (bytes : List ℕ) (b : Bitmap) (i : Bool) (m : Missed) → IsPictureOf bytes b → has_dark_edge b ≡ i → IsMissedIn (if i then inverted b else b) m → IsMissedOf bytes m
+missed_in_picture bytes b i m seen is missed =
+    record { pixels = b; seen = seen; missed = subst (λ (j : Bool). IsMissedIn (if j then inverted b else b) m) (sym is) missed }
+
+pub plain_scans : (bytes : List ℕ) (b : Bitmap) (codes : Codes) → IsPictureOf bytes b → has_dark_edge b ≡ false → AreCodesIn b false codes → All (IsScanOf bytes) codes.scans.items
+plain_scans bytes b codes seen is are = All-weaker (IsCodeIn b false) (IsScanOf bytes) (λ scan code. in_picture bytes b false scan seen is code) codes.scans.items are.scans
+
+pub turned_scans : (bytes : List ℕ) (b : Bitmap) (codes : Codes) → IsPictureOf bytes b → has_dark_edge b ≡ true → AreCodesIn (inverted b) true codes → All (IsScanOf bytes) codes.scans.items
+turned_scans bytes b codes seen is are =
+    All-weaker (IsCodeIn (inverted b) true) (IsScanOf bytes) (λ scan code. in_picture bytes b true scan seen is code) codes.scans.items are.scans
+
+pub plain_missed : (bytes : List ℕ) (b : Bitmap) (codes : Codes) → IsPictureOf bytes b → has_dark_edge b ≡ false → AreCodesIn b false codes → All (IsMissedOf bytes) codes.missed.items
+plain_missed bytes b codes seen is are = All-weaker (IsMissedIn b) (IsMissedOf bytes) (λ m missed. missed_in_picture bytes b false m seen is missed) codes.missed.items are.missed
+
+pub turned_missed : (bytes : List ℕ) (b : Bitmap) (codes : Codes) → IsPictureOf bytes b → has_dark_edge b ≡ true → AreCodesIn (inverted b) true codes → All (IsMissedOf bytes) codes.missed.items
+turned_missed bytes b codes seen is are =
+    All-weaker (IsMissedIn (inverted b)) (IsMissedOf bytes) (λ m missed. missed_in_picture bytes b true m seen is missed) codes.missed.items are.missed

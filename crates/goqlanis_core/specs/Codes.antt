@@ -1,0 +1,44 @@
+-- The codes that a picture shows.
+use Rattle.std.specs.Prelude.{◌≡◌, ℕ, Bool, List, All, if◌then◌else◌}
+use Rattle.qrcode_types.specs.declared.types.Color.{Color}
+use Rattle.qrcode_render.specs.Bitmap.{Bitmap}
+use Rattle.qrcode_reader.specs.scan.Grids.{IsSampled}
+use Rattle.qrcode_reader.specs.scan.Squares.{has_dark_edge, inverted}
+use Rattle.qrcode_reader.specs.Positions.{seen}
+use Rattle.qrcode_reader.specs.Readings.{IsPartsCause, ReadsParts}
+use Rattle.qrcode_reader.specs.declared.spell.parts.Part.{Part}
+use Rattle.qrcode_reader.specs.declared.positions.Position.{Position}
+use Rattle.goqlanis_core.specs.Scans.{IsFoundIn, IsPictureOf, IsReadAs}
+use Rattle.goqlanis_core.specs.declared.scanning.Scan.{Scan}
+use Rattle.goqlanis_core.specs.declared.codes.Codes.{Codes}
+use Rattle.goqlanis_core.specs.declared.codes.Missed as missed
+use Rattle.goqlanis_core.specs.declared.codes.Found.{Found}
+use Rattle.goqlanis_core.specs.declared.codes.Found.TheVariants.{Nothing, Code, Missed}
+
+-- what is read is a square that pixels show, and its reading
+pub record IsCodeIn (b : Bitmap) (is_inverted : Bool) (scan : Scan) : Type 0 where
+  pub inverted : scan.is_inverted ≡ is_inverted
+  pub square : IsFoundIn scan b
+  pub read : IsReadAs scan
+
+-- no headers and segments are read, in any position, of the square that stands in a grid; this is why there are none as it stands
+pub record IsMissedIn (b : Bitmap) (m : missed.Missed) : Type 0 where
+  pub modules : List Color
+  pub sampled : IsSampled b m.grid modules
+  pub cause : IsPartsCause modules m.cause
+  pub none : (p : Position) (is_inverted : Bool) (bytes : List ℕ) (parts : List Part) → ¬ ReadsParts (seen m.grid.count p is_inverted modules) bytes parts
+
+-- the same of the pixels of a picture, with dark and light exchanged where their first row is dark
+pub record IsMissedOf (bytes : List ℕ) (m : missed.Missed) : Type 0 where
+  pub pixels : Bitmap
+  pub seen : IsPictureOf bytes pixels
+  pub missed : IsMissedIn (if has_dark_edge pixels then inverted pixels else pixels) m
+
+pub record AreCodesIn (b : Bitmap) (is_inverted : Bool) (codes : Codes) : Type 0 where  -- codes are those of pixels
+  pub scans : All (IsCodeIn b is_inverted) codes.scans.items
+  pub missed : All (IsMissedIn b) codes.missed.items
+
+abbrev pub IsFoundAs : Bitmap → Bool → Found → Type 0  -- what stands in a grid of pixels
+IsFoundAs b is_inverted Nothing = Unit
+IsFoundAs b is_inverted (Code scan) = IsCodeIn b is_inverted scan
+IsFoundAs b is_inverted (Missed m) = IsMissedIn b m
