@@ -93,7 +93,7 @@ static void shapes(void)
     expect(drawing.size == sizeof drawing && drawing.format == GOQ_PNG, "a drawing that is assigned");
     expect(goq_version() == GOQ_VERSION && GOQ_VERSION == 10000, "the version");
     expect(!strcmp(goq_strerror(GOQ_NO_ROOM), "no symbol of the asked kind holds the data"), "the text of an answer");
-    expect(!strcmp(goq_strerror(31), "no answer of this library"), "the text of none");
+    expect(!strcmp(goq_strerror(999), "no answer of this library"), "the text of none");
     expect(goq_width(0) == 0 && goq_width(1) == 21 && goq_width(40) == 177 && goq_width(GOQ_MICRO(1)) == 11 && goq_width(45) == 0, "widths");
     expect(goq_is_functional(1, 0, 0) && !goq_is_functional(1, 20, 20) && !goq_is_functional(1, 21, 0) && !goq_is_functional(0, 0, 0), "patterns");
     expect(goq_least_version((const uint8_t *)"01234567", 8, 9, &version) == GOQ_NO_SUCH_LEVEL && version == 77, "level 9");

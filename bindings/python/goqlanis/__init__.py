@@ -51,6 +51,8 @@ from typing import TYPE_CHECKING
 
 from . import contents
 from ._checks import Version as Version
+from .areas import Rectangle as Rectangle
+from .areas import Reserve as Reserve
 from .encoding import (encode, encode_gs1, encode_segments, encode_sequence, encode_text,
                        is_functional, least_version, least_version_of_segments)
 from .errors import *  # noqa: F403 - its __all__ alone

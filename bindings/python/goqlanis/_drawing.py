@@ -10,23 +10,24 @@ from . import _checks
 from . import _numbers as goq
 from ._checks import shown
 from ._colours import are_close, colour
+from ._formats import FORMATS
 from ._library import Drawing, library
 from .errors import NoSuchSize, NotInFormat, OutOfMemory, refuse
 
 
 class Kind(NamedTuple):
-    """A format: the library's number, whether it is a text, and the usual pixels of a module."""
+    """A format: the library's number, whether it is a text, the usual pixels of a module, and whether
+    it has colours."""
     number: int
     is_text: bool
     scale: int
+    has_colours: bool
 
 
-KINDS = {"txt": Kind(goq.HALF_BLOCKS, True, 1), "png": Kind(goq.PNG, False, 8),
-         "svg": Kind(goq.SVG_PATH, True, 8), "eps": Kind(goq.EPS, True, 8),
-         "pic": Kind(goq.PIC, True, 1), "pbm": Kind(goq.PBM, False, 8),
-         "pgm": Kind(goq.PGM, False, 8)}
+KINDS = {ending: Kind(*row) for ending, row in FORMATS.items()}
 # Formats that are no files: half blocks for dark grounds, and rows of pixels.
-OTHERS = {"light": Kind(goq.LIGHT_HALF_BLOCKS, True, 1), "grey": Kind(goq.GREY, False, 8)}
+OTHERS = {"light": Kind(goq.LIGHT_HALF_BLOCKS, True, 1, False),
+          "grey": Kind(goq.GREY, False, 8, False)}
 MOST_SIDE = 65535
 Size = Union[int, str, None]
 
@@ -45,10 +46,10 @@ class Look(NamedTuple):
 def drawn(modules: bytes, width: int, usual_zone: int, name: str, look: Look) -> bytes:
     """The drawing of modules in a format."""
     kind = KINDS.get(name) or OTHERS[name]
-    zone = _zone(look, usual_zone)
+    zone = zone_of(look, usual_zone)
     across = width + 2 * zone
     scale = _scale(look, kind) if look.size is None else _fitted(look, name, across)
-    dark, light, dpi = _ink(look, name)
+    dark, light, dpi = _ink(look, name, kind.has_colours)
     side = across * scale
     if name == "png" and side > MOST_SIDE:
         raise NoSuchSize(f"a PNG file of {side:,} pixels a side has more than {MOST_SIDE:,}: take "
@@ -69,7 +70,7 @@ def _room(count: int) -> bytearray:
         raise OutOfMemory(f"a picture of {count:,} bytes: take a smaller scale") from None
 
 
-def _zone(look: Look, usual: int) -> int:
+def zone_of(look: Look, usual: int) -> int:
     """The modules of the quiet zone."""
     if look.border is not None and look.quiet_zone is not None:
         raise TypeError("border and quiet_zone are one thing: give one of them")
@@ -109,13 +110,13 @@ def _pixels(look: Look, dots: Any) -> int:
     return _checks.whole("size in pixels", size, 1, MOST_SIDE, NoSuchSize)
 
 
-def _ink(look: Look, name: str) -> Tuple[int, int, int]:
+def _ink(look: Look, name: str, has_colours: bool) -> Tuple[int, int, int]:
     """The colours of dark and light modules, and the dots per inch, 0 for none."""
     dark, light = colour("dark", look.dark), colour("light", look.light)
-    if name not in ("png", "svg", "eps") and (dark, light) != (0x000000, 0xFFFFFF):
-        raise NotInFormat(f"{name.upper()} is black on white; PNG, SVG and EPS have colours")
-    if name == "eps" and max(dark, light) > 0xFFFFFF:
-        raise NotInFormat("EPS has opaque colours alone; PNG and SVG have transparent ones")
+    if not has_colours and (dark, light) != (0x000000, 0xFFFFFF):
+        raise NotInFormat(f"{name.upper()} is black on white; PNG, SVG, EPS, PDF and PPM have colours")
+    if name not in ("png", "svg") and max(dark, light) > 0xFFFFFF:
+        raise NotInFormat(f"{name.upper()} has opaque colours alone; PNG and SVG have transparent ones")
     if dark == light:
         raise ValueError(f"dark and light are one colour, {shown(look.dark)}: nobody sees the "
                          "symbol")

@@ -139,7 +139,7 @@ def _wrong(answer: int, element: Element) -> str:
     if answer == 42:
         why = "no such identifier is known; they have two to four digits, as 01, 414 and 3103"
     if answer == 43:
-        why = (f"its value has {element.value_length:,} characters; it wants "
+        why = (f"its value has {element.value_length:,} characters; it needs "
                f"{_lengths(element.identifier)}")
     return f", ({_checks.cut(identifier)}): {why}"
 

@@ -67,6 +67,23 @@ class Element(ctypes.Structure):
                 ("value_length", _size)]
 
 
+class Rectangle(ctypes.Structure):
+    """goq_rectangle."""
+    _fields_ = [("left", _size), ("top", _size), ("width", _size), ("height", _size)]
+
+
+class Taken(ctypes.Structure):
+    """goq_taken."""
+    _fields_ = [("blocks", _size), ("allowed", _size), ("worst", _size), ("first", _size),
+                ("last", _size), ("least", _size), ("may_show_anything", _number)]
+
+
+class Wish(ctypes.Structure):
+    """goq_wish."""
+    _fields_ = [("size", _number), ("across", _number), ("down", _number), ("reserve", _number),
+                ("keep_alignment", _number)]
+
+
 _to = ctypes.POINTER
 _IN, _OUT, _COUNT = [_data, _size], [_place, _size], _to(_size)
 _CALLS: Dict[str, List[Any]] = {
@@ -86,6 +103,9 @@ _CALLS: Dict[str, List[Any]] = {
     "goq_join": [_to(Square), _size, *_OUT, _COUNT, _COUNT],
     "goq_content": [_number, _to(Field), _size, *_OUT, _COUNT, _COUNT],
     "goq_gs1": [_to(Element), _size, *_OUT, _COUNT, _COUNT],
+    "goq_reserve": [_number, _number, _to(Rectangle), _size, _COUNT, _size, _to(Taken)],
+    "goq_largest_area": [_number, _number, _to(Wish), _to(Rectangle)],
+    "goq_cover": [*_OUT, _to(Rectangle), _size, _COUNT],
 }
 
 

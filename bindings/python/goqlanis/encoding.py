@@ -203,7 +203,7 @@ def encode_gs1(elements: Elements, level: str = "M", version: Optional[Version] 
     >>> encode_gs1([("20", "123")])
     Traceback (most recent call last):
         ...
-    goqlanis.contents.WrongLength: element 1, (20): its value has 3 characters; it wants 2
+    goqlanis.contents.WrongLength: element 1, (20): its value has 3 characters; it needs 2
     """
     given, versions = elements_of(elements), _versions(version, least_version, False)
     string_of(given)

@@ -6,7 +6,7 @@ from . import _numbers as goq
 __all__ = ["Error", "NoSuchLevel", "NoSuchVersion", "LevelNotInVersion", "TooLong", "NoMode",
            "NoRoom", "NoSuchMask", "OutOfMemory", "NoSuchSize", "NotInFormat", "NotInMode",
            "NoSuchNumber", "Unread", "NoSuchSide", "NoFormat", "Damaged", "NotSpelled", "NotShown",
-           "NotJoined"]
+           "NotJoined", "NoSuchArea", "AreaTooLarge"]
 
 
 class Error(Exception):
@@ -103,6 +103,14 @@ class NotJoined(Error, ValueError):
     """Squares are not all the parts of one sequence."""
 
 
+class NoSuchArea(Error, ValueError):
+    """An area has no rectangle, or one that is not inside the symbol."""
+
+
+class AreaTooLarge(Error, ValueError):
+    """An area takes more of a symbol than may be lost."""
+
+
 _CAUSES: Dict[int, Tuple[Type[Error], str]] = {
     goq.NO_SUCH_LEVEL: (NoSuchLevel, "the levels are L, M, Q and H"),
     goq.NO_SUCH_VERSION: (NoSuchVersion, "the versions are 1 to 40 and M1 to M4"),
@@ -130,6 +138,13 @@ _CAUSES: Dict[int, Tuple[Type[Error], str]] = {
     goq.NOT_SHOWN: (NotShown, "the bits are not a text that readers show; read gives the bytes"),
     goq.NOT_READ: (Unread, "the square is read in none of the sixteen positions, or has a header: "
                    "read says more, once it is upright"),
+    goq.NO_SUCH_AREA: (NoSuchArea, "an area is a rectangle inside the symbol, or several: left, "
+                       "top, width and height in modules"),
+    goq.NO_AREA: (AreaTooLarge, "no area in the middle leaves so much: take a higher level, or less "
+                  "reserve"),
+    goq.AREA_BLOCK: (AreaTooLarge, "the area touches more codewords of a block than may be lost"),
+    goq.AREA_FORMAT: (AreaTooLarge, "the area has more than three modules of a copy of the format "
+                      "word: move it"),
 }
 
 # They are shown as the package exports them.

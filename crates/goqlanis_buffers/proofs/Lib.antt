@@ -1,3 +1,4 @@
+pub mod Covered
 pub mod Ended
 pub mod Known
 pub mod Least

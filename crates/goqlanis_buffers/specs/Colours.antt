@@ -3,7 +3,7 @@ use Rattle.std.specs.Prelude.{ℕ, ◌-◌, ◌/◌, ◌%◌, ◌^◌, ◌==◌,
 use Rattle.std.specs.Fmt.{digit_glyph}
 use Rattle.goqlanis_core.specs.Formats.{Shade}
 use Rattle.goqlanis_core.specs.declared.formats.Format.{Format}
-use Rattle.goqlanis_core.specs.declared.formats.Format.TheVariants.{Png, Svg, SvgPath, Eps}
+use Rattle.goqlanis_core.specs.declared.formats.Format.TheVariants.{Png, Svg, SvgPath, Eps, Pdf, Ppm}
 
 abbrev pub red_of : ℕ → ℕ
 red_of colour = colour / 65536 % 256
@@ -45,4 +45,6 @@ has_colours Png dark light = true
 has_colours Svg dark light = true
 has_colours SvgPath dark light = true
 has_colours Eps dark light = nat_lt dark (2 ^ 24) && nat_lt light (2 ^ 24)
+has_colours Pdf dark light = nat_lt dark (2 ^ 24) && nat_lt light (2 ^ 24)
+has_colours Ppm dark light = nat_lt dark (2 ^ 24) && nat_lt light (2 ^ 24)
 has_colours f dark light = (dark == 0) && (light == 0xffffff)

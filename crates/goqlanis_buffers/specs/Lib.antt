@@ -1,4 +1,5 @@
 pub mod Answers
+pub mod Areas
 pub mod Asking
 pub mod Calls
 pub mod Colours

@@ -71,6 +71,14 @@ pub enum Refusal {
     Parity,
     /// The square is read in no position.
     NotRead,
+    /// An area has no rectangle, or one without a module or not inside the symbol.
+    NoSuchArea,
+    /// No rectangle in the middle leaves what is asked.
+    NoArea,
+    /// The area touches more codewords of a block than may be lost.
+    AreaBlock,
+    /// The area has more than three modules of a copy of the format word.
+    AreaFormat,
 }
 
 impl Refusal {
@@ -110,6 +118,10 @@ impl Refusal {
             Refusal::Twice => 28,
             Refusal::Parity => 29,
             Refusal::NotRead => 30,
+            Refusal::NoSuchArea => 31,
+            Refusal::NoArea => 46,
+            Refusal::AreaBlock => 47,
+            Refusal::AreaFormat => 48,
         }
     }
 }

@@ -25,7 +25,7 @@ pub(crate) fn has_colours(format: Format, dark: u32, light: u32) -> bool
 {
     match format {
         Format::Png | Format::Svg | Format::SvgPath => true,
-        Format::Eps => dark < CLEAR && light < CLEAR,
+        Format::Eps | Format::Pdf | Format::Ppm => dark < CLEAR && light < CLEAR,
         _ => dark == BLACK && light == WHITE,
     }
 }

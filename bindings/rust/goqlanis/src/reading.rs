@@ -22,17 +22,20 @@ pub enum Unread {
     OutOfMemory,
 }
 
+// The causes, by the answers of the library.
+const CAUSES: [(u32, Unread); 6] = [
+    (sys::GOQ_NO_SUCH_SIDE, Unread::NoSuchSide),
+    (sys::GOQ_NO_FORMAT, Unread::NoFormat),
+    (sys::GOQ_DAMAGED, Unread::Damaged),
+    (sys::GOQ_NOT_SPELLED, Unread::NotSpelled),
+    (sys::GOQ_NOT_SHOWN, Unread::NotShown),
+    (sys::GOQ_NOT_READ, Unread::NotRead),
+];
+
 impl fmt::Display for Unread {
     fn fmt(&self, out: &mut fmt::Formatter<'_>) -> fmt::Result {
-        out.write_str(match self {
-            Unread::NoSuchSide => "no version has so many modules",
-            Unread::NoFormat => "no format word is near each of its copies",
-            Unread::Damaged => "a block has too many wrong codewords",
-            Unread::NotSpelled => "the bits are not segments and an end",
-            Unread::NotShown => "the bits are not a text that readers show",
-            Unread::NotRead => "the square is read in no position",
-            Unread::OutOfMemory => "out of memory",
-        })
+        let found = CAUSES.iter().find(|row| row.1 == *self);
+        out.write_str(sys::goq_strerror(found.map_or(sys::GOQ_OUT_OF_MEMORY, |row| row.0)))
     }
 }
 
@@ -43,7 +46,9 @@ impl std::error::Error for Unread {}
 pub struct Reading {
     /// The bytes of its segments.
     pub data: Vec<u8>,
+    /// The version.
     pub version: Version,
+    /// The error correction level.
     pub ec_level: EcLevel,
     /// The number of the mask, 0 to 7, in Micro 0 to 3.
     pub mask: u32,
@@ -144,13 +149,5 @@ pub(crate) fn modules(colors: &[Color]) -> Vec<u8> {
 
 // What an answer other than success means.
 pub(crate) fn unread(answer: u32) -> Unread {
-    match answer {
-        sys::GOQ_NO_SUCH_SIDE => Unread::NoSuchSide,
-        sys::GOQ_NO_FORMAT => Unread::NoFormat,
-        sys::GOQ_DAMAGED => Unread::Damaged,
-        sys::GOQ_NOT_SPELLED => Unread::NotSpelled,
-        sys::GOQ_NOT_SHOWN => Unread::NotShown,
-        sys::GOQ_NOT_READ => Unread::NotRead,
-        _ => Unread::OutOfMemory,
-    }
+    CAUSES.iter().find(|row| row.0 == answer).map_or(Unread::OutOfMemory, |row| row.1)
 }

@@ -1,4 +1,4 @@
-//! Pictures of a symbol: characters, half blocks, SVG, PIC, EPS, PNG, PBM, PGM and rows of grey pixels, drawn by the library.
+//! Pictures of a symbol: characters, half blocks, SVG, PIC, EPS, PNG, PBM, PGM, rows of grey pixels and more, drawn by the library.
 use goqlanis_sys as sys;
 use std::fmt;
 
@@ -169,6 +169,7 @@ fn accepted(answer: u32) -> Result<(), RenderError> {
 // A format whose values have no colours.
 macro_rules! file_format {
     ($about:literal, $module:ident::$type:ident, $image:ty, $size:expr, $number:ident, $drawn:ident) => {
+        #[doc = $about]
         pub mod $module {
             #[doc = $about]
             #[derive(Clone, Copy, Debug, Default, PartialEq, Eq)]
@@ -193,11 +194,47 @@ file_format!("The bytes of a PBM file.", pbm::Bit, Vec<u8>, 8, GOQ_PBM, plain);
 file_format!("The bytes of a PGM file.", pgm::Grey, Vec<u8>, 8, GOQ_PGM, plain);
 file_format!("Rows of pixels, a byte each: 0 for a dark one, 255 for a light one.", grey::Luma, Vec<u8>, 8, GOQ_GREY, plain);
 
+// From goqlanis.h, by bindings/same:
+// Up to here.
+
 pub use grey::Luma;
+
+// A format of red, green and blue, from 0 to 255.
+macro_rules! colour_format {
+    ($about:literal, $module:ident, $number:ident) => {
+        pub mod $module {
+            #[doc = $about]
+            #[derive(Clone, Copy, Debug, PartialEq, Eq)]
+            pub struct Color(pub [u8; 3]);
+        }
+        impl sealed::Sealed for $module::Color {}
+        impl Pixel for $module::Color {
+            type Image = Vec<u8>;
+            const SIZE: u32 = 8;
+            fn default_color(is_dark: bool) -> Self {
+                $module::Color([if is_dark { 0 } else { 255 }; 3])
+            }
+            fn picture(renderer: &Renderer<'_, Self>) -> Result<Vec<u8>, RenderError> {
+                let word = |$module::Color([red, green, blue])| u32::from_be_bytes([0, red, green, blue]);
+                renderer.drawn(sys::$number, word(renderer.dark), word(renderer.light))
+            }
+        }
+    };
+}
+
+// From goqlanis.h, by bindings/same:
+colour_format!("a PDF file of one page, a point a pixel", pdf, GOQ_PDF);
+file_format!("ZPL II text for label printers, a dot a pixel", zpl::Dot, String, 8, GOQ_ZPL, text);
+file_format!("TSPL commands for label printers, a dot a pixel", tspl::Dot, Vec<u8>, 8, GOQ_TSPL, plain);
+file_format!("ESC/POS raster for receipt printers, at most 65,535 dots a side", escpos::Dot, Vec<u8>, 8, GOQ_ESC_POS, plain);
+file_format!("XBM text", xbm::Dot, String, 8, GOQ_XBM, text);
+colour_format!("a PPM file, three bytes a pixel", ppm, GOQ_PPM);
+// Up to here.
 
 // A format of SVG, whose colours are texts.
 macro_rules! svg_format {
     ($about:literal, $module:ident, $number:ident) => {
+        #[doc = $about]
         pub mod $module {
             #[doc = $about]
             #[derive(Clone, Copy, Debug, PartialEq, Eq)]
@@ -232,12 +269,16 @@ fn filled(text: &str, dark: &str, light: &str) -> String {
     colored
 }
 
+/// Encapsulated PostScript.
 pub mod eps {
     /// A colour of an Encapsulated PostScript text.
     #[derive(Clone, Copy, Debug, PartialEq, Eq)]
     pub struct Color {
+        /// Red, 0 to 255.
         pub red: u8,
+        /// Green, 0 to 255.
         pub green: u8,
+        /// Blue, 0 to 255.
         pub blue: u8,
     }
 }
@@ -260,6 +301,7 @@ impl Pixel for eps::Color {
     }
 }
 
+/// PNG files.
 pub mod png {
     /// Red, green, blue and opacity of a PNG file, each from 0 to 255.
     #[derive(Clone, Copy, Debug, PartialEq, Eq)]
@@ -291,6 +333,7 @@ impl Renderer<'_, png::Color> {
     }
 }
 
+/// Half blocks.
 pub mod unicode {
     /// Half blocks, two modules a character: whether there is a block, or none.
     #[derive(Clone, Copy, Debug, PartialEq, Eq)]

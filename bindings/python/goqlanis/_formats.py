@@ -1,0 +1,17 @@
+"""The formats of files, written by bindings/same: of each ending the number of goqlanis.h,
+whether it is a text, the usual pixels of a module, and whether it has colours."""
+FORMATS = {
+    "txt": (0, True, 1, False),
+    "png": (5, False, 8, True),
+    "svg": (8, True, 8, True),
+    "eps": (6, True, 8, True),
+    "pic": (3, True, 1, False),
+    "pbm": (7, False, 8, False),
+    "pgm": (9, False, 8, False),
+    "pdf": (10, False, 8, True),
+    "zpl": (11, True, 8, False),
+    "tspl": (12, False, 8, False),
+    "escpos": (13, False, 8, False),
+    "xbm": (14, True, 8, False),
+    "ppm": (15, False, 8, True),
+}
