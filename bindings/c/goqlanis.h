@@ -1,11 +1,11 @@
 /* QR and Micro QR codes, by a library that is proved correct.
 
-   Data may be any bytes. Calls work in buffers that the caller gives, keep nothing and share
-   nothing: they may run in any threads at once, each with its own buffers. There is nothing to
-   free. A call that answers GOQ_OK has written all its outputs. Any other answer has one cause, the
+   Data may be any bytes. Calls work in buffers that the caller gives; there is nothing to free. The
+   library has no variables of its own, so that calls may run in any threads at once, each with its
+   own buffers. A call that answers GOQ_OK has written all its outputs. Any other answer has one cause, the
    first that applies in the order of the call's comment; GOQ_OUT_OF_MEMORY may come instead of
    those that take memory to find out. All outputs are then unchanged, except that a call with
-   `place` writes there which field, element or square is wrong. A pointer with length 0 may be
+   `place` writes there which field, element, square or block is wrong. A pointer with length 0 may be
    NULL. Of a struct that begins with its size no more than that size is read.
 
    The library gets memory by rattle_alloc, rattle_realloc and rattle_dealloc, which call malloc and
@@ -22,13 +22,14 @@
 extern "C" {
 #endif
 
-/* The version of this header. goq_version() gives that of the library: it has what a header of the
-   same or a lower one declares, as long as the first number is the same. */
+/* The version of this header. */
 #define GOQ_VERSION_MAJOR 1
 #define GOQ_VERSION_MINOR 0
 #define GOQ_VERSION_PATCH 0
 #define GOQ_VERSION (GOQ_VERSION_MAJOR * 10000 + GOQ_VERSION_MINOR * 100 + GOQ_VERSION_PATCH)
 
+/* The version of the library: it has what a header of the same or a lower one declares, as long as
+   the first number is the same. */
 uint32_t goq_version(void);
 
 /* What a struct begins with, in initialisers and in assignments. */
@@ -73,6 +74,7 @@ typedef uint32_t goq_answer;
     X(TWICE, 28, "more than one square has the part at this place") \
     X(PARITY, 29, "the parts are not those of the data that their headers name") \
     X(NOT_READ, 30, "the square is read in none of the sixteen positions") \
+    X(NO_SUCH_AREA, 31, "the area has no rectangle, or one that is not inside the symbol") \
     X(NO_SUCH_CONTENT, 32, "no kind of payload has the number") \
     X(NO_SUCH_FIELD, 33, "the kind has no field at this place") \
     X(FIELD_EMPTY, 34, "the field may not be empty") \
@@ -86,7 +88,13 @@ typedef uint32_t goq_answer;
     X(NO_SUCH_IDENTIFIER, 42, "the application identifier of an element is not in the table") \
     X(ELEMENT_LENGTH, 43, "the value of an element has too few or too many characters") \
     X(FIELD_DECIMALS, 44, "the number has more digits after its point than the format allows") \
-    X(FIELD_WORD, 45, "the field is not one of the words that it may be")
+    X(FIELD_WORD, 45, "the field is not one of the words that it may be") \
+    X(NO_AREA, 46, "no area in the middle leaves so much: take a higher level or less reserve") \
+    X(AREA_BLOCK, 47, "the area touches more codewords of a block than may be lost: take less") \
+    X(AREA_FORMAT, 48, "the area has more than three modules of a copy of the format word: move it") \
+    X(NOT_PICTURE, 49, "it is no PNG, PBM or PGM file and no half blocks: convert it to PNG") \
+    X(BROKEN_PICTURE, 50, "the picture is cut off, damaged, too large or interlaced: save it again") \
+    X(NO_SQUARE, 51, "the picture shows no code, neither in an even margin nor by finder patterns")
 
 enum {
 #define GOQ_NAMED(name, number, text) GOQ_##name = number,
@@ -341,6 +349,7 @@ typedef struct {
 
 #define GOQ_SEVERAL GOQ_INITIAL(goq_several, GOQ_M, GOQ_AS_BYTES, 1, 40, 0)
 
+/* The most symbols that data is split over. */
 enum { GOQ_SEVERAL_MAX = 16 };
 
 /* How modules are drawn. Begin with GOQ_DRAWING, and change what you like. A colour is 0xRRGGBB, to
@@ -429,11 +438,69 @@ typedef struct {
     uint32_t position;
 } goq_any_reading;
 
+/* What the headers between segments say; of each kind the first one counts. */
+typedef struct {
+    uint32_t character_set; /* the number of a character set (ECI), or GOQ_NONE */
+    uint32_t is_gs1; /* 1 behind FNC1 in the first position, or 0 */
+    uint32_t application; /* the indicator behind FNC1 in the second position, or GOQ_NONE */
+    uint32_t place; /* the place of one of several symbols, from 0 on */
+    uint32_t symbols; /* how many they are, or 0 for a single symbol */
+    uint32_t parity; /* the parity of the data of all */
+} goq_headers;
+
+#define GOQ_NONE 0xffffffffu
+
+/* What is read of a picture, apart from its bytes. Begin with GOQ_SCAN. */
+typedef struct {
+    uint32_t size; /* sizeof(goq_scan) */
+    uint32_t position; /* how the symbol stands in the picture */
+    goq_reading reading;
+    goq_headers headers;
+} goq_scan;
+
+#define GOQ_SCAN GOQ_INITIAL(goq_scan, 0, {0}, {0})
+
 /* A square of modules, as goq_read takes it. */
 typedef struct {
     const uint8_t *modules;
     size_t length;
 } goq_square;
+
+/* A rectangle of modules of a symbol, with its left column and its top row, from 0 on. One or more
+   of them are an area. */
+typedef struct {
+    size_t left;
+    size_t top;
+    size_t width;
+    size_t height;
+} goq_rectangle;
+
+/* What an area takes of a symbol, and what it leaves. */
+typedef struct {
+    size_t blocks; /* how many blocks the symbol has */
+    size_t allowed; /* how many codewords of each block may be lost */
+    size_t worst; /* the block of which the area touches most codewords, from 0 on */
+    size_t first; /* the modules that it has of the first copy of the format word; 3 may be lost */
+    size_t last; /* those of the last copy, which in Micro is the first */
+    size_t least; /* how many more codewords of each block may be lost beside it, or 0 */
+    uint32_t may_show_anything; /* 1, or 0 for an area that no symbol bears */
+} goq_taken;
+
+/* What a rectangle in the middle has to leave. Begin with GOQ_WISH, and change what you like. */
+typedef struct {
+    uint32_t size; /* sizeof(goq_wish) */
+    uint32_t across; /* its width and height are in this proportion */
+    uint32_t down;
+    uint32_t reserve; /* how many more codewords of each block may be lost, or GOQ_HALF of them */
+    uint32_t keep_alignment; /* 1 to leave alignment patterns alone, as all others */
+} goq_wish;
+
+#define GOQ_WISH GOQ_INITIAL(goq_wish, 1, 1, GOQ_HALF, 0)
+
+#define GOQ_HALF 0xffffffffu
+
+/* This many numbers are enough for the blocks of every symbol. */
+enum { GOQ_BLOCKS_MAX = 81 };
 
 /* Encodes data at a level, in the smallest Normal version that holds it. The modules go to the
    beginning of `modules`, row by row, 1 for a dark one. GOQ_NO_SUCH_LEVEL, GOQ_NO_ROOM,
@@ -534,6 +601,13 @@ goq_answer goq_read_length(const uint8_t *modules, size_t modules_length, size_t
 goq_answer goq_read_any(const uint8_t *modules, size_t modules_length, void *bytes,
     size_t bytes_length, goq_any_reading *reading);
 
+/* Decodes a picture: a PNG, PBM or PGM file, or half blocks. Its bytes go to the beginning of
+   `bytes`, those after FNC1 with a separator (byte 29) between elements, and the rest to `scan`.
+   GOQ_NO_SUCH_STRUCT, GOQ_NOT_PICTURE, GOQ_BROKEN_PICTURE, GOQ_NO_SQUARE, GOQ_NO_SUCH_SIDE,
+   GOQ_NO_FORMAT, GOQ_DAMAGED, GOQ_NOT_SPELLED, GOQ_SMALL_BUFFER; GOQ_OUT_OF_MEMORY. */
+goq_answer goq_read_picture(const void *picture, size_t picture_length, void *bytes,
+    size_t bytes_length, goq_scan *scan);
+
 /* The text that readers show of a square, in UTF-8, e.g. of a symbol by goq_encode_text or
    goq_encode_marked_text. GOQ_NO_SUCH_SIDE, GOQ_NO_FORMAT, GOQ_DAMAGED, GOQ_NOT_SHOWN,
    GOQ_SMALL_BUFFER; GOQ_OUT_OF_MEMORY. */
@@ -580,6 +654,25 @@ goq_answer goq_gs1(const goq_element *elements, size_t elements_length, void *ou
 goq_answer goq_encode_gs1(const goq_element *elements, size_t elements_length,
     const goq_options *options, uint8_t *modules, size_t modules_length, goq_symbol *symbol,
     size_t *place);
+
+/* What an area takes of a symbol: how many codewords of each block it touches goes to the beginning
+   of `touched`, for which GOQ_BLOCKS_MAX are always enough, and the rest to `taken`.
+   GOQ_NO_SUCH_LEVEL, GOQ_NO_SUCH_VERSION, GOQ_LEVEL_NOT_IN_VERSION, GOQ_NO_SUCH_AREA,
+   GOQ_SMALL_BUFFER; GOQ_OUT_OF_MEMORY. */
+goq_answer goq_reserve(uint32_t version, uint32_t level, const goq_rectangle *area,
+    size_t area_length, size_t *touched, size_t touched_length, goq_taken *taken);
+
+/* The largest rectangle in the middle of a symbol that may show anything and leaves what is wished,
+   to `rectangle`. Both of its sides are odd. GOQ_NO_SUCH_STRUCT, GOQ_NO_SUCH_LEVEL,
+   GOQ_NO_SUCH_VERSION, GOQ_LEVEL_NOT_IN_VERSION, GOQ_NO_AREA; GOQ_OUT_OF_MEMORY. */
+goq_answer goq_largest_area(uint32_t version, uint32_t level, const goq_wish *wish,
+    goq_rectangle *rectangle);
+
+/* Makes an area of a symbol light, as room for a logo. Whatever it then shows, the symbol reads as
+   the same data and nothing else. GOQ_NO_SUCH_SIDE, GOQ_NO_FORMAT, GOQ_NO_SUCH_AREA, GOQ_AREA_BLOCK
+   with the block that loses most as `place`, GOQ_AREA_FORMAT; GOQ_OUT_OF_MEMORY. */
+goq_answer goq_cover(uint8_t *modules, size_t modules_length, const goq_rectangle *area,
+    size_t area_length, size_t *place);
 
 #ifdef __cplusplus
 }

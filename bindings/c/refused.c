@@ -8,10 +8,11 @@ extern size_t pool_requests, pool_refused, pool_most;
 size_t pool_live(void);
 
 /* The last number of a call below, how many contents follow, and how many calls with options. */
-enum { LAST = 9 + GOQ_FORMATS, CONTENTS = 5, OPTIONS = 10 };
+enum { LAST = 9 + GOQ_FORMATS, CONTENTS = 5, OPTIONS = 14 };
 
 static uint8_t data[500], text[500], square[GOQ_MODULES_MAX], shown[21 * 21];
-static uint8_t parts[2 * 21 * 21];
+static uint8_t parts[2 * 21 * 21], picture[5000];
+static size_t picture_length;
 static goq_symbol known;
 static struct outputs {
     uint8_t buffer[700000]; /* room for any picture of the symbol's width */
@@ -20,6 +21,10 @@ static struct outputs {
     size_t count, place;
     uint32_t version;
     goq_any_reading any;
+    goq_scan scan;
+    goq_taken taken;
+    goq_rectangle area;
+    size_t touched[GOQ_BLOCKS_MAX];
 } outputs, before;
 
 /* A content of each way in which its text is written. */
@@ -43,6 +48,8 @@ static uint32_t by_options(int number)
     const goq_square squares[] = {{parts, 21 * 21}, {parts + 21 * 21, 21 * 21}};
     const goq_several fewest = {sizeof fewest, GOQ_M, GOQ_AS_BYTES, 1, 10, 0};
     const goq_several three = {sizeof three, GOQ_M, GOQ_AS_TEXT, 1, 10, 3};
+    const goq_rectangle middle = {10, 10, 1, 1};
+    const goq_wish wish = GOQ_WISH;
     const goq_drawing drawing = {sizeof drawing, GOQ_SVG_PATH, 4, 1, 0x123456, GOQ_TRANSPARENT, 0};
     const size_t modules = (size_t)known.width * known.width, room = sizeof outputs.buffer;
     goq_options options = GOQ_OPTIONS;
@@ -62,6 +69,16 @@ static uint32_t by_options(int number)
     case 6: return goq_read_text(shown, sizeof shown, out, room, &outputs.reading);
     case 7: return goq_join(squares, 2, out, room, &outputs.count, &outputs.place);
     case 8: return goq_mask(square, modules, &outputs.version);
+    case 9: return goq_reserve(10, GOQ_H, &middle, 1, outputs.touched, GOQ_BLOCKS_MAX, &outputs.taken);
+    case 10: return goq_largest_area(10, GOQ_H, &wish, &outputs.area);
+    case 11:
+        memcpy(out, shown, sizeof shown);
+        memcpy(before.buffer, shown, sizeof shown);
+        return goq_cover(out, sizeof shown, &middle, 1, &outputs.place);
+    case 12:
+        memset(before.buffer, 7, sizeof shown);
+        outputs.scan.size = before.scan.size = sizeof outputs.scan;
+        return goq_read_picture(picture, picture_length, out, room, &outputs.scan);
     default:
         options.mask = GOQ_MASK(2);
         return goq_encode_with(data, sizeof data, &options, out, room, &outputs.symbol);
@@ -103,6 +120,8 @@ int main(void)
     if (goq_encode_several(text, 20, &two, parts, sizeof parts, &known, &outputs.count) != GOQ_OK)
         return 1;
     if (goq_encode_text(text, 9, GOQ_M, shown, sizeof shown, &known) != GOQ_OK)
+        return 1;
+    if (goq_draw(shown, sizeof shown, 21, 4, 2, GOQ_PNG, picture, sizeof picture, &picture_length))
         return 1;
     if (goq_encode(data, sizeof data, GOQ_M, square, sizeof square, &known) != GOQ_OK)
         return 1;

@@ -31,7 +31,10 @@ Networks, contacts, payments and more are texts of goqlanis.contents:
 >>> goqlanis.encode(goqlanis.contents.wifi("Guests", "secret")).version
 '3'
 
-A symbol, or a square of modules, is read back:
+A picture, a symbol, or a square of modules is read back:
+
+>>> goqlanis.read("code.png").data
+b'https://example.org'
 
 >>> goqlanis.read(symbol).data, goqlanis.read_text(symbol.matrix)
 (b'https://example.org', 'https://example.org')
@@ -51,10 +54,14 @@ from typing import TYPE_CHECKING
 
 from . import contents
 from ._checks import Version as Version
+from .areas import Rectangle as Rectangle
+from .areas import Reserve as Reserve
 from .encoding import (encode, encode_gs1, encode_segments, encode_sequence, encode_text,
                        is_functional, least_version, least_version_of_segments)
 from .errors import *  # noqa: F403 - its __all__ alone
 from .reading import AnyReading as AnyReading
+from .reading import Headers as Headers
+from .reading import PictureReading as PictureReading
 from .reading import Reading as Reading
 from .reading import join, read, read_any, read_text
 from .symbol import Symbol

@@ -45,7 +45,7 @@ class Look(NamedTuple):
 def drawn(modules: bytes, width: int, usual_zone: int, name: str, look: Look) -> bytes:
     """The drawing of modules in a format."""
     kind = KINDS.get(name) or OTHERS[name]
-    zone = _zone(look, usual_zone)
+    zone = zone_of(look, usual_zone)
     across = width + 2 * zone
     scale = _scale(look, kind) if look.size is None else _fitted(look, name, across)
     dark, light, dpi = _ink(look, name)
@@ -69,7 +69,7 @@ def _room(count: int) -> bytearray:
         raise OutOfMemory(f"a picture of {count:,} bytes: take a smaller scale") from None
 
 
-def _zone(look: Look, usual: int) -> int:
+def zone_of(look: Look, usual: int) -> int:
     """The modules of the quiet zone."""
     if look.border is not None and look.quiet_zone is not None:
         raise TypeError("border and quiet_zone are one thing: give one of them")

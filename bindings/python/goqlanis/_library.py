@@ -51,6 +51,17 @@ class AnyRead(ctypes.Structure):
     _fields_ = [("reading", Read), ("position", _number)]
 
 
+class Headed(ctypes.Structure):
+    """goq_headers."""
+    _fields_ = [("character_set", _number), ("is_gs1", _number), ("application", _number),
+                ("place", _number), ("symbols", _number), ("parity", _number)]
+
+
+class Scan(ctypes.Structure):
+    """goq_scan."""
+    _fields_ = [("size", _number), ("position", _number), ("reading", Read), ("headers", Headed)]
+
+
 class Square(ctypes.Structure):
     """goq_square."""
     _fields_ = [("modules", _data), ("length", _size)]
@@ -67,6 +78,23 @@ class Element(ctypes.Structure):
                 ("value_length", _size)]
 
 
+class Rectangle(ctypes.Structure):
+    """goq_rectangle."""
+    _fields_ = [("left", _size), ("top", _size), ("width", _size), ("height", _size)]
+
+
+class Taken(ctypes.Structure):
+    """goq_taken."""
+    _fields_ = [("blocks", _size), ("allowed", _size), ("worst", _size), ("first", _size),
+                ("last", _size), ("least", _size), ("may_show_anything", _number)]
+
+
+class Wish(ctypes.Structure):
+    """goq_wish."""
+    _fields_ = [("size", _number), ("across", _number), ("down", _number), ("reserve", _number),
+                ("keep_alignment", _number)]
+
+
 _to = ctypes.POINTER
 _IN, _OUT, _COUNT = [_data, _size], [_place, _size], _to(_size)
 _CALLS: Dict[str, List[Any]] = {
@@ -81,11 +109,15 @@ _CALLS: Dict[str, List[Any]] = {
     "goq_draw_with_length": [*_IN, _number, _to(Drawing), _COUNT],
     "goq_read": [*_IN, *_OUT, _to(Read)],
     "goq_read_any": [*_IN, *_OUT, _to(AnyRead)],
+    "goq_read_picture": [*_IN, *_OUT, _to(Scan)],
     "goq_read_text": [*_IN, *_OUT, _to(Read)],
     "goq_mask": [*_IN, _to(_number)],
     "goq_join": [_to(Square), _size, *_OUT, _COUNT, _COUNT],
     "goq_content": [_number, _to(Field), _size, *_OUT, _COUNT, _COUNT],
     "goq_gs1": [_to(Element), _size, *_OUT, _COUNT, _COUNT],
+    "goq_reserve": [_number, _number, _to(Rectangle), _size, _COUNT, _size, _to(Taken)],
+    "goq_largest_area": [_number, _number, _to(Wish), _to(Rectangle)],
+    "goq_cover": [*_OUT, _to(Rectangle), _size, _COUNT],
 }
 
 

@@ -6,7 +6,7 @@ from . import _numbers as goq
 __all__ = ["Error", "NoSuchLevel", "NoSuchVersion", "LevelNotInVersion", "TooLong", "NoMode",
            "NoRoom", "NoSuchMask", "OutOfMemory", "NoSuchSize", "NotInFormat", "NotInMode",
            "NoSuchNumber", "Unread", "NoSuchSide", "NoFormat", "Damaged", "NotSpelled", "NotShown",
-           "NotJoined"]
+           "NotJoined", "NoSuchArea", "AreaTooLarge", "NotPicture", "NoSquare"]
 
 
 class Error(Exception):
@@ -99,8 +99,24 @@ class NotShown(Unread):
     """The data bits are not a text that readers show."""
 
 
+class NotPicture(Unread):
+    """It is no picture that is read, or a broken one."""
+
+
+class NoSquare(Unread):
+    """A picture shows no code."""
+
+
 class NotJoined(Error, ValueError):
     """Squares are not all the parts of one sequence."""
+
+
+class NoSuchArea(Error, ValueError):
+    """An area has no rectangle, or one that is not inside the symbol."""
+
+
+class AreaTooLarge(Error, ValueError):
+    """An area takes more of a symbol than may be lost."""
 
 
 _CAUSES: Dict[int, Tuple[Type[Error], str]] = {
@@ -130,6 +146,19 @@ _CAUSES: Dict[int, Tuple[Type[Error], str]] = {
     goq.NOT_SHOWN: (NotShown, "the bits are not a text that readers show; read gives the bytes"),
     goq.NOT_READ: (Unread, "the square is read in none of the sixteen positions, or has a header: "
                    "read says more, once it is upright"),
+    goq.NOT_PICTURE: (NotPicture, "it is no PNG, PBM or PGM file and no half blocks: convert it to "
+                      "PNG"),
+    goq.BROKEN_PICTURE: (NotPicture, "the picture is cut off, damaged, too large or interlaced: "
+                         "save it again"),
+    goq.NO_SQUARE: (NoSquare, "the picture shows no code, neither in an even margin nor by finder "
+                    "patterns"),
+    goq.NO_SUCH_AREA: (NoSuchArea, "an area is a rectangle inside the symbol, or several: left, "
+                       "top, width and height in modules"),
+    goq.NO_AREA: (AreaTooLarge, "no area in the middle leaves so much: take a higher level, or less "
+                  "reserve"),
+    goq.AREA_BLOCK: (AreaTooLarge, "the area touches more codewords of a block than may be lost"),
+    goq.AREA_FORMAT: (AreaTooLarge, "the area has more than three modules of a copy of the format "
+                      "word: move it"),
 }
 
 # They are shown as the package exports them.

@@ -1,21 +1,24 @@
 """Squares of modules, read back."""
 import ctypes
+import io
 import os
-from typing import Any, Iterable, NamedTuple, Sequence, Union
+from typing import Any, IO, Iterable, NamedTuple, Optional, Sequence, Tuple, Union, overload
 
 from . import _checks, errors
 from . import _numbers as goq
 from ._checks import LEVELS, version_name
-from ._library import AnyRead, Read, Square, library
+from ._library import AnyRead, Read, Scan, Square, library
 from ._numbers import BYTES_MAX, SEVERAL_MAX
 from .errors import NoSuchSide, NotJoined, refuse
 from .symbol import Symbol
 
 HEADED = ("a header is in front, of several symbols, GS1 or another character set than UTF-8: join "
-          "reads several; save a.pbm, and the program's `goqlanis read a.pbm` reads the others")
+          "reads several; read(symbol.png()) reads the others")
 # Answers of calls for which another call reads the square, unless there is such a header.
 OTHERS = {goq.NOT_SPELLED: library.goq_read_text, goq.NOT_SHOWN: library.goq_read}
 Modules = Union[Symbol, Sequence[Sequence[bool]]]
+Picture = Union[str, bytes, bytearray, memoryview, "os.PathLike[str]", IO[bytes]]
+NONE = 0xffffffff
 # The positions in the order of their numbers.
 POSITIONS = ("upright", "turned left", "upside down", "turned right", "mirrored", "flipped",
              "transposed", "antitransposed")
@@ -49,9 +52,38 @@ class AnyReading(NamedTuple):
     is_inverted: bool
 
 
-def read(square: Modules) -> Reading:
+class Headers(NamedTuple):
+    """What the headers between segments say, of each kind the first: the number of a character set (ECI); whether it is GS1; the indicator of an application; the place of one
+    of several symbols, from 1 on, how many they are, and the parity of the data of all. What is not
+    there is None."""
+    character_set: Optional[int]
+    is_gs1: bool
+    application: Optional[int]
+    part: Optional[int]
+    parts: Optional[int]
+    parity: Optional[int]
+
+
+class PictureReading(NamedTuple):
+    """What is read of a picture: as an AnyReading, and what headers say."""
+    data: bytes
+    version: str
+    level: str
+    mask: int
+    wrong: int
+    position: str
+    is_inverted: bool
+    headers: Headers
+
+
+@overload
+def read(square: Modules) -> Reading: ...
+@overload
+def read(square: Picture) -> PictureReading: ...
+def read(square: Any) -> Any:
     """What a square of modules says: of a symbol, or of rows of modules, True or 1 where one is
-    dark, without a quiet zone.
+    dark, without a quiet zone; or what a picture says: a path, the bytes of a file, a file that is
+    open, or an image of Pillow. A picture is PNG, PBM, PGM or half blocks.
 
     >>> from goqlanis import encode
     >>> rows = [list(row) for row in encode(b"01234567", "H").matrix]
@@ -63,10 +95,50 @@ def read(square: Modules) -> Reading:
     Traceback (most recent call last):
         ...
     goqlanis.NoFormat: no format word is near each of its copies; read_any tries all positions
+    >>> found = read(encode("é", marked=True).png())
+    >>> found.data.decode(), found.position, found.headers.character_set
+    ('é', 'upright', 26)
     """
+    picture = _picture_of(square)
+    if picture is not None:
+        return _read_picture(picture)
     modules, out, found = _modules_of(square), _bytes(), Read()
     _refuse(library.goq_read(modules, len(modules), out, len(out), ctypes.byref(found)), modules)
     return _reading(out, found)
+
+
+def _read_picture(picture: bytes) -> PictureReading:
+    out, found = _bytes(), Scan(ctypes.sizeof(Scan))
+    refuse(library.goq_read_picture(picture, len(picture), out, len(out), ctypes.byref(found)))
+    said = found.headers
+    is_part = said.symbols > 0
+    headers = Headers(_number(said.character_set), bool(said.is_gs1), _number(said.application),
+                      said.place + 1 if is_part else None,
+                      said.symbols if is_part else None, said.parity if is_part else None)
+    return PictureReading(*_reading(out, found.reading), *_position(found.position), headers)
+
+
+def _number(found: int) -> Optional[int]:
+    return None if found == NONE else found
+
+
+def _picture_of(given: Any) -> Optional[bytes]:
+    """The bytes of a picture, where it is one."""
+    if isinstance(given, Symbol):
+        return None
+    if isinstance(given, _checks.BINARY):
+        return bytes(given)
+    if isinstance(given, (str, os.PathLike)):
+        with open(given, "rb") as file:
+            return file.read()
+    if hasattr(given, "read"):
+        return _checks.binary("what the file gives", given.read())
+    if hasattr(given, "save") and hasattr(given, "mode"):
+        out = io.BytesIO()
+        (given if given.mode in ("1", "L", "LA", "P", "RGB", "RGBA") else
+         given.convert("RGB")).save(out, "PNG")
+        return out.getvalue()
+    return None
 
 
 def read_any(square: Modules) -> AnyReading:
@@ -79,8 +151,7 @@ def read_any(square: Modules) -> AnyReading:
     """
     modules, out, found = _modules_of(square), _bytes(), AnyRead()
     refuse(library.goq_read_any(modules, len(modules), out, len(out), ctypes.byref(found)))
-    is_inverted, position = divmod(found.position, len(POSITIONS))
-    return AnyReading(*_reading(out, found.reading), POSITIONS[position], bool(is_inverted))
+    return AnyReading(*_reading(out, found.reading), *_position(found.position))
 
 
 def read_text(square: Modules) -> str:
@@ -131,6 +202,11 @@ def _refuse(answer: int, modules: bytes) -> None:
     refuse(answer)
 
 
+def _position(number: int) -> Tuple[str, bool]:
+    is_inverted, position = divmod(number, len(POSITIONS))
+    return POSITIONS[position], bool(is_inverted)
+
+
 def _reading(out: Any, found: Read) -> Reading:
     return Reading(out[:found.length], version_name(found.version), LEVELS[found.level],
                    found.mask, found.wrong)
@@ -142,7 +218,7 @@ def _modules_of(square: Modules) -> bytes:
         return square.modules
     if isinstance(square, (str, bytes, os.PathLike)):
         raise TypeError("square is a Symbol, or rows of modules, each True or False, not "
-                        f"{_checks.shown(square)}: the program's `goqlanis read` reads pictures")
+                        f"{_checks.shown(square)}: read reads pictures")
     given = _checks.listed("square", square, "rows of modules, or a Symbol")
     rows = [_row(f"row {at + 1} of the square", it) for at, it in enumerate(given)]
     if any(len(row) != len(rows) for row in rows):

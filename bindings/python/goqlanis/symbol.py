@@ -6,14 +6,15 @@ import math
 import os
 import sys
 import urllib.parse
-from dataclasses import dataclass
+from dataclasses import dataclass, replace
 from typing import IO, Any, Optional, Tuple, Union
 
-from . import _drawing, _files
+from . import _checks, _drawing, _files, areas
 from ._checks import Version, named, shown
 from ._colours import Colour
 from ._drawing import Look, Size
 from ._library import library
+from .areas import Area, Logo, Rectangle, Reserve
 from .errors import refuse
 
 Path = Union[str, bytes, "os.PathLike[str]"]
@@ -47,6 +48,7 @@ class Symbol:
     modules: bytes
     version: str
     level: str
+    logo: Optional[Logo] = None
 
     def __post_init__(self) -> None:
         if len(self.modules) != self.width ** 2:
@@ -218,8 +220,75 @@ class Symbol:
         """
         return "data:image/png;base64," + base64.b64encode(self.png(**drawing)).decode()
 
+    @named
+    def reserve(self, area: Area) -> Reserve:
+        """What an area takes of the symbol: a rectangle of modules, or several.
+
+        >>> from goqlanis import encode
+        >>> encode("01234567", "H").reserve((8, 8, 5, 5))
+        Reserve(touched=(5,), allowed=8, worst=0, format_modules=(0, 0), least=3)
+        """
+        return areas.reserve(*self._pair(), area)
+
+    @named
+    def largest_area(self, ratio: Tuple[int, int] = (1, 1), *, reserve: Optional[int] = None,
+                     keep_alignment: bool = False) -> Rectangle:
+        """The largest rectangle in the middle that may show anything, of a width and height in a
+        ratio. So many more codewords of each block may be lost, half of them unless you say
+        otherwise. It leaves patterns alone, those of alignment too if you say so.
+
+        >>> from goqlanis import encode
+        >>> encode("01234567", "H").largest_area(reserve=0)
+        Rectangle(left=7, top=7, width=7, height=7)
+        """
+        return areas.largest(*self._pair(), ratio, reserve, keep_alignment)
+
+    @named
+    def with_area(self, area: Optional[Area] = None) -> "Symbol":
+        """The symbol with an area light, by itself the largest one: whatever it then shows, the
+        symbol reads as the same data and nothing else.
+
+        >>> from goqlanis import encode, read
+        >>> read(encode("01234567", "H").with_area()).data
+        b'01234567'
+        >>> encode("01234567").with_area((7, 7, 7, 7))
+        Traceback (most recent call last):
+            ...
+        goqlanis.AreaTooLarge: the area touches 8 codewords of block 1, of which 5 may be lost: \
+take level H, or a smaller area
+        """
+        area = self.largest_area() if area is None else area
+        modules = areas.covered(self.modules, *self._pair(), area)
+        return replace(self, modules=modules)
+
+    @named
+    def with_logo(self, logo: Union[Path, bytes], area: Optional[Rectangle] = None, *,
+                  margin: int = 1, reserve: Optional[int] = None,
+                  keep_alignment: bool = False) -> "Symbol":
+        """The symbol with a logo, an SVG or a PNG file by its path or its bytes, in an area, by
+        itself the largest one of its ratio. SVG shows it, with a margin of light modules; other
+        formats leave the area light.
+
+        >>> from goqlanis import encode
+        >>> logo = b'<svg xmlns="http://www.w3.org/2000/svg" viewBox="0 0 2 1"/>'
+        >>> "<image " in encode("01234567", "H").with_logo(logo).svg()
+        True
+        """
+        data, ratio = areas.loaded(logo)
+        if area is None:
+            area = self.largest_area(ratio, reserve=reserve, keep_alignment=keep_alignment)
+        placed = areas.placed(data, Rectangle(*area), _checks.whole("margin", margin, 0, 99))
+        return replace(self.with_area(area), logo=placed)
+
+    def _pair(self) -> Tuple[int, int]:
+        """The library's numbers of the version and level."""
+        return _checks.version(self.version), _checks.level(self.level)
+
     def _drawn(self, name: str, look: Look) -> bytes:
-        return _drawing.drawn(self.modules, self.width, self.quiet_zone, name, look)
+        found = _drawing.drawn(self.modules, self.width, self.quiet_zone, name, look)
+        if self.logo is None or name != "svg":
+            return found
+        return self.logo.over(found, _drawing.zone_of(look, self.quiet_zone))
 
     def _repr_svg_(self) -> str:
         return self.svg()

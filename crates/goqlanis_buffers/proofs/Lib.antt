@@ -1,9 +1,11 @@
+pub mod Covered
 pub mod Ended
 pub mod Known
 pub mod Least
 pub mod Taken
 pub mod Reported
 pub mod Fields
+pub mod Headed
 mod Joined
 pub mod BySide
 pub mod OnePicture

@@ -1,4 +1,5 @@
 pub mod Answers
+pub mod Areas
 pub mod Asking
 pub mod Calls
 pub mod Colours
@@ -8,6 +9,7 @@ pub mod Names
 pub mod Options
 pub mod Outputs
 pub mod Readings
+pub mod Scanning
 pub mod Segments
 pub mod Several
 pub mod Symbols

@@ -71,6 +71,20 @@ pub enum Refusal {
     Parity,
     /// The square is read in no position.
     NotRead,
+    /// An area has no rectangle, or one without a module or not inside the symbol.
+    NoSuchArea,
+    /// No rectangle in the middle leaves what is asked.
+    NoArea,
+    /// The area touches more codewords of a block than may be lost.
+    AreaBlock,
+    /// The area has more than three modules of a copy of the format word.
+    AreaFormat,
+    /// The bytes are no picture that is read.
+    NotPicture,
+    /// The picture is broken, or of a kind that is not read.
+    BrokenPicture,
+    /// The picture shows no square of modules.
+    NoSquare,
 }
 
 impl Refusal {
@@ -110,6 +124,13 @@ impl Refusal {
             Refusal::Twice => 28,
             Refusal::Parity => 29,
             Refusal::NotRead => 30,
+            Refusal::NoSuchArea => 31,
+            Refusal::NoArea => 46,
+            Refusal::AreaBlock => 47,
+            Refusal::AreaFormat => 48,
+            Refusal::NotPicture => 49,
+            Refusal::BrokenPicture => 50,
+            Refusal::NoSquare => 51,
         }
     }
 }

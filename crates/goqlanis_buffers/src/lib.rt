@@ -1,8 +1,9 @@
 //! Symbols, pictures and readings in the buffers of a caller, who names versions, levels and formats by
-//! numbers, as programs in C do. Each call keeps nothing; where it refuses, all its outputs are as they were.
+//! numbers, as programs in C do. Where a call refuses, all its outputs are as they were.
 #![tactic(auto)]
 
 pub mod answers;
+pub mod areas;
 mod colours;
 pub mod contents;
 pub mod encoding;
@@ -13,6 +14,7 @@ pub mod names;
 pub mod options;
 pub mod pictures;
 pub mod reading;
+pub mod scanning;
 pub mod segments;
 pub mod several;
 pub mod symbols;

@@ -177,15 +177,15 @@ fn read_square(alloc: Global, modules: &[u8]) -> Result<Found, Refusal>
 
 // What the format word of a square names.
 #[derive(Clone, Copy)]
-struct Format {
-    version: Version,
-    level: EcLevel,
-    mask: MaskPattern,
+pub(crate) struct Format {
+    pub(crate) version: Version,
+    pub(crate) level: EcLevel,
+    pub(crate) mask: MaskPattern,
 }
 
 // The format word of a square of modules.
 #[tactic(auto, using(crate::proofs::Known::no_side))]
-fn format_of(alloc: Global, modules: &[u8]) -> Result<Format, Refusal>
+pub(crate) fn format_of(alloc: Global, modules: &[u8]) -> Result<Format, Refusal>
     ensures square { IfOk result (λ f.
         length (colors_of modules.now) ≡ side f.version * side f.version) }
     ensures named { IfOk result (λ f. HasFormat f.version (colors_of modules.now) f.level f.mask) }
@@ -284,7 +284,7 @@ fn read_shown(alloc: Global, modules: &[u8]) -> Result<TextReading, Refusal>
 }
 
 // What C gets of a reading beside its bytes.
-fn reported(
+pub(crate) fn reported(
     version: Version,
     ec_level: EcLevel,
     mask: MaskPattern,
@@ -304,7 +304,7 @@ fn reported(
 }
 
 // The number of a position, and 8 more where colours are exchanged.
-fn position_number(position: Position, is_inverted: bool) -> u32
+pub(crate) fn position_number(position: Position, is_inverted: bool) -> u32
     ensures value { result ≡ position_number position is_inverted }
 {
     let number = match position {

@@ -1,8 +1,9 @@
 //! Symbols, and the texts that they carry, for programs in C: the exported functions alone. Each call works in
-//! buffers that its caller gives, keeps nothing, and may run in any threads at once; where it refuses, all its
-//! outputs are as they were, except for the place of what is wrong in a content or in elements of GS1.
+//! buffers that its caller gives; where it refuses, all its outputs are as they were, except for the place of what
+//! is wrong.
 #![tactic(auto, using(goqlanis_buffers::proofs::Reported::reported))]
 
+mod areas;
 mod contents;
 mod elements;
 mod encoding;

@@ -1,11 +1,13 @@
 //! Squares of modules read back.
 
 ghost use Rattle.goqlanis_buffers.specs.Calls.{IsReported, TellsMask, TellsReadLength, WritesAnyReading, WritesReading, WritesTextReading};
+ghost use Rattle.goqlanis_buffers.specs.Scanning.{WritesScan};
 
 use goqlanis_buffers::answers::answer;
 use goqlanis_buffers::reading::{
     AnyReading, Reading, mask_of, read_any_into, read_into, read_length, read_text_into,
 };
+use goqlanis_buffers::scanning::{Scan, scan_into};
 use std::alloc::Global;
 
 /// The bytes of a square of modules, which are bytes in row order, dark where they are not zero, without
@@ -82,4 +84,24 @@ pub extern "C" fn goq_mask(alloc: Global, modules: &[u8], mask: &mut u32) -> u32
     ensures { IsReported (TellsMask modules.now) result mask.old mask.new }
 {
     answer(mask_of(alloc, modules), mask)
+}
+
+/// The bytes that a picture shows, which is a PNG, PBM or PGM file or half blocks: at the beginning of
+/// `bytes`, for which 7,089 bytes always have room; and what is read beside them, to `scan`, which says
+/// its own size.
+///
+/// 0, or the number of a `Refusal`, of which the first that applies is reported: `NoSuchStruct`;
+/// `NotPicture` or `BrokenPicture`; `NoSquare`; `NoSuchSide`, `NoFormat`, `Damaged` or `NotSpelled`;
+/// `SmallBuffer`; or `OutOfMemory`. Then the outputs are as they were.
+#[unsafe(no_mangle)]
+pub extern "C" fn goq_read_picture(
+    alloc: Global,
+    picture: &[u8],
+    bytes: &mut [u8],
+    scan: &mut Scan,
+) -> u32
+    ensures { IsReported (WritesScan picture.now scan.old.size bytes.old bytes.new)
+        result scan.old scan.new }
+{
+    answer(scan_into(alloc, picture, scan.size, bytes), scan)
 }

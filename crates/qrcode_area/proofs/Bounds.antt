@@ -1,5 +1,5 @@
 -- What the counts say.
-use Rattle.std.proofs.Common.{◌≡◌, ℕ, ◌+◌, ◌-◌, ◌*◌, ◌/◌, ◌<◌, ◌≤◌, ◌↔◌, Bool, true, false, not, List, [], ◌∷◌, ◌++◌, length, map, get_or, refl, sym, ap, ◌∙◌, arith, subst, IsTrue, nat_eq, true≢false, Result, Ok, Err, IfOk, Option, Some, None, SomeIff, is_some}
+use Rattle.std.proofs.Common.{◌≡◌, ℕ, ◌+◌, ◌-◌, ◌*◌, ◌/◌, ◌%◌, ◌<◌, ◌≤◌, ◌↔◌, Bool, true, false, not, List, [], ◌∷◌, ◌++◌, length, map, get_or, refl, sym, ap, ◌∙◌, arith, subst, IsTrue, nat_eq, true≢false, Result, Ok, Err, IfOk, Option, Some, None, SomeIff, is_some}
 use Rattle.std.specs.List.{range_with_len, count_by}
 use Rattle.std.proofs.lemmas.List.FromFn.{map-range_with_len_more, get_or-map-range_with_len, length-map-range_with_len}
 use Rattle.qrcode_types.specs.Blocks.{AreBlocks}
@@ -163,3 +163,9 @@ reads_beside v l s area (Ok r) h = λ bits bytes other encodes stays. reads_with
 
 pub is_code_reserve : {E : Type 0} (v u : Version) (l m : EcLevel) (area : ℕ → ℕ → Bool) (r : Result Reserve E) → v ≡ u → l ≡ m → IfOk r (IsReserve v l area) → IfOk r (IsReserve u m area)
 is_code_reserve v u l m area r e f h = subst (λ (x : EcLevel). IfOk r (IsReserve u x area)) f (subst (λ (x : Version). IfOk r (IsReserve x l area)) e h)
+
+-- an odd number that is larger was tried
+pub tried : (P : ℕ → Type 0) (w less larger : ℕ) → w % 2 ≡ 1 → 2 * less ≤ w → ((k : ℕ) → k < less → P (w - 2 * k)) → w - 2 * less < larger → larger ≤ w → larger % 2 ≡ 1 → P larger
+tried P w less larger odd small before over inside other =
+    let k = (w - larger) / 2 in
+    subst P (let e : w - 2 * k ≡ larger = omega arith in e) (before k (omega arith))

@@ -40,7 +40,3 @@ covered_agrees v area s new square is = record {
 pub covered_light : (v : Version) (area : ℕ → ℕ → Bool) (s new : List Color) → length s ≡ side v * side v → new ≡ covered (side v) area s (length s) → IsLightInside v area new
 covered_light v area s new square is = λ x y i j inside.
     ap (λ (t : List Color). color_at v t x y) is ∙ color_covered v area s x y square i j ∙ ap (λ b. light_if b (color_at v s x y)) inside
-
-pub length_covered : (w : ℕ) (area : ℕ → ℕ → Bool) (s : List Color) (count : ℕ) → length (covered w area s count) ≡ count
-unfolding covered
-length_covered w area s count = length-map-range_with_len (covered_module w area s) 0 count

@@ -110,8 +110,8 @@ pub fn leaves_patterns(kept: Kept, version: Version, area: &Area<'_>) -> bool
     true
 }
 
-// A part of a whole number of modules: the largest odd number that is not over it, or 1.
-fn in_proportion(size: usize, part: u32, whole: u32) -> usize
+/// A part of a whole number of modules: the largest odd number that is not over it, or 1.
+pub fn in_proportion(size: usize, part: u32, whole: u32) -> usize
     requires size { size < 2 ^ 31 }
     requires part { part ≤ whole }
     requires whole { 0 < whole }
@@ -127,9 +127,9 @@ fn in_proportion(size: usize, part: u32, whole: u32) -> usize
     }
 }
 
-// The rectangle of a ratio in the middle of a symbol, its longer side with so many modules, and its
-// shorter one with an odd number.
-fn centred(version: Version, wish: Wish, size: usize) -> Rectangle
+/// The rectangle of a ratio in the middle of a symbol, its longer side with so many modules, or one
+/// less, and both sides with an odd number.
+pub fn centred(version: Version, wish: Wish, size: usize) -> Rectangle
     requires valid { IsTrue (is_valid version) }
     requires at_least { 1 ≤ size }
     requires inside { size ≤ side version }

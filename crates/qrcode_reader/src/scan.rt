@@ -6,6 +6,7 @@ mod grids;
 mod halves;
 mod heads;
 pub mod laws;
+mod micro;
 mod pixels;
 mod samples;
 mod shades;

@@ -46,6 +46,29 @@ pub enum Cause {
     Length,
 }
 
+// The causes, by the answers of the library.
+const CAUSES: [(u32, Cause); 12] = [
+    (sys::GOQ_FIELD_EMPTY, Cause::Empty),
+    (sys::GOQ_FIELD_TOO_LONG, Cause::TooLong),
+    (sys::GOQ_FIELD_TOO_SHORT, Cause::TooShort),
+    (sys::GOQ_FIELD_CONTROL, Cause::ControlCharacter),
+    (sys::GOQ_FIELD_CHARACTER, Cause::Character),
+    (sys::GOQ_FIELD_CHECK_DIGITS, Cause::CheckDigits),
+    (sys::GOQ_FIELD_RANGE, Cause::Range),
+    (sys::GOQ_FIELD_UNUSED, Cause::Unused),
+    (sys::GOQ_FIELD_DECIMALS, Cause::Decimals),
+    (sys::GOQ_FIELD_WORD, Cause::Word),
+    (sys::GOQ_NO_SUCH_IDENTIFIER, Cause::UnknownIdentifier),
+    (sys::GOQ_ELEMENT_LENGTH, Cause::Length),
+];
+
+impl fmt::Display for Cause {
+    fn fmt(&self, out: &mut fmt::Formatter<'_>) -> fmt::Result {
+        let found = CAUSES.iter().find(|row| row.1 == *self);
+        out.write_str(found.map_or("", |row| sys::goq_strerror(row.0)))
+    }
+}
+
 /// Why a value has no text.
 #[derive(Clone, Copy, Debug, PartialEq, Eq)]
 pub enum ContentError {
@@ -62,9 +85,9 @@ pub enum ContentError {
 impl fmt::Display for ContentError {
     fn fmt(&self, out: &mut fmt::Formatter<'_>) -> fmt::Result {
         match self {
-            ContentError::Refused(field, cause) => write!(out, "{field}: {cause:?}"),
-            ContentError::Element(place, cause) => write!(out, "element {place}: {cause:?}"),
-            ContentError::DataTooLong => out.write_str("data too long"),
+            ContentError::Refused(field, cause) => write!(out, "{field}: {cause}"),
+            ContentError::Element(place, cause) => write!(out, "element {place}: {cause}"),
+            ContentError::DataTooLong => out.write_str("no symbol holds so long a text"),
             ContentError::OutOfMemory => out.write_str("out of memory"),
         }
     }
@@ -72,6 +95,7 @@ impl fmt::Display for ContentError {
 
 impl std::error::Error for ContentError {}
 
+/// What a value gives: its text, or why it has none.
 pub type ContentResult = Result<String, ContentError>;
 
 // A field: its name, and its text.
@@ -95,22 +119,11 @@ fn text_of(kind: u32, fields: &[Field<'_>]) -> ContentResult {
 
 // What an answer other than `GOQ_OK` means, where a cause is one of a field.
 fn refused(answer: u32, of_field: impl FnOnce(Cause) -> ContentError) -> ContentError {
-    of_field(match answer {
-        sys::GOQ_FIELD_EMPTY => Cause::Empty,
-        sys::GOQ_FIELD_TOO_LONG => Cause::TooLong,
-        sys::GOQ_FIELD_TOO_SHORT => Cause::TooShort,
-        sys::GOQ_FIELD_CONTROL => Cause::ControlCharacter,
-        sys::GOQ_FIELD_CHARACTER => Cause::Character,
-        sys::GOQ_FIELD_CHECK_DIGITS => Cause::CheckDigits,
-        sys::GOQ_FIELD_RANGE => Cause::Range,
-        sys::GOQ_FIELD_UNUSED => Cause::Unused,
-        sys::GOQ_FIELD_DECIMALS => Cause::Decimals,
-        sys::GOQ_FIELD_WORD => Cause::Word,
-        sys::GOQ_NO_SUCH_IDENTIFIER => Cause::UnknownIdentifier,
-        sys::GOQ_ELEMENT_LENGTH => Cause::Length,
-        sys::GOQ_SMALL_BUFFER => return ContentError::DataTooLong,
-        _ => return ContentError::OutOfMemory,
-    })
+    match CAUSES.iter().find(|row| row.0 == answer) {
+        Some(row) => of_field(row.1),
+        None if answer == sys::GOQ_SMALL_BUFFER => ContentError::DataTooLong,
+        None => ContentError::OutOfMemory,
+    }
 }
 
 /// The element string of GS1, of application identifiers without parentheses and their values: bytes that stand behind FNC1 in first position.
@@ -154,9 +167,13 @@ pub(crate) fn element_error(answer: u32, place: usize) -> ContentError {
 /// How a network is secured.
 #[derive(Clone, Copy, Debug, PartialEq, Eq)]
 pub enum Security {
+    /// No password.
     Open,
+    /// WEP.
     Wep,
+    /// WPA, WPA2, or both with WPA3.
     Wpa,
+    /// WPA3 alone.
     Wpa3,
 }
 
@@ -174,13 +191,18 @@ impl Security {
 /// A wireless network. An open network has an empty password.
 #[derive(Clone, Copy, Debug, PartialEq, Eq)]
 pub struct Wifi<'a> {
+    /// How the network is secured.
     pub security: Security,
+    /// The name of the network, 1 to 32 bytes.
     pub ssid: &'a str,
+    /// Its password, empty for an open one.
     pub password: &'a str,
+    /// Whether it does not broadcast its name.
     pub hidden: bool,
 }
 
 impl Wifi<'_> {
+    /// The text, to be encoded by `QrCode::of_text`.
     pub fn text(&self) -> ContentResult {
         text_of(sys::GOQ_WIFI, &[("ssid", self.ssid), ("password", self.password), ("security", self.security.word()), ("hidden", if self.hidden { "true" } else { "" })])
     }
@@ -189,21 +211,34 @@ impl Wifi<'_> {
 /// A contact, as MECARD. What is empty is left out.
 #[derive(Clone, Copy, Debug, Default, PartialEq, Eq)]
 pub struct Contact<'a> {
+    /// The family name.
     pub family: &'a str,
+    /// The given name.
     pub given: &'a str,
+    /// A telephone number.
     pub phone: &'a str,
+    /// An e-mail address.
     pub email: &'a str,
+    /// The address of a page.
     pub url: &'a str,
+    /// As `1970-01-31` or `19700131`.
     pub birthday: &'a str,
+    /// A note.
     pub note: &'a str,
+    /// The street.
     pub street: &'a str,
+    /// The city.
     pub city: &'a str,
+    /// The region.
     pub region: &'a str,
+    /// The postal code.
     pub code: &'a str,
+    /// The country.
     pub country: &'a str,
 }
 
 impl Contact<'_> {
+    /// The text, as MECARD.
     pub fn mecard(&self) -> ContentResult {
         text_of(
             sys::GOQ_MECARD,
@@ -228,18 +263,31 @@ impl Contact<'_> {
 /// A contact, as vCard 3.0. What is empty is left out.
 #[derive(Clone, Copy, Debug, Default, PartialEq, Eq)]
 pub struct Card<'a> {
+    /// The full name.
     pub name: &'a str,
+    /// The family name.
     pub family: &'a str,
+    /// The given name.
     pub given: &'a str,
+    /// The organisation.
     pub organisation: &'a str,
+    /// A telephone number.
     pub phone: &'a str,
+    /// An e-mail address.
     pub email: &'a str,
+    /// The address of a page.
     pub url: &'a str,
+    /// The street.
     pub street: &'a str,
+    /// The city.
     pub city: &'a str,
+    /// The region.
     pub region: &'a str,
+    /// The postal code.
     pub code: &'a str,
+    /// The country.
     pub country: &'a str,
+    /// A note.
     pub note: &'a str,
     /// The title or function.
     pub title: &'a str,
@@ -247,11 +295,14 @@ pub struct Card<'a> {
     pub birthday: &'a str,
     /// Telephone numbers beside `phone`.
     pub mobile: &'a str,
+    /// The number at work.
     pub work_phone: &'a str,
+    /// The number at home.
     pub home_phone: &'a str,
 }
 
 impl Card<'_> {
+    /// The text, to be encoded by `QrCode::of_text`.
     pub fn text(&self) -> ContentResult {
         text_of(
             sys::GOQ_VCARD,
@@ -287,18 +338,26 @@ fn amount(cents: u64) -> String {
 /// A SEPA credit transfer, of version 001 with a BIC and of 002 without.
 #[derive(Clone, Copy, Debug, Default, PartialEq, Eq)]
 pub struct Payment<'a> {
+    /// The payee, up to 70 characters.
     pub name: &'a str,
+    /// The account number.
     pub iban: &'a str,
     /// The amount in cents of a euro.
     pub cents: u64,
+    /// The code of the bank; with it the text is one of version 001.
     pub bic: &'a str,
+    /// Up to four letters and digits.
     pub purpose: &'a str,
+    /// A reference of ISO 11649, in place of a message.
     pub reference: &'a str,
+    /// A message to the payee, up to 140 characters.
     pub message: &'a str,
+    /// A note to the payer, up to 70 characters.
     pub information: &'a str,
 }
 
 impl Payment<'_> {
+    /// The text, to be encoded by `QrCode::of_text`.
     pub fn text(&self) -> ContentResult {
         text_of(
             sys::GOQ_PAYMENT,
@@ -319,7 +378,9 @@ impl Payment<'_> {
 /// The currency of a bill.
 #[derive(Clone, Copy, Debug, PartialEq, Eq)]
 pub enum Currency {
+    /// CHF.
     Franc,
+    /// EUR.
     Euro,
 }
 
@@ -335,29 +396,41 @@ impl Currency {
 /// A name with its address.
 #[derive(Clone, Copy, Debug, Default, PartialEq, Eq)]
 pub struct Party<'a> {
+    /// The name, up to 70 characters.
     pub name: &'a str,
+    /// The street.
     pub street: &'a str,
+    /// The house number.
     pub number: &'a str,
+    /// The postal code.
     pub code: &'a str,
+    /// The city.
     pub city: &'a str,
+    /// Two letters, as `CH`.
     pub country: &'a str,
 }
 
 /// A Swiss QR bill.
 #[derive(Clone, Copy, Debug, PartialEq, Eq)]
 pub struct Bill<'a> {
+    /// An account of Switzerland or Liechtenstein.
     pub iban: &'a str,
+    /// Who is paid.
     pub creditor: Party<'a>,
     /// The amount in hundredths, or left open.
     pub cents: Option<u64>,
+    /// The currency.
     pub currency: Currency,
     /// Who pays; all fields empty where nobody is named.
     pub debtor: Party<'a>,
+    /// 27 digits for a QR-IBAN; `RF..` or none for another account.
     pub reference: &'a str,
+    /// A message to the payee, up to 140 characters.
     pub message: &'a str,
 }
 
 impl Bill<'_> {
+    /// The text, to be encoded by `QrCode::of_text`.
     pub fn text(&self) -> ContentResult {
         let (creditor, debtor) = (&self.creditor, &self.debtor);
         text_of(
@@ -388,12 +461,16 @@ impl Bill<'_> {
 /// A mail. What is empty is left out.
 #[derive(Clone, Copy, Debug, Default, PartialEq, Eq)]
 pub struct Mail<'a> {
+    /// The address of who gets it.
     pub address: &'a str,
+    /// The subject.
     pub subject: &'a str,
+    /// The text.
     pub body: &'a str,
 }
 
 impl Mail<'_> {
+    /// The text, to be encoded by `QrCode::of_text`.
     pub fn text(&self) -> ContentResult {
         text_of(sys::GOQ_MAIL, &[("address", self.address), ("subject", self.subject), ("body", self.body)])
     }
@@ -402,7 +479,9 @@ impl Mail<'_> {
 /// A place on the earth, in millionths of a degree north of the equator and east of Greenwich.
 #[derive(Clone, Copy, Debug, PartialEq, Eq)]
 pub struct Place {
+    /// Millionths of a degree north of the equator.
     pub latitude: i32,
+    /// Millionths of a degree east of Greenwich.
     pub longitude: i32,
 }
 
@@ -413,6 +492,7 @@ fn degrees(millionths: i32) -> String {
 }
 
 impl Place {
+    /// The text, to be encoded by `QrCode::of_text`.
     pub fn text(&self) -> ContentResult {
         text_of(sys::GOQ_GEO, &[("latitude", &degrees(self.latitude)), ("longitude", &degrees(self.longitude))])
     }
@@ -421,6 +501,7 @@ impl Place {
 /// A telephone number.
 #[derive(Clone, Copy, Debug, PartialEq, Eq)]
 pub struct Phone<'a> {
+    /// The number.
     pub number: &'a str,
 }
 
@@ -453,8 +534,11 @@ pub enum Factor {
 /// The hash of one-time passwords.
 #[derive(Clone, Copy, Debug, PartialEq, Eq)]
 pub enum Algorithm {
+    /// SHA-1, the usual one.
     Sha1,
+    /// SHA-256.
     Sha256,
+    /// SHA-512.
     Sha512,
 }
 
@@ -471,7 +555,9 @@ impl Algorithm {
 /// How many digits a one-time password has.
 #[derive(Clone, Copy, Debug, PartialEq, Eq)]
 pub enum Digits {
+    /// Six digits.
     Six,
+    /// Eight digits.
     Eight,
 }
 
@@ -487,16 +573,22 @@ impl Digits {
 /// One-time passwords of an account.
 #[derive(Clone, Copy, Debug, PartialEq, Eq)]
 pub struct OneTime<'a> {
+    /// What makes a new password.
     pub factor: Factor,
+    /// Who gives the account.
     pub issuer: &'a str,
+    /// The name of the account.
     pub account: &'a str,
     /// In base 32, without `=` at its end.
     pub secret: &'a str,
+    /// The algorithm.
     pub algorithm: Algorithm,
+    /// How long a password is.
     pub digits: Digits,
 }
 
 impl OneTime<'_> {
+    /// The text, to be encoded by `QrCode::of_text`.
     pub fn text(&self) -> ContentResult {
         let (period, counter) = match self.factor {
             Factor::Time(seconds) => (seconds.to_string(), String::new()),
@@ -511,17 +603,24 @@ impl OneTime<'_> {
 /// A day of the calendar.
 #[derive(Clone, Copy, Debug, PartialEq, Eq)]
 pub struct Day {
+    /// The year.
     pub year: u16,
+    /// The month, from 1 on.
     pub month: u8,
+    /// The day.
     pub day: u8,
 }
 
 /// A second of a day, in UTC.
 #[derive(Clone, Copy, Debug, PartialEq, Eq)]
 pub struct Moment {
+    /// The day.
     pub day: Day,
+    /// The hour.
     pub hour: u8,
+    /// The minute.
     pub minute: u8,
+    /// The second.
     pub second: u8,
 }
 
@@ -549,16 +648,22 @@ pub enum Span {
 /// An event of a calendar. What is empty is left out.
 #[derive(Clone, Copy, Debug, PartialEq, Eq)]
 pub struct Event<'a> {
+    /// An identifier that no other event has, or empty.
     pub uid: &'a str,
     /// When it was written.
     pub stamp: Option<Moment>,
+    /// From when until when.
     pub span: Span,
+    /// What it is.
     pub summary: &'a str,
+    /// Where it is.
     pub location: &'a str,
+    /// More about it.
     pub description: &'a str,
 }
 
 impl Event<'_> {
+    /// The text, to be encoded by `QrCode::of_text`.
     pub fn text(&self) -> ContentResult {
         let (begin, end) = match self.span {
             Span::Days(first, end) => (first.text(), end.text()),
@@ -580,20 +685,33 @@ impl Event<'_> {
 }
 
 /// A payment by UPI, in rupees. What is empty is left out.
+///
+/// ```
+/// use goqlanis::contents::{Cause, ContentError, Upi};
+///
+/// let upi = Upi { payee: "nadeem@npci", name: "nadeem chinna", cents: Some(1000), note: "Pay to mystar store", reference: "4894398cndhcd23", category: "0000" };
+/// assert_eq!(upi.text()?, "upi://pay?pa=nadeem@npci&pn=nadeem%20chinna&mc=0000&tr=4894398cndhcd23&tn=Pay%20to%20mystar%20store&am=10.00&cu=INR");
+/// assert_eq!(Upi { payee: "nadeem", ..upi }.text(), Err(ContentError::Refused("payee", Cause::Character)));
+/// # Ok::<(), ContentError>(())
+/// ```
 #[derive(Clone, Copy, Debug, Default, PartialEq, Eq)]
 pub struct Upi<'a> {
     /// An address as name@bank.
     pub payee: &'a str,
+    /// The name of the payee.
     pub name: &'a str,
     /// The amount in paise; without one the payer says it.
     pub cents: Option<u64>,
+    /// A note.
     pub note: &'a str,
+    /// As the number of an order.
     pub reference: &'a str,
     /// The category of a merchant, four digits.
     pub category: &'a str,
 }
 
 impl Upi<'_> {
+    /// The text, to be encoded by `QrCode::of_text`.
     pub fn text(&self) -> ContentResult {
         text_of(
             sys::GOQ_UPI,
@@ -610,20 +728,33 @@ impl Upi<'_> {
 }
 
 /// A static payment by Pix, in reais, of characters of ASCII.
+///
+/// ```
+/// use goqlanis::contents::{Cause, ContentError, Pix};
+///
+/// let pix = Pix { payee: "123e4567-e12b-12d1-a456-426655440000", name: "Fulano de Tal", city: "BRASILIA", ..Pix::default() };
+/// assert_eq!(pix.text()?, "00020126580014br.gov.bcb.pix0136123e4567-e12b-12d1-a456-4266554400005204000053039865802BR5913Fulano de Tal6008BRASILIA62070503***63041D3D");
+/// assert_eq!(Pix { city: "São Paulo", ..pix }.text(), Err(ContentError::Refused("city", Cause::Character)));
+/// # Ok::<(), ContentError>(())
+/// ```
 #[derive(Clone, Copy, Debug, Default, PartialEq, Eq)]
 pub struct Pix<'a> {
     /// A key.
     pub payee: &'a str,
+    /// The name of the payee, up to 25 bytes of ASCII.
     pub name: &'a str,
+    /// The city, up to 15 bytes of ASCII.
     pub city: &'a str,
     /// The amount in centavos; without one the payer says it.
     pub cents: Option<u64>,
     /// Letters and digits (txid).
     pub reference: &'a str,
+    /// With the key up to 73 bytes of ASCII.
     pub description: &'a str,
 }
 
 impl Pix<'_> {
+    /// The text, to be encoded by `QrCode::of_text`.
     pub fn text(&self) -> ContentResult {
         text_of(
             sys::GOQ_PIX,
@@ -640,6 +771,15 @@ impl Pix<'_> {
 }
 
 /// A payment by PromptPay, in baht.
+///
+/// ```
+/// use goqlanis::contents::{Cause, ContentError, PromptPay};
+///
+/// let phone = PromptPay { payee: "0000000000", cents: Some(422) };
+/// assert_eq!(phone.text()?, "00020101021229370016A000000677010111011300660000000005802TH530376454044.226304E469");
+/// assert_eq!(PromptPay { cents: Some(0), ..phone }.text(), Err(ContentError::Refused("cents", Cause::Range)));
+/// # Ok::<(), ContentError>(())
+/// ```
 #[derive(Clone, Copy, Debug, Default, PartialEq, Eq)]
 pub struct PromptPay<'a> {
     /// The ten digits of a telephone number, the thirteen of a national or tax ID, or the fifteen of an electronic wallet.
@@ -649,6 +789,7 @@ pub struct PromptPay<'a> {
 }
 
 impl PromptPay<'_> {
+    /// The text, to be encoded by `QrCode::of_text`.
     pub fn text(&self) -> ContentResult {
         let amount = self.cents.map_or_else(String::new, amount);
         text_of(sys::GOQ_PROMPTPAY, &[("payee", self.payee), ("cents", &amount)])

@@ -11,16 +11,19 @@
 //! assert_eq!(ticket.width(), 13);
 //! # Ok::<(), goqlanis::QrError>(())
 //! ```
+#![warn(missing_docs)]
+
 use goqlanis_sys as sys;
 use std::fmt;
 use std::ops::{Index, Not};
 
+pub mod areas;
 pub mod contents;
 pub mod reading;
 pub mod render;
 pub mod several;
 
-pub use reading::{read, read_any, read_text, Position, Reading, Unread};
+pub use reading::{read, read_any, read_picture, read_text, Headers, Position, Reading, Unread};
 
 /// Why no symbol is made.
 #[derive(Clone, Copy, Debug, PartialEq, Eq)]
@@ -42,11 +45,11 @@ pub enum QrError {
 impl fmt::Display for QrError {
     fn fmt(&self, out: &mut fmt::Formatter<'_>) -> fmt::Result {
         out.write_str(match self {
-            QrError::DataTooLong => "data too long",
-            QrError::InvalidVersion => "invalid version",
-            QrError::UnsupportedCharacterSet => "unsupported character set",
-            QrError::InvalidEciDesignator => "invalid ECI designator",
-            QrError::InvalidCharacter => "invalid character",
+            QrError::DataTooLong => "data too long: take a larger version, a lower level, or several symbols",
+            QrError::InvalidVersion => "invalid version: take one that has the level and the mask",
+            QrError::UnsupportedCharacterSet => "unsupported character set: Normal versions, and Micro 3 and 4, write any bytes",
+            QrError::InvalidEciDesignator => "invalid ECI designator: take one below 1,000,000",
+            QrError::InvalidCharacter => "invalid character: the mode of a segment lacks it, or a text is not UTF-8",
             QrError::OutOfMemory => "out of memory",
         })
     }
@@ -54,6 +57,7 @@ impl fmt::Display for QrError {
 
 impl std::error::Error for QrError {}
 
+/// What a request for a symbol gives.
 pub type QrResult<T> = Result<T, QrError>;
 
 // What an answer to a request for a symbol means.
@@ -74,7 +78,9 @@ fn accepted(answer: u32) -> QrResult<()> {
 /// A version: `Normal` 1 to 40, `Micro` 1 to 4.
 #[derive(Clone, Copy, Debug, PartialEq, Eq, Hash)]
 pub enum Version {
+    /// 1 to 40.
     Normal(i16),
+    /// 1 to 4.
     Micro(i16),
 }
 
@@ -125,9 +131,13 @@ impl Version {
 /// An error correction level.
 #[derive(Clone, Copy, Debug, PartialEq, Eq, PartialOrd, Ord, Hash)]
 pub enum EcLevel {
+    /// Corrects some 7 % of the codewords.
     L,
+    /// Corrects some 15 %.
     M,
+    /// Corrects some 25 %.
     Q,
+    /// Corrects some 30 %.
     H,
 }
 
@@ -185,7 +195,9 @@ pub enum Writing {
 /// What is asked of a symbol.
 #[derive(Clone, Copy, Debug)]
 pub struct Options {
+    /// The error correction level.
     pub ec_level: EcLevel,
+    /// How the data is written.
     pub writing: Writing,
     /// The version, or none for the least that holds the data.
     pub version: Option<Version>,
@@ -234,7 +246,9 @@ impl Options {
 /// The colour of a module.
 #[derive(Clone, Copy, Debug, PartialEq, Eq, PartialOrd, Ord, Hash)]
 pub enum Color {
+    /// A light one.
     Light,
+    /// A dark one.
     Dark,
 }
 

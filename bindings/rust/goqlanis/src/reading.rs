@@ -18,21 +18,33 @@ pub enum Unread {
     NotShown,
     /// The square is read in none of the sixteen positions.
     NotRead,
+    /// It is no PNG, PBM or PGM file and no half blocks.
+    NotPicture,
+    /// The picture is cut off, damaged, too large or interlaced.
+    BrokenPicture,
+    /// The picture shows no code.
+    NoSquare,
     /// Memory was refused.
     OutOfMemory,
 }
 
+// The causes, by the answers of the library.
+const CAUSES: [(u32, Unread); 9] = [
+    (sys::GOQ_NO_SUCH_SIDE, Unread::NoSuchSide),
+    (sys::GOQ_NO_FORMAT, Unread::NoFormat),
+    (sys::GOQ_DAMAGED, Unread::Damaged),
+    (sys::GOQ_NOT_SPELLED, Unread::NotSpelled),
+    (sys::GOQ_NOT_SHOWN, Unread::NotShown),
+    (sys::GOQ_NOT_READ, Unread::NotRead),
+    (sys::GOQ_NOT_PICTURE, Unread::NotPicture),
+    (sys::GOQ_BROKEN_PICTURE, Unread::BrokenPicture),
+    (sys::GOQ_NO_SQUARE, Unread::NoSquare),
+];
+
 impl fmt::Display for Unread {
     fn fmt(&self, out: &mut fmt::Formatter<'_>) -> fmt::Result {
-        out.write_str(match self {
-            Unread::NoSuchSide => "no version has so many modules",
-            Unread::NoFormat => "no format word is near each of its copies",
-            Unread::Damaged => "a block has too many wrong codewords",
-            Unread::NotSpelled => "the bits are not segments and an end",
-            Unread::NotShown => "the bits are not a text that readers show",
-            Unread::NotRead => "the square is read in no position",
-            Unread::OutOfMemory => "out of memory",
-        })
+        let found = CAUSES.iter().find(|row| row.1 == *self);
+        out.write_str(sys::goq_strerror(found.map_or(sys::GOQ_OUT_OF_MEMORY, |row| row.0)))
     }
 }
 
@@ -43,7 +55,9 @@ impl std::error::Error for Unread {}
 pub struct Reading {
     /// The bytes of its segments.
     pub data: Vec<u8>,
+    /// The version.
     pub version: Version,
+    /// The error correction level.
     pub ec_level: EcLevel,
     /// The number of the mask, 0 to 7, in Micro 0 to 3.
     pub mask: u32,
@@ -84,6 +98,51 @@ pub fn read_any(colors: &[Color]) -> Result<(Reading, Position), Unread> {
         sys::goq_read_any(modules.as_ptr(), modules.len(), data.as_mut_ptr(), data.len(), known)
     })
     .map(|(data, known)| (Reading::named(data, known.reading), Position(known.position)))
+}
+
+/// What the headers between segments say, of each kind the first.
+#[derive(Clone, Copy, Debug, PartialEq, Eq)]
+pub struct Headers {
+    /// The number of a character set (ECI).
+    pub character_set: Option<u32>,
+    /// Whether FNC1 stands in the first position, as in GS1.
+    pub is_gs1: bool,
+    /// The indicator behind FNC1 in the second position.
+    pub application: Option<u32>,
+    /// Of one of several symbols its place, from 0 on, how many they are, and the parity of all.
+    pub part: Option<(u32, u32, u32)>,
+}
+
+/// What a picture says: a PNG, PBM or PGM file, or half blocks.
+///
+/// ```
+/// use goqlanis::{read_picture, render::png, Position, QrCode};
+///
+/// let file = QrCode::new(b"01234567")?.render::<png::Color>().build();
+/// let (reading, position, headers) = read_picture(&file)?;
+/// assert_eq!((reading.data, position, headers.character_set), (b"01234567".to_vec(), Position(0), None));
+/// # Ok::<(), Box<dyn std::error::Error>>(())
+/// ```
+pub fn read_picture(picture: &[u8]) -> Result<(Reading, Position, Headers), Unread> {
+    let mut data = vec![0; sys::GOQ_BYTES_MAX];
+    let size = std::mem::size_of::<sys::goq_scan>() as u32;
+    let mut found = sys::goq_scan { size, ..sys::goq_scan::default() };
+    let answer = unsafe {
+        let (out, room) = (data.as_mut_ptr(), data.len());
+        sys::goq_read_picture(picture.as_ptr(), picture.len(), out, room, &mut found)
+    };
+    if answer != sys::GOQ_OK {
+        return Err(unread(answer));
+    }
+    let said = found.headers;
+    let number = |it: u32| (it != sys::GOQ_NONE).then_some(it);
+    let headers = Headers {
+        character_set: number(said.character_set),
+        is_gs1: said.is_gs1 != 0,
+        application: number(said.application),
+        part: (said.symbols > 0).then_some((said.place, said.symbols, said.parity)),
+    };
+    Ok((Reading::named(data, found.reading), Position(found.position), headers))
 }
 
 /// The text that readers show of a square: that of a symbol of a text, marked or not.
@@ -144,13 +203,5 @@ pub(crate) fn modules(colors: &[Color]) -> Vec<u8> {
 
 // What an answer other than success means.
 pub(crate) fn unread(answer: u32) -> Unread {
-    match answer {
-        sys::GOQ_NO_SUCH_SIDE => Unread::NoSuchSide,
-        sys::GOQ_NO_FORMAT => Unread::NoFormat,
-        sys::GOQ_DAMAGED => Unread::Damaged,
-        sys::GOQ_NOT_SPELLED => Unread::NotSpelled,
-        sys::GOQ_NOT_SHOWN => Unread::NotShown,
-        sys::GOQ_NOT_READ => Unread::NotRead,
-        _ => Unread::OutOfMemory,
-    }
+    CAUSES.iter().find(|row| row.0 == answer).map_or(Unread::OutOfMemory, |row| row.1)
 }

@@ -169,6 +169,7 @@ fn accepted(answer: u32) -> Result<(), RenderError> {
 // A format whose values have no colours.
 macro_rules! file_format {
     ($about:literal, $module:ident::$type:ident, $image:ty, $size:expr, $number:ident, $drawn:ident) => {
+        #[doc = $about]
         pub mod $module {
             #[doc = $about]
             #[derive(Clone, Copy, Debug, Default, PartialEq, Eq)]
@@ -198,6 +199,7 @@ pub use grey::Luma;
 // A format of SVG, whose colours are texts.
 macro_rules! svg_format {
     ($about:literal, $module:ident, $number:ident) => {
+        #[doc = $about]
         pub mod $module {
             #[doc = $about]
             #[derive(Clone, Copy, Debug, PartialEq, Eq)]
@@ -232,12 +234,16 @@ fn filled(text: &str, dark: &str, light: &str) -> String {
     colored
 }
 
+/// Encapsulated PostScript.
 pub mod eps {
     /// A colour of an Encapsulated PostScript text.
     #[derive(Clone, Copy, Debug, PartialEq, Eq)]
     pub struct Color {
+        /// Red, 0 to 255.
         pub red: u8,
+        /// Green, 0 to 255.
         pub green: u8,
+        /// Blue, 0 to 255.
         pub blue: u8,
     }
 }
@@ -260,6 +266,7 @@ impl Pixel for eps::Color {
     }
 }
 
+/// PNG files.
 pub mod png {
     /// Red, green, blue and opacity of a PNG file, each from 0 to 255.
     #[derive(Clone, Copy, Debug, PartialEq, Eq)]
@@ -291,6 +298,7 @@ impl Renderer<'_, png::Color> {
     }
 }
 
+/// Half blocks.
 pub mod unicode {
     /// Half blocks, two modules a character: whether there is a block, or none.
     #[derive(Clone, Copy, Debug, PartialEq, Eq)]

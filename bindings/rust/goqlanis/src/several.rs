@@ -7,11 +7,13 @@ use std::fmt;
 /// What is asked of symbols between which data is parted.
 #[derive(Clone, Copy, Debug)]
 pub struct Several {
+    /// The error correction level.
     pub ec_level: EcLevel,
     /// Whether the data is a text in UTF-8, of which no character is divided.
     pub is_text: bool,
     /// The versions of Normal that may be taken, from one to another.
     pub least_version: Version,
+    /// The greatest version.
     pub greatest_version: Version,
     /// How many symbols, 1 to 16, or `None` for as few as there can be.
     pub count: Option<u32>,

@@ -23,41 +23,37 @@ pub(crate) struct Finder {
 // A row or a column of pixels: where it starts among the marks, how far its pixels stand apart, and
 // how many they are.
 #[derive(Clone, Copy)]
-struct Line {
+pub(crate) struct Line {
     first: usize,
     step: usize,
-    length: usize,
+    pub(crate) length: usize,
     ghost fits: { (first < 2 ^ 33) × (step ≤ 65535) × (length ≤ 65535) },
 }
 
-// A line of pixels.
-fn line_of(first: usize, step: usize, length: usize) -> Line
-    requires { (first < 2 ^ 33) × (step ≤ 65535) × (length ≤ 65535) }
-    ensures { (result.length ≡ length) × (result.first ≡ first) }
+// A row of pixels.
+pub(crate) fn row_of(pixels: &Pixels, y: usize) -> Line
+    requires { y ≤ 65535 }
+    ensures { (result.length ≡ pixels.now.across) × (result.first < 2 ^ 32) }
 {
+    let length = pixels.sides().0;
     Line {
-        first,
-        step,
+        first: y * length,
+        step: 1,
         length,
     }
 }
 
-// A row of pixels.
-fn row_of(pixels: &Pixels, y: usize) -> Line
-    requires { y ≤ 65535 }
-    ensures { (result.length ≡ pixels.now.across) × (result.first < 2 ^ 32) }
-{
-    let across = pixels.sides().0;
-    line_of(y * across, 1, across)
-}
-
 // A column of pixels.
-fn column_of(pixels: &Pixels, x: usize) -> Line
+pub(crate) fn column_of(pixels: &Pixels, x: usize) -> Line
     requires { x ≤ 65535 }
     ensures { (result.length ≡ pixels.now.down) × (result.first < 2 ^ 32) }
 {
-    let (across, down) = pixels.sides();
-    line_of(x, across, down)
+    let (step, length) = pixels.sides();
+    Line {
+        first: x,
+        step,
+        length,
+    }
 }
 
 /// The finder patterns of pixels in the order of their rows, at most 256.
@@ -68,24 +64,9 @@ pub(crate) fn finders(alloc: Global, pixels: &Pixels) -> Result<Vec<Finder>, All
 {
     let mut found = Vec::new(alloc);
     for y in 0..pixels.sides().1 {
-        if !is_repeated(pixels, y) {
-            push_finders(&mut found, pixels, y)?;
-        }
+        push_finders(&mut found, pixels, y)?;
     }
     Ok(found)
-}
-
-// Whether a row of pixels is as the one above it.
-fn is_repeated(pixels: &Pixels, y: usize) -> bool
-    requires { y < pixels.now.down }
-{
-    if y == 0 {
-        return false;
-    }
-    let across = pixels.sides().0;
-    let (start, marks) = (y * across, pixels.marks());
-    let row = &marks[start..start + across];
-    row == &marks[start - across..start]
 }
 
 // Appends the finder patterns through a row, but for those that are there.
@@ -163,7 +144,11 @@ fn finder_through(pixels: &Pixels, line: Line, place: usize, reach: usize) -> Op
 {
     let from = place - reach.min(place);
     let length = (place + reach).min(line.length) - from;
-    let near = line_of(line.first + from * line.step, line.step, length);
+    let near = Line {
+        first: line.first + from * line.step,
+        step: line.step,
+        length,
+    };
     let middle = run_end(pixels, near, place - from, true);
     let ring = run_end(pixels, near, middle, false);
     let end = run_end(pixels, near, ring, true);
@@ -195,14 +180,14 @@ fn finder_before(pixels: &Pixels, line: Line, end: usize) -> Option<usize>
 }
 
 // Whether a run is so many sevenths of a total, but for less than half of that.
-fn is_near(run: usize, sevenths: usize, total: usize) -> bool
+pub(crate) fn is_near(run: usize, sevenths: usize, total: usize) -> bool
     requires { (run ≤ 65535) × (total ≤ 65535) × (sevenths ≤ 3) }
 {
     2 * (7 * run).abs_diff(sevenths * total) < sevenths * total
 }
 
 // Where the pixels of one kind end that begin at a place of a line.
-fn run_end(pixels: &Pixels, line: Line, start: usize, dark: bool) -> usize
+pub(crate) fn run_end(pixels: &Pixels, line: Line, start: usize, dark: bool) -> usize
     ensures { result ≤ line.length }
 {
     for place in start..line.length {
@@ -214,7 +199,7 @@ fn run_end(pixels: &Pixels, line: Line, start: usize, dark: bool) -> usize
 }
 
 // Where the pixels of one kind start that end before a place of a line.
-fn run_start(pixels: &Pixels, line: Line, end: usize, dark: bool) -> usize
+pub(crate) fn run_start(pixels: &Pixels, line: Line, end: usize, dark: bool) -> usize
     requires { end ≤ line.length }
     ensures { result ≤ end }
 {

@@ -3,12 +3,13 @@
 ghost use Rattle.std.specs.Prelude.{◌≡◌, ◌^◌, ◌<◌, ◌≤◌, IfSome};
 
 use crate::scan::finders::{Finder, finders};
+use crate::scan::micro::push_micro;
 use crate::scan::pixels::Pixels;
 use crate::scan::samples::mark_in;
 use std::alloc::{AllocError, Global};
 
-// The most grids of dark modules, and those of light ones.
-const MOST_GRIDS: usize = 512;
+// The most grids of a picture. It bounds memory and time.
+const MOST_GRIDS: usize = 1024;
 
 /// Where the modules of a square stand in pixels: the centre of the first one, and how far the
 /// columns and the rows stand apart, in parts of a pixel.
@@ -39,7 +40,8 @@ struct Corner {
 }
 
 /// Where squares of modules may stand in a picture, by the finder patterns in three of their
-/// corners: first of dark modules on light, then of light ones on dark; at most 512 of each.
+/// corners, or in the one of Micro: first of dark modules on light, then of light ones on dark; at
+/// most 1,024.
 ///
 /// It fails only where memory runs out.
 pub fn grids_of(alloc: Global, pixels: &Pixels) -> Result<Vec<Grid>, AllocError> {
@@ -49,56 +51,59 @@ pub fn grids_of(alloc: Global, pixels: &Pixels) -> Result<Vec<Grid>, AllocError>
     Ok(grids)
 }
 
-// Appends the grids of dark modules.
+// Appends the grids of dark modules: those between three finder patterns, then those of Micro.
 fn push_grids(alloc: Global, grids: &mut Vec<Grid>, pixels: &Pixels) -> Result<(), AllocError> {
-    let corners = corners_of(alloc, &finders(alloc, pixels)?)?;
-    for corner in &corners {
-        match grid_of(pixels, corner) {
-            Some(grid) => grids.push(grid)?,
-            None => {}
-        }
+    let found = finders(alloc, pixels)?;
+    for corner in &found {
+        push_beside(grids, pixels, &found, *corner)?;
+    }
+    for finder in &found {
+        push_micro(grids, pixels, *finder)?;
     }
     Ok(())
 }
 
-// Three finder patterns each that may stand in the corners of a square.
-fn corners_of(alloc: Global, found: &[Finder]) -> Result<Vec<Corner>, AllocError> {
-    let mut corners = Vec::new(alloc);
-    for corner in found {
-        push_corners(&mut corners, found, *corner)?;
-    }
-    Ok(corners)
-}
-
-// Appends those around a finder pattern.
-fn push_corners(
-    corners: &mut Vec<Corner>,
+// Appends those of a finder pattern in the corner.
+fn push_beside(
+    grids: &mut Vec<Grid>,
+    pixels: &Pixels,
     found: &[Finder],
     corner: Finder,
 ) -> Result<(), AllocError> {
     for beside in found {
         if is_beside(corner, *beside) {
-            push_below(corners, found, corner, *beside)?;
+            push_below(grids, pixels, found, corner, *beside)?;
         }
     }
     Ok(())
 }
 
-// Appends those around a finder pattern and the one beside it.
+// Appends those of a finder pattern in the corner and one beside it.
 fn push_below(
-    corners: &mut Vec<Corner>,
+    grids: &mut Vec<Grid>,
+    pixels: &Pixels,
     found: &[Finder],
     corner: Finder,
     beside: Finder,
 ) -> Result<(), AllocError> {
     for below in found {
-        if corners.len() < MOST_GRIDS && is_below(corner, *below) {
-            corners.push(Corner {
+        if is_below(corner, *below) {
+            let corner = Corner {
                 corner,
                 beside,
                 below: *below,
-            })?;
+            };
+            push_grid(grids, grid_of(pixels, &corner))?;
         }
+    }
+    Ok(())
+}
+
+// Appends a grid, unless there are too many.
+pub(crate) fn push_grid(grids: &mut Vec<Grid>, grid: Option<Grid>) -> Result<(), AllocError> {
+    match grid {
+        Some(grid) if grids.len() < MOST_GRIDS => grids.push(grid)?,
+        _ => {}
     }
     Ok(())
 }
@@ -158,8 +163,8 @@ fn likely_grid(corner: &Corner, count: usize) -> Option<Grid>
     }
     Some(Grid {
         count,
-        left: first_centre(corner.x.min(beside.x), across, count)?,
-        top: first_centre(corner.y.min(below.y), down, count)?,
+        left: (corner.x.min(beside.x) * (count - 7)).saturating_sub(3 * across),
+        top: (corner.y.min(below.y) * (count - 7)).saturating_sub(3 * down),
         across,
         down,
         parts: 2 * (count - 7),
@@ -174,16 +179,6 @@ fn is_size(apart: usize, seven: usize, count: usize) -> bool
 {
     let wanted = 2 * seven * (count - 7);
     5 * (7 * apart).abs_diff(wanted) <= wanted
-}
-
-// The centre of the first of so many modules, where twice that of the fourth is given, and that of the
-// fourth from the end stands so many halves of a pixel behind it. `None`: it is not in the picture.
-fn first_centre(fourth: usize, apart: usize, count: usize) -> Option<usize>
-    requires modules { (21 ≤ count) × (count ≤ 177) }
-    requires places { (fourth ≤ 131070) × (apart ≤ 131070) }
-    ensures { IfSome result (λ first. first < 2 ^ 28) }
-{
-    (fourth * (count - 7)).checked_sub(3 * apart)
 }
 
 // How many modules of the two timing patterns are wrong.

@@ -1,29 +1,15 @@
-use Rattle.std.proofs.Common.{◌≡◌, ◌*◌, ℕ, List, length, sym, ap, ap₂, ◌∙◌}
+use Rattle.std.proofs.Common.{◌≡◌, ℕ, List, length, ap, ◌∙◌}
 use Rattle.qrcode_types.specs.Versions.{side}
-use Rattle.qrcode_types.specs.declared.types.Color.{Color}
 use Rattle.qrcode_area.specs.Areas.{covers}
 use Rattle.qrcode_area.specs.Covered.{covered}
-use Rattle.qrcode_area.proofs.CoveredModules.{covered_agrees, covered_light, length_covered}
+use Rattle.qrcode_area.proofs.CoveredModules.{covered_agrees, covered_light}
 use Rattle.qrcode_area.proofs.covered.lightened.Goals as goal
 
 pub returns : goal.returns
 returns c =
-    let z = c.args.code.now in
+    let v = c.args.version in
+    let s = c.args.modules.now in
     let area = covers c.args.area.now in
-    let square : length z.modules ≡ side z.version * side z.version = c.width-width.ensures.square ∙ ap (λ n. n * n) c.width-width.ensures.across in
-    let is : c.in_ok-covered_modules.field-0.items ≡ covered (side z.version) area z.modules (length z.modules) =
-    c.in_ok-covered_modules.ensures ∙ ap₂ (λ (w : ℕ) (s : List Color). covered w area s (length s)) c.width-width.ensures.across c.colors.ensures in
-    record {
-      version = c.version.ensures.value;
-      level = c.error_correction_level.ensures;
-      agrees = covered_agrees z.version area z.modules _ square is;
-      light = covered_light z.version area z.modules _ square is;
-    }
-
-pub invariant_of-result : goal.invariant_of-result
-invariant_of-result c = (
-  c.width-width.ensures.across ∙ ap side (sym c.version.ensures.value),
-  c.width-width.ensures.at_least,
-  c.width-width.ensures.at_most,
-  ap length c.in_ok-covered_modules.ensures ∙ length_covered c.width-width.result (covers c.args.area.now) c.colors.result.now (length c.colors.result.now) ∙ ap length c.colors.ensures ∙ c.width-width.ensures.square,
-)
+    let is : c.in_ok-covered_modules.field-0.items ≡ covered (side v) area s (length s) =
+    c.in_ok-covered_modules.ensures ∙ ap (λ (w : ℕ). covered w area s (length s)) c.side-width.ensures.value in
+    record { agrees = covered_agrees v area s _ c.requires.square is; light = covered_light v area s _ c.requires.square is }

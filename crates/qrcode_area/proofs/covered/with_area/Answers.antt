@@ -16,8 +16,8 @@ pub returns-clause-read : goal.returns-clause-read
 returns-clause-read c =
     let z = c.args.code.now in
     let area = covers c.args.area.now in
-    let new = c.in_ok-lightened-in-None.field-0 in
+    let new = c.in_ok-lightened_code-in-None.field-0 in
     let may = subst (IsItsExcess z.version z.level area) c.in-None.is (c.excess.ensures z.version z.level area c.in_ok-reserve_of.ensures.value) in
     λ bits bytes other encodes agrees.
     area_is_read z.version z.level bits bytes area z.modules other encodes may
-    (agrees_along z.version area z.modules new.modules other c.in_ok-lightened-in-None.ensures.agrees agrees)
+    (agrees_along z.version area z.modules new.items other c.in_ok-lightened_code-in-None.ensures.agrees agrees)

@@ -1,6 +1,6 @@
 use Rattle.std.proofs.Common.{◌≡◌, ℕ, ◌-◌, ◌*◌, ◌/◌, true≢false, below_more, subst, sym, ◌∙◌, arith}
 use Rattle.qrcode_area.specs.Rectangles.{centred, only, Fits}
-use Rattle.qrcode_area.proofs.Largest.{tried}
+use Rattle.qrcode_area.proofs.Bounds.{tried}
 use Rattle.qrcode_area.proofs.rectangles.largest_rectangle.Goals as goal
 
 pub returns-then-branch-clause-some : goal.returns-then-branch-clause-some

@@ -1,0 +1,163 @@
+"""Areas of symbols that may show anything, and logos in them."""
+import base64
+import ctypes
+import os
+import re
+import xml.etree.ElementTree as xml
+from fractions import Fraction
+from typing import Any, List, NamedTuple, Optional, Sequence, Tuple, Union
+
+from . import _checks
+from . import _numbers as goq
+from ._checks import LEVELS
+from ._library import Rectangle as Given
+from ._library import Taken, Wish, library
+from .errors import Error, refusal, refuse
+
+HALF = 0xffffffff
+
+
+class Rectangle(NamedTuple):
+    """A rectangle of modules: its left column and its top row, from 0 on, and how many it has."""
+    left: int
+    top: int
+    width: int
+    height: int
+
+
+class Reserve(NamedTuple):
+    """What an area takes of a symbol, and what it leaves: how many codewords of each block it
+    touches; how many of each may be lost; the block that loses most, from 0 on; the modules that it
+    has of each copy of the format word, of which 3 may be lost; and how many more codewords of each
+    block may be lost, or None where the area may not show anything."""
+    touched: Tuple[int, ...]
+    allowed: int
+    worst: int
+    format_modules: Tuple[int, int]
+    least: Optional[int]
+
+
+Area = Union[Rectangle, Sequence[int], Sequence[Rectangle]]
+
+
+def reserve(version: int, level: int, area: Area) -> Reserve:
+    """What an area takes of a symbol of a version and level."""
+    counts, taken = (ctypes.c_size_t * goq.BLOCKS_MAX)(), Taken()
+    answer = library.goq_reserve(version, level, *_given(area), counts, len(counts),
+                                 ctypes.byref(taken))
+    refuse(answer)
+    return Reserve(tuple(counts[:taken.blocks]), taken.allowed, taken.worst,
+                   (taken.first, taken.last), taken.least if taken.may_show_anything else None)
+
+
+def largest(version: int, level: int, ratio: Any, kept: Any, keep_alignment: bool) -> Rectangle:
+    """The largest rectangle in the middle of a symbol of a version and level."""
+    given = _checks.listed("ratio", ratio, "two numbers")
+    sides = [_checks.whole("ratio", it, 1, 10000) for it in given]
+    if len(sides) != 2:
+        raise ValueError("ratio is a width and a height, as (16, 9)")
+    left = HALF if kept is None else _checks.whole("reserve", kept, 0, 10000)
+    wish = Wish(ctypes.sizeof(Wish), *sides, left, _checks.flag("keep_alignment", keep_alignment))
+    found = Given()
+    refuse(library.goq_largest_area(version, level, ctypes.byref(wish), ctypes.byref(found)))
+    return _rectangle(found)
+
+
+def covered(modules: bytes, version: int, level: int, area: Area) -> bytes:
+    """The modules of a symbol, those of an area light."""
+    out, place = ctypes.create_string_buffer(modules, len(modules)), ctypes.c_size_t()
+    answer = library.goq_cover(out, len(out), *_given(area), ctypes.byref(place))
+    if answer == goq.AREA_BLOCK:
+        raise _too_large(version, level, area)
+    refuse(answer)
+    return out.raw
+
+
+def _too_large(version: int, level: int, area: Area) -> Error:
+    """The refusal of an area, with the level that would do."""
+    taken = reserve(version, level, area)
+    higher = (it for it in range(level + 1, len(LEVELS)) if _fits(version, it, area))
+    found = next(higher, None)
+    helps = "a smaller area" if found is None else f"level {LEVELS[found]}, or a smaller area"
+    return refusal(goq.AREA_BLOCK, f"the area touches {taken.touched[taken.worst]} codewords of "
+                   f"block {taken.worst + 1}, of which {taken.allowed} may be lost: take {helps}")
+
+
+def _fits(version: int, level: int, area: Area) -> bool:
+    try:
+        return reserve(version, level, area).least is not None
+    except Error:
+        return False
+
+
+def _given(area: Area) -> Tuple[Any, int]:
+    """The rectangles of an area: one, or several."""
+    given: List[Any] = _checks.listed("area", area, "rectangles: left, top, width, height")
+    rows = [given] if given and all(isinstance(it, int) for it in given) else given
+    for row in rows:
+        sides = _checks.listed("area", row, "left, top, width, height")
+        if len(sides) != 4:
+            raise ValueError(f"a rectangle is left, top, width and height, not {_checks.shown(row)}")
+        for name, side in zip(Rectangle._fields, sides):
+            _checks.whole(name, side, 0, 10000)
+    return (Given * len(rows))(*(Given(*row) for row in rows)), len(rows)
+
+
+def _rectangle(found: Given) -> Rectangle:
+    return Rectangle(found.left, found.top, found.width, found.height)
+
+
+class Logo(NamedTuple):
+    """A picture in an area of a symbol, as the address of its data; its ratio is kept."""
+    left: int
+    top: int
+    width: int
+    height: int
+    data: str
+
+    def over(self, svg: bytes, zone: int) -> bytes:
+        """An SVG file with a quiet zone, and the picture in it."""
+        picture = (f'<image x="{zone + self.left}" y="{zone + self.top}" width="{self.width}" '
+                   f'height="{self.height}" href="{self.data}"/>')
+        return svg.replace(b"</svg>", picture.encode() + b"</svg>")
+
+
+def loaded(logo: Any) -> Tuple[str, Tuple[int, int]]:
+    """A picture, by its path or its bytes, as the address of its data, and its width and height."""
+    data = logo
+    if isinstance(logo, (str, os.PathLike)):
+        with open(logo, "rb") as file:
+            data = file.read()
+    data = _checks.binary("logo", data)
+    if data.startswith(b"\x89PNG") and len(data) > 24:
+        sides = [int.from_bytes(data[at:at + 4], "big") for at in (16, 20)]
+        kind = "png"
+    else:
+        sides, kind = _sides(data), "svg+xml"
+    if min(sides) <= 0:
+        raise ValueError("the logo has no width or no height")
+    ratio = Fraction(sides[0]) / Fraction(sides[1])
+    across, down = ratio.limit_denominator(100).as_integer_ratio() if ratio >= 1 else \
+        (1 / ratio).limit_denominator(100).as_integer_ratio()[::-1]
+    return f"data:image/{kind};base64,{base64.b64encode(data).decode()}", (across, down)
+
+
+def _sides(data: bytes) -> List[Any]:
+    """The width and height of an SVG file."""
+    try:
+        root = xml.fromstring(data)
+    except xml.ParseError:
+        raise ValueError("a logo is an SVG or a PNG file") from None
+    box = root.get("viewBox", "").replace(",", " ").split()[2:]
+    said = box if len(box) == 2 else [root.get("width", ""), root.get("height", "")]
+    found = [re.match(r"[0-9]*[.]?[0-9]+", it) for it in said]
+    if not root.tag.endswith("svg") or not all(found):
+        raise ValueError("the logo is no SVG file with a viewBox, or a width and a height")
+    return [Fraction(it[0]) for it in found if it]
+
+
+def placed(data: str, area: Rectangle, margin: int) -> Logo:
+    """A picture in an area, with a margin of light modules where there is room."""
+    across, down = (min(margin, (side - 1) // 2) for side in (area.width, area.height))
+    return Logo(area.left + across, area.top + down, area.width - 2 * across,
+                area.height - 2 * down, data)

@@ -1,0 +1,165 @@
+-- What the calls for C say of areas.
+use Rattle.std.specs.Prelude.{◌≡◌, ◌≢◌, ◌*◌, ◌/◌, ◌%◌, ◌<◌, ◌≤◌, ◌==◌, ⊤, ℕ, Bool, false, List, length, map, Option, Some, None, Result, slice_index, if◌then◌else◌, IsTrue}
+use Rattle.std.specs.List.{range_with_len}
+use Rattle.qrcode_types.specs.Versions.{block_lengths, ec_length, has_level, side}
+use Rattle.qrcode_types.specs.declared.types.Color.{Color}
+use Rattle.qrcode_types.specs.declared.types.EcLevel.{EcLevel}
+use Rattle.qrcode_types.specs.declared.types.Version.{Version}
+use Rattle.qrcode_layout.specs.declared.masks.MaskPattern.{MaskPattern}
+use Rattle.qrcode.specs.Reading.{EncodesBytes, ReadsOnly}
+use Rattle.qrcode_reader.specs.Formats.{HasFormat}
+use Rattle.qrcode_reader.specs.declared.formats.FormatCopy.TheVariants.{First, Last}
+use Rattle.qrcode_render.specs.Shades.{colors_of}
+use Rattle.qrcode_area.specs.Areas.{AgreesOutside, KeepsFormat, LeavesReserve, MayShowAnything, covers, is_inside, touched}
+use Rattle.qrcode_area.specs.Counting.{touched_places}
+use Rattle.qrcode_area.specs.Rectangles.{IsLargest, NoneLarger}
+use Rattle.qrcode_area.specs.Refusals.{IsLostBlock}
+use Rattle.qrcode_area.specs.Reserves.{IsLeast}
+use Rattle.qrcode_area.specs.declared.areas.Rectangle.{Rectangle}
+use Rattle.qrcode_area.specs.declared.rectangles.Kept.TheVariants.{AllPatterns, ButAlignment}
+use Rattle.qrcode_area.specs.declared.rectangles.Wish as asked
+use Rattle.goqlanis_buffers.specs.Answers.{IsMaskCause, refusal_of}
+use Rattle.goqlanis_buffers.specs.Calls.{Tells, Writes}
+use Rattle.goqlanis_buffers.specs.Names.{level_named, version_named}
+use Rattle.goqlanis_buffers.specs.Outputs.{IsFilled}
+use Rattle.goqlanis_buffers.specs.declared.answers.Refusal.{Refusal}
+use Rattle.goqlanis_buffers.specs.declared.answers.Refusal.TheVariants.{AreaBlock, AreaFormat, LevelNotInVersion, NoArea, NoSuchArea, NoSuchLevel, NoSuchStruct, NoSuchVersion, OutOfMemory, SmallBuffer}
+use Rattle.goqlanis_buffers.specs.declared.areas.Taken.{Taken}
+use Rattle.goqlanis_buffers.specs.declared.areas.Uncovered.{Uncovered}
+use Rattle.goqlanis_buffers.specs.declared.areas.Uncovered.TheVariants.{Block, Other}
+use Rattle.goqlanis_buffers.specs.declared.areas.Wish.{Wish}
+
+-- a version and level of these numbers, which the version has
+pub record IsLevelNamed (version level : ℕ) (v : Version) (l : EcLevel) : Type 0 where
+  pub named_version : version_named version ≡ Some v
+  pub named_level : level_named level ≡ Some l
+  pub exists : IsTrue (has_level v l)
+
+-- why there are none: the first of these causes that applies
+abbrev pub IsPairCause : ℕ → ℕ → Refusal → Type 0
+IsPairCause version level NoSuchLevel = level_named level ≡ None
+IsPairCause version level NoSuchVersion = (level_named level ≢ None) × (version_named version ≡ None)
+IsPairCause version level LevelNotInVersion =
+    (v : Version) × ((l : EcLevel) × ((version_named version ≡ Some v) × ((level_named level ≡ Some l) × (has_level v l ≡ false))))
+IsPairCause version level refusal = ⊥
+
+abbrev pub told : ℕ → ℕ → Option ℕ  -- a number that is told where it is said to be there
+told is_there n = if is_there == 0 then None else Some n
+
+-- how many codewords of each block an area touches, and what it takes beside them
+pub record IsTaken (v : Version) (l : EcLevel) (area : ℕ → ℕ → Bool) (counts : List ℕ) (t : Taken) : Type 0 where
+  pub counted : counts ≡ map (touched v l area) (range_with_len 0 (length (block_lengths v l)))
+  pub blocks : t.blocks ≡ length (block_lengths v l)
+  pub allowed : t.allowed ≡ ec_length v l / 2
+  pub inside : t.worst < t.blocks
+  pub worst : (b : ℕ) → b < t.blocks → touched v l area b ≤ touched v l area t.worst
+  pub first : t.first ≡ touched_places v area First
+  pub last : t.last ≡ touched_places v area Last
+  pub least : IsLeast v l area (told t.may_show_anything t.least)
+
+-- the same of the area of rectangles in a symbol of a version and level of these numbers, the counts at the beginning of a buffer
+pub record IsTakenInto (version level : ℕ) (rectangles : List Rectangle) (old new : List ℕ) (t : Taken) : Type 0 where
+  pub v : Version
+  pub l : EcLevel
+  pub named : IsLevelNamed version level v l
+  pub inside : IsTrue (is_inside (side v) rectangles)
+  pub counts : List ℕ
+  pub taken : IsTaken v l (covers rectangles) counts t
+  pub filled : IsFilled old new counts
+
+-- why that is not told, where the buffer has so much room: the first of these causes that applies
+abbrev pub IsReserveCause : ℕ → ℕ → List Rectangle → ℕ → Refusal → Type 0
+IsReserveCause version level rectangles room NoSuchArea =
+    (v : Version) × ((l : EcLevel) × (IsLevelNamed version level v l × (is_inside (side v) rectangles ≡ false)))
+IsReserveCause version level rectangles room SmallBuffer =
+    (v : Version) × ((l : EcLevel) × (IsLevelNamed version level v l × (IsTrue (is_inside (side v) rectangles) × (room < length (block_lengths v l)))))
+IsReserveCause version level rectangles room OutOfMemory = ⊤
+IsReserveCause version level rectangles room refusal = IsPairCause version level refusal
+
+abbrev pub WritesReserve : ℕ → ℕ → List Rectangle → List ℕ → List ℕ → Result Taken Refusal → Type 0
+WritesReserve version level rectangles old new result =
+    Writes (IsTakenInto version level rectangles old) (IsReserveCause version level rectangles (length old)) old new result
+
+-- what a wish asks for in a symbol: 2 ^ 32 - 1 is a reserve of half of what may be lost of each block
+abbrev pub wanted : Version → EcLevel → Wish → asked.Wish
+wanted v l w = record {
+  across = w.across;
+  down = w.down;
+  reserve = if w.reserve == 0xffffffff then ec_length v l / 2 / 2 else w.reserve;
+  kept = if w.keep_alignment == 0 then ButAlignment else AllPatterns;
+}
+
+-- the largest rectangle in the middle of a symbol that is asked for
+pub record IsLargestNamed (version level : ℕ) (w : Wish) (r : Rectangle) : Type 0 where
+  pub v : Version
+  pub l : EcLevel
+  pub size : w.size ≡ 20
+  pub named : IsLevelNamed version level v l
+  pub largest : IsLargest v l (wanted v l w) r
+
+-- why there is none: the first of these causes that applies
+abbrev pub IsLargestCause : ℕ → ℕ → Wish → Refusal → Type 0
+IsLargestCause version level w NoSuchStruct = w.size ≢ 20
+IsLargestCause version level w NoArea =
+    (v : Version) × ((l : EcLevel) × ((w.size ≡ 20) × (IsLevelNamed version level v l × NoneLarger v l (wanted v l w) 0)))
+IsLargestCause version level w OutOfMemory = ⊤
+IsLargestCause version level w refusal = (w.size ≡ 20) × IsPairCause version level refusal
+
+abbrev pub TellsLargest : ℕ → ℕ → Wish → Result Rectangle Refusal → Type 0
+TellsLargest version level w result = Tells (IsLargestNamed version level w) (IsLargestCause version level w) result
+
+abbrev pub covered_byte : ℕ → (ℕ → ℕ → Bool) → List ℕ → ℕ → ℕ  -- the module with an index, light where it lies in the area
+covered_byte width area modules i = if area (i % width) (i / width) then 0 else slice_index modules i
+
+-- a square names a version and level by its side and its format word
+pub record IsOfLevel (s : List Color) (v : Version) (l : EcLevel) : Type 0 where
+  pub square : length s ≡ side v * side v
+  pub mask : MaskPattern
+  pub format : HasFormat v s l mask
+
+-- An area of a square of modules is light and may show anything: where they are the symbol of bytes, each square that agrees with it outside the area is read as
+-- the bytes alone.
+pub record IsCovered (rectangles : List Rectangle) (old new : List ℕ) : Type 0 where
+  pub v : Version
+  pub l : EcLevel
+  pub named : IsOfLevel (colors_of old) v l
+  pub inside : IsTrue (is_inside (side v) rectangles)
+  pub may : MayShowAnything v l (covers rectangles)
+  pub same_length : length new ≡ length old
+  pub each : (i : ℕ) → i < length old → slice_index new i ≡ covered_byte (side v) (covers rectangles) old i
+  pub read : (bits : List Bool) (bytes : List ℕ) (other : List Color) → EncodesBytes v l bits bytes (colors_of old)
+      → AgreesOutside v (covers rectangles) (colors_of new) other → ReadsOnly other bytes
+
+-- an area inside a square of a version and level
+pub record IsAreaIn (rectangles : List Rectangle) (modules : List ℕ) (v : Version) (l : EcLevel) : Type 0 where
+  pub named : IsOfLevel (colors_of modules) v l
+  pub inside : IsTrue (is_inside (side v) rectangles)
+
+-- why an area is not covered: the first of these causes that applies
+abbrev pub IsUncoveredCause : List Rectangle → List ℕ → Refusal → Type 0
+IsUncoveredCause rectangles modules NoSuchArea =
+    (v : Version) × ((l : EcLevel) × (IsOfLevel (colors_of modules) v l × (is_inside (side v) rectangles ≡ false)))
+IsUncoveredCause rectangles modules AreaFormat =
+    (v : Version) × ((l : EcLevel) × (IsAreaIn rectangles modules v l × (LeavesReserve v l (covers rectangles) 0 × ¬ KeepsFormat v (covers rectangles))))
+IsUncoveredCause rectangles modules refusal = IsMaskCause modules refusal
+
+abbrev pub IsUncovered : List Rectangle → List ℕ → Uncovered → Type 0
+IsUncovered rectangles modules (Block b) =
+    (v : Version) × ((l : EcLevel) × (IsAreaIn rectangles modules v l
+    × IsLostBlock v l (covers rectangles) b (touched v l (covers rectangles) b) (ec_length v l / 2)))
+IsUncovered rectangles modules (Other refusal) = IsUncoveredCause rectangles modules refusal
+
+abbrev pub refusal_reported : Uncovered → Refusal  -- what C gets of it
+refusal_reported (Block b) = AreaBlock
+refusal_reported (Other refusal) = refusal
+
+abbrev pub place_reported : Uncovered → ℕ → ℕ  -- the place that C gets: that of the block, and otherwise the one before
+place_reported (Block b) before = b
+place_reported (Other refusal) before = before
+
+-- an answer, and the place that replaces the one before, are those of a refusal that has its cause
+pub record IsCoverRefusal (rectangles : List Rectangle) (modules : List ℕ) (answer before after : ℕ) : Type 0 where
+  pub why : Uncovered
+  pub cause : IsUncovered rectangles modules why
+  pub answered : refusal_of answer ≡ Some (refusal_reported why)
+  pub reported : after ≡ place_reported why before

@@ -1,0 +1,266 @@
+//! Areas of symbols that may show anything.
+
+ghost use Rattle.std.specs.Prelude.{◌≡◌, ◌≢◌, ◌<◌, ◌≤◌, ℕ, Bool, length, Some, slice_index, IsTrue, IfErr, IfOk, OnErr, OnOk};
+ghost use Rattle.qrcode_types.specs.Versions.{has_level};
+ghost use Rattle.qrcode_types.specs.declared.types.EcLevel.{EcLevel};
+ghost use Rattle.qrcode_types.specs.declared.types.Version.{Version};
+ghost use Rattle.qrcode_area.specs.Areas.{covers};
+ghost use Rattle.qrcode_area.specs.Reserves.{IsReserve};
+ghost use Rattle.goqlanis_buffers.specs.Answers.{refusal_of};
+ghost use Rattle.goqlanis_buffers.specs.Outputs.{IsFilled};
+ghost use Rattle.goqlanis_buffers.specs.Areas.{covered_byte, place_reported, refusal_reported, told, wanted, IsCovered, IsLevelNamed, IsPairCause, IsTaken, IsUncovered, TellsLargest, WritesReserve};
+
+use crate::answers::Refusal;
+use crate::names::{level_named, version_named};
+use crate::reading::format_of;
+use qrcode::types::{EcLevel, Version};
+use qrcode_area::areas::{Area, Rectangle};
+use qrcode_area::rectangles::{Kept, Wish as Wanted, largest_rectangle};
+use qrcode_area::reserve::{Reserve, reserve_in};
+use qrcode_reader::walk::side;
+use qrcode_types::tables::Blocks;
+use std::alloc::Global;
+
+/// What an area takes of a symbol, and what it leaves.
+#[repr(C)]
+#[derive(Clone, Copy)]
+pub struct Taken {
+    /// How many blocks the symbol has.
+    pub blocks: usize,
+    /// How many codewords of each block may be lost.
+    pub allowed: usize,
+    /// A block of which the area touches the most codewords.
+    pub worst: usize,
+    /// How many modules of the first copy of the format word lie in the area. Three may be lost.
+    pub first: usize,
+    /// How many modules of the last copy, which in Micro is the first.
+    pub last: usize,
+    /// How many more codewords of each block may be lost beside the area, or 0.
+    pub least: usize,
+    /// 1 where the area may show anything, and else 0.
+    pub may_show_anything: u32,
+}
+
+/// What C asks of a rectangle in the middle of a symbol.
+#[repr(C)]
+#[derive(Clone, Copy)]
+pub struct Wish {
+    /// The bytes of this.
+    pub size: u32,
+    /// How wide it is beside its height.
+    pub across: u32,
+    /// How high it is beside its width.
+    pub down: u32,
+    /// How many wrong codewords of each block are corrected beside it, or `HALF`.
+    pub reserve: u32,
+    /// Other than 0 to leave alignment patterns alone too.
+    pub keep_alignment: u32,
+}
+
+// The bytes of a wish.
+const SIZE: u32 = 20;
+
+// A reserve of half of what may be lost.
+const HALF: u32 = 0xffff_ffff;
+
+/// Why an area is not covered.
+#[derive(Clone, Copy, Drop)]
+pub enum Uncovered {
+    /// It touches more codewords of this block than may be lost.
+    Block(usize),
+    /// It is not covered for another cause.
+    Other(Refusal),
+}
+
+impl Uncovered {
+    /// The number that C sees.
+    pub fn number(self) -> u32
+        ensures value { refusal_of result ≡ Some (refusal_reported self) }
+        ensures not_made { result ≢ 0 }
+    {
+        let refusal = match self {
+            Uncovered::Block(_) => Refusal::AreaBlock,
+            Uncovered::Other(refusal) => refusal,
+        };
+        refusal.number()
+    }
+
+    /// The block, or else the place before.
+    pub fn place(self, before: usize) -> usize
+        ensures value { result ≡ place_reported self before }
+    {
+        match self {
+            Uncovered::Block(block) => block,
+            Uncovered::Other(_) => before,
+        }
+    }
+}
+
+/// Writes how many codewords of each block an area touches at the beginning of a buffer, and answers
+/// what it takes beside them.
+///
+/// An error is the first that applies of `NoSuchLevel`, `NoSuchVersion`, `LevelNotInVersion`,
+/// `NoSuchArea` and `SmallBuffer`, or `OutOfMemory`; then the buffer is as it was.
+pub fn reserve_into(
+    alloc: Global,
+    version: u32,
+    level: u32,
+    rectangles: &[Rectangle],
+    touched: &mut [usize],
+) -> Result<Taken, Refusal>
+    ensures { WritesReserve version level rectangles.now touched.old touched.new result }
+{
+    let (version, level) = match pair_named(version, level) {
+        Ok(pair) => pair,
+        Err(refusal) => return Err(refusal),
+    };
+    let Some(area) = Area::new(version, rectangles) else {
+        return Err(Refusal::NoSuchArea);
+    };
+    let Ok(reserve) = reserve_in(alloc, version, level, &area) else {
+        return Err(Refusal::OutOfMemory);
+    };
+    let counts = reserve.touched.as_slice();
+    if touched.len() < counts.len() {
+        return Err(Refusal::SmallBuffer);
+    }
+    fill_counts(touched, counts);
+    Ok(made_of(&reserve))
+}
+
+// Writes numbers at the beginning of a buffer that has room for them.
+fn fill_counts(out: &mut [usize], counts: &[usize])
+    requires room { length counts.now ≤ length out.old }
+    ensures filled { IsFilled out.old out.new counts.now }
+{
+    out[..counts.len()].copy_from_slice(counts);
+}
+
+// What C gets of a reserve beside the counts of its blocks.
+fn made_of(reserve: &Reserve) -> Taken
+    ensures { (version : Version) (level : EcLevel) (area : ℕ → ℕ → Bool)
+        → IsReserve version level area reserve.now
+        → IsTaken version level area reserve.now.touched.items result }
+{
+    let (least, may_show_anything) = told(reserve.least());
+    Taken {
+        blocks: reserve.touched.len(),
+        allowed: reserve.allowed,
+        worst: reserve.worst,
+        first: reserve.first,
+        last: reserve.last,
+        least,
+        may_show_anything,
+    }
+}
+
+// What C gets of a number that may be there: the number or 0, and 1 where it is there.
+fn told(number: Option<usize>) -> (usize, u32)
+    ensures { told result.1 result.0 ≡ number }
+{
+    match number {
+        Some(number) => (number, 1),
+        None => (0, 0),
+    }
+}
+
+/// The largest rectangle in the middle of a symbol that C asks for.
+///
+/// An error is the first that applies of `NoSuchStruct`, `NoSuchLevel`, `NoSuchVersion`,
+/// `LevelNotInVersion` and `NoArea`, or `OutOfMemory`.
+pub fn largest(alloc: Global, version: u32, level: u32, wish: &Wish) -> Result<Rectangle, Refusal>
+    ensures { TellsLargest version level wish.now result }
+{
+    if wish.size != SIZE {
+        return Err(Refusal::NoSuchStruct);
+    }
+    let (version, level) = match pair_named(version, level) {
+        Ok(pair) => pair,
+        Err(refusal) => return Err(refusal),
+    };
+    match largest_rectangle(alloc, version, level, wish_of(version, level, wish)) {
+        Ok(Some(rectangle)) => Ok(rectangle),
+        Ok(None) => Err(Refusal::NoArea),
+        Err(_) => Err(Refusal::OutOfMemory),
+    }
+}
+
+// What is asked of a rectangle in a symbol of a version and level.
+fn wish_of(version: Version, level: EcLevel, wish: &Wish) -> Wanted
+    requires { IsTrue (has_level version level) }
+    ensures { result ≡ wanted version level wish.now }
+{
+    let reserve = if wish.reserve == HALF {
+        Blocks::of(version, level).unwrap().ec_length / 2 / 2
+    } else {
+        wish.reserve as usize
+    };
+    Wanted {
+        across: wish.across,
+        down: wish.down,
+        reserve,
+        kept: if wish.keep_alignment == 0 {
+            Kept::ButAlignment
+        } else {
+            Kept::AllPatterns
+        },
+    }
+}
+
+// The version and level of these numbers.
+fn pair_named(version: u32, level: u32) -> Result<(Version, EcLevel), Refusal>
+    ensures named { IfOk result (λ pair. IsLevelNamed version level pair.0 pair.1) }
+    ensures causes { IfErr result (IsPairCause version level) }
+{
+    let Some(level) = level_named(level) else {
+        return Err(Refusal::NoSuchLevel);
+    };
+    let Some(version) = version_named(version) else {
+        return Err(Refusal::NoSuchVersion);
+    };
+    match Blocks::of(version, level) {
+        Some(_) => Ok((version, level)),
+        None => Err(Refusal::LevelNotInVersion),
+    }
+}
+
+/// Makes the modules of an area of a symbol light, which then may show anything. After an error they
+/// are as they were.
+pub fn cover(alloc: Global, modules: &mut [u8], rectangles: &[Rectangle]) -> Result<(), Uncovered>
+    ensures made { OnOk result (IsCovered rectangles.now modules.old modules.new) }
+    ensures unchanged { OnErr result (modules.new ≡ modules.old) }
+    ensures causes { IfErr result (IsUncovered rectangles.now modules.old) }
+{
+    let format = match format_of(alloc, modules) {
+        Ok(format) => format,
+        Err(refusal) => return Err(Uncovered::Other(refusal)),
+    };
+    let Some(area) = Area::new(format.version, rectangles) else {
+        return Err(Uncovered::Other(Refusal::NoSuchArea));
+    };
+    let Ok(reserve) = reserve_in(alloc, format.version, format.level, &area) else {
+        return Err(Uncovered::Other(Refusal::OutOfMemory));
+    };
+    if reserve.most > reserve.allowed {
+        return Err(Uncovered::Block(reserve.worst));
+    }
+    if reserve.excess().is_some() {
+        return Err(Uncovered::Other(Refusal::AreaFormat));
+    }
+    lighten(modules, side(format.version), &area);
+    Ok(())
+}
+
+// Makes the modules of an area light, in rows of so many.
+fn lighten(modules: &mut [u8], width: usize, area: &Area<'_>)
+    requires { 0 < width }
+    ensures length { length modules.new ≡ length modules.old }
+    ensures each { (i : ℕ) → i < length modules.old → slice_index modules.new i
+        ≡ covered_byte width (covers area.now) modules.old i }
+{
+    for i in 0..modules.len() {
+        if area.has(i % width, i / width) {
+            modules[i] = 0;
+        }
+    }
+}

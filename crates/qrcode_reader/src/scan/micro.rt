@@ -1,0 +1,125 @@
+//! Micro squares, by the one finder pattern in a corner and the timing patterns beside it.
+
+ghost use Rattle.std.specs.Prelude.{◌≡◌, ◌*◌, ◌+◌, ◌≤◌, IfSome};
+
+use crate::scan::finders::{Finder, Line, column_of, is_near, row_of, run_end, run_start};
+use crate::scan::grids::{Grid, push_grid};
+use crate::scan::pixels::{GREATEST_SIDE, Pixels};
+use std::alloc::AllocError;
+
+// Where the modules along a side start, how many pixels they have, and how many they are.
+#[derive(Clone, Copy)]
+struct Span {
+    start: usize,
+    extent: usize,
+    count: usize,
+    ghost fits: { (start ≤ 131070) × (extent ≤ 131070) × (count ≤ 17) },
+}
+
+/// Appends the grids of Micro squares that have a finder pattern in a corner.
+pub(crate) fn push_micro(
+    grids: &mut Vec<Grid>,
+    pixels: &Pixels,
+    finder: Finder,
+) -> Result<(), AllocError> {
+    for corner in 0..4 {
+        push_grid(
+            grids,
+            micro_grid(pixels, finder, corner % 2 == 1, 2 <= corner),
+        )?;
+    }
+    Ok(())
+}
+
+// The grid of a Micro square with a finder pattern in its left or right, and upper or lower corner.
+fn micro_grid(pixels: &Pixels, finder: Finder, is_right: bool, is_lower: bool) -> Option<Grid> {
+    let row = row_of(pixels, outer_line(finder.y, finder.height, is_lower));
+    let column = column_of(pixels, outer_line(finder.x, finder.width, is_right));
+    let across = span_of(pixels, row, finder.x, finder.width, is_right);
+    let down = span_of(pixels, column, finder.y, finder.height, is_lower);
+    if across.count != down.count || across.count < 11 {
+        return None;
+    }
+    let count = across.count;
+    Some(Grid {
+        count,
+        left: 2 * count * across.start + across.extent,
+        top: 2 * count * down.start + down.extent,
+        across: 2 * across.extent,
+        down: 2 * down.extent,
+        parts: 2 * count,
+    })
+}
+
+// The line through the first or the last of seven modules, of which twice the centre is given.
+fn outer_line(centre: usize, seven: usize, is_last: bool) -> usize
+    requires { (centre ≤ 131070) × (seven ≤ 65535) }
+    ensures { result ≤ 65535 }
+{
+    let place = if is_last {
+        7 * centre + 6 * seven
+    } else {
+        (7 * centre).saturating_sub(6 * seven)
+    };
+    (place / 14).min(GREATEST_SIDE)
+}
+
+// The modules along the outer line of a finder pattern, of which twice the centre and the pixels are
+// given: its seven, and those of the timing pattern before or behind it.
+fn span_of(pixels: &Pixels, line: Line, centre: usize, seven: usize, is_before: bool) -> Span
+    requires { (centre ≤ 131070) × (seven ≤ 65535) × (line.length ≤ 65535) }
+{
+    let near = if is_before {
+        (centre + seven) / 2
+    } else {
+        centre.saturating_sub(seven) / 2
+    };
+    let (far, count) = timing_end(
+        pixels,
+        line,
+        (centre / 2).min(line.length),
+        seven,
+        is_before,
+    );
+    Span {
+        start: near.min(far),
+        extent: near.abs_diff(far),
+        count,
+    }
+}
+
+// Where the timing pattern ends that begins behind the dark pixels at a place of a line, or starts before
+// them, and its modules with those of the finder pattern.
+fn timing_end(
+    pixels: &Pixels,
+    line: Line,
+    place: usize,
+    seven: usize,
+    is_before: bool,
+) -> (usize, usize)
+    requires { (place ≤ line.length) × (seven ≤ 65535) × (line.length ≤ 65535) }
+    ensures { (result.0 ≤ 65535) × (result.1 ≤ 17) }
+{
+    let mut far = edge_of(pixels, line, place, true, is_before);
+    for i in 0..5 {
+        let hole = edge_of(pixels, line, far, false, is_before);
+        let end = edge_of(pixels, line, hole, true, is_before);
+        if !is_near(hole.abs_diff(far), 1, seven) || !is_near(end.abs_diff(hole), 1, seven) {
+            return (far, 7 + 2 * i);
+        }
+        far = end;
+    }
+    (far, 17)
+}
+
+// Where the pixels of one kind end that begin at a place of a line, or start that end before it.
+fn edge_of(pixels: &Pixels, line: Line, place: usize, dark: bool, is_before: bool) -> usize
+    requires { place ≤ line.length }
+    ensures { result ≤ line.length }
+{
+    if is_before {
+        run_start(pixels, line, place, dark)
+    } else {
+        run_end(pixels, line, place, dark)
+    }
+}
