@@ -66,7 +66,7 @@ static void networks(void)
     refuses(GOQ_WIFI, flag, 4, GOQ_FIELD_WORD, GOQ_WIFI_HIDDEN, "hidden 1");
     refuses(GOQ_WIFI, cut, 2, GOQ_NOT_TEXT, GOQ_WIFI_PASSWORD, "a password that is cut");
     refuses(GOQ_WIFI, more, 5, GOQ_NO_SUCH_FIELD, GOQ_WIFI_FIELDS, "a fifth field");
-    refuses(GOQ_PROMPTPAY + 1, printed, 2, GOQ_NO_SUCH_CONTENT, 99, "kind 14");
+    refuses(1000, printed, 2, GOQ_NO_SUCH_CONTENT, 99, "kind 1000");
 }
 
 static void contacts(void)
@@ -245,39 +245,6 @@ static void events(void)
     refuses(GOQ_EVENT, days, GOQ_EVENT_FIELDS, GOQ_FIELD_EMPTY, GOQ_EVENT_BEGIN, "no beginning");
 }
 
-/* The example of NPCI's linking specification without `tid` and `refUrl`, that of the manual of the BR Code, and a test of the library promptpay-qr. */
-static void codes(void)
-{
-    goq_field upi[] = {GOQ_TEXT("nadeem@npci"), GOQ_TEXT("nadeem chinna"), GOQ_TEXT("10"), GOQ_TEXT("Pay to mystar store"), GOQ_TEXT("4894398cndhcd23"), GOQ_TEXT("0000")};
-    goq_field pix[] = {GOQ_TEXT("123e4567-e12b-12d1-a456-426655440000"), GOQ_TEXT("Fulano de Tal"), GOQ_TEXT("BRASILIA"), GOQ_TEXT(""), GOQ_TEXT(""), GOQ_TEXT("")};
-    goq_field promptpay[] = {GOQ_TEXT("000-000-0000"), GOQ_TEXT("4.22")};
-    const goq_field none = GOQ_TEXT(""), word = GOQ_TEXT("nadeem"), three = GOQ_TEXT("123"), accent = GOQ_TEXT("S\xc3\xa3o Paulo"), precise = GOQ_TEXT("1.234");
-    const goq_field long_text = GOQ_TEXT("01234567890123456789012345678901234567"), short_number = GOQ_TEXT("081234567"), first = GOQ_TEXT("1812345678");
-    says(GOQ_UPI, upi, GOQ_UPI_FIELDS, "upi://pay?pa=nadeem@npci&pn=nadeem%20chinna&mc=0000&tr=4894398cndhcd23&tn=Pay%20to%20mystar%20store&am=10.00&cu=INR");
-    says(GOQ_UPI, upi, 1, "upi://pay?pa=nadeem@npci&cu=INR");
-    upi[GOQ_UPI_CATEGORY] = three;
-    refuses(GOQ_UPI, upi, GOQ_UPI_FIELDS, GOQ_FIELD_CHARACTER, GOQ_UPI_CATEGORY, "a category of three digits");
-    upi[GOQ_UPI_AMOUNT] = precise;
-    refuses(GOQ_UPI, upi, GOQ_UPI_FIELDS, GOQ_FIELD_DECIMALS, GOQ_UPI_AMOUNT, "an amount of three decimals");
-    upi[GOQ_UPI_AMOUNT] = none;
-    upi[GOQ_UPI_PAYEE] = word;
-    refuses(GOQ_UPI, upi, GOQ_UPI_FIELDS, GOQ_FIELD_CHARACTER, GOQ_UPI_PAYEE, "an address without a bank");
-    says(GOQ_PIX, pix, GOQ_PIX_FIELDS, "00020126580014br.gov.bcb.pix0136123e4567-e12b-12d1-a456-4266554400005204000053039865802BR5913Fulano de Tal6008BRASILIA62070503***63041D3D");
-    pix[GOQ_PIX_DESCRIPTION] = long_text;
-    refuses(GOQ_PIX, pix, GOQ_PIX_FIELDS, GOQ_FIELD_TOO_LONG, GOQ_PIX_DESCRIPTION, "a description of 38 bytes beside a key of 36");
-    pix[GOQ_PIX_CITY] = accent;
-    pix[GOQ_PIX_DESCRIPTION] = none;
-    refuses(GOQ_PIX, pix, GOQ_PIX_FIELDS, GOQ_FIELD_CHARACTER, GOQ_PIX_CITY, "a town with an accent");
-    says(GOQ_PROMPTPAY, promptpay, GOQ_PROMPTPAY_FIELDS, "00020101021229370016A000000677010111011300660000000005802TH530376454044.226304E469");
-    says(GOQ_PROMPTPAY, promptpay, 1, "00020101021129370016A000000677010111011300660000000005802TH530376463048956");
-    promptpay[GOQ_PROMPTPAY_PAYEE] = short_number;
-    refuses(GOQ_PROMPTPAY, promptpay, GOQ_PROMPTPAY_FIELDS, GOQ_FIELD_TOO_SHORT, GOQ_PROMPTPAY_PAYEE, "nine digits");
-    promptpay[GOQ_PROMPTPAY_PAYEE] = first;
-    refuses(GOQ_PROMPTPAY, promptpay, GOQ_PROMPTPAY_FIELDS, GOQ_FIELD_CHARACTER, GOQ_PROMPTPAY_PAYEE, "a telephone number without its 0");
-    promptpay[GOQ_PROMPTPAY_PAYEE] = none;
-    refuses(GOQ_PROMPTPAY, promptpay, GOQ_PROMPTPAY_FIELDS, GOQ_FIELD_EMPTY, GOQ_PROMPTPAY_PAYEE, "nobody");
-}
-
 /* The elements of the GS1 DataMatrix Guideline, and a wrong one of each cause at the second place. */
 static uint32_t ask_elements(const goq_element *elements, size_t elements_length, size_t room)
 {
@@ -318,7 +285,6 @@ int main(void)
     links();
     passwords();
     events();
-    codes();
     elements();
     return wrong != 0;
 }

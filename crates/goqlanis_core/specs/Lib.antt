@@ -1,3 +1,4 @@
+pub mod Checked
 pub mod Colours
 pub mod Drawings
 pub mod Elements

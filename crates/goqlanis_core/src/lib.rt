@@ -2,6 +2,7 @@
 //! either.
 #![tactic(auto)]
 
+mod checking;
 pub mod colours;
 mod drawing;
 mod elements;
@@ -16,6 +17,7 @@ mod scanning;
 mod segments;
 mod terminal;
 
+pub use checking::check_picture;
 pub use drawing::{
     Drawing, draw, draw_elements, draw_for_application, draw_segments, drawing_of, quiet_zone,
     scale, symbol_in,

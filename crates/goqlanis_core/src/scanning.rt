@@ -126,7 +126,7 @@ fn is_jpeg(bytes: &[u8]) -> bool
 
 // The pixels of a picture.
 #[tactic(auto, using(crate::proofs::Seen::png_picture, crate::proofs::Seen::other_picture))]
-fn pixels_in(alloc: Global, bytes: &[u8]) -> Result<Pixels, Unread>
+pub(crate) fn pixels_in(alloc: Global, bytes: &[u8]) -> Result<Pixels, Unread>
     ensures value { IfOk result (IsPictureOf bytes.now) }
     ensures causes { IfErr result (IsUnseen bytes.now) }
 {
@@ -258,7 +258,7 @@ fn read_grid(
 }
 
 // Why a square of so many modules a side is not read.
-fn no_symbol(count: usize, error: qrcode_reader::Unread) -> Unread
+pub(crate) fn no_symbol(count: usize, error: qrcode_reader::Unread) -> Unread
     ensures { result ≡ unread_as count error }
 {
     match error {

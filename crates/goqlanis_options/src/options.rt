@@ -36,7 +36,7 @@ use fields::{
 };
 pub use habits::{ADVICE, OTHER_NAMES, OTHER_WORDS};
 use symbols::{
-    ABOUT, DATA, JOINING, LEVELS, LOOKS, MARKS, MASKS, ONE_CODE, READING, SEVERAL, TEXTS,
+    ABOUT, CHECKING, DATA, JOINING, LEVELS, LOOKS, MARKS, MASKS, ONE_CODE, READING, SEVERAL, TEXTS,
 };
 pub use symbols::{DRAWING, EXAMPLES};
 
@@ -88,6 +88,8 @@ pub enum Purpose {
     Several,
     /// It reads a picture.
     Read,
+    /// It says what of a picture's code departs from the standard.
+    Check,
     /// It reads the pictures of a split.
     Join,
     /// It makes a code of a payload, whose fields options give.
@@ -121,10 +123,10 @@ pub struct Task {
 }
 
 /// What words ask for, in the order of the manual.
-pub fn worded_tasks() -> [&'static Task; 18] {
+pub fn worded_tasks() -> [&'static Task; 19] {
     [
-        &READING, &SEVERAL, &JOINING, &WIFI, &MECARD, &VCARD, &PAYMENT, &BILL, &UPI, &PIX,
-        &PROMPTPAY, &MAIL, &PLACE, &TEL, &SMS, &OTP, &EVENT, &ELEMENTS,
+        &READING, &CHECKING, &SEVERAL, &JOINING, &WIFI, &MECARD, &VCARD, &PAYMENT, &BILL, &UPI,
+        &PIX, &PROMPTPAY, &MAIL, &PLACE, &TEL, &SMS, &OTP, &EVENT, &ELEMENTS,
     ]
 }
 
@@ -138,7 +140,7 @@ pub fn task_named(word: &str) -> Option<&'static Task> {
 impl Task {
     /// Whether it draws.
     pub fn draws(&self) -> bool {
-        !matches!(self.purpose, Purpose::Read | Purpose::Join)
+        !matches!(self.purpose, Purpose::Read | Purpose::Check | Purpose::Join)
     }
 
     /// What it takes beside options.
@@ -148,7 +150,7 @@ impl Task {
                 "TEXT",
                 "Text to encode; standard input if neither TEXT nor --input is given",
             ),
-            Purpose::Read => (
+            Purpose::Read | Purpose::Check => (
                 "PICTURE",
                 "A PNG, PBM or PGM file, or half blocks; standard input if none is given",
             ),
@@ -186,9 +188,10 @@ impl Task {
         let (data, mark, level, text, one) = match self.purpose {
             Purpose::Draw => (DATA, MARKS, LEVELS, TEXTS, ONE_CODE),
             Purpose::Several => (DATA, NONE, LEVELS, NONE, NONE),
-            Purpose::Content(Kind::Payment | Kind::Bill) | Purpose::Read | Purpose::Join => {
-                (NONE, NONE, NONE, NONE, NONE)
-            }
+            Purpose::Content(Kind::Payment | Kind::Bill)
+            | Purpose::Read
+            | Purpose::Check
+            | Purpose::Join => (NONE, NONE, NONE, NONE, NONE),
             Purpose::Content(_) => (NONE, MARKS, LEVELS, TEXTS, NONE),
             Purpose::Elements => (NONE, NONE, LEVELS, NONE, NONE),
         };
@@ -220,7 +223,7 @@ impl Task {
     fn heading(&self) -> &'static str {
         match self.purpose {
             Purpose::Draw | Purpose::Several => "Code",
-            Purpose::Read | Purpose::Join => "Output",
+            Purpose::Read | Purpose::Check | Purpose::Join => "Output",
             Purpose::Content(_) | Purpose::Elements => "Input",
         }
     }

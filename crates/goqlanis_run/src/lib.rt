@@ -1,6 +1,7 @@
 //! What `goqlanis` does: it reads data and draws it or reads a picture, and writes files.
 #![tactic(auto)]
 
+mod checking;
 mod contents;
 mod drawing;
 mod lines;

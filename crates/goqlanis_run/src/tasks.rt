@@ -1,5 +1,6 @@
 //! What the command line asks for, done.
 
+use crate::checking::check;
 use crate::contents::payload_of;
 use crate::drawing::{
     application_drawing, draw_one, elements_drawing, segments_drawing, write_drawing,
@@ -130,6 +131,7 @@ fn perform<'a>(
 ) -> Result<ExitCode, Failure> {
     match task.purpose {
         Purpose::Read => read(rt, given),
+        Purpose::Check => check(rt, given),
         Purpose::Join => join_pictures(rt, given),
         Purpose::Draw => match text_about(rt.alloc(), given)? {
             Some(text) => print(rt, text.as_bytes()),

@@ -1,7 +1,8 @@
 -- Values without what people write between their characters.
-use Rattle.std.specs.Prelude.{ℕ, ◌==◌, ◌||◌, Bool, false, List, Option, Some, None, chars, encode_utf8_all, if◌then◌else◌}
-use Rattle.std.specs.List.{filter_map}
+use Rattle.std.specs.Prelude.{◌≡◌, ℕ, ◌==◌, ◌&&◌, ◌||◌, Bool, false, List, ◌++◌, Option, Some, None, chars, codes, encode_utf8_all, eqb, if◌then◌else◌, refl}
+use Rattle.std.specs.List.{after_first, before_first, filter_map, starts_with}
 use Rattle.std.specs.Char.{to_ascii_uppercase}
+use Rattle.qrcode_contents.specs.fields.Entries.{is_filled}
 use Rattle.qrcode_payloads.specs.declared.plain.Between.{Between}
 use Rattle.qrcode_payloads.specs.declared.plain.Between.TheVariants.{Spaces, Phone, Amount, Degrees, Person, Secret, Time, Clock}
 
@@ -34,3 +35,27 @@ kept between c = if is_between between c then None else Some (as_written between
 
 unfoldable pub plain : Between → List ℕ → List ℕ  -- a value without these characters, as formats have it
 plain between text = encode_utf8_all (filter_map (kept between) (chars text))
+
+abbrev pub is_opening : ℕ → Bool  -- an opening bracket
+is_opening b = b == 40
+
+abbrev pub is_closing : ℕ → Bool  -- a closing bracket
+is_closing b = b == 41
+
+-- a number without a (0) behind the code of its country, which is not dialled there: its first brackets, where something stands before them
+unfoldable pub without_zero : List ℕ → List ℕ
+without_zero number =
+    if is_filled (before_first is_opening number) && starts_with eqb (after_first is_opening number) (codes "0)")
+    then before_first is_opening number ++ after_first is_closing (after_first is_opening number)
+    else number
+
+abbrev pub phone_number : List ℕ → List ℕ  -- a telephone number as formats have it
+phone_number text = without_zero (plain Phone text)
+
+abroad_row : without_zero (codes "+41(0)791234567") ≡ codes "+41791234567"
+unfolding without_zero
+abroad_row = refl
+
+home_row : without_zero (codes "(0)791234567") ≡ codes "(0)791234567"
+unfolding without_zero
+home_row = refl

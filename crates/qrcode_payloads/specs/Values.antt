@@ -36,7 +36,7 @@ use Rattle.qrcode_contents.specs.fields.Characters.{is_digit}
 use Rattle.qrcode_contents.specs.fields.Entries.{is_empty}
 use Rattle.qrcode_payloads.specs.Given.{said, with_value}
 use Rattle.qrcode_payloads.specs.Numbers.{scaled_value, degrees_of, unsigned}
-use Rattle.qrcode_payloads.specs.Plain.{plain}
+use Rattle.qrcode_payloads.specs.Plain.{plain, phone_number}
 use Rattle.qrcode_payloads.specs.Times.{day_said, moment_said, plain_time}
 use Rattle.qrcode_payloads.specs.Words.{security_named, currency_named, algorithm_named, digits_named, flag_named}
 use Rattle.qrcode_payloads.specs.declared.plain.Between.TheVariants as between
@@ -183,7 +183,7 @@ abbrev pub place_in : (Field → List ℕ) → Result Place ContentError  -- a l
 place_in g = with_value (degrees_in (plain between.Degrees (g Latitude)) Latitude) (λ north. with_value (degrees_in (plain between.Degrees (g Longitude)) Longitude) (λ east. Ok (record { latitude = north; longitude = east })))
 
 abbrev pub phone_in : (Field → List ℕ) → List ℕ  -- a telephone number
-phone_in g = plain between.Phone (g Phone)
+phone_in g = phone_number (g Phone)
 
 -- a whole number that is at most this
 abbrev pub whole_in : List ℕ → ℕ → Field → Result ℕ ContentError

@@ -1,7 +1,8 @@
 //! Values without what people write between their characters.
 
 ghost use Rattle.std.specs.Prelude.{◌≡◌, IfOk, string_bytes};
-ghost use Rattle.qrcode_payloads.specs.Plain.{is_between, as_written, kept, plain};
+ghost use Rattle.std.specs.List.{after_first, before_first};
+ghost use Rattle.qrcode_payloads.specs.Plain.{is_between, as_written, kept, plain, is_opening, is_closing, without_zero, phone_number};
 
 use std::alloc::{AllocError, Global};
 
@@ -74,4 +75,42 @@ pub(crate) fn plain(alloc: Global, text: &str, between: Between) -> Result<Strin
     text.chars()
         .filter_map(|character| between.kept(character))
         .collect(alloc)
+}
+
+// What stands before the first opening bracket and behind it; all and nothing where there is none.
+fn at_opening(text: &str) -> (&str, &str)
+    ensures before { result.0.now ≡ before_first is_opening text.now }
+    ensures behind { result.1.now ≡ after_first is_opening text.now }
+{
+    text.split_once('(').unwrap_or((text, ""))
+}
+
+// What stands behind the first closing bracket; nothing where there is none.
+fn behind_closing(text: &str) -> &str
+    ensures { result.now ≡ after_first is_closing text.now }
+{
+    let (_, behind) = text.split_once(')').unwrap_or((text, ""));
+    behind
+}
+
+// A number without a (0) behind the code of its country.
+#[tactic(auto, unfolding(crate::specs::Plain::without_zero))]
+fn without_zero(alloc: Global, number: String) -> Result<String, AllocError>
+    ensures { IfOk result (λ value. string_bytes value ≡ without_zero (string_bytes number)) }
+{
+    let (country, inside) = at_opening(number.as_str());
+    if country.is_empty() || !inside.as_bytes().starts_with(b"0)") {
+        return Ok(number);
+    }
+    let mut dialled = String::from_str(alloc, country)?;
+    dialled.push_str(behind_closing(inside))?;
+    Ok(dialled)
+}
+
+/// A telephone number as formats have it, without a (0), which nobody dials behind the code of a
+/// country.
+pub(crate) fn phone_number(alloc: Global, text: &str) -> Result<String, AllocError>
+    ensures { IfOk result (λ value. string_bytes value ≡ phone_number text.now) }
+{
+    without_zero(alloc, plain(alloc, text, Between::Phone)?)
 }

@@ -14,7 +14,7 @@ ghost use Rattle.qrcode_payloads.specs.declared.kinds.Kind.TheVariants.{Wifi, Me
 
 use crate::given::Given;
 use crate::kinds::{Kind, fields_of};
-use crate::plain::{Between, plain};
+use crate::plain::{Between, phone_number, plain};
 use crate::times::plain_time;
 use crate::values;
 use qrcode_contents::card::Card;
@@ -209,7 +209,7 @@ fn tel_text<G: Given>(alloc: Global, given: &G) -> ContentResult<String>
     ensures reads { Answers (payload_refusal Tel (G.fields given.now)) result (IsReadAs Tel (G.fields given.now)) }
     ensures value { IfOk result (λ text. string_bytes text ≡ payload_text Tel (G.fields given.now)) }
 {
-    let number = plain(alloc, given.text(Field::Phone), Between::Phone)?;
+    let number = phone_number(alloc, given.text(Field::Phone))?;
     let phone = Phone {
         number: number.as_str(),
     };
@@ -233,7 +233,7 @@ fn sms_text<G: Given>(alloc: Global, given: &G) -> ContentResult<String>
     ensures reads { Answers (payload_refusal Sms (G.fields given.now)) result (IsReadAs Sms (G.fields given.now)) }
     ensures value { IfOk result (λ text. string_bytes text ≡ payload_text Sms (G.fields given.now)) }
 {
-    let number = plain(alloc, given.text(Field::Phone), Between::Phone)?;
+    let number = phone_number(alloc, given.text(Field::Phone))?;
     message_text(alloc, number.as_str(), given.text(Field::Message))
 }
 

@@ -580,6 +580,15 @@ impl Event<'_> {
 }
 
 /// A payment by UPI, in rupees. What is empty is left out.
+///
+/// ```
+/// use goqlanis::contents::{Cause, ContentError, Upi};
+///
+/// let upi = Upi { payee: "nadeem@npci", name: "nadeem chinna", cents: Some(1000), note: "Pay to mystar store", reference: "4894398cndhcd23", category: "0000" };
+/// assert_eq!(upi.text()?, "upi://pay?pa=nadeem@npci&pn=nadeem%20chinna&mc=0000&tr=4894398cndhcd23&tn=Pay%20to%20mystar%20store&am=10.00&cu=INR");
+/// assert_eq!(Upi { payee: "nadeem", ..upi }.text(), Err(ContentError::Refused("payee", Cause::Character)));
+/// # Ok::<(), ContentError>(())
+/// ```
 #[derive(Clone, Copy, Debug, Default, PartialEq, Eq)]
 pub struct Upi<'a> {
     /// An address as name@bank.
@@ -610,6 +619,15 @@ impl Upi<'_> {
 }
 
 /// A static payment by Pix, in reais, of characters of ASCII.
+///
+/// ```
+/// use goqlanis::contents::{Cause, ContentError, Pix};
+///
+/// let pix = Pix { payee: "123e4567-e12b-12d1-a456-426655440000", name: "Fulano de Tal", city: "BRASILIA", ..Pix::default() };
+/// assert_eq!(pix.text()?, "00020126580014br.gov.bcb.pix0136123e4567-e12b-12d1-a456-4266554400005204000053039865802BR5913Fulano de Tal6008BRASILIA62070503***63041D3D");
+/// assert_eq!(Pix { city: "São Paulo", ..pix }.text(), Err(ContentError::Refused("city", Cause::Character)));
+/// # Ok::<(), ContentError>(())
+/// ```
 #[derive(Clone, Copy, Debug, Default, PartialEq, Eq)]
 pub struct Pix<'a> {
     /// A key.
@@ -640,6 +658,15 @@ impl Pix<'_> {
 }
 
 /// A payment by PromptPay, in baht.
+///
+/// ```
+/// use goqlanis::contents::{Cause, ContentError, PromptPay};
+///
+/// let phone = PromptPay { payee: "0000000000", cents: Some(422) };
+/// assert_eq!(phone.text()?, "00020101021229370016A000000677010111011300660000000005802TH530376454044.226304E469");
+/// assert_eq!(PromptPay { cents: Some(0), ..phone }.text(), Err(ContentError::Refused("cents", Cause::Range)));
+/// # Ok::<(), ContentError>(())
+/// ```
 #[derive(Clone, Copy, Debug, Default, PartialEq, Eq)]
 pub struct PromptPay<'a> {
     /// The ten digits of a telephone number, the thirteen of a national or tax ID, or the fifteen of an electronic wallet.

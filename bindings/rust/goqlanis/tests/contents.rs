@@ -58,16 +58,3 @@ fn passwords_and_events_are_the_printed_ones() {
     assert_eq!(Event { span: Span::Times(end, end), ..event }.text(), Err(ContentError::Refused("end", Cause::Range)));
     assert_eq!(Event { stamp: Some(Moment { hour: 24, ..MOMENT }), ..event }.text(), Err(ContentError::Refused("stamp", Cause::Range)));
 }
-
-#[test]
-fn codes_of_shops_are_the_printed_ones() {
-    let upi = Upi { payee: "nadeem@npci", name: "nadeem chinna", cents: Some(1000), note: "Pay to mystar store", reference: "4894398cndhcd23", category: "0000" };
-    assert_eq!(upi.text().unwrap(), "upi://pay?pa=nadeem@npci&pn=nadeem%20chinna&mc=0000&tr=4894398cndhcd23&tn=Pay%20to%20mystar%20store&am=10.00&cu=INR");
-    assert_eq!(Upi { payee: "nadeem", ..upi }.text(), Err(ContentError::Refused("payee", Cause::Character)));
-    let pix = Pix { payee: "123e4567-e12b-12d1-a456-426655440000", name: "Fulano de Tal", city: "BRASILIA", ..Pix::default() };
-    assert_eq!(pix.text().unwrap(), "00020126580014br.gov.bcb.pix0136123e4567-e12b-12d1-a456-4266554400005204000053039865802BR5913Fulano de Tal6008BRASILIA62070503***63041D3D");
-    assert_eq!(Pix { city: "São Paulo", ..pix }.text(), Err(ContentError::Refused("city", Cause::Character)));
-    let phone = PromptPay { payee: "0000000000", cents: Some(422) };
-    assert_eq!(phone.text().unwrap(), "00020101021229370016A000000677010111011300660000000005802TH530376454044.226304E469");
-    assert_eq!(PromptPay { cents: Some(0), ..phone }.text(), Err(ContentError::Refused("cents", Cause::Range)));
-}

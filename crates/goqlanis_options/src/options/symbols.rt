@@ -119,6 +119,17 @@ pub static READING: Task = Task {
     ],
 };
 
+/// A picture, checked.
+#[rattlefmt::skip]
+pub static CHECKING: Task = Task {
+    word: "check",
+    about: "Say what of a code departs from the standard",
+    purpose: Purpose::Check,
+    options: &[
+        entry!("json", Nothing, "Write one line of JSON"),
+    ],
+};
+
 /// Data, split over several codes.
 #[rattlefmt::skip]
 pub static SEVERAL: Task = Task {
