@@ -12,3 +12,4 @@ pub mod RasterPictures
 pub mod Rectangles
 pub mod Sizes
 pub mod TextLines
+pub mod ZplFields

@@ -5,7 +5,10 @@ use Rattle.std.proofs.lemmas.Bool.{cases_lt}
 use Rattle.std.proofs.lemmas.Nat.{le-div}
 use Rattle.std.proofs.lemmas.List.{map-append, get_or_past, get_or-map, length-map}
 use Rattle.std.specs.List.{range_with_len}
-use Rattle.qrcode_render.specs.Files.{inked, black_bit, bits_from}
+use Rattle.std.specs.Prelude.{flat_map}
+use Rattle.qrcode_render.specs.Bitmap.{Bitmap, row_of}
+use Rattle.qrcode_render.specs.Files.{inked, black_bit, bits_from, packed}
+use Rattle.qrcode_render.specs.Printers.{packed_file}
 use Rattle.qrcode_render.specs.Grid.{each}
 use Rattle.qrcode_render.proofs.Grids.{length-each, get_or-each, range_append}
 
@@ -96,3 +99,9 @@ pub bytes_more : (blacks : List Bool) (i : ℕ) → map (λ k. bits_from blacks 
 bytes_more blacks i =
     let f : ℕ → ℕ = λ k. bits_from blacks (8 * k) 8 in
     sym (map-append f (range_with_len 0 i) (i ∷ [])) ∙ ap (map f) (sym (range_append 0 i 1 ∙ ap (λ k. range_with_len 0 i ++ k ∷ []) (omega arith)))
+
+-- what stands before the rows is what does by their sides
+pub other_head : (head : List ℕ) (before : ℕ → ℕ → List ℕ) (row : List ℕ → List ℕ) (behind : List ℕ) (marked other : Bool) (b : Bitmap) → head ≡ before b.across b.down
+    → packed_file (λ _ _. head) row behind marked other b ≡ packed_file before row behind marked other b
+unfolding packed_file
+other_head head before row behind marked other b is = ap (λ h. h ++ flat_map (λ y. row (packed (inked marked other (row_of b y)))) (range_with_len 0 b.down) ++ behind) is

@@ -21,3 +21,4 @@ pub mod Strips
 pub mod Strokes
 pub mod Svg
 pub mod Texts
+pub mod Zpl

@@ -1,8 +1,11 @@
 -- SVG of one path, whose subpaths are the runs of dark modules of the rows.
-use Rattle.std.specs.Prelude.{◌≡◌, ℕ, zero, suc, ◌+◌, ◌-◌, ◌*◌, ◌/◌, ◌%◌, ◌==◌, nat_le, nat_lt, ◌&&◌, ◌||◌, Bool, true, false, List, [], ◌∷◌, ◌++◌, codes, decimal, map, flat_map, if◌then◌else◌}
+use Rattle.std.specs.Prelude.{◌≡◌, ℕ, zero, suc, ◌+◌, ◌-◌, ◌*◌, ◌/◌, ◌%◌, ◌==◌, nat_le, nat_lt, ◌&&◌, ◌||◌, Bool, true, false, List, [], ◌∷◌, ◌++◌, codes, decimal, length, map, flat_map, max, if◌then◌else◌}
 use Rattle.std.specs.List.{range_with_len}
 use Rattle.qrcode_render.specs.Bitmap.{Bitmap}
 use Rattle.qrcode_render.specs.Grid.{Grid, all_rows, cell_row}
+use Rattle.qrcode_render.specs.declared.svg_path.Frame as code
+use Rattle.qrcode_render.specs.declared.svg_path.Size.{Size}
+use Rattle.qrcode_render.specs.declared.svg_path.Size.TheVariants.{Pixels, Free, Dots}
 
 -- cells of a row beside each other: the first column, the row, and how many
 pub record Run : Type 0 where
@@ -57,20 +60,58 @@ abbrev pub is_filled : List Run → ℕ → ℕ → Bool
 is_filled [] column row = false
 is_filled (r ∷ runs) column row = covers r column row || is_filled runs column row
 
--- a byte of an attribute: a quotation mark, a less-than sign and an ampersand stand as entities
+-- a byte of an attribute: a quotation mark, a less-than sign, a greater-than sign and an ampersand stand as entities
 abbrev pub attribute_byte : ℕ → List ℕ
-attribute_byte b = if b == 34 then codes "&quot;" else (if b == 60 then codes "&lt;" else (if b == 38 then codes "&amp;" else b ∷ []))
+attribute_byte b = if b == 34 then codes "&quot;" else (if b == 60 then codes "&lt;" else (if b == 62 then codes "&gt;" else (if b == 38 then codes "&amp;" else b ∷ [])))
 
--- a text as the value of an attribute
+-- a text as the value of an attribute, or between tags
 unfoldable pub attribute : List ℕ → List ℕ
 attribute text = flat_map attribute_byte text
 
--- the head of the element: its sides in pixels, and its box in cells, which fills these sides
-abbrev pub path_frame : ℕ → ℕ → ℕ → ℕ → List ℕ
-path_frame w h columns rows =
-    codes "<svg xmlns=\"http://www.w3.org/2000/svg\" version=\"1.1\" width=\"" ++ (decimal w ++ (codes "\" height=\"" ++ (decimal h
-    ++ (codes "\" viewBox=\"0 0 " ++ (decimal columns ++ (codes " " ++ (decimal rows
-    ++ codes "\" preserveAspectRatio=\"none\" shape-rendering=\"crispEdges\">")))))))
+-- a text between two others, where there is one
+abbrev pub between : List ℕ → List ℕ → List ℕ → List ℕ
+between before text after = if length text == 0 then [] else before ++ (attribute text ++ after)
+
+-- what stands at the element besides its picture: texts, each of which may be empty, and how large it is
+pub record Frame : Type 0 where
+  pub id : List ℕ
+  pub class : List ℕ
+  pub title : List ℕ
+  pub description : List ℕ
+  pub size : Size
+
+abbrev pub frame_of : code.Frame → Frame
+frame_of f = record { id = f.id.now; class = f.class.now; title = f.title.now; description = f.description.now; size = f.size }
+
+-- thousandths, as a number with three digits behind its point
+abbrev pub thousandths : ℕ → List ℕ
+thousandths n = decimal (n / 1000) ++ (codes "." ++ (decimal (n / 100 % 10) ++ (decimal (n / 10 % 10) ++ decimal (n % 10))))
+
+-- a side of so many pixels: their number, or its millimetres, 25.4 of which are an inch of so many pixels, at least 1
+abbrev pub side_text : Size → ℕ → List ℕ
+side_text (Dots dots) n = thousandths (n * 25400 / max dots 1) ++ codes "mm"
+side_text s n = decimal n
+
+-- how large the element is, if it says so
+abbrev pub size_text : Size → ℕ → ℕ → List ℕ
+size_text Free w h = []
+size_text s w h = codes " width=\"" ++ (side_text s w ++ (codes "\" height=\"" ++ (side_text s h ++ codes "\"")))
+
+-- its box in cells, which fills its sides
+abbrev pub box_text : ℕ → ℕ → List ℕ
+box_text columns rows =
+    codes " viewBox=\"0 0 " ++ (decimal columns ++ (codes " " ++ (decimal rows ++ codes "\" preserveAspectRatio=\"none\" shape-rendering=\"crispEdges\">")))
+
+-- the head of the element, and what is said of it
+abbrev pub frame_text : Frame → ℕ → ℕ → ℕ → ℕ → List ℕ
+frame_text f w h columns rows =
+    codes "<svg xmlns=\"http://www.w3.org/2000/svg\" version=\"1.1\""
+    ++ (between (codes " id=\"") f.id (codes "\"") ++ (between (codes " class=\"") f.class (codes "\"") ++ (size_text f.size w h ++ (box_text columns rows
+    ++ (between (codes "<title>") f.title (codes "</title>") ++ between (codes "<desc>") f.description (codes "</desc>"))))))
+
+-- a frame of no texts, as large as its pixels
+abbrev pub plain : Frame
+plain = record { id = []; class = []; title = []; description = []; size = Pixels }
 
 -- the ground, up to its colour
 abbrev pub path_ground : ℕ → ℕ → List ℕ
@@ -78,9 +119,9 @@ path_ground columns rows =
     codes "<rect width=\"" ++ (decimal columns ++ (codes "\" height=\"" ++ (decimal rows ++ codes "\" fill=\"")))
 
 -- the element: its head, the light ground, and the dark path
-abbrev pub path_element : ℕ → ℕ → ℕ → ℕ → List ℕ → List ℕ → List Run → List ℕ
-path_element w h columns rows dark light runs =
-    path_frame w h columns rows
+abbrev pub path_element : Frame → ℕ → ℕ → ℕ → ℕ → List ℕ → List ℕ → List Run → List ℕ
+path_element frame w h columns rows dark light runs =
+    frame_text frame w h columns rows
     ++ (path_ground columns rows ++ (light ++ (codes "\"/><path fill=\"" ++ (dark ++ (codes "\" d=\"" ++ (path_text runs ++ codes "\"/></svg>"))))))
 
 -- what stands before the element in a file of its own
@@ -88,7 +129,7 @@ abbrev pub xml_head : List ℕ
 xml_head = codes "<?xml version=\"1.0\" standalone=\"yes\"?>"
 
 -- a text whose path, read so, shows the picture: each cell of its box is so many pixels across and down, and the pixels of the filled ones are dark
-pub record IsPathOf (head dark light : List ℕ) (b : Bitmap) (svg : List ℕ) : Type 0 where
+pub record IsPathOf (head : List ℕ) (frame : Frame) (dark light : List ℕ) (b : Bitmap) (svg : List ℕ) : Type 0 where
   pub columns : ℕ
   pub rows : ℕ
   pub across : ℕ
@@ -96,7 +137,7 @@ pub record IsPathOf (head dark light : List ℕ) (b : Bitmap) (svg : List ℕ) :
   pub runs : List Run
   pub wide : b.across ≡ columns * across
   pub high : b.down ≡ rows * down
-  pub written : svg ≡ head ++ path_element b.across b.down columns rows (attribute dark) (attribute light) runs
+  pub written : svg ≡ head ++ path_element frame b.across b.down columns rows (attribute dark) (attribute light) runs
   pub shown : b.marks ≡ map (λ i. is_filled runs (i % b.across / across) (i / b.across / down)) (range_with_len 0 (b.across * b.down))
 
 -- the run of so many cells that ends before a column

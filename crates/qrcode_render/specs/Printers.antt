@@ -25,6 +25,11 @@ abbrev pub tspl_head : ℕ → ℕ → List ℕ
 tspl_head w h =
     codes "SIZE " ++ (decimal w ++ (codes " dot," ++ (decimal h ++ (codes " dot\r\nCLS\r\nBITMAP 0,0," ++ (decimal (bytes_across w) ++ (codes "," ++ (decimal h ++ codes ",0,")))))))
 
+-- the same on a label that ends with the picture, where this stands so many dots from the left and from the top
+abbrev pub tspl_head_at : ℕ × ℕ → ℕ → ℕ → List ℕ
+tspl_head_at place w h =
+    codes "SIZE " ++ (decimal (place.0 + w) ++ (codes " dot," ++ (decimal (place.1 + h) ++ (codes " dot\r\nCLS\r\nBITMAP " ++ (decimal place.0 ++ (codes "," ++ (decimal place.1 ++ (codes "," ++ (decimal (bytes_across w) ++ (codes "," ++ (decimal h ++ codes ",0,")))))))))))
+
 -- in its bytes 0 is black
 abbrev pub tspl_row : List ℕ → List ℕ
 tspl_row bytes = map (λ b. 255 - b) bytes
@@ -36,6 +41,9 @@ tspl_tail = codes "\r\nPRINT 1\r\n"
 abbrev pub tspl_file : Bool → Bool → Bitmap → List ℕ
 tspl_file = packed_file tspl_head tspl_row tspl_tail
 
+abbrev pub tspl_file_at : ℕ × ℕ → Bool → Bool → Bitmap → List ℕ
+tspl_file_at place = packed_file (tspl_head_at place) tspl_row tspl_tail
+
 -- a digit to the base 16
 abbrev pub hex_digit : ℕ → ℕ
 hex_digit n = if nat_lt n 10 then 48 + n else 55 + n
@@ -43,20 +51,6 @@ hex_digit n = if nat_lt n 10 then 48 + n else 55 + n
 -- a byte in two digits
 abbrev pub hex_pair : ℕ → List ℕ
 hex_pair b = hex_digit (b / 16) ∷ hex_digit (b % 16) ∷ []
-
--- ZPL II: a label with a graphic field at its corner; how many bytes it has, twice, and how many are in a row
-abbrev pub zpl_head : ℕ → ℕ → List ℕ
-zpl_head w h =
-    codes "^XA^FO0,0^GFA," ++ (decimal (bytes_across w * h) ++ (codes "," ++ (decimal (bytes_across w * h) ++ (codes "," ++ (decimal (bytes_across w) ++ codes ",")))))
-
-abbrev pub zpl_row : List ℕ → List ℕ
-zpl_row bytes = flat_map hex_pair bytes
-
-abbrev pub zpl_tail : List ℕ
-zpl_tail = codes "^FS^XZ\n"
-
-abbrev pub zpl_file : Bool → Bool → Bitmap → List ℕ
-zpl_file = packed_file zpl_head zpl_row zpl_tail
 
 -- XBM: a text in C
 abbrev pub xbm_head : ℕ → ℕ → List ℕ

@@ -64,6 +64,13 @@ impl<F> Dot<F> {
             of: PhantomData,
         }
     }
+
+    /// Whether it is black.
+    pub(crate) fn is_black(self) -> bool
+        ensures { result ≡ self.is_black }
+    {
+        self.is_black
+    }
 }
 
 impl<F: Packing> Pixel for Dot<F> {
@@ -116,7 +123,25 @@ pub(crate) fn packed_file<F: Packing>(
     ensures memory { IsOkUnless result OutOfMemory }
 {
     let (width, height) = grid.pixels();
-    let mut file = F::head(alloc, width, height)?;
+    let head = F::head(alloc, width, height)?;
+    let file = packed_behind::<F>(head, grid, marked, other)?;
+    Ok(file)
+}
+
+/// The same behind another head. Refuses with `OutOfMemory` alone.
+pub(crate) fn packed_behind<F: Packing>(
+    head: Vec<u8>,
+    grid: &Grid,
+    marked: bool,
+    other: bool,
+) -> QrResult<Vec<u8>>
+    ensures value { IfOk result (λ file. file.items ≡ packed_file (λ _ _. head.items)
+        F.row_of F.behind marked other (pixels_of grid.now)) }
+    ensures memory { IsOkUnless result OutOfMemory }
+{
+    let alloc = *head.allocator();
+    let (width, height) = grid.pixels();
+    let mut file = head;
     file.reserve((width.div_ceil(8) as usize).saturating_mul(height as usize))?;
     let (columns, _) = grid.sides();
     let mut marks = vec![in alloc; false; columns]?;
@@ -151,8 +176,8 @@ fn push_packed_rows<F: Packing>(
     Ok(())
 }
 
-// A row of cells of so many pixels across, eight pixels in a byte.
-fn packed_row(
+/// A row of cells of so many pixels across, eight pixels in a byte. Refuses with `OutOfMemory` alone.
+pub(crate) fn packed_row(
     alloc: Global,
     marks: &[bool],
     across: u32,

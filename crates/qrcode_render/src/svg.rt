@@ -8,7 +8,7 @@ ghost use Rattle.qrcode_render.specs.Svg.{svg_start, svg_rect, svg_rect-is, svg_
 use crate::Pixel;
 use crate::ink::{Piece, Word};
 use crate::strokes::{Plot, Strokes};
-pub use crate::svg_path::{Path, PathElement};
+pub use crate::svg_path::{Frame, Path, PathElement, Size, framed};
 use qrcode_types::types::{Color as ModuleColor, QrResult};
 use std::alloc::Global;
 

@@ -1,27 +1,29 @@
 //! Pictures as SVG of one path, which is drawn by the runs of dark modules of the rows.
 
 ghost use Rattle.std.proofs.Common.{rules};
-ghost use Rattle.std.specs.Prelude.{◌≡◌, ◌++◌, [], encode_utf8, codes, string_bytes, IfOk, OnOk, IsOkUnless};
+ghost use Rattle.std.specs.Prelude.{◌≡◌, ◌*◌, ◌++◌, [], encode_utf8, codes, string_bytes, IfOk, OnOk, IsOkUnless, IsTrue};
 ghost use Rattle.qrcode_types.specs.declared.types.QrError.TheVariants.{OutOfMemory};
 ghost use Rattle.qrcode_types.specs.Colors.{select_of};
-ghost use Rattle.qrcode_render.specs.Grid.{pixels_of};
-ghost use Rattle.qrcode_render.specs.Paths.{attribute, path_frame, path_ground, xml_head, IsPathOf};
+ghost use Rattle.qrcode_render.specs.Grid.{all_columns, all_rows, pixels_of};
+ghost use Rattle.qrcode_render.specs.Setting.{fits, picture_of};
+ghost use Rattle.qrcode_render.specs.Paths.{attribute, between, box_text, frame_of, frame_text, path_ground, plain, side_text, size_text, xml_head, IsPathOf};
 
-use crate::Pixel;
 use crate::grid::Grid;
 use crate::ink::Script;
 use crate::page::{Finish, Page};
 use crate::runs::push_runs;
+use crate::{Pixel, Renderer};
 use qrcode_types::types::{Color as ModuleColor, QrResult};
 use std::alloc::Global;
 use std::fmt::Write;
 
-/// A colour of an SVG file of one path. Quotation marks, `<` and `&` in it are escaped.
+/// A colour of an SVG file of one path. Quotation marks, `<`, `>` and `&` in it are
+/// escaped.
 #[derive(Copy, Clone, Default, PartialEq, Eq, PartialOrd, Ord, Hash)]
 pub struct Path<'a>(pub &'a str);
 
 /// A colour of an SVG element of one path, with no XML head, to stand in a page of HTML. Quotation
-/// marks, `<` and `&` in it are escaped.
+/// marks, `<`, `>` and `&` in it are escaped.
 #[derive(Copy, Clone, Default, PartialEq, Eq, PartialOrd, Ord, Hash)]
 pub struct PathElement<'a>(pub &'a str);
 
@@ -83,11 +85,11 @@ impl<'a> Finish<Path<'a>> for WithHead {
     type Image = String;
 
     ghost is_image = { λ b dark light text.
-        IsPathOf xml_head dark.0.now light.0.now b (string_bytes text) };
+        IsPathOf xml_head plain dark.0.now light.0.now b (string_bytes text) };
 
     fn image(alloc: Global, grid: &Grid, dark: Path<'a>, light: Path<'a>) -> QrResult<String> {
         let text = String::from_str(alloc, "<?xml version=\"1.0\" standalone=\"yes\"?>")?;
-        with_element(text, grid, dark.0, light.0)
+        with_element(text, &Frame::plain(), grid, dark.0, light.0)
     }
 }
 
@@ -95,7 +97,7 @@ impl<'a> Finish<PathElement<'a>> for WithoutHead {
     type Image = String;
 
     ghost is_image = { λ b dark light text.
-        IsPathOf [] dark.0.now light.0.now b (string_bytes text) };
+        IsPathOf [] plain dark.0.now light.0.now b (string_bytes text) };
 
     fn image(
         alloc: Global,
@@ -103,21 +105,84 @@ impl<'a> Finish<PathElement<'a>> for WithoutHead {
         dark: PathElement<'a>,
         light: PathElement<'a>,
     ) -> QrResult<String> {
-        with_element(String::new(alloc), grid, dark.0, light.0)
+        with_element(String::new(alloc), &Frame::plain(), grid, dark.0, light.0)
     }
 }
 
+/// How large an element is.
+#[derive(Copy, Clone)]
+pub enum Size {
+    /// As many pixels of the page as the picture has.
+    Pixels,
+    /// It does not say: it fills what it stands in.
+    Free,
+    /// In millimetres, where so many pixels, at least 1, are an inch.
+    Dots(u32),
+}
+
+/// What stands at an SVG element besides its picture. Texts that are empty are left out; in others
+/// quotation marks, `<`, `>` and `&` are escaped.
+#[derive(Clone, Copy)]
+pub struct Frame<'a> {
+    /// Its name in the page.
+    pub id: &'a str,
+    /// The classes that rules of style name.
+    pub class: &'a str,
+    /// What it is called, for screen readers and as a pointer rests on it.
+    pub title: &'a str,
+    /// What it shows, for screen readers.
+    pub description: &'a str,
+    /// How large it is.
+    pub size: Size,
+}
+
+impl<'a> Frame<'a> {
+    /// No texts, and a pixel of the page for each pixel.
+    pub fn plain() -> Frame<'a>
+        ensures { frame_of result ≡ plain }
+    {
+        Frame {
+            id: "",
+            class: "",
+            title: "",
+            description: "",
+            size: Size::Pixels,
+        }
+    }
+}
+
+/// The text that `build` makes of a renderer, but in a frame.
+///
+/// `OutOfMemory`: memory ran out.
+pub fn framed(alloc: Global, renderer: &Renderer<Path<'_>>, frame: &Frame<'_>) -> QrResult<String>
+    requires fits { IsTrue (fits renderer.now) }
+    ensures shows { IfOk result (λ text. IsPathOf xml_head (frame_of frame.now) renderer.now.dark.0.now
+        renderer.now.light.0.now (picture_of renderer.now) (string_bytes text)) }
+    ensures memory { IsOkUnless result OutOfMemory }
+{
+    let (dark, light) = renderer.colors();
+    let text = String::from_str(alloc, "<?xml version=\"1.0\" standalone=\"yes\"?>")?;
+    let whole = with_element(text, frame, &renderer.grid(), dark.0, light.0)?;
+    Ok(whole)
+}
+
 // A text and the picture behind it.
-fn with_element(text: String, grid: &Grid, dark: &str, light: &str) -> QrResult<String>
-    ensures value { IfOk result (λ whole.
-        IsPathOf (string_bytes text) dark.now light.now (pixels_of grid.now) (string_bytes whole)) }
+fn with_element(
+    text: String,
+    frame: &Frame<'_>,
+    grid: &Grid,
+    dark: &str,
+    light: &str,
+) -> QrResult<String>
+    ensures value { IfOk result (λ whole. IsPathOf (string_bytes text) (frame_of frame.now)
+        dark.now light.now (pixels_of grid.now) (string_bytes whole)) }
     ensures memory { IsOkUnless result OutOfMemory }
 {
     let mut text = text;
     let alloc = *text.allocator();
-    let (width, height) = grid.pixels();
     let (columns, rows) = grid.sides();
-    push_head(&mut text, width, height, columns, rows)?;
+    push_frame(&mut text, frame, grid)?;
+    push_ground(&mut text, columns, rows)?;
     push_attribute(&mut text, light)?;
     text.push_str("\"/><path fill=\"")?;
     push_attribute(&mut text, dark)?;
@@ -129,24 +194,95 @@ fn with_element(text: String, grid: &Grid, dark: &str, light: &str) -> QrResult<
     Ok(script.into_string())
 }
 
-// Appends the head of the element and the light ground, up to its colour.
-fn push_head(
-    text: &mut String,
-    width: u32,
-    height: u32,
-    columns: usize,
-    rows: usize,
-) -> QrResult<()>
+// Appends the head of the element, and what is said of it.
+fn push_frame(text: &mut String, frame: &Frame<'_>, grid: &Grid) -> QrResult<()>
     ensures appends { OnOk result (string_bytes text.new ≡ string_bytes text.old
-        ++ (path_frame width height columns rows ++ path_ground columns rows)) }
+        ++ frame_text (frame_of frame.now) (all_columns grid.now * grid.now.across)
+        (all_rows grid.now * grid.now.down) (all_columns grid.now) (all_rows grid.now)) }
+    ensures memory { IsOkUnless result OutOfMemory }
+{
+    let (width, height) = grid.pixels();
+    let (columns, rows) = grid.sides();
+    text.push_str("<svg xmlns=\"http://www.w3.org/2000/svg\" version=\"1.1\"")?;
+    push_between(text, " id=\"", frame.id, "\"")?;
+    push_between(text, " class=\"", frame.class, "\"")?;
+    push_size(text, frame.size, width, height)?;
+    push_box(text, columns, rows)?;
+    push_between(text, "<title>", frame.title, "</title>")?;
+    push_between(text, "<desc>", frame.description, "</desc>")?;
+    Ok(())
+}
+
+// Appends a text between two others, where there is one.
+fn push_between(text: &mut String, before: &str, value: &str, after: &str) -> QrResult<()>
+    ensures appends { OnOk result (string_bytes text.new
+        ≡ string_bytes text.old ++ between before.now value.now after.now) }
+    ensures memory { IsOkUnless result OutOfMemory }
+{
+    if value.is_empty() {
+        return Ok(());
+    }
+    text.push_str(before)?;
+    push_attribute(text, value)?;
+    text.push_str(after)?;
+    Ok(())
+}
+
+// Appends how large the element is, if it says so.
+fn push_size(text: &mut String, size: Size, width: u32, height: u32) -> QrResult<()>
+    ensures appends { OnOk result (string_bytes text.new
+        ≡ string_bytes text.old ++ size_text size width height) }
+    ensures memory { IsOkUnless result OutOfMemory }
+{
+    if matches!(size, Size::Free) {
+        return Ok(());
+    }
+    text.push_str(" width=\"")?;
+    push_side(text, size, width)?;
+    text.push_str("\" height=\"")?;
+    push_side(text, size, height)?;
+    text.push_str("\"")?;
+    Ok(())
+}
+
+// Appends a side of so many pixels.
+fn push_side(text: &mut String, size: Size, pixels: u32) -> QrResult<()>
+    ensures appends { OnOk result (string_bytes text.new
+        ≡ string_bytes text.old ++ side_text size pixels) }
+    ensures memory { IsOkUnless result OutOfMemory }
+{
+    match size {
+        Size::Dots(dots) => {
+            let side = u64::from(pixels) * 25400 / u64::from(dots.max(1));
+            let (hundreds, tens, ones) = (side / 100 % 10, side / 10 % 10, side % 10);
+            write!(text, "{}.{hundreds}{tens}{ones}mm", side / 1000)?;
+        }
+        _ => write!(text, "{pixels}")?,
+    }
+    Ok(())
+}
+
+// Appends the box of the element in cells.
+fn push_box(text: &mut String, columns: usize, rows: usize) -> QrResult<()>
+    ensures appends { OnOk result (string_bytes text.new
+        ≡ string_bytes text.old ++ box_text columns rows) }
     ensures memory { IsOkUnless result OutOfMemory }
 {
     write!(
         text,
-        "<svg xmlns=\"http://www.w3.org/2000/svg\" version=\"1.1\" width=\"{width}\" \
-         height=\"{height}\" viewBox=\"0 0 {columns} {rows}\" preserveAspectRatio=\"none\" \
-         shape-rendering=\"crispEdges\"><rect width=\"{columns}\" height=\"{rows}\" fill=\""
+        " viewBox=\"0 0 {columns} {rows}\" preserveAspectRatio=\"none\" \
+         shape-rendering=\"crispEdges\">"
     )?;
+    Ok(())
+}
+
+// Appends the light ground, up to its colour.
+fn push_ground(text: &mut String, columns: usize, rows: usize) -> QrResult<()>
+    ensures appends { OnOk result (string_bytes text.new
+        ≡ string_bytes text.old ++ path_ground columns rows) }
+    ensures memory { IsOkUnless result OutOfMemory }
+{
+    write!(text, "<rect width=\"{columns}\" height=\"{rows}\" fill=\"")?;
     Ok(())
 }
 
@@ -160,6 +296,8 @@ fn push_character(text: &mut String, character: char) -> QrResult<()>
         text.push_str("&quot;")?;
     } else if character == '<' {
         text.push_str("&lt;")?;
+    } else if character == '>' {
+        text.push_str("&gt;")?;
     } else if character == '&' {
         text.push_str("&amp;")?;
     } else {

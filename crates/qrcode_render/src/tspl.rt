@@ -1,10 +1,12 @@
 //! Pictures for label printers that speak TSPL: a bitmap of 0 for black, on a label of its size.
 
-ghost use Rattle.std.specs.Prelude.{◌≡◌, IfOk, IsOkUnless, map};
+ghost use Rattle.std.specs.Prelude.{◌≡◌, IfOk, IsOkUnless, IsTrue, map};
 ghost use Rattle.qrcode_types.specs.declared.types.QrError.TheVariants.{OutOfMemory};
-ghost use Rattle.qrcode_render.specs.Printers.{tspl_head, tspl_row, tspl_tail};
+ghost use Rattle.qrcode_render.specs.Setting.{fits, picture_of};
+ghost use Rattle.qrcode_render.specs.Printers.{tspl_file_at, tspl_head, tspl_head_at, tspl_row, tspl_tail};
 
-use crate::packed::{self, Packing};
+use crate::Renderer;
+use crate::packed::{self, Packing, packed_behind};
 use qrcode_types::types::QrResult;
 use std::alloc::Global;
 
@@ -40,4 +42,36 @@ impl Packing for Bitmap {
     fn tail() -> &'static [u8] {
         b"\r\nPRINT 1\r\n"
     }
+}
+
+/// The label that `build` makes of a renderer, but with the picture so many dots from the left and from
+/// the top.
+///
+/// `OutOfMemory`: memory ran out.
+pub fn at_place(alloc: Global, renderer: &Renderer<Dot>, place: (u32, u32)) -> QrResult<Vec<u8>>
+    requires fits { IsTrue (fits renderer.now) }
+    ensures value { IfOk result (λ file. file.items ≡ tspl_file_at place renderer.now.dark.is_black
+        renderer.now.light.is_black (picture_of renderer.now)) }
+    ensures memory { IsOkUnless result OutOfMemory }
+{
+    let (dark, light) = renderer.colors();
+    let grid = renderer.grid();
+    let (width, height) = grid.pixels();
+    let head = head_at(alloc, place, width, height)?;
+    let label = packed_behind::<Bitmap>(head, &grid, dark.is_black(), light.is_black())?;
+    Ok(label)
+}
+
+// What stands before the rows of a picture of so many pixels across and down at a place.
+fn head_at(alloc: Global, place: (u32, u32), width: u32, height: u32) -> QrResult<Vec<u8>>
+    ensures value { IfOk result (λ head. head.items ≡ tspl_head_at place width height) }
+    ensures memory { IsOkUnless result OutOfMemory }
+{
+    let (x, y) = place;
+    let bytes = (width as usize + 7) / 8;
+    let right = x as u64 + width as u64;
+    let end = y as u64 + height as u64;
+    Ok(format!(in alloc;
+        "SIZE {right} dot,{end} dot\r\nCLS\r\nBITMAP {x},{y},{bytes},{height},0,"
+    )?.into_bytes())
 }

@@ -1,14 +1,11 @@
-use Rattle.std.proofs.Common.{◌++◌, ap₂, ◌∙◌, sym}
-use Rattle.qrcode_render.specs.Files.{inked, packed}
-use Rattle.qrcode_render.specs.Printers.{packed_file}
-use Rattle.qrcode_render.proofs.Grids.{rows_by_cells}
+use Rattle.std.proofs.Common.{ap₂, ◌∙◌}
+use Rattle.qrcode_render.specs.Grid.{pixels_of}
+use Rattle.qrcode_render.proofs.PackedBits.{other_head}
 use Rattle.qrcode_render.proofs.packed.packed_file.Goals as goal
 
 pub returns-clause-value : goal.returns-clause-value
-unfolding packed_file
 returns-clause-value g c =
+    let F = g.F.Packing in
     let sides = c.pixels-width.ensures in
-    let head = c.in_ok-reserve.ensures.items ∙ c.in_ok-file.ensures.value ∙ ap₂ g.F.Packing.before sides.across sides.down in
-    let rows = sym (rows_by_cells (λ marks. g.F.Packing.row_of (packed (inked c.args.marked c.args.other marks))) c.args.grid.now sides.at_least.0 sides.at_least.1) in
-    c.in_ok-extend_from_slice.ensures.items
-    ∙ ap₂ (λ xs ys. xs ++ ys) (c.in_ok-push_packed_rows.ensures.appends ∙ ap₂ (λ xs ys. xs ++ ys) head rows) c.tail.ensures
+    c.in_ok-file.ensures.value
+    ∙ other_head c.in_ok-head.head.items F.before F.row_of F.behind c.args.marked c.args.other (pixels_of c.args.grid.now) (c.in_ok-head.ensures.value ∙ ap₂ F.before sides.across sides.down)

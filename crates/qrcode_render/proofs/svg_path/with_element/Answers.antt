@@ -2,12 +2,12 @@ use Rattle.std.proofs.Common.{◌≡◌, ℕ, List, ◌++◌, ◌*◌, ◌/◌, 
 use Rattle.std.specs.Prelude.{codes, string_bytes}
 use Rattle.std.specs.List.{range_with_len}
 use Rattle.qrcode_render.specs.Grid.{all_columns, all_rows}
-use Rattle.qrcode_render.specs.Paths.{path_frame, path_ground, path_text, attribute, runs_of}
+use Rattle.qrcode_render.specs.Paths.{frame_of, frame_text, path_ground, path_text, attribute, runs_of}
 use Rattle.qrcode_render.proofs.FilledRuns.{runs_fill}
 use Rattle.qrcode_render.proofs.svg_path.with_element.Goals as goal
 
 -- nine texts, one behind another
-nested : (t a b c d e f g h : List ℕ) → ((((((t ++ (a ++ b)) ++ c) ++ d) ++ e) ++ f) ++ g) ++ h ≡ t ++ (a ++ (b ++ (c ++ (d ++ (e ++ (f ++ (g ++ h)))))))
+nested : (t a b c d e f g h : List ℕ) → (((((((t ++ a) ++ b) ++ c) ++ d) ++ e) ++ f) ++ g) ++ h ≡ t ++ (a ++ (b ++ (c ++ (d ++ (e ++ (f ++ (g ++ h)))))))
 nested t a b c d e f g h = simp append_assoc
 
 pub returns-clause-value : goal.returns-clause-value
@@ -16,7 +16,7 @@ returns-clause-value c =
     let head = string_bytes c.args.text in
     let w = all_columns grid * grid.across in
     let h = all_rows grid * grid.down in
-    let frame = path_frame w h (all_columns grid) (all_rows grid) in
+    let frame = frame_text (frame_of c.args.frame.now) w h (all_columns grid) (all_rows grid) in
     let light = attribute c.args.light.now in
     let dark = attribute c.args.dark.now in
     let runs = path_text (runs_of grid) in
@@ -24,10 +24,10 @@ returns-clause-value c =
     let path = codes "\" d=\"" in
     let end = codes "\"/></svg>" in
     let sides = c.sides-columns.ensures in
-    let framed : string_bytes c.push_head.new.text ≡ head ++ (frame ++ path_ground (all_columns grid) (all_rows grid)) =
-    c.in_ok-push_head.ensures.appends
-    ∙ ap₂ (λ x y. head ++ (path_frame x y c.sides-columns.result.0 c.sides-columns.result.1 ++ path_ground c.sides-columns.result.0 c.sides-columns.result.1)) c.pixels-width.ensures.across c.pixels-width.ensures.down
-    ∙ ap₂ (λ x y. head ++ (path_frame w h x y ++ path_ground x y)) sides.columns sides.rows in
+    let framed : string_bytes c.push_ground.new.text ≡ (head ++ frame) ++ path_ground (all_columns grid) (all_rows grid) =
+    c.in_ok-push_ground.ensures.appends
+    ∙ ap₂ (λ x y. string_bytes c.push_frame.new.text ++ path_ground x y) sides.columns sides.rows
+    ∙ ap (λ t. t ++ path_ground (all_columns grid) (all_rows grid)) c.in_ok-push_frame.ensures.appends in
     let lit = c.in_ok-push_attribute.ensures.appends ∙ ap (λ t. t ++ light) framed in
     let grounded = c.in_ok-push_str.ensures.bytes ∙ ap (λ t. t ++ ground) lit in
     let inked = c.in_ok-push_attribute-2.ensures.appends ∙ ap (λ t. t ++ dark) grounded in
