@@ -1,5 +1,6 @@
 -- The parts of bits begin with their first part.
-use Rattle.std.proofs.Common.{◌≡◌, ◌^◌, ◌<◌, ℕ, ◌++◌, List, [], ◌∷◌, Bool, true, false, length, refl, sym, ap, ap₂, subst, ◌∙◌, arith, append_assoc, append-nil, length-append, true≢false}
+use Rattle.std.proofs.Common.{◌≡◌, ◌^◌, ◌<◌, ◌-◌, ℕ, ◌++◌, drop, List, [], ◌∷◌, Bool, true, false, length, refl, sym, ap, ap₂, subst, ◌∙◌, arith, append_assoc, append-nil, length-append, true≢false}
+use Rattle.std.proofs.Math.Seq.{drop-append_seam}
 use Rattle.std.specs.Prelude.{flat_map, map}
 use Rattle.std.specs.List.{AllByRecursion}
 use Rattle.qrcode_types.specs.Bits.{number_bits}
@@ -17,7 +18,7 @@ use Rattle.qrcode_reader.specs.declared.spell.headers.Header.{Header}
 use Rattle.qrcode_reader.specs.declared.spell.headers.Header.TheVariants.{Eci, Fnc1First, Fnc1Second, StructuredAppend}
 use Rattle.qrcode_reader.specs.declared.spell.parts.Part.{Part}
 use Rattle.qrcode_reader.specs.declared.spell.parts.Part.TheVariants.{Front, Bytes}
-use Rattle.qrcode_reader.specs.spell.Parts.{BeginsWithHeader, BeginsWithPart, AreParts, HaveNoParts, IsSegment, header_indicator}
+use Rattle.qrcode_reader.specs.spell.Parts.{BeginsWithHeader, BeginsWithPart, AreParts, IsBehindParts, HaveNoParts, IsSegment, header_indicator}
 use Rattle.qrcode_reader.proofs.Headings.{one_header, small}
 use Rattle.qrcode_reader.proofs.Spelled.{piece_shortens}
 
@@ -87,16 +88,27 @@ part_shortens v (Front h) bits a x s =
     )
 part_shortens v (Bytes m n) bits a x s = piece_shortens v bits (record { mode = m; chunk = a }) x s.0
 
+-- a part stands in front of the rest
+part_front : (v : Version) (p : Part) (bits : List Bool) (a : List ℕ) (x : List Bool) → BeginsWithPart v p bits a x → (front : List Bool) × (bits ≡ front ++ x)
+part_front v (Front h) bits a x s =
+    let i = number_bits 4 (header_indicator h) in
+    (i ++ s.0.argued.argument, s.0.whole ∙ ap (λ (b : List Bool). i ++ b) s.0.argued.whole ∙ sym (append_assoc i s.0.argued.argument x))
+part_front v (Bytes m n) bits a x s = (_, s.0.whole)
+
 -- the parts of all bits are those that were read of them, and then those of the rest
 pub record PartsFront (v : Version) (bits : List Bool) (done : List ℕ) (before : List Part) (rest : List Bool) : Type 0 where
   pub sound : (more : List ℕ) (others : List Part) → AreParts v rest more others → AreParts v bits (done ++ more) (before ++ others)
   pub complete : (bytes : List ℕ) (parts : List Part) → AreParts v bits bytes parts
       → (more : List ℕ) × ((others : List Part) × ((bytes ≡ done ++ more) × ((parts ≡ before ++ others) × AreParts v rest more others)))
+  pub front : (first : List Bool) × (bits ≡ first ++ rest)
+  pub behind : (others : List Part) (last : List Bool) → IsBehindParts v rest others last → IsBehindParts v bits (before ++ others) last
 
 pub nothing_read : (v : Version) (bits : List Bool) → PartsFront v bits [] [] bits
 nothing_read v bits = record {
   sound = λ more others s. s;
   complete = λ bytes parts s. (bytes, (parts, (refl, (refl, s))));
+  front = ([], refl);
+  behind = λ others last s. s;
 }
 
 -- the first part of bits that do not end
@@ -154,6 +166,10 @@ parts_on v bits done before rest p chunk behind goes b f = record {
           ),
         ),
       );
+  front =
+      let r = part_front v p rest chunk behind b in
+      (f.front.0 ++ r.0, f.front.1 ∙ ap (λ (x : List Bool). f.front.0 ++ x) r.1 ∙ sym (append_assoc f.front.0 r.0 behind));
+  behind = λ others last s. subst (λ x. IsBehindParts v bits x last) (sym (append_assoc before (p ∷ []) others)) (f.behind (p ∷ others) last (behind, (chunk, (goes, (b, s)))));
 }
 
 -- where no part can be read, and the bits do not end, there are no parts
@@ -181,6 +197,14 @@ parts_only v bits done before rest end f bytes parts s =
       ended : (more : List ℕ) (others : List Part) → AreParts v rest more others → (more ≡ []) × (others ≡ [])
       ended more [] t = (t.1, refl)
       ended more (p ∷ others) t = absurd (true≢false (sym end ∙ t.1.2.1.0))
+
+-- and behind them the end begins
+pub parts_behind : (v : Version) (bits : List Bool) (done : List ℕ) (before : List Part) (rest : List Bool) (end : ℕ) → is_end v rest ≡ true → end ≡ length bits - length rest
+    → PartsFront v bits done before rest → IsBehindParts v bits before (drop end bits)
+parts_behind v bits done before rest end at e f =
+    let long : end ≡ length f.front.0 = omega (arith, ap length f.front.1, length-append f.front.0 rest) in
+    let last : drop end bits ≡ rest = ap₂ (λ (n : ℕ) (b : List Bool). drop n b) long f.front.1 ∙ drop-append_seam f.front.0 rest in
+    subst (λ x. IsBehindParts v bits x (drop end bits)) (append-nil before) (f.behind [] (drop end bits) (at, sym last))
 
 -- a piece as a part
 abbrev pub part_of : Piece → Part

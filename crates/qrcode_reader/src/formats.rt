@@ -38,8 +38,8 @@ fn difference(bit: bool, word: u16, place: usize) -> usize
     }
 }
 
-// In how many places bits differ from those of a word, as many of its lowest bits.
-fn distance(bits: &[bool], word: u16) -> usize
+/// In how many places bits differ from those of a word, as many of its lowest bits.
+pub fn distance(bits: &[bool], word: u16) -> usize
     requires { length bits.now ≤ 15 }
     ensures { result ≡ bit_distance bits.now (number_bits (length bits.now) word) }
 {
@@ -96,8 +96,8 @@ fn is_dark_at(version: Version, modules: &[Color], place: (usize, usize)) -> boo
     }
 }
 
-// The bits of a copy of the format word.
-fn copy_bits(copy: FormatCopy, version: Version, modules: &[Color]) -> [bool; 15]
+/// The bits of a copy of the format word; modules that the square lacks count as light.
+pub fn copy_bits(copy: FormatCopy, version: Version, modules: &[Color]) -> [bool; 15]
     requires { IsTrue (is_valid version) }
     ensures { result
         ≡ bits_at version modules.now (map (copy_place copy version) (range_with_len 0 15)) }

@@ -23,7 +23,7 @@ pub mod words;
 pub use correction::WrongCodeword;
 pub use formats::read_format;
 pub use parts::{PartsReading, read_parts};
-pub use positions::{AnyPartsReading, AnyReading, Position, read_any, read_any_parts};
+pub use positions::{AnyPartsReading, AnyReading, Position, read_any, read_any_parts, seen};
 pub use reading::{BitReading, Reading, read, read_bits};
 pub use refusals::{Unread, UnreadText};
 pub use sizes::version_of;

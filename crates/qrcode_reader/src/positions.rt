@@ -89,8 +89,8 @@ fn seen_color(is_inverted: bool, color: Color) -> Color
     }
 }
 
-// The symbol that stands so in the modules of a square.
-fn seen(
+/// The symbol that stands so in the modules of a square of that side.
+pub fn seen(
     alloc: Global,
     side: usize,
     position: Position,

@@ -146,7 +146,7 @@ fn push_pair(
 /// 18004:2006, 6.7.3 and 6.8).
 ///
 /// The version is one that exists, and the square has its side.
-pub(crate) fn stream(
+pub fn stream(
     alloc: Global,
     version: Version,
     mask: MaskPattern,

@@ -21,8 +21,8 @@ fn front(bits: &[bool], count: usize) -> &[bool]
     }
 }
 
-// The bits behind the first ones, so many.
-fn behind(bits: &[bool], count: usize) -> &[bool]
+/// The bits behind the first ones, so many.
+pub fn behind(bits: &[bool], count: usize) -> &[bool]
     ensures { result.now ≡ drop count bits.now }
 {
     if count < bits.len() {

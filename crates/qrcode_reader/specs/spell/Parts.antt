@@ -61,6 +61,12 @@ AreParts v bits bytes [] = IsTrue (is_end v bits) × (bytes ≡ [])
 AreParts v bits bytes (p ∷ parts) =
     (rest : List Bool) × ((chunk more : List ℕ) × ((bytes ≡ chunk ++ more) × (IsFalse (is_end v bits) × (BeginsWithPart v p bits chunk rest × AreParts v rest more parts))))
 
+-- behind the parts one after the other stands a rest, which begins like an end
+abbrev pub IsBehindParts : Version → List Bool → List Part → List Bool → Type 0
+IsBehindParts v bits [] rest = IsTrue (is_end v bits) × (bits ≡ rest)
+IsBehindParts v bits (p ∷ parts) rest =
+    (more : List Bool) × ((chunk : List ℕ) × (IsFalse (is_end v bits) × (BeginsWithPart v p bits chunk more × IsBehindParts v more parts rest)))
+
 abbrev pub HaveNoParts : Version → List Bool → Type 0  -- no bytes and parts are those of the bits
 HaveNoParts v bits = (bytes : List ℕ) (parts : List Part) → ¬ AreParts v bits bytes parts
 

@@ -1,10 +1,10 @@
 //! The parts of a symbol's data: headers, and segments.
 
-ghost use Rattle.std.specs.Prelude.{◌≡◌, ◌⊎◌, ℕ, List, IsTrue, IfOk, IfErr, IsOkUnless};
+ghost use Rattle.std.specs.Prelude.{◌≡◌, ◌≤◌, ◌⊎◌, ℕ, List, drop, length, IsTrue, IfOk, IfErr, IsOkUnless};
 ghost use Rattle.std.specs.List.{AllByRecursion};
 ghost use Rattle.qrcode_types.specs.Versions.{is_valid};
 ghost use Rattle.qrcode_bits.specs.Spelling.{Spells};
-ghost use Rattle.qrcode_reader.specs.spell.Parts.{AreParts, HaveNoParts, IsSegment, AppendsPart};
+ghost use Rattle.qrcode_reader.specs.spell.Parts.{AreParts, IsBehindParts, HaveNoParts, IsSegment, AppendsPart};
 ghost use Rattle.qrcode_reader.specs.declared.spell.parts.Part.{Part};
 ghost use Rattle.qrcode_reader.specs.declared.spell.refusals.Unspelled.TheVariants.{NotSpelled, OutOfMemory};
 
@@ -30,6 +30,8 @@ pub struct Parts {
     pub bytes: Vec<u8>,
     /// The headers and segments in order.
     pub parts: Vec<Part>,
+    /// How many bits they take: there the terminator begins, if there is one.
+    pub end: usize,
 }
 
 // Appends the bytes of the part that stands in front of the bits, and answers the part and the rest.
@@ -66,6 +68,11 @@ pub fn pieces(alloc: Global, bits: &[bool], version: Version) -> Result<Parts, U
     ensures causes { IfErr result (λ e. (e ≡ OutOfMemory)
         ⊎ ((e ≡ NotSpelled) × HaveNoParts version bits.now)) }
 
+    // Behind these bits the end begins.
+    ensures end { IfOk result (λ found.
+        IsBehindParts version bits.now found.parts.items (drop found.end bits.now)) }
+    ensures inside { IfOk result (λ found. found.end ≤ length bits.now) }
+
     // Bits that spell bytes have segments of these bytes and no header.
     ensures segments { (bytes : List ℕ) → Spells version bits.now bytes → IfOk result (λ found.
         (found.bytes.items ≡ bytes) × AllByRecursion IsSegment found.parts.items) }
@@ -78,5 +85,9 @@ pub fn pieces(alloc: Global, bits: &[bool], version: Version) -> Result<Parts, U
         parts.push(part)?;
         rest = behind;
     }
-    Ok(Parts { bytes, parts })
+    Ok(Parts {
+        bytes,
+        parts,
+        end: bits.len() - rest.len(),
+    })
 }

@@ -1,16 +1,16 @@
-use Rattle.std.proofs.Common.{◌≡◌, ◌++◌, [], ℕ, List, false, sym, subst, ◌∙◌, inl, inr}
+use Rattle.std.proofs.Common.{◌≡◌, ◌++◌, [], ℕ, List, false, refl, sym, subst, ◌∙◌, inl, inr}
 use Rattle.std.proofs.lemmas.Result.{err_from_is_err_and}
 use Rattle.qrcode_bits.specs.Spelling.{is_end}
 use Rattle.qrcode_reader.specs.declared.spell.parts.Part.{Part}
-use Rattle.qrcode_reader.proofs.Parted.{PartsFront, nothing_read, refuses_part, parts_on, parts_end, parts_only, part_shortens, spelled_only}
+use Rattle.qrcode_reader.proofs.Parted.{PartsFront, nothing_read, refuses_part, parts_on, parts_end, parts_only, parts_behind, part_shortens, spelled_only}
 use Rattle.qrcode_reader.proofs.spell.parts.pieces.Goals as goal
 use Rattle.qrcode_reader.proofs.spell.parts.pieces.Goals.{After-push_part, After-is_end}
 
-goes : (c : After-push_part) → is_end c.args.version c.loop-rest.rest.now ≡ false
-goes c = sym c.is_end.ensures ∙ c.loop-rest-test.true
+goes : (c : After-push_part) → is_end c.args.version c.loop-version.rest.now ≡ false
+goes c = sym c.is_end.ensures ∙ c.loop-version-test.true
 
-pub loop-rest-init : goal.loop-rest-init
-loop-rest-init c =
+pub loop-version-init : goal.loop-version-init
+loop-version-init c =
     subst (λ (done : List ℕ). PartsFront c.args.version c.args.bits.now done c.new-parts.result.items c.args.bits.now) (sym c.new-bytes.ensures.items)
     (subst (λ (before : List Part). PartsFront c.args.version c.args.bits.now [] before c.args.bits.now) (sym c.new-parts.ensures.items) (nothing_read c.args.version c.args.bits.now))
 
@@ -20,7 +20,7 @@ returns-in_err-part-clause-accepts c =
     let p = err_from_is_err_and c.from_residual.result c.from_residual.ensures.1 in
     λ bytes parts s. rw (p.1, p.2) (elim c.in_err-part.ensures.refused [
       | inl memory ↦ memory
-      | inr none ↦ absurd (refuses_part c.args.version c.args.bits.now c.loop-rest.bytes.items c.loop-rest.parts.items c.loop-rest.rest.now (goes k) none.1 c.loop-rest.invariant bytes parts s)
+      | inr none ↦ absurd (refuses_part c.args.version c.args.bits.now c.loop-version.bytes.items c.loop-version.parts.items c.loop-version.rest.now (goes k) none.1 c.loop-version.invariant bytes parts s)
     ])
 
 pub returns-in_err-part-clause-causes : goal.returns-in_err-part-clause-causes
@@ -29,31 +29,35 @@ returns-in_err-part-clause-causes c =
     let p = err_from_is_err_and c.from_residual.result c.from_residual.ensures.1 in
     rw (p.1, p.2) (elim c.in_err-part.ensures.refused [
       | inl memory ↦ inl memory
-      | inr none ↦ inr (none.0, refuses_part c.args.version c.args.bits.now c.loop-rest.bytes.items c.loop-rest.parts.items c.loop-rest.rest.now (goes k) none.1 c.loop-rest.invariant)
+      | inr none ↦ inr (none.0, refuses_part c.args.version c.args.bits.now c.loop-version.bytes.items c.loop-version.parts.items c.loop-version.rest.now (goes k) none.1 c.loop-version.invariant)
     ])
 
-pub loop-rest-smaller : goal.loop-rest-smaller
-loop-rest-smaller c =
+pub loop-version-smaller : goal.loop-version-smaller
+loop-version-smaller c =
     let t = c.in_ok-part.ensures.taken in
-    part_shortens c.args.version c.in_ok-part.part c.loop-rest.rest.now t.0 c.in_ok-part.behind.now t.1
+    part_shortens c.args.version c.in_ok-part.part c.loop-version.rest.now t.0 c.in_ok-part.behind.now t.1
 
-pub loop-rest-preserved : goal.loop-rest-preserved
-loop-rest-preserved c =
-    let k = (goal.at.loop-rest-preserved c).After-push_part in
+pub loop-version-preserved : goal.loop-version-preserved
+loop-version-preserved c =
+    let k = (goal.at.loop-version-preserved c).After-push_part in
     let t = c.in_ok-part.ensures.taken in
     subst (λ (done : List ℕ). PartsFront c.args.version c.args.bits.now done c.push.new.self.items c.in_ok-part.behind.now) (sym t.2)
-    (subst (λ (before : List Part). PartsFront c.args.version c.args.bits.now (c.loop-rest.bytes.items ++ t.0) before c.in_ok-part.behind.now) (sym c.in_ok-push.ensures.items)
-    (parts_on c.args.version c.args.bits.now c.loop-rest.bytes.items c.loop-rest.parts.items c.loop-rest.rest.now c.in_ok-part.part t.0 c.in_ok-part.behind.now (goes k) t.1 c.loop-rest.invariant))
+    (subst (λ (before : List Part). PartsFront c.args.version c.args.bits.now (c.loop-version.bytes.items ++ t.0) before c.in_ok-part.behind.now) (sym c.in_ok-push.ensures.items)
+    (parts_on c.args.version c.args.bits.now c.loop-version.bytes.items c.loop-version.parts.items c.loop-version.rest.now c.in_ok-part.part t.0 c.in_ok-part.behind.now (goes k) t.1 c.loop-version.invariant))
 
 pub returns-clause-value : goal.returns-clause-value
 returns-clause-value c =
-    parts_end c.args.version c.args.bits.now c.loop-rest.bytes.items c.loop-rest.parts.items c.loop-rest.rest.now (sym c.is_end.ensures ∙ c.loop-rest-test.false) c.loop-rest.invariant
+    parts_end c.args.version c.args.bits.now c.loop-version.bytes.items c.loop-version.parts.items c.loop-version.rest.now (sym c.is_end.ensures ∙ c.loop-version-test.false) c.loop-version.invariant
 
 pub returns-clause-only : goal.returns-clause-only
 returns-clause-only c =
-    parts_only c.args.version c.args.bits.now c.loop-rest.bytes.items c.loop-rest.parts.items c.loop-rest.rest.now (sym c.is_end.ensures ∙ c.loop-rest-test.false) c.loop-rest.invariant
+    parts_only c.args.version c.args.bits.now c.loop-version.bytes.items c.loop-version.parts.items c.loop-version.rest.now (sym c.is_end.ensures ∙ c.loop-version-test.false) c.loop-version.invariant
 
 pub returns-clause-segments : goal.returns-clause-segments
 returns-clause-segments c =
-    spelled_only c.args.version c.args.bits.now c.loop-rest.bytes.items c.loop-rest.parts.items
-    (parts_only c.args.version c.args.bits.now c.loop-rest.bytes.items c.loop-rest.parts.items c.loop-rest.rest.now (sym c.is_end.ensures ∙ c.loop-rest-test.false) c.loop-rest.invariant)
+    spelled_only c.args.version c.args.bits.now c.loop-version.bytes.items c.loop-version.parts.items
+    (parts_only c.args.version c.args.bits.now c.loop-version.bytes.items c.loop-version.parts.items c.loop-version.rest.now (sym c.is_end.ensures ∙ c.loop-version-test.false) c.loop-version.invariant)
+
+pub returns-clause-end : goal.returns-clause-end
+returns-clause-end c =
+    parts_behind c.args.version c.args.bits.now c.loop-version.bytes.items c.loop-version.parts.items c.loop-version.rest.now _ (sym c.is_end.ensures ∙ c.loop-version-test.false) refl c.loop-version.invariant

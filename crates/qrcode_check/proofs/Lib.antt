@@ -1,0 +1,9 @@
+pub mod Figures
+pub mod FormatBits
+pub mod Guessing
+pub mod Distances
+pub mod Sound
+pub mod Rows
+pub mod Bounded
+pub mod Padded
+pub mod Allowances

@@ -1,0 +1,82 @@
+//! Terminator and padding behind the segments.
+
+ghost use Rattle.std.specs.Prelude.{◌≡◌, ◌≤◌, ◌+◌, ◌%◌, ◌==◌, length, IsTrue, if◌then◌else◌};
+ghost use Rattle.qrcode_types.specs.Bits.{bit_distance};
+ghost use Rattle.qrcode_types.specs.Versions.{is_valid};
+ghost use Rattle.qrcode_bits.specs.Written.{terminator_length, padding};
+ghost use Rattle.qrcode_check.specs.Ending.{zeros, IsEnding};
+
+use crate::modules::ones;
+use qrcode_reader::formats::distance;
+use qrcode_types::types::Version;
+
+/// How many bits behind the segments are wrong.
+#[derive(Debug, PartialEq, Eq, Copy, Clone)]
+pub struct Ending {
+    /// Of the terminator, and of the zeros behind it up to a whole byte.
+    pub terminator: usize,
+    /// Of the padding behind these.
+    pub padding: usize,
+}
+
+// The zeros of the terminator, where there is room for them.
+fn terminator_length(version: Version) -> usize
+    requires { IsTrue (is_valid version) }
+    ensures value { result ≡ terminator_length version }
+    ensures at_most { result ≤ 9 }
+{
+    match version {
+        Version::Normal(_) => 4,
+        Version::Micro(v) => 2 * (v as usize) + 1,
+    }
+}
+
+// How many zeros stand behind so many bits.
+fn zeros(version: Version, used: usize, room: usize) -> usize
+    requires valid { IsTrue (is_valid version) }
+    requires inside { used ≤ room }
+    requires room { room ≤ 30000 }
+    ensures value { result ≡ zeros version used room }
+    ensures inside { used + result ≤ room }
+{
+    let whole = 8 * (((used + terminator_length(version)).min(room) + 7) / 8);
+    whole.min(room) - used
+}
+
+// A byte of the padding.
+fn padding_byte(place: usize) -> u16
+    ensures { result ≡ (if place % 2 == 0 then 0xEC else 0x11) }
+{
+    if place % 2 == 0 { 0xEC } else { 0x11 }
+}
+
+// How many bits of the padding are wrong.
+fn wrong_padding(bits: &[bool]) -> usize
+    requires { length bits.now ≤ 30000 }
+    ensures { result ≡ bit_distance bits.now (padding (length bits.now)) }
+{
+    let mut rest = bits;
+    let mut count = 0;
+    for i in 0..bits.len() / 8 {
+        let (byte, behind) = rest.split_at(8);
+        count += distance(byte, padding_byte(i));
+        rest = behind;
+    }
+    count + distance(rest, 0)
+}
+
+/// How many bits are wrong behind the first ones, so many, of the data bits of a version (ISO/IEC
+/// 18004:2006, 6.4.9 and 6.4.10).
+pub fn ending_behind(version: Version, used: usize, bits: &[bool]) -> Ending
+    requires valid { IsTrue (is_valid version) }
+    requires inside { used ≤ length bits.now }
+    requires room { length bits.now ≤ 30000 }
+    ensures { IsEnding version used bits.now result }
+{
+    let behind = &bits[used..];
+    let (zeros, rest) = behind.split_at(zeros(version, used, bits.len()));
+    Ending {
+        terminator: ones(zeros),
+        padding: wrong_padding(rest),
+    }
+}

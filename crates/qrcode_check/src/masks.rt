@@ -1,0 +1,229 @@
+//! How the mask stands among all masks of the version.
+
+ghost use Rattle.std.specs.Prelude.{◌≡◌, ◌+◌, ◌*◌, ◌<◌, ◌≤◌, ◌^◌, length, slice_index, IsTrue, IfOk};
+ghost use Rattle.qrcode_types.specs.Colors.{is_dark};
+ghost use Rattle.qrcode_types.specs.Versions.{is_valid, has_level, side};
+ghost use Rattle.qrcode_layout.specs.Masks.{mask_count, exists_in};
+ghost use Rattle.qrcode_penalty.specs.Penalty.{dark_count, dark_count_in};
+ghost use Rattle.qrcode_penalty.specs.Rows.{IsSquare};
+ghost use Rattle.qrcode_symbol.specs.Masking.{digit, packed};
+ghost use Rattle.qrcode_symbol.specs.Penalties.{penalty, is_dark_at, remasked};
+ghost use Rattle.qrcode_check.specs.Masks.{stepped_balance, stepped_penalty, penalties, place_of, IsRank};
+
+use qrcode_layout::masks::{MaskPattern, mask_count, nth_mask};
+use qrcode_penalty::penalty::{micro_penalty, normal_penalty};
+use qrcode_penalty::row::{PackedRow, Row128, Row192};
+use qrcode_penalty::square::PackedSquare;
+use qrcode_reader::walk::side;
+use qrcode_symbol::canvas::remask;
+use qrcode_types::types::{Color, EcLevel, Version};
+use std::alloc::{AllocError, Global};
+
+/// How a mask stands among all masks of its version.
+#[derive(Debug, PartialEq, Eq, Copy, Clone)]
+pub struct Rank {
+    /// How many have a lower penalty.
+    pub lower: usize,
+    /// How many with a lower number have the same penalty.
+    pub equal: usize,
+}
+
+// The row of the bit of one module.
+fn bit<R: PackedRow>(color: Color) -> R
+    requires { 1 < R.room }
+    ensures { R.bits result ≡ digit (is_dark color) }
+{
+    match color {
+        Color::Dark => R::first(1),
+        Color::Light => R::first(0),
+    }
+}
+
+// A row of modules in which bit x is set where the module in column x is dark.
+fn packed_row<R: PackedRow>(modules: &[Color]) -> R
+    requires few { length modules.now < R.room }
+    requires some { 0 < length modules.now }
+    ensures { R.bits result ≡ packed is_dark modules.now }
+{
+    let mut row = R::first(0);
+    for i in (0..modules.len()).rev() {
+        row = row.up(1).or(bit::<R>(modules[i]));
+    }
+    row
+}
+
+// The penalty of colours by rows of one kind.
+fn penalty_by<R: PackedRow>(
+    alloc: Global,
+    version: Version,
+    modules: &[Color],
+) -> Result<u32, AllocError>
+    requires valid { IsTrue (is_valid version) }
+    requires room { side version + 3 ≤ R.room }
+    requires square { length modules.now ≡ side version * side version }
+    ensures value { IfOk result (λ number. number ≡ penalty version modules.now) }
+    ensures at_most { IfOk result (λ number. number < 2 ^ 24) }
+{
+    let width = side(version);
+    let mut rows = vec![in alloc; R::first(0); width]?;
+    for y in 0..width {
+        rows[y] = packed_row::<R>(&modules[y * width..y * width + width]);
+    }
+    let square = PackedSquare::new(&rows, width as u32);
+    if version.is_micro() {
+        return Ok(micro_penalty(&square));
+    }
+    Ok(normal_penalty(&square))
+}
+
+/// The penalty of the colours of a square (ISO/IEC 18004:2006, 6.8.3), its balance as this project
+/// counts it.
+///
+/// `AllocError`: memory was refused.
+pub fn penalty(alloc: Global, version: Version, modules: &[Color]) -> Result<u32, AllocError>
+    requires valid { IsTrue (is_valid version) }
+    requires square { length modules.now ≡ side version * side version }
+    ensures value { IfOk result (λ number. number ≡ penalty version modules.now) }
+    ensures at_most { IfOk result (λ number. number < 2 ^ 24) }
+{
+    let width = side(version);
+    if width + 3 <= 64 {
+        return penalty_by::<u64>(alloc, version, modules);
+    }
+    if width + 3 <= 128 {
+        return penalty_by::<Row128>(alloc, version, modules);
+    }
+    penalty_by::<Row192>(alloc, version, modules)
+}
+
+// How many modules of a row are dark.
+#[tactic(auto, using(qrcode_penalty::proofs::Sums::sum_step), unfolding(qrcode_penalty::specs::Penalty::sum_below, qrcode_penalty::specs::Penalty::dark_count_in))]
+fn dark_in_row(version: Version, modules: &[Color], y: usize) -> usize
+    requires valid { IsTrue (is_valid version) }
+    requires square { length modules.now ≡ side version * side version }
+    requires inside { y < side version }
+    ensures value { result
+        ≡ dark_count_in (side version) (λ x. is_dark_at version modules.now x y) }
+    ensures at_most { result ≤ 177 }
+{
+    let width = side(version);
+    let mut count = 0;
+    for x in 0..width {
+        if let Color::Dark = modules[y * width + x] {
+            count += 1;
+        }
+    }
+    count
+}
+
+// How many modules are dark.
+#[tactic(auto, using(qrcode_penalty::proofs::Sums::sum_step), unfolding(qrcode_penalty::specs::Penalty::sum_below, qrcode_penalty::specs::Penalty::dark_count))]
+fn dark_count(version: Version, modules: &[Color]) -> usize
+    requires valid { IsTrue (is_valid version) }
+    requires square { length modules.now ≡ side version * side version }
+    ensures value { result ≡ dark_count (side version) (is_dark_at version modules.now) }
+    ensures at_most { result ≤ 31329 }
+{
+    let mut count = 0;
+    for y in 0..side(version) {
+        count += dark_in_row(version, modules, y);
+    }
+    count
+}
+
+// The penalty with the balance as the standard counts it, in steps of 5 %, by the penalty of this
+// project.
+fn stepped_penalty(version: Version, modules: &[Color], own: u32) -> usize
+    requires valid { IsTrue (is_valid version) }
+    requires square { length modules.now ≡ side version * side version }
+    requires own { own ≡ penalty version modules.now }
+    requires at_most { own < 2 ^ 24 }
+    ensures { result ≡ stepped_penalty version modules.now }
+{
+    if version.is_micro() {
+        return own as usize;
+    }
+    let width = side(version);
+    let all = width * width;
+    let dark = dark_count(version, modules);
+    let balance = (200 * dark / all).abs_diff(100);
+    (own as usize).saturating_sub(balance) + 10 * ((20 * dark).abs_diff(10 * all) / all)
+}
+
+// How many numbers are lower than that at a place, and how many before it are equal.
+fn rank_at(numbers: &[usize], place: usize) -> Rank
+    requires { place < length numbers.now }
+    ensures { IsRank numbers.now place result }
+{
+    let own = numbers[place];
+    let lower = numbers.iter().filter(|number| **number < own).count();
+    let equal = numbers[..place]
+        .iter()
+        .filter(|number| **number == own)
+        .count();
+    Rank { lower, equal }
+}
+
+/// The place of a mask among those of a version.
+pub fn place_of(version: Version, mask: MaskPattern) -> usize
+    ensures { result ≡ place_of version mask }
+{
+    match version {
+        Version::Normal(_) => mask.number(),
+        Version::Micro(_) => mask.micro_number(),
+    }
+}
+
+// The penalties of a square under another mask of its version.
+fn penalties_under(
+    alloc: Global,
+    version: Version,
+    ec_level: EcLevel,
+    mask: MaskPattern,
+    modules: &[Color],
+    other: MaskPattern,
+) -> Result<(usize, usize), AllocError>
+    requires exists { IsTrue (has_level version ec_level) }
+    requires mask_exists { IsTrue (exists_in version other) }
+    requires square { length modules.now ≡ side version * side version }
+    ensures own { IfOk result (λ found.
+        found.0 ≡ penalty version (remasked version ec_level mask other modules.now)) }
+    ensures stepped { IfOk result (λ found.
+        found.1 ≡ stepped_penalty version (remasked version ec_level mask other modules.now)) }
+{
+    let mut turned = Vec::from_slice(alloc, modules)?;
+    remask(version, ec_level, mask, other, &mut turned);
+    let own = penalty(alloc, version, &turned)?;
+    Ok((own as usize, stepped_penalty(version, &turned, own)))
+}
+
+/// How the mask of a square stands among all masks: by the penalty as this project counts the
+/// balance, and by the standard's.
+///
+/// `AllocError`: memory was refused.
+pub fn ranks(
+    alloc: Global,
+    version: Version,
+    ec_level: EcLevel,
+    mask: MaskPattern,
+    modules: &[Color],
+) -> Result<(Rank, Rank), AllocError>
+    requires exists { IsTrue (has_level version ec_level) }
+    requires mask_exists { IsTrue (exists_in version mask) }
+    requires square { length modules.now ≡ side version * side version }
+    ensures own { IfOk result (λ ranks. IsRank
+        (penalties penalty version ec_level mask modules.now) (place_of version mask) ranks.0) }
+    ensures stepped { IfOk result (λ ranks. IsRank
+        (penalties stepped_penalty version ec_level mask modules.now) (place_of version mask) ranks.1) }
+{
+    let mut own = Vec::new(alloc);
+    let mut stepped = Vec::new(alloc);
+    for number in 0..mask_count(version) {
+        let other = nth_mask(version, number);
+        let (first, second) = penalties_under(alloc, version, ec_level, mask, modules, other)?;
+        own.push(first)?;
+        stepped.push(second)?;
+    }
+    let place = place_of(version, mask);
+    Ok((rank_at(&own, place), rank_at(&stepped, place)))
+}

@@ -1,0 +1,278 @@
+//! How many modules of the functional patterns are wrong, by kind.
+
+ghost use Rattle.std.specs.Prelude.{◌≡◌, ◌+◌, ◌*◌, ◌<◌, ◌≤◌, count_by, length, IsTrue, IfOk};
+ghost use Rattle.std.specs.List.{list_all};
+ghost use Rattle.qrcode_types.specs.Versions.{is_valid, is_micro, has_level, side};
+ghost use Rattle.qrcode_layout.specs.Masks.{exists_in};
+ghost use Rattle.qrcode_layout.specs.Figures.{fits, alignments, alignment_row, is_centre_inside};
+ghost use Rattle.qrcode_check.specs.Modules.{difference, wrong_at, wrong_in_row, wrong_in, wrong_of, finder_figures, timing_figures, dark_figures, word_figures_of, wrong_format, wrong_remainder, are_right, AreWrongModules};
+
+use qrcode_layout::centres::centres;
+use qrcode_layout::figures::{
+    Figure, alignment, is_corner_centre, micro_figures, normal_figures, word_figures,
+};
+use qrcode_layout::masks::MaskPattern;
+use qrcode_layout::words::format_word;
+use qrcode_reader::formats::{FormatCopy, copy_bits, distance};
+use qrcode_reader::walk::{side, stream};
+use qrcode_reader::words::behind;
+use qrcode_types::tables::{Blocks, capacity};
+use qrcode_types::types::{Color, EcLevel, Version};
+use std::alloc::{AllocError, Global};
+
+/// How many modules of each kind of pattern are wrong. One where two kinds meet counts for both.
+#[derive(Debug, PartialEq, Eq, Copy, Clone)]
+pub struct WrongModules {
+    /// Of the finder patterns and their separators.
+    pub finder: usize,
+    /// Of the alignment patterns.
+    pub alignment: usize,
+    /// Of the timing patterns.
+    pub timing: usize,
+    /// Of the copies of the format word, and the module that is always dark.
+    pub format: usize,
+    /// Of the copies of the version word.
+    pub version: usize,
+    /// Of those behind the last codeword, which are to be light before the mask is put on.
+    pub remainder: usize,
+}
+
+impl WrongModules {
+    /// Whether none is wrong.
+    pub fn are_right(self) -> bool
+        ensures { result ≡ are_right self }
+    {
+        self.finder == 0
+            && self.alignment == 0
+            && self.timing == 0
+            && self.format == 0
+            && self.version == 0
+            && self.remainder == 0
+    }
+}
+
+// One where two colours differ.
+fn difference(a: Color, b: Color) -> usize
+    ensures value { result ≡ difference a b }
+    ensures at_most { result ≤ 1 }
+{
+    match (a, b) {
+        (Color::Dark, Color::Dark) | (Color::Light, Color::Light) => 0,
+        _ => 1,
+    }
+}
+
+// One where a module of a figure has another colour.
+fn wrong_at(
+    version: Version,
+    modules: &[Color],
+    figure: &Figure,
+    row: usize,
+    column: usize,
+) -> usize
+    requires valid { IsTrue (is_valid version) }
+    requires fits { IsTrue (fits version figure.now) }
+    requires square { length modules.now ≡ side version * side version }
+    requires row { row < figure.now.down }
+    requires column { column < figure.now.across }
+    ensures value { result ≡ wrong_at version modules.now figure.now row column }
+    ensures at_most { result ≤ 1 }
+{
+    let (x, y) = (figure.left + column, figure.top + row);
+    difference(
+        modules[y * side(version) + x],
+        figure.color(version, column, row),
+    )
+}
+
+// How many modules of a row of a figure are wrong.
+#[tactic(auto, using(qrcode_penalty::proofs::Sums::sum_step), unfolding(qrcode_penalty::specs::Penalty::sum_below))]
+fn wrong_in_row(version: Version, modules: &[Color], figure: &Figure, row: usize) -> usize
+    requires valid { IsTrue (is_valid version) }
+    requires fits { IsTrue (fits version figure.now) }
+    requires square { length modules.now ≡ side version * side version }
+    requires row { row < figure.now.down }
+    ensures value { result ≡ wrong_in_row version modules.now figure.now row }
+    ensures at_most { result ≤ 177 }
+{
+    let mut count = 0;
+    for column in 0..figure.across {
+        count += wrong_at(version, modules, figure, row, column);
+    }
+    count
+}
+
+// How many modules of a figure are wrong.
+#[tactic(auto, using(qrcode_penalty::proofs::Sums::sum_step), unfolding(qrcode_penalty::specs::Penalty::sum_below))]
+fn wrong_in(version: Version, modules: &[Color], figure: &Figure) -> usize
+    requires valid { IsTrue (is_valid version) }
+    requires fits { IsTrue (fits version figure.now) }
+    requires square { length modules.now ≡ side version * side version }
+    ensures value { result ≡ wrong_in version modules.now figure.now }
+    ensures at_most { result ≤ 31329 }
+{
+    let mut count = 0;
+    for row in 0..figure.down {
+        count += wrong_in_row(version, modules, figure, row);
+    }
+    count
+}
+
+// How many modules of figures are wrong.
+fn wrong_of(version: Version, modules: &[Color], figures: &[Figure]) -> usize
+    requires valid { IsTrue (is_valid version) }
+    requires fits { IsTrue (list_all (fits version) figures.now) }
+    requires square { length modules.now ≡ side version * side version }
+    requires few { length figures.now ≤ 100 }
+    ensures value { result ≡ wrong_of version modules.now figures.now }
+    ensures at_most { result ≤ 3132900 }
+{
+    let mut count = 0;
+    for figure in figures {
+        count += wrong_in(version, modules, figure);
+    }
+    count
+}
+
+// How many modules of the alignment patterns with their centres in row `b` are wrong.
+fn wrong_in_alignment_row(version: Version, modules: &[Color], b: usize) -> usize
+    requires valid { IsTrue (is_valid version) }
+    requires square { length modules.now ≡ side version * side version }
+    requires inside { IsTrue (is_centre_inside (side version) b) }
+    ensures value { result ≡ wrong_of version modules.now (alignment_row version b) }
+    ensures at_most { result ≤ 3132900 }
+{
+    let width = side(version);
+    let mut count = 0;
+    for a in centres(version) {
+        let a = *a as usize;
+        if !is_corner_centre(width, a, b) {
+            count += wrong_in(version, modules, &alignment(a, b));
+        }
+    }
+    count
+}
+
+// How many modules of the alignment patterns are wrong.
+fn wrong_in_alignments(version: Version, modules: &[Color]) -> usize
+    requires valid { IsTrue (is_valid version) }
+    requires square { length modules.now ≡ side version * side version }
+    ensures { result ≡ wrong_of version modules.now (alignments version) }
+{
+    let mut count = 0;
+    for b in centres(version) {
+        count += wrong_in_alignment_row(version, modules, *b as usize);
+    }
+    count
+}
+
+// How many modules are wrong of the finder patterns, the timing patterns, and what is always dark.
+fn wrong_figures(version: Version, modules: &[Color]) -> (usize, usize, usize)
+    requires valid { IsTrue (is_valid version) }
+    requires square { length modules.now ≡ side version * side version }
+    ensures finder { result.0 ≡ wrong_of version modules.now (finder_figures version) }
+    ensures timing { result.1 ≡ wrong_of version modules.now (timing_figures version) }
+    ensures dark { result.2 ≡ wrong_of version modules.now (dark_figures version) }
+    ensures at_most { result.2 ≤ 3132900 }
+{
+    if version.is_micro() {
+        let figures = micro_figures(side(version));
+        return (
+            wrong_of(version, modules, &figures[2..5]),
+            wrong_of(version, modules, &figures[5..]),
+            0,
+        );
+    }
+    let figures = normal_figures(side(version));
+    (
+        wrong_of(version, modules, &figures[6..15]),
+        wrong_of(version, modules, &figures[15..17]),
+        wrong_of(version, modules, &figures[17..]),
+    )
+}
+
+// How many modules of the copies of the version word are wrong.
+fn wrong_in_version(version: Version, modules: &[Color]) -> usize
+    requires valid { IsTrue (is_valid version) }
+    requires square { length modules.now ≡ side version * side version }
+    ensures { result ≡ wrong_of version modules.now (word_figures_of version) }
+{
+    let width = side(version);
+    if version.is_micro() || width < 45 {
+        return 0;
+    }
+    wrong_of(version, modules, &word_figures(width))
+}
+
+// How many bits of the copies of the format word are wrong.
+fn wrong_format(version: Version, ec_level: EcLevel, mask: MaskPattern, modules: &[Color]) -> usize
+    requires exists { IsTrue (has_level version ec_level) }
+    requires mask_exists { IsTrue (exists_in version mask) }
+    ensures value { result ≡ wrong_format version ec_level mask modules.now }
+    ensures at_most { result ≤ 30 }
+{
+    let word = format_word(version, ec_level, mask);
+    let first = distance(&copy_bits(FormatCopy::First, version, modules), word);
+    if version.is_micro() {
+        return first;
+    }
+    first + distance(&copy_bits(FormatCopy::Last, version, modules), word)
+}
+
+/// How many of bits are ones.
+pub(crate) fn ones(bits: &[bool]) -> usize
+    ensures { result ≡ count_by (λ b. b) bits.now }
+{
+    let mut count = 0;
+    for bit in bits {
+        if *bit {
+            count += 1;
+        }
+    }
+    count
+}
+
+// How many remainder bits are ones.
+fn wrong_remainder(
+    alloc: Global,
+    version: Version,
+    ec_level: EcLevel,
+    mask: MaskPattern,
+    modules: &[Color],
+) -> Result<usize, AllocError>
+    requires exists { IsTrue (has_level version ec_level) }
+    requires square { length modules.now ≡ side version * side version }
+    ensures { IfOk result (λ count. count ≡ wrong_remainder version ec_level mask modules.now) }
+{
+    let blocks = Blocks::of(version, ec_level).unwrap();
+    let capacity = capacity(version, ec_level).unwrap();
+    let bits = stream(alloc, version, mask, modules)?;
+    Ok(ones(behind(&bits, capacity + 8 * blocks.total_ec_length())))
+}
+
+/// How many modules of each kind are wrong in a square of a version, by the level and the mask of its
+/// symbol.
+///
+/// `AllocError`: memory was refused.
+pub fn wrong_modules(
+    alloc: Global,
+    version: Version,
+    ec_level: EcLevel,
+    mask: MaskPattern,
+    modules: &[Color],
+) -> Result<WrongModules, AllocError>
+    requires exists { IsTrue (has_level version ec_level) }
+    requires mask_exists { IsTrue (exists_in version mask) }
+    requires square { length modules.now ≡ side version * side version }
+    ensures { IfOk result (AreWrongModules version ec_level mask modules.now) }
+{
+    let (finder, timing, dark) = wrong_figures(version, modules);
+    Ok(WrongModules {
+        finder,
+        alignment: wrong_in_alignments(version, modules),
+        timing,
+        format: wrong_format(version, ec_level, mask, modules) + dark,
+        version: wrong_in_version(version, modules),
+        remainder: wrong_remainder(alloc, version, ec_level, mask, modules)?,
+    })
+}
