@@ -1,7 +1,10 @@
+mod Checked
 mod Choices
 mod Held
+mod Layered
 mod Marked
 mod Overlaid
+mod Partition
 mod Pieces
 mod Plain
 mod Read
@@ -9,3 +12,5 @@ mod Sampled
 mod Seen
 mod Segmented
 mod WhyUnread
+mod Placed
+mod Inset

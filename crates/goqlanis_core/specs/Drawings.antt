@@ -1,12 +1,15 @@
 -- What a request shows of a symbol.
-use Rattle.std.specs.Prelude.{ℕ, ◌+◌, ◌*◌, ◌/◌, List, true, max, unwrap_or}
+use Rattle.std.specs.Prelude.{ℕ, ◌+◌, ◌*◌, ◌/◌, List, Option, None, Some, true, max, unwrap_or, if◌then◌else◌}
 use Rattle.std.specs.Option.{option_map}
 use Rattle.qrcode_types.specs.Versions.{side}
 use Rattle.qrcode_types.specs.declared.types.Color.{Color}
 use Rattle.qrcode_types.specs.declared.types.Version.{Version}
 use Rattle.qrcode_render.specs.Layout.{Layout, layout}
+use Rattle.qrcode_render.specs.Paths.{Frame, frame_of}
+use Rattle.qrcode_render.specs.declared.svg_path.Size.TheVariants.{Dots}
 use Rattle.qrcode.specs.Pictures.{quiet_zone}
-use Rattle.goqlanis_core.specs.Formats.{View, shade_of, IsDrawnIn}
+use Rattle.goqlanis_core.specs.Formats.{Sheet, View, shade_of}
+use Rattle.goqlanis_core.specs.Layers.{IsPaintedIn}
 use Rattle.goqlanis_core.specs.Masks.{AreUnder}
 use Rattle.goqlanis_core.specs.declared.drawing.Drawing.{Drawing}
 use Rattle.goqlanis_core.specs.declared.request.Request.{Request}
@@ -26,7 +29,20 @@ layout_for r v = layout (side v) (zone_for r v) (max (scale_for r v) 1) (max (sc
 abbrev pub view_for : Request → View
 view_for r = record { dark = shade_of r.dark; light = shade_of r.light; is_inverted = r.is_inverted; dpi = r.dpi; ends_lines = true }
 
+-- the pixels of an inch, where they are a length: as many dots as are said, and where they are the length of the side, as many times as it has modules
+abbrev pub dots_for : Request → Version → Option ℕ
+dots_for r v = option_map (λ l. if l.is_side then l.dots * (side v + 2 * zone_for r v) else l.dots) r.length
+
+-- how large an element of SVG is: as the frame says, or as a length does
+abbrev pub sized : Option ℕ → Frame → Frame
+sized None f = f
+sized (Some dots) f = record f { size = Dots dots }
+
+-- where it stands
+abbrev pub sheet_for : Request → Version → Sheet
+sheet_for r v = record { dots = dots_for r v; place = r.place; frame = sized (dots_for r v) (frame_of r.frame) }
+
 -- bytes that show their symbol, under the mask that is asked for, as a request asks for it
 abbrev pub IsShownIn : Request → Drawing → Type 0
 IsShownIn r d =
-    (s : List Color) × (AreUnder r.mask d.code s × IsDrawnIn r.format (view_for r) (layout_for r d.code.version) s d.bytes.items)
+    (s : List Color) × (AreUnder r.mask d.code s × IsPaintedIn r.format (sheet_for r d.code.version) (view_for r) (layout_for r d.code.version) d.code.version r.parts.now s d.bytes.items)

@@ -1,29 +1,31 @@
 -- What the formats are called, what is known of each, and what it draws of a square of modules.
 use Rattle.std.specs.Prelude.{◌≡◌, ℕ, zero, suc, ◌+◌, ◌*◌, ◌/◌, Bool, true, false, List, [], ◌∷◌, ◌++◌, Option, Some, None, codes, encode_utf8, slice_get, max, unwrap_or, if◌then◌else◌}
 use Rattle.std.specs.Borrow.{Bor}
-use Rattle.std.specs.Option.{option_map}
+use Rattle.std.specs.Option.{option_map, option_or}
 use Rattle.std.specs.Str.{str_eq_ignore_ascii_case}
 use Rattle.qrcode_types.specs.declared.types.Color.{Color}
 use Rattle.qrcode_render.specs.Eps.{eps_sized_text, eps_text}
 use Rattle.qrcode_render.specs.Files.{pgm_file, pbm_file, ppm_file}
 use Rattle.qrcode_render.specs.Layout.{Layout, layout}
-use Rattle.qrcode_render.specs.Paths.{xml_head, IsPathOf}
+use Rattle.qrcode_render.specs.Paths.{Frame, frame_of, plain, xml_head, IsPathOf}
 use Rattle.qrcode_render.specs.Pdf.{IsPdfOf}
 use Rattle.qrcode_render.specs.Picture.{picture}
-use Rattle.qrcode_render.specs.Printers.{escpos_file, tspl_file, xbm_file, zpl_file}
+use Rattle.qrcode_render.specs.Printers.{escpos_file, tspl_file, tspl_file_at, xbm_file}
 use Rattle.qrcode_render.specs.Setting.{Setting}
 use Rattle.qrcode_render.specs.Texts.{text_of, dense_text, raw_bytes}
 use Rattle.qrcode_render.specs.Pic.{pic_text}
 use Rattle.qrcode_render.specs.Svg.{svg_text}
+use Rattle.qrcode_render.specs.Zpl.{IsZplOf}
 use Rattle.qrcode_render.specs.declared.eps.Color as eps
 use Rattle.qrcode_png.specs.Shown.{IsFileOf}
 use Rattle.qrcode_png.specs.declared.picture.Color as png
 use Rattle.goqlanis_core.specs.Terminal.{coloured_text}
 use Rattle.goqlanis_core.specs.declared.formats.Format.{Format}
-use Rattle.goqlanis_core.specs.declared.formats.Format.TheVariants.{HalfBlocks, LightHalfBlocks, Terminal, Chars, Png, Svg, SvgPath, Eps, Pic, Pbm, Pgm, Grey, Pdf, Zpl, Tspl, EscPos, Xbm, Ppm}
+use Rattle.goqlanis_core.specs.declared.formats.Format.TheVariants.{HalfBlocks, LightHalfBlocks, Terminal, Chars, Png, Svg, SvgPath, Eps, Pic, Pbm, Pgm, Grey, Pdf, Zpl, Tspl, EscPos, Xbm, Ppm, Ascii}
 use Rattle.goqlanis_core.specs.declared.formats.Row as code
 use Rattle.goqlanis_core.specs.declared.picture.Ink.{Ink}
 use Rattle.goqlanis_core.specs.declared.picture.Picture.{Picture}
+use Rattle.goqlanis_core.specs.declared.picture.Sheet as lent
 
 -- a format, its name and its file extension
 abbrev pub Row : Type 0
@@ -36,7 +38,7 @@ formats =
     (Terminal, codes "terminal", None) ∷
     (Chars, codes "text", None) ∷
     (Png, codes "png", Some (codes "png")) ∷
-    (Svg, codes "svg", Some (codes "svg")) ∷
+    (SvgPath, codes "svg", Some (codes "svg")) ∷
     (Eps, codes "eps", Some (codes "eps")) ∷
     (Pic, codes "pic", Some (codes "pic")) ∷
     (Pbm, codes "pbm", Some (codes "pbm")) ∷
@@ -46,7 +48,8 @@ formats =
     (Tspl, codes "tspl", Some (codes "tspl")) ∷
     (EscPos, codes "escpos", Some (codes "escpos")) ∷
     (Xbm, codes "xbm", Some (codes "xbm")) ∷
-    (Ppm, codes "ppm", Some (codes "ppm")) ∷ []
+    (Ppm, codes "ppm", Some (codes "ppm")) ∷
+    (Ascii, codes "ascii", None) ∷ []
 
 abbrev pub row_of : code.Row → Row  -- a row of the code's table
 row_of row = (row.format, row.name.now, option_map (λ text. text.now) row.ending)
@@ -95,10 +98,11 @@ pixels LightHalfBlocks = 1
 pixels Terminal = 1
 pixels Chars = 1
 pixels Pic = 1
+pixels Ascii = 1
 pixels f = 8
 
 abbrev pub format_numbered : ℕ → Option Format  -- the format of a number in C, in this order from 0 on
-format_numbered n = slice_get (HalfBlocks ∷ LightHalfBlocks ∷ Svg ∷ Pic ∷ Grey ∷ Png ∷ Eps ∷ Pbm ∷ SvgPath ∷ Pgm ∷ Pdf ∷ Zpl ∷ Tspl ∷ EscPos ∷ Xbm ∷ Ppm ∷ []) n
+format_numbered n = slice_get (HalfBlocks ∷ LightHalfBlocks ∷ Svg ∷ Pic ∷ Grey ∷ Png ∷ Eps ∷ Pbm ∷ SvgPath ∷ Pgm ∷ Pdf ∷ Zpl ∷ Tspl ∷ EscPos ∷ Xbm ∷ Ppm ∷ Ascii ∷ []) n
 
 -- the most pixels along a side: of PNG and ESC/POS what their numbers hold, and of characters more than a terminal or a page shows
 abbrev pub greatest_side : Format → ℕ
@@ -108,6 +112,7 @@ greatest_side HalfBlocks = 4096
 greatest_side LightHalfBlocks = 4096
 greatest_side Terminal = 4096
 greatest_side Chars = 4096
+greatest_side Ascii = 4096
 greatest_side f = 0xffffffff
 
 -- a colour: what SVG writes; red, green and blue; and how opaque it is in PNG
@@ -125,6 +130,15 @@ pub record View : Type 0 where
   pub is_inverted : Bool
   pub dpi : Option ℕ
   pub ends_lines : Bool
+
+-- where a picture stands: the pixels of an inch in EPS and PDF, where they are given; the dots from the left and the top of a label; and what stands at the element of SVG of one path
+pub record Sheet : Type 0 where
+  pub dots : Option ℕ
+  pub place : ℕ × ℕ
+  pub frame : Frame
+
+abbrev pub sheet_of : lent.Sheet → Sheet
+sheet_of t = record { dots = t.dots; place = t.place; frame = frame_of t.frame }
 
 abbrev pub shade_of : Ink → Shade
 shade_of c = record { name = c.name.now; red = c.red; green = c.green; blue = c.blue; opacity = c.opacity }
@@ -170,8 +184,20 @@ eps_in (Some (suc n)) at s dark light = eps_sized_text (suc n) at s dark light
 abbrev pub rgb : Shade → List ℕ  -- red, green and blue
 rgb c = c.red ∷ c.green ∷ c.blue ∷ []
 
+-- the same in the colours of a view, where pixels of an inch are given or not
+abbrev pub eps_on : Option ℕ → View → Layout → List Color → List ℕ
+eps_on dots v at s = eps_in (option_or dots v.dpi) at s (dark_of v (eps_ink v.dark) (eps_ink v.light)) (light_of v (eps_ink v.dark) (eps_ink v.light))
+
 abbrev pub pdf_dots : Option ℕ → ℕ  -- the pixels of an inch in PDF: those that are given, or points
 pdf_dots dpi = max (unwrap_or dpi 72) 1
+
+-- bytes are a PDF file in the colours of a view, where pixels of an inch are given or not
+abbrev pub IsPdfOn : Option ℕ → View → Layout → List Color → List ℕ → Type 0
+IsPdfOn dots v at s bytes = IsPdfOf (pdf_dots (option_or dots v.dpi)) (dark_of v (rgb v.dark) (rgb v.light)) (light_of v (rgb v.dark) (rgb v.light)) (picture at s) bytes
+
+-- bytes are an SVG text of one path in the colours of a view, in a frame
+abbrev pub IsPathIn : Frame → View → Layout → List Color → List ℕ → Type 0
+IsPathIn frame v at s bytes = IsPathOf xml_head frame (dark_of v v.dark.name v.light.name) (light_of v v.dark.name v.light.name) (picture at s) bytes
 
 abbrev pub per_metre : ℕ → ℕ  -- dots per inch as dots per metre, to the nearest: an inch is 0.0254 metres
 per_metre dpi = (10000 * dpi + 127) / 254
@@ -183,7 +209,7 @@ ended v lines = if v.ends_lines then lines ++ codes "\n" else lines
 abbrev pub half_block_text : View → Bool → Bool → Layout → List Color → List ℕ
 half_block_text v dark light at s = dense_text (dark_of v dark light) (light_of v dark light) (picture at s)
 
--- a character for each pixel
+-- a text for each pixel
 abbrev pub char_text : View → List ℕ → List ℕ → Layout → List Color → List ℕ
 char_text v dark light at s = text_of (dark_of v dark light) (light_of v dark light) (picture at s)
 
@@ -196,15 +222,25 @@ IsDrawnIn Chars v at s bytes = bytes ≡ ended v (char_text v (encode_utf8 0x258
 IsDrawnIn Png v at s bytes =
     IsFileOf (picture at s) (dark_of v (png_ink v.dark) (png_ink v.light)) (light_of v (png_ink v.dark) (png_ink v.light)) (option_map per_metre v.dpi) bytes
 IsDrawnIn Svg v at s bytes = bytes ≡ svg_text at s (dark_of v v.dark.name v.light.name) (light_of v v.dark.name v.light.name)
-IsDrawnIn SvgPath v at s bytes = IsPathOf xml_head (dark_of v v.dark.name v.light.name) (light_of v v.dark.name v.light.name) (picture at s) bytes
-IsDrawnIn Eps v at s bytes = bytes ≡ eps_in v.dpi at s (dark_of v (eps_ink v.dark) (eps_ink v.light)) (light_of v (eps_ink v.dark) (eps_ink v.light))
+IsDrawnIn SvgPath v at s bytes = IsPathIn plain v at s bytes
+IsDrawnIn Eps v at s bytes = bytes ≡ eps_on None v at s
 IsDrawnIn Pic v at s bytes = bytes ≡ pic_text at s
 IsDrawnIn Pbm v at s bytes = bytes ≡ pbm_file (dark_of v true false) (light_of v true false) (picture at s)
 IsDrawnIn Pgm v at s bytes = bytes ≡ pgm_file (dark_of v 0 255) (light_of v 0 255) (picture at s)
 IsDrawnIn Grey v at s bytes = bytes ≡ raw_bytes (dark_of v (0 ∷ []) (255 ∷ [])) (light_of v (0 ∷ []) (255 ∷ [])) (picture at s)
-IsDrawnIn Pdf v at s bytes = IsPdfOf (pdf_dots v.dpi) (dark_of v (rgb v.dark) (rgb v.light)) (light_of v (rgb v.dark) (rgb v.light)) (picture at s) bytes
-IsDrawnIn Zpl v at s bytes = bytes ≡ zpl_file (dark_of v true false) (light_of v true false) (picture at s)
+IsDrawnIn Pdf v at s bytes = IsPdfOn None v at s bytes
+IsDrawnIn Zpl v at s bytes = IsZplOf (0, 0) (dark_of v true false) (light_of v true false) (picture at s) bytes
 IsDrawnIn Tspl v at s bytes = bytes ≡ tspl_file (dark_of v true false) (light_of v true false) (picture at s)
 IsDrawnIn EscPos v at s bytes = bytes ≡ escpos_file (dark_of v true false) (light_of v true false) (picture at s)
 IsDrawnIn Xbm v at s bytes = bytes ≡ xbm_file (dark_of v true false) (light_of v true false) (picture at s)
+IsDrawnIn Ascii v at s bytes = bytes ≡ ended v (char_text v (codes "##") (codes "  ") at s)
 IsDrawnIn Ppm v at s bytes = bytes ≡ ppm_file (dark_of v (rgb v.dark) (rgb v.light)) (light_of v (rgb v.dark) (rgb v.light)) (picture at s)
+
+-- what each format draws on a sheet
+abbrev pub IsDrawnOn : Format → Sheet → View → Layout → List Color → List ℕ → Type 0
+IsDrawnOn SvgPath t v at s bytes = IsPathIn t.frame v at s bytes
+IsDrawnOn Eps t v at s bytes = bytes ≡ eps_on t.dots v at s
+IsDrawnOn Pdf t v at s bytes = IsPdfOn t.dots v at s bytes
+IsDrawnOn Zpl t v at s bytes = IsZplOf t.place (dark_of v true false) (light_of v true false) (picture at s) bytes
+IsDrawnOn Tspl t v at s bytes = bytes ≡ tspl_file_at t.place (dark_of v true false) (light_of v true false) (picture at s)
+IsDrawnOn f t v at s bytes = IsDrawnIn f v at s bytes

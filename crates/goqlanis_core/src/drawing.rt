@@ -5,21 +5,23 @@ ghost use Rattle.qrcode_types.specs.declared.types.QrError.TheVariants.{InvalidV
 ghost use Rattle.qrcode.specs.Pictures.{quiet_zone};
 ghost use Rattle.qrcode_gs1.specs.Items.{item};
 ghost use Rattle.qrcode_gs1.specs.declared.symbol.errors.SymbolError.TheVariants.{Symbol};
-ghost use Rattle.goqlanis_core.specs.Drawings.{IsShownIn, layout_for, scale_for, view_for};
+ghost use Rattle.goqlanis_core.specs.Drawings.{IsShownIn, dots_for, layout_for, scale_for, sheet_for, view_for};
 ghost use Rattle.goqlanis_core.specs.Elements.{IsElementsIn, IsElementsRefused, IsApplicationIn, IsApplicationRefused};
-ghost use Rattle.goqlanis_core.specs.Formats.{IsDrawnIn};
+ghost use Rattle.goqlanis_core.specs.Formats.{sheet_of};
+ghost use Rattle.goqlanis_core.specs.Layers.{IsPaintedIn};
 ghost use Rattle.goqlanis_core.specs.Masks.{IsMaskless, LacksMask};
 ghost use Rattle.goqlanis_core.specs.Segments.{AreRefused, IsLeastHeld, IsSymbolOfSegments};
 ghost use Rattle.goqlanis_core.specs.Symbols.{IsSymbolIn, IsSymbolOf, IsRefusedFor, IsRefusalOf};
 
 use crate::elements::{symbol_for_application, symbol_of_elements};
+use crate::layers::painted;
 use crate::masking::modules_under;
-use crate::picture::Picture;
-use crate::render::draw_in;
+use crate::picture::{Picture, Sheet};
 use crate::request::{Choice, Request};
 use crate::segments::{Segment, symbol_of};
 use qrcode::QrCode;
 use qrcode::bits::Manner;
+use qrcode::render::svg::{Frame, Size};
 use qrcode::types::{Color, EcLevel, QrResult};
 use qrcode_gs1::elements::Element;
 use qrcode_gs1::symbol::errors::SymbolResult;
@@ -35,9 +37,9 @@ pub struct Drawing {
 
 /// The drawing of data that a request asks for.
 ///
-/// It is refused where no version that may be taken holds the data, by the causes of `QrCode::at_least`,
-/// `QrCode::at_least_boosted` or `QrCode::in_version`; `InvalidVersion`: the version has no mask of
-/// the number that is asked for; `OutOfMemory`: memory was refused.
+/// It is refused where no version that may be taken holds the data, by the causes of
+/// `QrCode::at_least`, `QrCode::at_least_boosted` or `QrCode::in_version`; `InvalidVersion`: the
+/// version has no mask of the number that is asked for; `OutOfMemory`: memory was refused.
 pub fn draw(alloc: Global, request: &Request<'_>, bytes: &[u8]) -> QrResult<Drawing>
     ensures symbol { IfOk result (λ drawing. IsSymbolOf request.now bytes.now drawing.code) }
     ensures shown { IfOk result (IsShownIn request.now) }
@@ -48,14 +50,15 @@ pub fn draw(alloc: Global, request: &Request<'_>, bytes: &[u8]) -> QrResult<Draw
 }
 
 /// The drawing of segments by hand that a request asks for, of the least version that may be taken
-/// and holds them; its manner is not looked at, and a choice with levels to be raised keeps the level.
+/// and holds them; its manner is not looked at, and a choice with levels to be raised keeps the
+/// level.
 ///
 /// `InvalidVersion`: the choice names no version, or the version has no mask of the number. Where
 /// none that may be taken holds the segments, the error is the first cause in the last of these:
 /// `InvalidCharacter`, a mode cannot write its segment; `InvalidEciDesignator`, the number of a
-/// character set is above 999,999; `UnsupportedCharacterSet`, the version lacks a mode, or character
-/// sets; `InvalidVersion`, it lacks the level; `DataTooLong`, it has no room. `OutOfMemory`: memory
-/// was refused.
+/// character set is above 999,999; `UnsupportedCharacterSet`, the version lacks a mode, or
+/// character sets; `InvalidVersion`, it lacks the level; `DataTooLong`, it has no room.
+/// `OutOfMemory`: memory was refused.
 pub fn draw_segments(
     alloc: Global,
     request: &Request<'_>,
@@ -75,12 +78,12 @@ pub fn draw_segments(
     drawing_of(alloc, request, code)
 }
 
-/// The drawing of elements of GS1 that a request asks for; its manner is not looked at, and a choice with
-/// levels to be raised keeps the level.
+/// The drawing of elements of GS1 that a request asks for; its manner is not looked at, and a
+/// choice with levels to be raised keeps the level.
 ///
-/// `Elements`: which element is refused first, and why. `Symbol(DataTooLong)`: no version that may be
-/// taken holds them; none of Micro does. `Symbol(InvalidVersion)`: there is no mask of the number.
-/// `OutOfMemory`, in either: memory was refused.
+/// `Elements`: which element is refused first, and why. `Symbol(DataTooLong)`: no version that may
+/// be taken holds them; none of Micro does. `Symbol(InvalidVersion)`: there is no mask of the
+/// number. `OutOfMemory`, in either: memory was refused.
 pub fn draw_elements(
     alloc: Global,
     request: &Request<'_>,
@@ -102,8 +105,8 @@ pub fn draw_elements(
 /// indicator, that a request asks for; its manner is not looked at, and a choice with levels to be
 /// raised keeps the level. Byte 29 is the separator.
 ///
-/// `DataTooLong`: no version that may be taken holds the data; none of Micro does. `InvalidVersion`:
-/// there is no mask of the number. `OutOfMemory`: memory was refused.
+/// `DataTooLong`: no version that may be taken holds the data; none of Micro does.
+/// `InvalidVersion`: there is no mask of the number. `OutOfMemory`: memory was refused.
 pub fn draw_for_application(
     alloc: Global,
     request: &Request<'_>,
@@ -165,8 +168,10 @@ pub(crate) fn modules_drawn(
     modules: &[Color],
 ) -> QrResult<Vec<u8>>
     requires { length modules.now ≡ length code.now.modules }
-    ensures drawn { IfOk result (λ bytes. IsDrawnIn request.now.format (view_for request.now)
-        (layout_for request.now code.now.version) modules.now bytes.items) }
+    ensures drawn { IfOk result (λ bytes. IsPaintedIn request.now.format
+        (sheet_for request.now code.now.version) (view_for request.now)
+        (layout_for request.now code.now.version) code.now.version request.now.parts.now
+        modules.now bytes.items) }
     ensures memory { IsOkUnless result OutOfMemory }
 {
     let picture = Picture {
@@ -180,7 +185,43 @@ pub(crate) fn modules_drawn(
         dpi: request.dpi,
         ends_lines: true,
     };
-    draw_in(alloc, request.format, &picture)
+    let sheet = sheet(request, code);
+    painted(alloc, request.format, code.version(), &picture, &sheet)
+}
+
+// The sheet of a symbol.
+fn sheet<'a>(request: &Request<'a>, code: &QrCode) -> Sheet<'a>
+    ensures sheet { sheet_of result ≡ sheet_for request.now code.now.version }
+    ensures parts { result.parts.now ≡ request.now.parts.now }
+{
+    let dots = dots(request, code);
+    let size = match dots {
+        Some(dots) => Size::Dots(dots),
+        None => request.frame.size,
+    };
+    Sheet {
+        dots,
+        place: request.place,
+        frame: Frame {
+            size,
+            ..request.frame
+        },
+        parts: request.parts,
+    }
+}
+
+/// The pixels of an inch, where they are a length.
+pub fn dots(request: &Request<'_>, code: &QrCode) -> Option<u32>
+    ensures { result ≡ dots_for request.now code.now.version }
+{
+    match request.length {
+        None => None,
+        Some(length) if length.is_side => {
+            let side = code.width() as u32 + 2 * quiet_zone(request, code);
+            Some(length.dots as u32 * side)
+        }
+        Some(length) => Some(length.dots as u32),
+    }
 }
 
 /// The modules of the quiet zone at each side.
@@ -195,8 +236,8 @@ pub fn quiet_zone(request: &Request<'_>, code: &QrCode) -> u32
     }
 }
 
-/// The pixels of a module, as many as there is room for where the pixels of a side are given; 0 where
-/// there is room for none.
+/// The pixels of a module, as many as there is room for where the pixels of a side are given; 0
+/// where there is room for none.
 pub fn scale(request: &Request<'_>, code: &QrCode) -> u32
     ensures value { result ≡ scale_for request.now code.now.version }
     ensures at_most { result ≤ 65535 }

@@ -5,8 +5,8 @@ ghost use Rattle.std.specs.Option.{option_map};
 ghost use Rattle.goqlanis_core.specs.Formats.{ending_among, format_named, format_numbered, format_of_ending, greatest_side, has_colours, is_known, is_text, named_among, pixels, row_of};
 
 use Format::{
-    Chars, Eps, EscPos, Grey, HalfBlocks, LightHalfBlocks, Pbm, Pdf, Pgm, Pic, Png, Ppm, Svg,
-    SvgPath, Terminal, Tspl, Xbm, Zpl,
+    Ascii, Chars, Eps, EscPos, Grey, HalfBlocks, LightHalfBlocks, Pbm, Pdf, Pgm, Pic, Png, Ppm,
+    Svg, SvgPath, Terminal, Tspl, Xbm, Zpl,
 };
 
 /// How modules are drawn.
@@ -48,6 +48,8 @@ pub enum Format {
     Xbm,
     /// A file of red, green and blue of each pixel.
     Ppm,
+    /// Lines of two characters for each pixel: number signs where they are dark, spaces elsewhere.
+    Ascii,
 }
 
 /// What a format of the program is called.
@@ -66,7 +68,7 @@ pub static FORMATS: &[Row] = &[
     Row { format: Terminal, name: "terminal", ending: None },
     Row { format: Chars, name: "text", ending: None },
     Row { format: Png, name: "png", ending: Some("png") },
-    Row { format: Svg, name: "svg", ending: Some("svg") },
+    Row { format: SvgPath, name: "svg", ending: Some("svg") },
     Row { format: Eps, name: "eps", ending: Some("eps") },
     Row { format: Pic, name: "pic", ending: Some("pic") },
     Row { format: Pbm, name: "pbm", ending: Some("pbm") },
@@ -77,6 +79,7 @@ pub static FORMATS: &[Row] = &[
     Row { format: EscPos, name: "escpos", ending: Some("escpos") },
     Row { format: Xbm, name: "xbm", ending: Some("xbm") },
     Row { format: Ppm, name: "ppm", ending: Some("ppm") },
+    Row { format: Ascii, name: "ascii", ending: None },
 ];
 
 // The formats of the library for C, in the order of their numbers, from 0 on.
@@ -97,6 +100,7 @@ static IN_C: &[Format] = &[
     EscPos,
     Xbm,
     Ppm,
+    Ascii,
 ];
 
 /// The format of a number in C.
@@ -174,19 +178,19 @@ impl Format {
         ensures { result ≡ pixels self }
     {
         match self {
-            HalfBlocks | LightHalfBlocks | Terminal | Chars | Pic => 1,
+            HalfBlocks | LightHalfBlocks | Terminal | Chars | Pic | Ascii => 1,
             _ => 8,
         }
     }
 
-    /// The most pixels along a side: of PNG and ESC/POS what their numbers hold, and of characters more
-    /// than a terminal or a page shows.
+    /// The most pixels along a side: of PNG and ESC/POS what their numbers hold, and of characters
+    /// more than a terminal or a page shows.
     pub fn greatest_side(self) -> u32
         ensures { result ≡ greatest_side self }
     {
         match self {
             Png | EscPos => 65_535,
-            HalfBlocks | LightHalfBlocks | Terminal | Chars => 4_096,
+            HalfBlocks | LightHalfBlocks | Terminal | Chars | Ascii => 4_096,
             _ => u32::MAX,
         }
     }

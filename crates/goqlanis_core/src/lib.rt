@@ -3,34 +3,44 @@
 #![tactic(auto)]
 
 pub mod areas;
+mod checking;
 mod codes;
 pub mod colours;
 mod drawing;
 mod elements;
 pub mod formats;
 pub mod laws;
+mod layers;
 pub mod masking;
 pub mod overlays;
+pub mod parts;
+pub mod pasting;
 pub mod picture;
+pub mod places;
 mod refusal;
 pub mod render;
 mod request;
 mod scanning;
 mod segments;
+mod shades;
 mod terminal;
 
+pub use checking::{Checks, check_codes};
 pub use codes::{Codes, Missed, read_codes, read_picture};
 pub use drawing::{
-    Drawing, draw, draw_elements, draw_for_application, draw_segments, drawing_of, quiet_zone,
-    scale, symbol_in,
+    Drawing, dots, draw, draw_elements, draw_for_application, draw_segments, drawing_of,
+    quiet_zone, scale, symbol_in,
 };
 pub use elements::symbol_of_elements;
 pub use formats::Format;
+pub use layers::PartInk;
+pub use parts::Part;
 pub use picture::Ink;
 pub use refusal::{
     Grouped, VersionName, application_refusal_text, elements_refusal_text, refusal_text,
     segments_refusal_text,
 };
-pub use request::{Choice, Request, manner_of};
+pub use request::{Choice, Length, Request, manner_of};
 pub use scanning::{Scan, Unread};
 pub use segments::{Segment, unwritable};
+pub use shades::GREATEST_PAINTED;

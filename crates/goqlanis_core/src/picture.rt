@@ -2,6 +2,8 @@
 
 ghost use Rattle.std.specs.Prelude.{◌≡◌, ◌+◌, ◌*◌, ◌^◌, ◌<◌, ◌≤◌, length};
 
+use crate::layers::PartInk;
+use qrcode::render::svg::Frame;
 use qrcode::types::Color;
 
 /// A colour: what SVG writes as it is; red, green and blue from 0 to 255 for EPS and PNG; and how
@@ -13,6 +15,20 @@ pub struct Ink<'a> {
     pub green: u8,
     pub blue: u8,
     pub opacity: u8,
+}
+
+/// Where a picture stands, how large it is, and what is said of it, in the formats that have that.
+#[derive(Clone, Copy)]
+pub struct Sheet<'a> {
+    /// The pixels of an inch in EPS and PDF, in place of the dots per inch of the picture, where
+    /// they are given.
+    pub dots: Option<u32>,
+    /// The dots from the left and from the top of a label, in ZPL and TSPL.
+    pub place: (u32, u32),
+    /// What stands at the element of SVG of one path.
+    pub frame: Frame<'a>,
+    /// The colours of parts in SVG, EPS and PNG. Of two for the same modules the later one is taken.
+    pub parts: &'a [PartInk<'a>],
 }
 
 /// A square of modules, and how it is drawn.

@@ -1,19 +1,21 @@
 //! How each format draws a picture.
 
 ghost use Rattle.std.specs.Prelude.{◌≡◌, ◌^◌, ◌<◌, true, false, string_bytes, IsTrue, IfOk, IsOkUnless};
+ghost use Rattle.std.specs.Option.{option_or};
 ghost use Rattle.qrcode_types.specs.declared.types.QrError.TheVariants.{OutOfMemory};
 ghost use Rattle.qrcode_render.specs.Picture.{picture};
 ghost use Rattle.qrcode_render.specs.Printers.{packed_file};
 ghost use Rattle.qrcode_render.specs.Setting.{fits};
-ghost use Rattle.goqlanis_core.specs.Formats.{IsDrawnIn, dark_of, ended, eps_ink, half_block_text, layout_of, light_of, per_metre, png_ink, rgb, setting_of, shade_of, view_of};
-ghost use Rattle.goqlanis_core.specs.declared.formats.Format.TheVariants.{Eps, Pdf, Png};
+ghost use Rattle.goqlanis_core.specs.Formats.{IsDrawnIn, IsDrawnOn, IsPdfOn, dark_of, ended, eps_ink, eps_on, half_block_text, layout_of, light_of, per_metre, png_ink, rgb, setting_of, shade_of, sheet_of, view_of};
+ghost use Rattle.goqlanis_core.specs.declared.formats.Format.TheVariants.{Png, SvgPath, Tspl, Zpl};
 
 use crate::formats::Format;
-use crate::picture::{Ink, Picture};
+use crate::picture::{Ink, Picture, Sheet};
 use crate::terminal::coloured;
 use qrcode::render::image::Luma;
 use qrcode::render::packed::{Dot, Packing};
 use qrcode::render::pbm::Bit;
+use qrcode::render::string::Str;
 use qrcode::render::unicode::Dense1x2;
 use qrcode::render::{Pixel, Renderer, eps, escpos, pdf, pgm, pic, ppm, svg, tspl, xbm, zpl};
 use qrcode::types::QrResult;
@@ -22,8 +24,8 @@ use std::alloc::Global;
 
 /// A picture in a format.
 ///
-/// `OutOfMemory`: memory was refused, or a PNG file would have no pixel, or more than 65,535 along a
-/// side.
+/// `OutOfMemory`: memory was refused, or a PNG file would have no pixel, or more than 65,535 along
+/// a side.
 pub fn draw_in(alloc: Global, format: Format, picture: &Picture<'_>) -> QrResult<Vec<u8>>
     ensures drawing { IfOk result (λ drawing. IsDrawnIn format (view_of picture.now)
         (layout_of picture.now) picture.now.modules.now drawing.items) }
@@ -38,6 +40,7 @@ pub fn draw_in(alloc: Global, format: Format, picture: &Picture<'_>) -> QrResult
         }
         Format::Terminal => coloured(alloc, &half_blocks(alloc, picture)?),
         Format::Chars => lines(picture, drawn(alloc, picture, '\u{2588}', ' ')?),
+        Format::Ascii => lines(picture, drawn(alloc, picture, Str("##"), Str("  "))?),
         Format::Png => png(alloc, picture),
         Format::Svg => {
             let (dark, light) = (svg::Color(dark.name), svg::Color(light.name));
@@ -47,27 +50,53 @@ pub fn draw_in(alloc: Global, format: Format, picture: &Picture<'_>) -> QrResult
             let (dark, light) = (svg::Path(dark.name), svg::Path(light.name));
             Ok(drawn(alloc, picture, dark, light)?.into_bytes())
         }
-        Format::Eps => eps(alloc, picture),
+        Format::Eps => eps(alloc, picture, None),
         Format::Pic => Ok(drawn(alloc, picture, pic::Color, pic::Color)?.into_bytes()),
         Format::Pbm => drawn(alloc, picture, Bit::Black, Bit::White),
         Format::Pgm => drawn(alloc, picture, pgm::Grey(0), pgm::Grey(255)),
         Format::Grey => Ok(drawn(alloc, picture, Luma([0]), Luma([255]))?.into_raw()),
-        Format::Pdf => pdf(alloc, picture),
+        Format::Pdf => pdf(alloc, picture, None),
         Format::Ppm => drawn(
             alloc,
             picture,
             ppm::Color(rgb(dark)),
             ppm::Color(rgb(light)),
         ),
-        Format::Zpl => dots::<zpl::Graphic>(alloc, picture),
-        Format::Tspl => dots::<tspl::Bitmap>(alloc, picture),
-        Format::EscPos => dots::<escpos::Raster>(alloc, picture),
-        Format::Xbm => dots::<xbm::Text>(alloc, picture),
+        Format::Zpl => {
+            let (dark, light) = (zpl::Dot::of(Bit::Black), zpl::Dot::of(Bit::White));
+            drawn(alloc, picture, dark, light)
+        }
+        Format::Tspl => bits::<tspl::Bitmap>(alloc, picture),
+        Format::EscPos => bits::<escpos::Raster>(alloc, picture),
+        Format::Xbm => bits::<xbm::Text>(alloc, picture),
+    }
+}
+
+/// A picture in a format, on a sheet.
+///
+/// `OutOfMemory`: as `draw_in` says.
+pub fn draw_on(
+    alloc: Global,
+    format: Format,
+    picture: &Picture<'_>,
+    sheet: &Sheet<'_>,
+) -> QrResult<Vec<u8>>
+    ensures drawing { IfOk result (λ drawing. IsDrawnOn format (sheet_of sheet.now)
+        (view_of picture.now) (layout_of picture.now) picture.now.modules.now drawing.items) }
+    ensures memory { IsOkUnless result OutOfMemory }
+{
+    match format {
+        Format::SvgPath => path(alloc, picture, sheet),
+        Format::Eps => eps(alloc, picture, sheet.dots),
+        Format::Pdf => pdf(alloc, picture, sheet.dots),
+        Format::Zpl => zpl(alloc, picture, sheet),
+        Format::Tspl => tspl(alloc, picture, sheet),
+        _ => draw_in(alloc, format, picture),
     }
 }
 
 // A picture of black and white pixels, eight in a byte.
-fn dots<F: Packing>(alloc: Global, shown: &Picture<'_>) -> QrResult<Vec<u8>>
+fn bits<F: Packing>(alloc: Global, shown: &Picture<'_>) -> QrResult<Vec<u8>>
     ensures picture { IfOk result (λ file. file.items ≡ packed_file F.before F.row_of F.behind
         (dark_of (view_of shown.now) true false) (light_of (view_of shown.now) true false)
         (picture (layout_of shown.now) shown.now.modules.now)) }
@@ -81,8 +110,13 @@ fn dots<F: Packing>(alloc: Global, shown: &Picture<'_>) -> QrResult<Vec<u8>>
     )
 }
 
-// A picture of pixels that stand for dark and light unless these are exchanged.
-fn drawn<P: Pixel>(alloc: Global, picture: &Picture<'_>, dark: P, light: P) -> QrResult<P::Image>
+/// A picture of pixels that stand for dark and light unless these are exchanged.
+pub(crate) fn drawn<P: Pixel>(
+    alloc: Global,
+    picture: &Picture<'_>,
+    dark: P,
+    light: P,
+) -> QrResult<P::Image>
     ensures picture { IfOk result (P.Canvas.is_picture (setting_of picture.now dark light)) }
     ensures memory { IsOkUnless result OutOfMemory }
 {
@@ -128,23 +162,65 @@ fn png(alloc: Global, picture: &Picture<'_>) -> QrResult<Vec<u8>>
     }
 }
 
-// An EPS text.
-fn eps(alloc: Global, picture: &Picture<'_>) -> QrResult<Vec<u8>>
-    ensures text { IfOk result (λ text. IsDrawnIn Eps (view_of picture.now)
-        (layout_of picture.now) picture.now.modules.now text.items) }
+// The pixels of an inch: those that are given, or those of the picture.
+fn dots_of(picture: &Picture<'_>, given: Option<u32>) -> Option<u32>
+    ensures { result ≡ option_or given picture.now.dpi }
+{
+    match (given, picture.dpi) {
+        (Some(dots), _) => Some(dots),
+        (None, Some(dpi)) => Some(dpi as u32),
+        (None, None) => None,
+    }
+}
+
+// An SVG text of one path.
+fn path(alloc: Global, picture: &Picture<'_>, sheet: &Sheet<'_>) -> QrResult<Vec<u8>>
+    ensures shows { IfOk result (λ text. IsDrawnOn SvgPath (sheet_of sheet.now)
+        (view_of picture.now) (layout_of picture.now) picture.now.modules.now text.items) }
+    ensures memory { IsOkUnless result OutOfMemory }
+{
+    let (dark, light) = (picture.dark, picture.light);
+    let renderer = renderer(picture, svg::Path(dark.name), svg::Path(light.name));
+    Ok(svg::framed(alloc, &renderer, &sheet.frame)?.into_bytes())
+}
+
+// What a label printer takes that speaks ZPL II.
+fn zpl(alloc: Global, picture: &Picture<'_>, sheet: &Sheet<'_>) -> QrResult<Vec<u8>>
+    ensures shows { IfOk result (λ file. IsDrawnOn Zpl (sheet_of sheet.now)
+        (view_of picture.now) (layout_of picture.now) picture.now.modules.now file.items) }
+    ensures memory { IsOkUnless result OutOfMemory }
+{
+    let (dark, light) = (zpl::Dot::of(Bit::Black), zpl::Dot::of(Bit::White));
+    zpl::at_place(alloc, &renderer(picture, dark, light), sheet.place)
+}
+
+// What a label printer takes that speaks TSPL.
+fn tspl(alloc: Global, picture: &Picture<'_>, sheet: &Sheet<'_>) -> QrResult<Vec<u8>>
+    ensures value { IfOk result (λ file. IsDrawnOn Tspl (sheet_of sheet.now)
+        (view_of picture.now) (layout_of picture.now) picture.now.modules.now file.items) }
+    ensures memory { IsOkUnless result OutOfMemory }
+{
+    let (dark, light) = (tspl::Dot::of(Bit::Black), tspl::Dot::of(Bit::White));
+    tspl::at_place(alloc, &renderer(picture, dark, light), sheet.place)
+}
+
+// An EPS text, of so many pixels to an inch where they are given.
+fn eps(alloc: Global, picture: &Picture<'_>, given: Option<u32>) -> QrResult<Vec<u8>>
+    ensures text { IfOk result (λ text. text.items ≡ eps_on given (view_of picture.now)
+        (layout_of picture.now) picture.now.modules.now) }
     ensures memory { IsOkUnless result OutOfMemory }
 {
     let renderer = renderer(picture, eps_ink(picture.dark), eps_ink(picture.light));
-    let text = match picture.dpi {
-        Some(dpi) if dpi > 0 => eps::with_density(alloc, &renderer, u32::from(dpi))?,
+    let text = match dots_of(picture, given) {
+        Some(dots) if dots > 0 => eps::with_density(alloc, &renderer, dots)?,
         _ => renderer.build(alloc)?,
     };
     Ok(text.into_bytes())
 }
 
-// A PDF file.
-fn pdf(alloc: Global, picture: &Picture<'_>) -> QrResult<Vec<u8>>
-    ensures shows { IfOk result (λ file. IsDrawnIn Pdf (view_of picture.now)
+// A PDF file, of so many pixels to an inch where they are given.
+fn pdf(alloc: Global, picture: &Picture<'_>, given: Option<u32>) -> QrResult<Vec<u8>>
+    ensures shows { IfOk result (λ file. IsPdfOn given (view_of picture.now)
         (layout_of picture.now) picture.now.modules.now file.items) }
     ensures memory { IsOkUnless result OutOfMemory }
 {
@@ -152,8 +228,8 @@ fn pdf(alloc: Global, picture: &Picture<'_>) -> QrResult<Vec<u8>>
         pdf::Color(rgb(picture.dark)),
         pdf::Color(rgb(picture.light)),
     );
-    let dots = picture.dpi.unwrap_or(72).max(1);
-    pdf::with_density(alloc, &renderer(picture, dark, light), u32::from(dots))
+    let dots = dots_of(picture, given).unwrap_or(72).max(1);
+    pdf::with_density(alloc, &renderer(picture, dark, light), dots)
 }
 
 // Red, green and blue.
@@ -163,8 +239,8 @@ fn rgb(ink: Ink<'_>) -> [u8; 3]
     [ink.red, ink.green, ink.blue]
 }
 
-// Dots per inch as dots per metre, to the nearest; an inch is 0.0254 metres.
-fn per_metre(dpi: u16) -> u32
+/// Dots per inch as dots per metre, to the nearest; an inch is 0.0254 metres.
+pub(crate) fn per_metre(dpi: u16) -> u32
     ensures value { result ≡ per_metre dpi }
     ensures at_most { result < 2 ^ 31 }
 {
@@ -195,7 +271,7 @@ fn eps_ink(ink: Ink<'_>) -> eps::Color
 }
 
 // A colour of PNG.
-fn png_ink(ink: Ink<'_>) -> qrcode_png::Color
+pub(crate) fn png_ink(ink: Ink<'_>) -> qrcode_png::Color
     ensures value { result ≡ png_ink (shade_of ink.entry) }
 {
     qrcode_png::Color([ink.red, ink.green, ink.blue, ink.opacity])

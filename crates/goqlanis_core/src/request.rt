@@ -4,8 +4,10 @@ ghost use Rattle.std.specs.Prelude.{◌≡◌, IsUtf8};
 ghost use Rattle.qrcode_bits.specs.declared.bits.manner.Manner.TheVariants.{Bytes, Text};
 
 use crate::formats::Format;
+use crate::layers::PartInk;
 use crate::picture::Ink;
 use qrcode::bits::Manner;
+use qrcode::render::svg::Frame;
 use qrcode::types::{EcLevel, Version};
 
 /// Which symbol is asked for. Versions are in the order M1 to M4, 1 to 40.
@@ -13,11 +15,21 @@ use qrcode::types::{EcLevel, Version};
 pub enum Choice {
     /// That of the least version, from one on, that holds the data.
     From(Version),
-    /// The same at the highest level, from the one that is asked for on, at which that version holds
-    /// the data.
+    /// The same at the highest level, from the one that is asked for on, at which that version
+    /// holds the data.
     Boosted(Version),
     /// That of a version.
     At(Version),
+}
+
+/// A length in place of pixels: so many dots to an inch, of which a module has as many as its
+/// pixels; of a side that is so long each module has its share.
+#[derive(Clone, Copy)]
+pub struct Length {
+    /// The dots of an inch.
+    pub dots: u16,
+    /// Whether so many dots are the length of the side, and not that of a module.
+    pub is_side: bool,
 }
 
 /// What is asked for.
@@ -35,13 +47,22 @@ pub struct Request<'a> {
     pub zone: Option<u8>,
     /// The pixels of a module, across and down, raised to at least 1.
     pub scale: u16,
-    /// The pixels that a side may have; where it is given, a module has as many as there is room for.
+    /// The pixels that a side may have; where it is given, a module has as many as there is room
+    /// for.
     pub size: Option<u16>,
     /// The dots per inch that a PNG file names, where they are given: pixels along a printed inch.
     pub dpi: Option<u16>,
+    /// Whether the pixels of a module are a length, in SVG of one path, EPS and PDF.
+    pub length: Option<Length>,
+    /// The dots from the left and from the top of a label, in ZPL and TSPL.
+    pub place: (u32, u32),
+    /// What stands at the element of SVG of one path; a length says how large it is.
+    pub frame: Frame<'a>,
     /// The colours of SVG, EPS and PNG.
     pub dark: Ink<'a>,
     pub light: Ink<'a>,
+    /// The colours of parts in SVG, EPS and PNG. Of two for the same modules the later one is taken.
+    pub parts: &'a [PartInk<'a>],
     /// Whether dark and light are exchanged. PIC, which draws no light, is as it is.
     pub is_inverted: bool,
 }

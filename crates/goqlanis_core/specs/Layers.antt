@@ -1,0 +1,123 @@
+-- A drawing with colours of parts: each is drawn over what is there.
+use Rattle.std.specs.Prelude.{◌≡◌, ℕ, ◌+◌, ◌-◌, ◌*◌, ◌/◌, ◌%◌, ◌==◌, nat_le, nat_lt, ◌&&◌, Bool, not, List, [], ◌∷◌, ◌++◌, Some, option_map, codes, fold, length, map, slice_index_or, if◌then◌else◌}
+use Rattle.std.specs.List.{range_with_len}
+use Rattle.qrcode_types.specs.Colors.{color_of, is_dark, select_of}
+use Rattle.qrcode_types.specs.Versions.{side}
+use Rattle.qrcode_types.specs.declared.types.Color.{Color}
+use Rattle.qrcode_types.specs.declared.types.Color.TheVariants.{Light}
+use Rattle.qrcode_types.specs.declared.types.Version.{Version}
+use Rattle.qrcode_render.specs.Drawn.{drawn}
+use Rattle.qrcode_render.specs.Eps.{eps_paint, eps_rect}
+use Rattle.qrcode_render.specs.Layout.{Layout, layout, pixels_across, pixels_down}
+use Rattle.qrcode_render.specs.Paths.{plain, IsPathOf}
+use Rattle.qrcode_render.specs.Picture.{picture}
+use Rattle.qrcode_png.specs.Image.{image_of, rgba}
+use Rattle.goqlanis_core.specs.Formats.{Sheet, View, Shade, dark_of, light_of, eps_ink, per_metre, shade_of, IsDrawnOn}
+use Rattle.goqlanis_core.specs.Parts.{part_of}
+use Rattle.goqlanis_core.specs.declared.formats.Format.{Format}
+use Rattle.goqlanis_core.specs.declared.formats.Format.TheVariants.{Png, Svg, SvgPath, Eps}
+use Rattle.goqlanis_core.specs.declared.layers.PartInk.{PartInk}
+use Rattle.goqlanis_core.specs.declared.parts.Part.{Part}
+use Rattle.goqlanis_core.specs.declared.parts.Part.TheVariants.{Finder, Alignment, Timing, FormatWord, VersionWord, Data}
+
+abbrev pub order : Part → ℕ  -- the parts in the order of their type
+order Finder = 0
+order Alignment = 1
+order Timing = 2
+order FormatWord = 3
+order VersionWord = 4
+order Data = 5
+
+abbrev pub is_tone : Color → Color → Bool  -- two colours are one
+is_tone tone color = if is_dark tone then is_dark color else not (is_dark color)
+
+-- the module with an index, in row order, has the colour
+abbrev pub is_painted : Version → List Color → PartInk → ℕ → Bool
+is_painted v s k i = is_tone k.tone (slice_index_or s i Light) && order k.part == order (part_of v (i % side v) (i / side v))
+
+-- the modules that have the colour, as dark ones among light ones
+unfoldable pub layer : Version → List Color → PartInk → List Color
+layer v s k = map (λ i. color_of (is_painted v s k i)) (range_with_len 0 (length s))
+
+-- an element of SVG fills these modules, and nothing else
+abbrev pub IsPath : Layout → Version → List Color → PartInk → List ℕ → Type 0
+IsPath at v s k text = IsPathOf [] plain k.ink.name.now (codes "none") (picture at (layer v s k)) text
+
+-- elements of SVG do so for each of some colours, one behind the other
+abbrev pub ArePaths : Layout → Version → List Color → List PartInk → List ℕ → Type 0
+ArePaths at v s [] text = text ≡ []
+ArePaths at v s (k ∷ inks) text = (first : List ℕ) × (IsPath at v s k first × ((rest : List ℕ) × (ArePaths at v s inks rest × (text ≡ first ++ rest))))
+
+-- lines of PostScript, behind others, fill these modules
+abbrev pub eps_layer : Layout → Version → List Color → List ℕ → PartInk → List ℕ
+eps_layer at v s text k = drawn eps_rect at (layer v s k) (text ++ eps_paint (eps_ink (shade_of k.ink)))
+
+-- and do so for each of some colours
+abbrev pub eps_layers : Layout → Version → List Color → List PartInk → List ℕ
+eps_layers at v s inks = fold (eps_layer at v s) [] inks
+
+-- the colour of a module, over another one
+abbrev pub shade_over : Version → List Color → ℕ → Shade → PartInk → Shade
+shade_over v s i below k = if is_painted v s k i then shade_of k.ink else below
+
+-- the colour of a module: the last one that it has of some, or that of dark or light modules
+abbrev pub module_shade : View → Version → List PartInk → List Color → ℕ → Shade
+module_shade w v inks s i = fold (shade_over v s i) (select_of (slice_index_or s i Light) (dark_of w w.dark w.light) (light_of w w.dark w.light)) inks
+
+-- what the pixel in a column and a row is: its module's, of a list of them, or the quiet zone's
+abbrev pub pixel_in : {A : Type 0} → Layout → (ℕ → A) → A → ℕ → ℕ → A
+pixel_in at inner zone x y =
+    let column = x / at.across in
+    let row = y / at.down in
+    if nat_le at.zone column && nat_lt column (at.zone + at.count) && nat_le at.zone row && nat_lt row (at.zone + at.count)
+    then inner ((row - at.zone) * at.count + (column - at.zone))
+    else zone
+
+abbrev pub shade_bytes : Shade → List ℕ  -- red, green and blue of a colour, and how opaque it is
+shade_bytes c = c.red ∷ c.green ∷ c.blue ∷ c.opacity ∷ []
+
+-- those of the modules, row by row
+unfoldable pub module_bytes : View → Version → List PartInk → List Color → List (List ℕ)
+module_bytes w v inks s = map (λ i. shade_bytes (module_shade w v inks s i)) (range_with_len 0 (length s))
+
+-- the colour of the pixel with an index: that of its module, or of light modules in the quiet zone
+abbrev pub pixel_shade : View → Layout → Version → List PartInk → List Color → ℕ → Shade
+pixel_shade w at v inks s i = pixel_in at (module_shade w v inks s) (light_of w w.dark w.light) (i % pixels_across at) (i / pixels_across at)
+
+-- those of the first pixels, so many
+unfoldable pub pixel_bytes : View → Layout → Version → List PartInk → List Color → ℕ → List (List ℕ)
+pixel_bytes w at v inks s count = map (λ i. shade_bytes (pixel_shade w at v inks s i)) (range_with_len 0 count)
+
+-- a PNG file shows each pixel in its colour
+pub record IsPaintedFile (w : View) (at : Layout) (v : Version) (inks : List PartInk) (s : List Color) (file : List ℕ) : Type 0 where
+  pub shows : image_of file ≡ Some (record {
+    across = pixels_across at;
+    down = pixels_down at;
+    pixels = map rgba (pixel_bytes w at v inks s (pixels_down at * pixels_across at));
+    density = option_map (λ n. (n, n)) (option_map per_metre w.dpi);
+  })
+
+abbrev pub HasTail : List ℕ → List ℕ → Type 0
+HasTail tail text = (drawn : List ℕ) × (text ≡ drawn ++ tail)
+
+-- a text is another one with an element before its tail
+abbrev pub IsInserted : List ℕ → List ℕ → List ℕ → List ℕ → Type 0
+IsInserted tail element text new = (drawn : List ℕ) × ((text ≡ drawn ++ tail) × (new ≡ drawn ++ (element ++ tail)))
+
+-- a text is a drawing with an element before its tail
+abbrev pub IsOver : List ℕ → (List ℕ → Type 0) → (List ℕ → Type 0) → List ℕ → Type 0
+IsOver tail IsDrawing IsElement text =
+    (drawing : List ℕ) × (IsDrawing drawing × ((element : List ℕ) × (IsElement element × IsInserted tail element drawing text)))
+
+-- what each format draws of modules with colours of parts. A unit of SVG of one path is a module
+abbrev pub IsPaintedBy : Format → Sheet → View → Layout → Version → List PartInk → List Color → List ℕ → Type 0
+IsPaintedBy Png t w at v inks s bytes = IsPaintedFile w at v inks s bytes
+IsPaintedBy Svg t w at v inks s bytes = IsOver (codes "</svg>") (IsDrawnOn Svg t w at s) (ArePaths at v s inks) bytes
+IsPaintedBy SvgPath t w at v inks s bytes = IsOver (codes "</svg>") (IsDrawnOn SvgPath t w at s) (ArePaths (layout at.count at.zone 1 1) v s inks) bytes
+IsPaintedBy Eps t w at v inks s bytes = IsOver (codes "showpage\n%%EOF\n") (IsDrawnOn Eps t w at s) (λ text. text ≡ eps_layers at v s inks) bytes
+IsPaintedBy f t w at v inks s bytes = IsDrawnOn f t w at s bytes
+
+-- the same, where there may be no such colours
+abbrev pub IsPaintedIn : Format → Sheet → View → Layout → Version → List PartInk → List Color → List ℕ → Type 0
+IsPaintedIn f t w at v [] s bytes = IsDrawnOn f t w at s bytes
+IsPaintedIn f t w at v (k ∷ inks) s bytes = IsPaintedBy f t w at v (k ∷ inks) s bytes

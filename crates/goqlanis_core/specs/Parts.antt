@@ -1,0 +1,29 @@
+-- The parts of a symbol.
+use Rattle.std.specs.Prelude.{ℕ, ◌==◌, fold, is_some, if◌then◌else◌}
+use Rattle.qrcode_types.specs.declared.types.Version.{Version}
+use Rattle.qrcode_layout.specs.Figures.{figures, has}
+use Rattle.qrcode_layout.specs.Patterns.{format_index}
+use Rattle.qrcode_layout.specs.declared.figures.Coloring.TheVariants.{Squares, Turns, Light, Dark, WordAcross, WordDown}
+use Rattle.qrcode_layout.specs.declared.figures.Figure.{Figure}
+use Rattle.goqlanis_core.specs.declared.parts.Part.{Part}
+use Rattle.goqlanis_core.specs.declared.parts.Part.TheVariants.{Finder, Alignment, Timing, FormatWord, VersionWord, Data}
+
+-- what a figure belongs to: squares of seven modules are finder patterns, and light bars separate them; the dark module goes with the format word
+abbrev pub figure_part : Figure → Part
+figure_part f =
+    elim f.coloring [
+      | Squares ↦ if f.across == 7 then Finder else Alignment
+      | Turns ↦ Timing
+      | Light ↦ Finder
+      | Dark ↦ FormatWord
+      | WordAcross ↦ VersionWord
+      | WordDown ↦ VersionWord
+    ]
+
+-- the part of a place when a figure is drawn over what is there
+abbrev pub part_over : ℕ → ℕ → Part → Figure → Part
+part_over x y below f = if has f x y then figure_part f else below
+
+-- the part of the place in column x and row y: the format word, or the last figure that has it, or else data
+unfoldable pub part_of : Version → ℕ → ℕ → Part
+part_of v x y = if is_some (format_index v x y) then FormatWord else fold (part_over x y) Data (figures v)

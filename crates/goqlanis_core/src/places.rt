@@ -1,0 +1,97 @@
+//! Places of pixels in a drawing.
+
+ghost use Rattle.std.specs.Prelude.{◌≡◌, ◌+◌, ◌<◌, ◌≤◌, IsTrue, IfSome};
+ghost use Rattle.goqlanis_core.specs.Places.{fitted, is_in_place, place_in, square, HasPixels};
+
+use crate::drawing::{quiet_zone, scale};
+use crate::request::Request;
+use qrcode::QrCode;
+use qrcode_area::areas::Rectangle;
+
+/// A rectangle of pixels.
+#[derive(Clone, Copy)]
+pub struct Place {
+    pub left: u32,
+    pub top: u32,
+    pub width: u32,
+    pub height: u32,
+}
+
+/// The pixels of a rectangle of modules less a margin of so many at each side, in a drawing that a
+/// request asks for. `None`: they have no module, or the rectangle is not inside the symbol.
+pub fn place_in(request: &Request<'_>, code: &QrCode, area: Rectangle, margin: u8) -> Option<Place>
+    ensures value { IfSome result (λ place.
+        place ≡ place_in request.now code.now.version area margin) }
+    ensures pixels { IfSome result HasPixels }
+{
+    let (side, both) = (code.width(), 2 * margin as usize);
+    let (zone, pixels) = (quiet_zone(request, code), scale(request, code).max(1));
+    if !is_within(side, area.left, area.width) || !is_within(side, area.top, area.height) {
+        return None;
+    }
+    if area.width <= both || area.height <= both {
+        return None;
+    }
+    Some(Place {
+        left: (zone + area.left as u32 + margin as u32) * pixels,
+        top: (zone + area.top as u32 + margin as u32) * pixels,
+        width: (area.width - both) as u32 * pixels,
+        height: (area.height - both) as u32 * pixels,
+    })
+}
+
+// Whether so many modules from one on lie below a bound.
+fn is_within(side: usize, start: usize, count: usize) -> bool
+    ensures { IsTrue result → start + count ≤ side }
+{
+    count <= side && start <= side - count
+}
+
+impl Place {
+    /// Whether it has a pixel.
+    pub fn has(&self, x: usize, y: usize) -> bool
+        ensures { result ≡ is_in_place self.now x y }
+    {
+        self.left as usize <= x
+            && x - (self.left as usize) < self.width as usize
+            && self.top as usize <= y
+            && y - (self.top as usize) < self.height as usize
+    }
+
+    /// The square in its middle with so many pixels along its side, or one more, as far as there is
+    /// room.
+    pub fn square(self, size: u32) -> Place
+        requires { HasPixels self }
+        ensures { result ≡ square self size }
+    {
+        let size = size.min(self.width).min(self.height);
+        let size = size + (self.width - size) % 2;
+        Place {
+            left: self.left + (self.width - size) / 2,
+            top: self.top + (self.height.saturating_sub(size)) / 2,
+            width: size,
+            height: size,
+        }
+    }
+
+    /// The largest place of a ratio in its middle.
+    pub fn fitted(self, across: u16, down: u16) -> Place
+        requires { HasPixels self }
+        ensures value { result ≡ fitted self across down }
+        ensures pixels { HasPixels result }
+        ensures left { self.left ≤ result.left }
+        ensures right { result.left + result.width ≤ self.left + self.width }
+        ensures top { self.top ≤ result.top }
+        ensures bottom { result.top + result.height ≤ self.top + self.height }
+    {
+        let (across, down) = (across.max(1) as u64, down.max(1) as u64);
+        let width = (across * self.height as u64 / down).clamp(1, self.width as u64) as u32;
+        let height = (down * self.width as u64 / across).clamp(1, self.height as u64) as u32;
+        Place {
+            left: self.left + (self.width - width) / 2,
+            top: self.top + (self.height - height) / 2,
+            width,
+            height,
+        }
+    }
+}

@@ -1,0 +1,139 @@
+//! PNG files with colours of parts.
+
+ghost use Rattle.std.specs.Prelude.{◌≡◌, ◌*◌, ◌<◌, [], length, slice_index_or, IsTrue, IfOk, IsOkUnless};
+ghost use Rattle.qrcode_types.specs.Colors.{select_of};
+ghost use Rattle.qrcode_types.specs.Versions.{is_valid, side};
+ghost use Rattle.qrcode_types.specs.declared.types.QrError.TheVariants.{OutOfMemory};
+ghost use Rattle.qrcode_render.specs.Layout.{pixels_across};
+ghost use Rattle.goqlanis_core.specs.Formats.{dark_of, layout_of, light_of, shade_of, view_of};
+ghost use Rattle.goqlanis_core.specs.Layers.{module_bytes, module_shade, pixel_bytes, pixel_in, shade_bytes, IsPaintedFile};
+
+use crate::layers::{PartInk, is_painted};
+use crate::picture::{Ink, Picture};
+use crate::render::per_metre;
+use qrcode::types::{Color, QrError, QrResult, Version};
+use qrcode_png::full_color;
+use std::alloc::{AllocError, Global};
+
+/// The most pixels along a side of a PNG file with colours of parts: each takes four bytes of memory.
+pub const GREATEST_PAINTED: u32 = 8_192;
+
+/// A PNG file of a picture of a symbol of a version, with colours of parts.
+///
+/// `OutOfMemory`: memory was refused, or the file would have no pixel, or more than 8,192 along a side.
+pub(crate) fn png_file(
+    alloc: Global,
+    version: Version,
+    shown: &Picture<'_>,
+    inks: &[PartInk<'_>],
+) -> QrResult<Vec<u8>>
+    requires { IsTrue (is_valid version) }
+    ensures shows { IfOk result (λ file. IsPaintedFile (view_of shown.now) (layout_of shown.now)
+        version inks.now shown.now.modules.now file.items) }
+    ensures memory { IsOkUnless result OutOfMemory }
+{
+    let side = (shown.width + 2 * shown.zone) * shown.scale;
+    if side == 0 || side > GREATEST_PAINTED {
+        return Err(QrError::OutOfMemory);
+    }
+    let pixels = pixels(alloc, version, shown, inks)?;
+    let density = shown.dpi.map(per_metre);
+    Ok(full_color(alloc, &pixels, side, side, density)?)
+}
+
+// The pixels of a picture of less than 2^32 a side, row by row.
+fn pixels(
+    alloc: Global,
+    version: Version,
+    shown: &Picture<'_>,
+    inks: &[PartInk<'_>],
+) -> Result<Vec<[u8; 4]>, AllocError>
+    requires { IsTrue (is_valid version) }
+    ensures { IfOk result (λ pixels. pixels.items ≡ pixel_bytes (view_of shown.now)
+        (layout_of shown.now) version inks.now shown.now.modules.now
+        (pixels_across (layout_of shown.now) * pixels_across (layout_of shown.now))) }
+{
+    let modules = module_colors(alloc, version, shown, inks)?;
+    let side = (shown.width as usize + 2 * shown.zone as usize) * shown.scale as usize;
+    let mut pixels = Vec::with_capacity(alloc, side * side)?;
+    for index in 0..side * side {
+        pixels.push(pixel(shown, &modules, index % side, index / side))?;
+    }
+    Ok(pixels)
+}
+
+// The pixel in a column and a row, of the colours of the modules.
+fn pixel(shown: &Picture<'_>, modules: &[[u8; 4]], x: usize, y: usize) -> [u8; 4]
+    requires { length modules.now ≡ length shown.now.modules.now }
+    ensures { result ≡ pixel_in (layout_of shown.now) (λ i. slice_index_or modules.now i [])
+        (shade_bytes (light_of (view_of shown.now) (view_of shown.now).dark (view_of shown.now).light)) x y }
+{
+    let (zone, width) = (shown.zone as usize, shown.width as usize);
+    let (column, row) = (x / shown.scale as usize, y / shown.scale as usize);
+    let is_across = zone <= column && column < zone + width;
+    if is_across && zone <= row && row < zone + width {
+        modules[(row - zone) * width + (column - zone)]
+    } else {
+        plain(shown, Color::Light)
+    }
+}
+
+// The colours of the modules, row by row.
+fn module_colors(
+    alloc: Global,
+    version: Version,
+    shown: &Picture<'_>,
+    inks: &[PartInk<'_>],
+) -> Result<Vec<[u8; 4]>, AllocError>
+    requires { IsTrue (is_valid version) }
+    ensures { IfOk result (λ modules. modules.items ≡ module_bytes (view_of shown.now) version
+        inks.now shown.now.modules.now) }
+{
+    let mut modules = Vec::with_capacity(alloc, shown.modules.len())?;
+    for index in 0..shown.modules.len() {
+        modules.push(module_color(version, shown, inks, index))?;
+    }
+    Ok(modules)
+}
+
+// The colour of the module with an index: the last one that it has.
+#[tactic(auto, using(std::proofs::lemmas::List::Sums::fold_more))]
+fn module_color(
+    version: Version,
+    shown: &Picture<'_>,
+    inks: &[PartInk<'_>],
+    index: usize,
+) -> [u8; 4]
+    requires valid { IsTrue (is_valid version) }
+    requires inside { index < length shown.now.modules.now }
+    ensures { result ≡ shade_bytes (module_shade (view_of shown.now) version inks.now
+        shown.now.modules.now index) }
+{
+    let mut color = plain(shown, shown.modules[index]);
+    for ink in inks {
+        if is_painted(ink, version, shown.modules, index) {
+            color = ink_bytes(&ink.ink);
+        }
+    }
+    color
+}
+
+// The colour of dark or of light modules.
+fn plain(shown: &Picture<'_>, tone: Color) -> [u8; 4]
+    ensures { result ≡ shade_bytes (select_of tone
+        (dark_of (view_of shown.now) (view_of shown.now).dark (view_of shown.now).light)
+        (light_of (view_of shown.now) (view_of shown.now).dark (view_of shown.now).light)) }
+{
+    if (tone == Color::Dark) != shown.is_inverted {
+        ink_bytes(&shown.dark)
+    } else {
+        ink_bytes(&shown.light)
+    }
+}
+
+// Red, green and blue, and how opaque a colour is.
+fn ink_bytes(ink: &Ink<'_>) -> [u8; 4]
+    ensures { result ≡ shade_bytes (shade_of ink.now) }
+{
+    [ink.red, ink.green, ink.blue, ink.opacity]
+}
