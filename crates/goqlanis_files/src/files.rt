@@ -100,9 +100,20 @@ pub fn write_whole(rt: &HostRuntime, path: &str, bytes: &[u8]) -> Result<(), Unw
     write_straight(rt, place.as_str(), false, bytes)
 }
 
-// Whether a path names a file that is open in this process or another one, as /dev/stdout does.
+// Whether a path names a file that is open in this process or another one, as /dev/stdout does: by
+// its number, in /dev/fd or in the fd of a process.
 fn is_open_file(path: &str) -> bool {
-    path.starts_with("/proc/") || path.starts_with("/dev/fd/")
+    let number = match path.strip_prefix("/dev/fd/") {
+        Some(number) => number,
+        None => match path
+            .strip_prefix("/proc/")
+            .and_then(|rest| rest.split_once("/fd/"))
+        {
+            Some((process, number)) if !process.contains('/') => number,
+            _ => return false,
+        },
+    };
+    !number.is_empty() && number.bytes().all(|byte| byte.is_ascii_digit())
 }
 
 /// Whether a path names no file of its own: a folder, a pipe, a device, or what is open already, as

@@ -1,6 +1,7 @@
 //! From the command line to what is asked for.
 
-use crate::colours::{Colours, check_transparency};
+use crate::colours::{Inks, check_colours};
+use crate::frames::{frame_of, place_of};
 use crate::logos::{AskedLogo, logo_of};
 use crate::sizes::{Sizes, has_dots, sizes_of};
 use crate::warnings::warn;
@@ -72,7 +73,7 @@ pub struct Asked<'a> {
 pub fn asked_for<'a>(
     rt: &HostRuntime,
     given: &ArgMatches<'a>,
-    colours: &'a Colours,
+    inks: Inks<'a>,
 ) -> Result<Asked<'a>, Failure> {
     let alloc = rt.alloc();
     if let Some(text) = conflict(given) {
@@ -81,7 +82,7 @@ pub fn asked_for<'a>(
     let target = target_of(given);
     let format = format(alloc, given.get_str("format"), target, has_colours(rt))?;
     let sizes = sizes_of(alloc, given, format)?;
-    let request = request_of(alloc, given, format, &sizes, colours)?;
+    let request = request_of(alloc, given, format, &sizes, inks)?;
     let asked = Asked {
         request,
         hundredths: sizes.hundredths,
@@ -106,7 +107,8 @@ pub fn asked_for<'a>(
 /// Refuses several drawings that go to one place, unless they are lines of characters.
 pub fn check_one_behind_another(alloc: Global, asked: &Asked<'_>) -> Result<(), Failure> {
     match (asked.target, asked.request.format) {
-        (Target::File(_), _) | (_, Format::HalfBlocks | Format::Terminal | Format::Chars) => Ok(()),
+        (Target::File(_), _)
+        | (_, Format::HalfBlocks | Format::Terminal | Format::Chars | Format::Ascii) => Ok(()),
         _ => usage(
             alloc,
             "only text formats go to standard output one after another: \
@@ -127,6 +129,9 @@ static CONFLICTS: &[(&str, &str, &str)] = &[
     ("scale", "size", "--scale and --size do not go together: use one of them"),
     ("scale", "module", "--scale and --module do not go together: use one of them"),
     ("size", "module", "--size and --module do not go together: use one of them"),
+    ("no-size", "size", "--no-size and --size do not go together: use one of them"),
+    ("no-size", "module", "--no-size and --module do not go together: use one of them"),
+    ("no-size", "scale", "--no-size and --scale do not go together: use one of them"),
     ("segment", "trim", "--segment and --trim do not go together: use one of them"),
     ("segment", "lines", "--segment and --lines do not go together: use one of them"),
     ("segment", "bytes", "--segment and --bytes do not go together: use one of them"),
@@ -253,12 +258,12 @@ fn request_of<'a>(
     given: &ArgMatches<'a>,
     format: Format,
     sizes: &Sizes,
-    colours: &'a Colours,
+    inks: Inks<'a>,
 ) -> Result<Request<'a>, Failure> {
     if let Some(text) = unsuitable_option(given, format) {
         return usage(alloc, text);
     }
-    check_transparency(alloc, format, colours)?;
+    check_colours(alloc, given, format, inks)?;
     Ok(Request {
         manner: Manner::Text,
         choice: choice_of(alloc, given)?,
@@ -269,8 +274,12 @@ fn request_of<'a>(
         scale: sizes.scale,
         size: sizes.side,
         dpi: sizes.dpi,
-        dark: colours.dark.ink(),
-        light: colours.light.ink(),
+        length: sizes.length,
+        place: place_of(alloc, given, format)?,
+        frame: frame_of(alloc, given, format)?,
+        dark: inks.dark,
+        light: inks.light,
+        parts: inks.parts,
         is_inverted: given.get_flag("invert"),
     })
 }

@@ -35,7 +35,7 @@ pub struct AskedLogo<'a> {
     /// Whether the area leaves alignment patterns alone.
     pub keeps_alignment: bool,
     /// The modules around a logo.
-    pub margin: usize,
+    pub margin: u8,
 }
 
 /// What the command line asks of the middle of a code, where it asks for something; a logo without
@@ -46,11 +46,11 @@ pub fn logo_of<'a>(
     format: Format,
 ) -> Result<Option<AskedLogo<'a>>, Failure> {
     let middle = match given.get_str("logo") {
-        Some(_) if format != Format::Svg => {
+        Some(_) if !takes_logo(format) => {
             return usage(
                 alloc,
-                "--logo: only SVG takes a logo; add --format svg, or use --logo-area instead and \
-                put the logo there yourself",
+                "--logo: only SVG and PNG take a logo; add --format svg, or use --logo-area instead \
+                and put the logo there yourself",
             );
         }
         Some(path) => Middle::Logo(path, b""),
@@ -61,8 +61,13 @@ pub fn logo_of<'a>(
         middle,
         size: size_of(alloc, given.get_str("logo-size"))?,
         keeps_alignment: given.get_flag("keep-alignment"),
-        margin: given.get_one::<u8>("logo-margin").map_or(1, usize::from),
+        margin: given.get_one::<u8>("logo-margin").unwrap_or(1),
     }))
+}
+
+// Whether a logo is drawn in a format.
+fn takes_logo(format: Format) -> bool {
+    matches!(format, Format::Png | Format::Svg | Format::SvgPath)
 }
 
 // Refuses what belongs to a logo, where there is none.

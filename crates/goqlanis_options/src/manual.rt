@@ -70,9 +70,18 @@ fn push_option(text: &mut String, entry: &Entry) -> Result<(), AllocError> {
     write!(plain, "--{long}")?;
     push_value(&mut plain, entry.takes)?;
     write!(plain, "\n{help}\n")?;
+    if let Takes::Word(name, words) = entry.takes {
+        if words.len() > FEW {
+            let words = words.join(alloc, ", ")?;
+            write!(plain, "{name}: {words}\n")?;
+        }
+    }
     text.push_str(".TP\n.B ")?;
     push_plain(text, plain.as_str())
 }
+
+// The most words of an option that stand in the line of its name.
+const FEW: usize = 6;
 
 // What an option takes, behind its name.
 fn push_value(text: &mut String, takes: Takes) -> Result<(), AllocError> {
@@ -81,6 +90,7 @@ fn push_value(text: &mut String, takes: Takes) -> Result<(), AllocError> {
         Takes::Text(name) | Takes::Wanted(name) | Takes::Texts(name) | Takes::Number(name, _, _) =>
             write!(text, " {name}"),
         Takes::Path => text.push_str(" FILE"),
+        Takes::Word(name, words) if words.len() > FEW => write!(text, " {name}"),
         Takes::Word(_, words) => {
             let words = words.join(*text.allocator(), "|")?;
             write!(text, " {words}")

@@ -28,11 +28,13 @@ macro_rules! entry {
 
 pub mod fields;
 mod habits;
+mod parts;
 mod symbols;
 mod tasks;
 
 pub use habits::{ADVICE, OTHER_NAMES, OTHER_WORDS};
-use symbols::{ABOUT, DATA, LEVELS, LOOKS, MARKS, MASKS, ONE_CODE, TEXTS};
+pub use parts::{PART_COLOURS, PartColour};
+use symbols::{ABOUT, DATA, LEVELS, LOOKS, MARKS, MASKS, NORMAL_LEVELS, ONE_CODE, TEXTS};
 pub use symbols::{DRAWING, EXAMPLES};
 use tasks::options_of;
 pub use tasks::{TASKS, entry_of};
@@ -81,6 +83,8 @@ pub enum Purpose {
     Several,
     /// It reads a picture.
     Read,
+    /// It says what of a picture's codes departs from the standard.
+    Check,
     /// It reads the pictures of a split.
     Join,
     /// It makes a code of a payload, whose fields options give.
@@ -124,7 +128,7 @@ pub fn task_named(word: &str) -> Option<&'static Task> {
 impl Task {
     /// Whether it draws.
     pub fn draws(&self) -> bool {
-        !matches!(self.purpose, Purpose::Read | Purpose::Join)
+        !matches!(self.purpose, Purpose::Read | Purpose::Check | Purpose::Join)
     }
 
     /// The argument that it takes besides options.
@@ -134,9 +138,9 @@ impl Task {
                 "TEXT",
                 "Text to encode; standard input if neither TEXT nor --input is given",
             ),
-            Purpose::Read => (
+            Purpose::Read | Purpose::Check => (
                 "PICTURE",
-                "A PNG, PBM or PGM file, or half blocks; standard input if none is given",
+                "A PNG, PBM, PGM or half-blocks file; standard input if none is given",
             ),
             Purpose::Join => (
                 "PICTURE",
@@ -144,8 +148,8 @@ impl Task {
             ),
             Purpose::Elements => (
                 "ELEMENTS",
-                "Each application identifier (AI) in round brackets, and its value after it; write \
-                ( in a value as \\(. With --application, the data",
+                "Application identifiers (AI) in round brackets, each followed by its value; write \
+                ( in a value as \\(. With --application: plain data",
             ),
             Purpose::Content(_) => return None,
         };
@@ -174,26 +178,32 @@ impl Task {
         for (heading, options) in self.groups(&own) {
             push_under(&mut all, heading, options)?;
         }
+        if self.draws() {
+            push_part_colours(&mut all)?;
+        }
+        if self.word.is_empty() {
+            push_under(&mut all, "Other", ABOUT)?;
+        }
         Ok(all)
     }
 
     // Its own options and those of drawing, each group under its heading.
-    fn groups<'a>(&self, own: &'a [Entry]) -> [(&'static str, &'a [Entry]); 9] {
+    fn groups<'a>(&self, own: &'a [Entry]) -> [(&'static str, &'a [Entry]); 8] {
         let (data, mark, level, text, one) = match self.purpose {
             Purpose::Draw => (DATA, MARKS, LEVELS, TEXTS, ONE_CODE),
-            Purpose::Several => (DATA, NONE, LEVELS, NONE, NONE),
-            Purpose::Content(Kind::Payment | Kind::Bill) | Purpose::Read | Purpose::Join => {
-                (NONE, NONE, NONE, NONE, NONE)
-            }
+            Purpose::Several => (DATA, NONE, NORMAL_LEVELS, NONE, NONE),
+            Purpose::Content(Kind::Payment | Kind::Bill)
+            | Purpose::Read
+            | Purpose::Check
+            | Purpose::Join => (NONE, NONE, NONE, NONE, NONE),
             Purpose::Content(_) => (NONE, MARKS, LEVELS, TEXTS, NONE),
-            Purpose::Elements => (NONE, NONE, LEVELS, NONE, NONE),
+            Purpose::Elements => (NONE, NONE, NORMAL_LEVELS, NONE, NONE),
         };
         let (code, output) = if self.draws() {
             (MASKS, LOOKS)
         } else {
             (NONE, NONE)
         };
-        let about = if self.word.is_empty() { ABOUT } else { NONE };
         [
             ("Input", data),
             (self.heading(), own),
@@ -203,7 +213,6 @@ impl Task {
             ("Code", text),
             ("Code", code),
             ("Output", output),
-            ("Other", about),
         ]
     }
 
@@ -216,7 +225,7 @@ impl Task {
     fn heading(&self) -> &'static str {
         match self.purpose {
             Purpose::Draw | Purpose::Several => "Code",
-            Purpose::Read | Purpose::Join => "Output",
+            Purpose::Read | Purpose::Check | Purpose::Join => "Output",
             Purpose::Content(_) | Purpose::Elements => "Input",
         }
     }
@@ -230,6 +239,14 @@ fn push_under(
 ) -> Result<(), AllocError> {
     for entry in options {
         all.push((heading, *entry))?;
+    }
+    Ok(())
+}
+
+// Appends the colours of parts.
+fn push_part_colours(all: &mut Vec<Headed>) -> Result<(), AllocError> {
+    for colour in PART_COLOURS {
+        all.push(("Colours of parts, in PNG, SVG and EPS", colour.entry))?;
     }
     Ok(())
 }

@@ -2,7 +2,7 @@
 
 use crate::asked::{Asked, Reporting};
 use crate::warnings::{Decimal, hundredths_of, warn_of_modules, warn_of_size};
-use goqlanis_core::{Drawing, VersionName, quiet_zone, scale};
+use goqlanis_core::{Drawing, VersionName, dots, quiet_zone, scale};
 use qrcode::types::EcLevel;
 use std::alloc::{AllocError, Global};
 
@@ -18,11 +18,13 @@ struct Report {
     scale: u32,
     // The pixels of a side, and those of a printed inch where they are known.
     side: u32,
-    dots: Option<u16>,
+    dots: Option<u32>,
+    // Whether pixels are parts of a length.
+    is_length: bool,
 }
 
-/// Says on standard error what was made, where that is asked for, and warns of a size that differs from
-/// the one that is asked for.
+/// Says on standard error what was made, where that is asked for, and warns of a size that differs
+/// from the one that is asked for.
 pub fn show_report(
     rt: &HostRuntime,
     asked: &Asked<'_>,
@@ -31,7 +33,7 @@ pub fn show_report(
     let report = report_of(asked, drawing);
     let zone = report.zone.saturating_mul(2);
     warn_of_size(rt, asked, report.modules.saturating_add(zone));
-    warn_of_modules(rt, asked, report.scale);
+    warn_of_modules(rt, asked, report.scale, report.dots);
     let text = match asked.reporting {
         None => return Ok(()),
         Some(Reporting::Lines) => lines(rt.alloc(), &report)?,
@@ -61,7 +63,8 @@ fn report_of(asked: &Asked<'_>, drawing: &Drawing) -> Report {
         side: modules
             .saturating_add(zone.saturating_mul(2))
             .saturating_mul(scale),
-        dots: asked.dots,
+        dots: dots(request, code).or(asked.dots.map(u32::from)),
+        is_length: request.length.is_some(),
     }
 }
 
@@ -70,14 +73,18 @@ fn lines(alloc: Global, report: &Report) -> Result<String, AllocError> {
     let (version, level, mask) = (report.version, report.level, report.mask);
     let (modules, zone, scale, side) = (report.modules, report.zone, report.scale, report.side);
     let mut text = format!(in alloc; "version {version}, level {level:?}, mask {mask}\n")?;
+    let length = Decimal(hundredths_of(side, report.dots.unwrap_or(0)));
+    write!(text, "modules: {modules} by {modules}; ")?;
+    if report.is_length {
+        write!(text, "quiet zone: {zone}\nsize: {length} by {length} mm\n")?;
+        return Ok(text);
+    }
     write!(
         text,
-        "modules: {modules} by {modules}; pixels of a module: {scale}; quiet zone: {zone}\n"
+        "pixels of a module: {scale}; quiet zone: {zone}\nsize: {side} by {side} pixels"
     )?;
-    write!(text, "size: {side} by {side} pixels")?;
     if let Some(dots) = report.dots {
-        let side = Decimal(hundredths_of(side, dots));
-        write!(text, ", {side} mm at {dots} per inch")?;
+        write!(text, ", {length} mm at {dots} per inch")?;
     }
     text.push_str("\n")?;
     Ok(text)
@@ -95,7 +102,8 @@ fn json(alloc: Global, report: &Report) -> Result<String, AllocError> {
         ("scale", report.scale),
         ("pixels", report.side),
     ];
-    for (name, number) in numbers {
+    let known = if report.is_length { 2 } else { 4 };
+    for (name, number) in numbers.iter().take(known) {
         write!(text, ", \"{name}\": {number}")?;
     }
     if let Some(dots) = report.dots {

@@ -2,20 +2,24 @@
 
 use crate::asked::{Asked, Target, ending_format};
 use clap::ArgMatches;
-use goqlanis_core::{Format, Ink};
+use goqlanis_core::{Format, Ink, Request};
 use goqlanis_files::streams::shown;
+use qrcode::types::Color;
 use std::fmt;
 
-/// Warns of colours that readers hardly tell apart, and of a picture in a file whose extension is that
-/// of another format.
+/// Warns of colours that readers hardly tell apart, and of a picture in a file whose extension is
+/// that of another format.
 pub fn warn(rt: &HostRuntime, asked: &Asked<'_>) {
     let request = &asked.request;
-    let (dark, light) = (request.dark, request.light);
-    if are_close(dark, light, request.is_inverted) {
+    if let Some((dark, light)) = close_colours(request) {
+        let why = if is_brighter(dark, light) {
+            "are lighter than these; few readers take that, and --invert says it"
+        } else {
+            "have less than 40 % contrast, which many readers need"
+        };
         let (dark, light) = (name_of(dark), name_of(light));
         let _ = eprintln!(rt;
-            "goqlanis: warning: dark modules {dark} on light modules {light} have less than 40 % \
-            contrast, which many readers need"
+            "goqlanis: warning: dark modules {dark} on light modules {light} {why}"
         );
     }
     if let Target::File(path) = asked.target {
@@ -40,8 +44,8 @@ pub fn warn_of_password(rt: &HostRuntime, given: &ArgMatches<'_>) {
     }
 }
 
-/// Warns of a side in millimetres that differs from the one that is asked for by a tenth or more, of a
-/// code of so many modules a side with its quiet zone.
+/// Warns of a side in millimetres that differs from the one that is asked for by a tenth or more,
+/// of a code of so many modules a side with its quiet zone.
 pub fn warn_of_size(rt: &HostRuntime, asked: &Asked<'_>, modules: u32) {
     let (Some(wanted), Some(dots), Some(side)) = (asked.hundredths, asked.dots, asked.request.size)
     else {
@@ -51,7 +55,7 @@ pub fn warn_of_size(rt: &HostRuntime, asked: &Asked<'_>, modules: u32) {
         return;
     }
     let scale = side as u32 / modules;
-    let made = hundredths_of(modules.saturating_mul(scale), dots);
+    let made = hundredths_of(modules.saturating_mul(scale), u32::from(dots));
     if !asked.is_by_line && made.saturating_add(10) <= wanted {
         let (wanted, made) = (Decimal(wanted), Decimal(made));
         let _ = eprintln!(rt;
@@ -61,9 +65,10 @@ pub fn warn_of_size(rt: &HostRuntime, asked: &Asked<'_>, modules: u32) {
     }
 }
 
-/// Warns of modules of so many pixels that are under a quarter of a millimetre on paper.
-pub fn warn_of_modules(rt: &HostRuntime, asked: &Asked<'_>, scale: u32) {
-    let Some(dots) = asked.dots else {
+/// Warns of modules of so many pixels that are under a quarter of a millimetre on paper, where the
+/// pixels of an inch are known.
+pub fn warn_of_modules(rt: &HostRuntime, asked: &Asked<'_>, scale: u32, dots: Option<u32>) {
+    let Some(dots) = dots else {
         return;
     };
     let side = hundredths_of(scale, dots);
@@ -76,7 +81,7 @@ pub fn warn_of_modules(rt: &HostRuntime, asked: &Asked<'_>, scale: u32) {
 }
 
 /// The hundredths of millimetres of so many pixels, of which an inch has so many.
-pub fn hundredths_of(pixels: u32, dots: u16) -> u64 {
+pub fn hundredths_of(pixels: u32, dots: u32) -> u64 {
     if dots == 0 {
         return 0;
     }
@@ -107,13 +112,44 @@ fn name_of(ink: Ink<'_>) -> &str {
 // contrast of a symbol D or F.
 const CONTRAST: u32 = 102;
 
-// Whether dark modules are too bright beside light ones. Where both are exchanged because that was
-// asked for, they may be the brighter ones.
-fn are_close(dark: Ink<'_>, light: Ink<'_>, is_inverted: bool) -> bool {
-    let (dark, light) = (brightness(dark), brightness(light));
-    let is_dark = light >= dark.saturating_add(CONTRAST);
-    let is_light = dark >= light.saturating_add(CONTRAST);
-    !is_dark && !(is_inverted && is_light)
+// The brightest colour of dark modules and the darkest of light ones, where these are too close. Where
+// both are exchanged because that was asked for, all dark ones may be the brighter ones.
+fn close_colours<'a>(request: &Request<'a>) -> Option<(Ink<'a>, Ink<'a>)> {
+    let dark = extreme(request, Color::Dark, true);
+    let light = extreme(request, Color::Light, false);
+    if is_brighter(light, dark) {
+        return None;
+    }
+    if !request.is_inverted {
+        return Some((dark, light));
+    }
+    let dark = extreme(request, Color::Dark, false);
+    let light = extreme(request, Color::Light, true);
+    if is_brighter(dark, light) {
+        None
+    } else {
+        Some((dark, light))
+    }
+}
+
+// Of the colours of dark or of light modules the brightest one, or the darkest.
+fn extreme<'a>(request: &Request<'a>, tone: Color, is_brightest: bool) -> Ink<'a> {
+    let mut found = match tone {
+        Color::Dark => request.dark,
+        Color::Light => request.light,
+    };
+    for part in request.parts {
+        let is_tone = (part.tone == tone) != request.is_inverted;
+        if is_tone && (brightness(part.ink) > brightness(found)) == is_brightest {
+            found = part.ink;
+        }
+    }
+    found
+}
+
+// Whether a colour is brighter than another one by enough.
+fn is_brighter(ink: Ink<'_>, other: Ink<'_>) -> bool {
+    brightness(ink) >= brightness(other).saturating_add(CONTRAST)
 }
 
 // How bright a colour is on white, 0 to 255, by the weights of ITU-R BT.601.

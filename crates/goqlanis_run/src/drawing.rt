@@ -8,7 +8,7 @@ ghost use Rattle.goqlanis_core.specs.Elements.{IsApplicationIn, IsElementsIn};
 ghost use Rattle.goqlanis_run.specs.Labels.{label_text};
 
 use crate::contents::Elements;
-use crate::logos::redrawn;
+use crate::middle::redrawn;
 use crate::segments::{characters_of, is_empty, pieces, segments};
 use goqlanis_core::{
     Drawing, Request, Segment, application_refusal_text, draw, draw_elements, draw_for_application,

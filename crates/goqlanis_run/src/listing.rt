@@ -3,6 +3,7 @@
 use crate::readings::{Application, CharacterSet, has_light_on_dark, mask_of, position_text};
 use crate::segments::mode_name;
 use goqlanis_core::{Scan, VersionName};
+use goqlanis_files::streams::is_unseen;
 use qrcode_reader::WrongCodeword;
 use qrcode_reader::spell::{Header, Part};
 use std::alloc::{AllocError, Global};
@@ -121,14 +122,16 @@ fn push_data(text: &mut String, data: &[u8]) -> Result<(), AllocError> {
     text.push_str("\"")
 }
 
-// A character in a string of JSON.
+// A character in a string of JSON. What a terminal would not show is its number there, as in C.
 fn push_escaped(text: &mut String, character: char) -> Result<(), AllocError> {
     match character {
         '"' => text.push_str("\\\""),
         '\\' => text.push_str("\\\\"),
-        _ if (character as u32) < 32 => {
-            let code = character as u32;
-            write!(text, "\\u{code:04x}")
+        _ if is_unseen(character) => {
+            for unit in character.encode_utf16(&mut [0; 2]) {
+                write!(text, "\\u{unit:04x}")?;
+            }
+            Ok(())
         }
         _ => text.push(character),
     }

@@ -1,152 +1,38 @@
-//! Logos of files, as elements of SVG.
+//! Files of logos.
 
 use base64::engine::general_purpose::STANDARD;
-use goqlanis_core::areas::{LogoError, LogoSize, LogoWish, logo_area, roomier};
-use goqlanis_core::overlays::{cross_element, cross_size, with_logo};
-use goqlanis_core::{Request, VersionName, quiet_zone, scale};
 use goqlanis_files::failure::Failure;
-use goqlanis_files::streams::read_file;
-use goqlanis_options::asked::Asked;
-use goqlanis_options::logos::{AskedLogo, Middle, Size};
-use qrcode::QrCode;
-use qrcode_area::areas::Rectangle;
-use qrcode_area::excess::Excess;
-use qrcode_area::rectangles::Kept;
+use qrcode_png::{Unread, read};
 use std::alloc::{AllocError, Global};
 
-// The most bytes of a logo's file that are read, 1 MiB.
-const MOST_LOGO: usize = 1_048_576;
-
-/// The Swiss cross in the middle of a bill.
-pub(crate) const SWISS_CROSS: AskedLogo<'static> = AskedLogo {
-    middle: Middle::Cross,
-    size: Size::Largest,
-    keeps_alignment: false,
-    margin: 0,
-};
-
-/// What stands in the file of the logo that is asked for; nothing where none is.
-pub(crate) fn logo_file(rt: &HostRuntime, asked: &Asked<'_>) -> Result<Vec<u8>, Failure> {
-    match asked.logo {
-        Some(
-            AskedLogo {
-                middle: Middle::Logo(path, _),
-                ..
-            },
-        ) => read_file(rt, path, MOST_LOGO),
-        _ => Ok(Vec::new(rt.alloc())),
-    }
+/// The red, green, blue and opacity of the pixels of a logo, row by row.
+#[derive(Drop)]
+pub(crate) struct Raster {
+    pub(crate) pixels: Vec<[u8; 4]>,
+    pub(crate) across: u16,
+    pub(crate) down: u16,
 }
 
-/// What is asked for, with what stands in the file of the logo.
-pub(crate) fn with_file<'a>(asked: Asked<'a>, file: &'a [u8]) -> Asked<'a> {
-    let Some(logo) = asked.logo else {
-        return asked;
+/// The pixels of a logo in a PNG file of a path, in which these bytes stand.
+pub(crate) fn pixels_of(alloc: Global, path: &str, file: &[u8]) -> Result<Raster, Failure> {
+    let picture = match read(alloc, file) {
+        Ok(picture) => picture,
+        Err(Unread::OutOfMemory) => return Err(Failure::OutOfMemory),
+        Err(Unread::NotPng) => return Err(Failure::Refused(format!(in alloc;
+            "--logo {path}: a PNG file takes a PNG logo; save it as PNG, or use --format svg"
+        )?)),
+        Err(why) => return Err(Failure::Refused(format!(in alloc; "--logo {path}: {why}")?)),
     };
-    let middle = match logo.middle {
-        Middle::Logo(path, _) => Middle::Logo(path, file),
-        other => other,
-    };
-    let logo = Some(AskedLogo { middle, ..logo });
-    Asked { logo, ..asked }
+    let (across, down) = picture.sides();
+    Ok(Raster {
+        pixels: picture.pixels(alloc)?,
+        across: across as u16,
+        down: down as u16,
+    })
 }
 
-/// A code drawn with what is asked of its middle, where something is.
-pub(crate) fn redrawn(
-    alloc: Global,
-    asked: &Asked<'_>,
-    code: &QrCode,
-) -> Result<Option<Vec<u8>>, Failure> {
-    let Some(asked_logo) = asked.logo else {
-        return Ok(None);
-    };
-    let logo = match asked_logo.middle {
-        Middle::Logo(path, file) => Some(logo_of(alloc, path, file)?),
-        Middle::Light | Middle::Cross => None,
-    };
-    let area = area_of(alloc, code, wish_of(&asked_logo, &logo, code))?;
-    let element = match (&logo, asked_logo.middle) {
-        (Some(logo), _) => logo.element(alloc, &asked.request, code, area, asked_logo.margin)?,
-        (None, Middle::Cross) => cross_element(alloc, &asked.request, code)?,
-        (None, _) => String::new(alloc),
-    };
-    match with_logo(alloc, &asked.request, code, area, element.as_str()) {
-        Ok(bytes) => Ok(Some(bytes)),
-        Err(_) => Err(Failure::OutOfMemory),
-    }
-}
-
-// What is asked of the area of a code.
-fn wish_of(asked: &AskedLogo<'_>, logo: &Option<Logo>, code: &QrCode) -> LogoWish {
-    let size = match (asked.middle, asked.size) {
-        (Middle::Cross, _) => LogoSize::Modules(cross_size(code.width())),
-        (_, Size::Largest) => LogoSize::Largest,
-        (_, Size::Modules(modules)) => LogoSize::Modules(modules),
-        (_, Size::Percent(part)) => LogoSize::Percent(part),
-    };
-    let (across, down) = match logo {
-        Some(logo) => (logo.across, logo.down),
-        None => (1, 1),
-    };
-    LogoWish {
-        size,
-        across,
-        down,
-        kept: if asked.keeps_alignment {
-            Kept::AllPatterns
-        } else {
-            Kept::ButAlignment
-        },
-    }
-}
-
-// The area of a code that is asked for.
-fn area_of(alloc: Global, code: &QrCode, wish: LogoWish) -> Result<Rectangle, Failure> {
-    let (version, level) = (code.version(), code.error_correction_level());
-    match logo_area(alloc, version, level, wish) {
-        Ok(area) => Ok(area),
-        Err(LogoError::OutOfMemory) => Err(Failure::OutOfMemory),
-        Err(error) => Err(Failure::Refused(refusal_text(alloc, code, wish, error)?)),
-    }
-}
-
-// Why a code has no such area, and which has.
-fn refusal_text(
-    alloc: Global,
-    code: &QrCode,
-    wish: LogoWish,
-    error: LogoError,
-) -> Result<String, AllocError> {
-    let (version, level) = (code.version(), code.error_correction_level());
-    let (name, side) = (VersionName(version), code.width());
-    let mut text = match error {
-        LogoError::Outside => format!(in alloc;
-            "--logo-size: version {name} has {side} modules a side"
-        ),
-        LogoError::Patterns => format!(in alloc;
-            "--logo-size: in version {name} the area covers patterns by which readers find a code"
-        ),
-        LogoError::Excess(
-            Excess::Block {
-                touched,
-                allowed,
-                ..
-            },
-        ) => format!(in alloc;
-            "--logo-size: in version {name} at level {level:?} the area covers {touched} codewords \
-            of a block, of which {allowed} may be lost"
-        ),
-        _ => format!(in alloc; "version {name} at level {level:?} has no room for a logo"),
-    }?;
-    if let Some((version, level)) = roomier(alloc, version, level, wish) {
-        let name = VersionName(version);
-        write!(text, "; version {name} at level {level:?} has room for it")?;
-    }
-    Ok(text)
-}
-
-// The logo of the file of a path, in which these bytes stand.
-fn logo_of(alloc: Global, path: &str, file: &[u8]) -> Result<Logo, Failure> {
+/// The logo of the file of a path, in which these bytes stand, as an element of SVG.
+pub(crate) fn logo_of(alloc: Global, path: &str, file: &[u8]) -> Result<Logo, Failure> {
     let why = match logo_in(alloc, file) {
         Ok(logo) => return Ok(logo),
         Err(LogoFault::OutOfMemory) => return Err(Failure::OutOfMemory),
@@ -158,14 +44,14 @@ fn logo_of(alloc: Global, path: &str, file: &[u8]) -> Result<Logo, Failure> {
     Err(Failure::Refused(format!(in alloc; "--logo {path}: {why}")?))
 }
 
-// A logo: an `svg` element without its place.
+/// A logo: an `svg` element without its place.
 #[derive(Drop)]
-struct Logo {
-    // How wide and how high it is, in proportion.
-    across: u32,
-    down: u32,
-    // What stands behind the place: the box of its units, and an image of the file.
-    rest: String,
+pub(crate) struct Logo {
+    /// How wide and how high it is, in proportion.
+    pub(crate) across: u32,
+    pub(crate) down: u32,
+    /// What follows the place of its element: the box of its units, and an image of the file.
+    pub(crate) rest: String,
 }
 
 // Why a file is no logo.
@@ -394,35 +280,4 @@ fn whole(number: Option<&str>) -> u32 {
         None => number,
     };
     digits.parse::<u32>().unwrap_or(1).max(1)
-}
-
-impl Logo {
-    // The element of the logo in an area, with so many modules around it.
-    fn element(
-        &self,
-        alloc: Global,
-        request: &Request<'_>,
-        code: &QrCode,
-        area: Rectangle,
-        margin: usize,
-    ) -> Result<String, Failure> {
-        let both = margin.saturating_mul(2);
-        let (width, height) = (area.width, area.height);
-        if width.min(height) <= both {
-            return Err(Failure::Refused(format!(in alloc;
-                "the area of {width} by {height} modules leaves no room for a logo within its margin; \
-                use a higher --level, or a smaller --logo-margin"
-            )?));
-        }
-        let pixels = scale(request, code).max(1) as usize;
-        let zone = margin.saturating_add(quiet_zone(request, code) as usize);
-        let left = zone.saturating_add(area.left).saturating_mul(pixels);
-        let top = zone.saturating_add(area.top).saturating_mul(pixels);
-        let width = (width - both).saturating_mul(pixels);
-        let height = (height.saturating_sub(both)).saturating_mul(pixels);
-        let rest = &self.rest;
-        Ok(format!(in alloc;
-            "<svg x=\"{left}\" y=\"{top}\" width=\"{width}\" height=\"{height}\"{rest}"
-        )?)
-    }
 }

@@ -165,19 +165,27 @@ fn push_place(name: &mut String, place: Place, item: Item<'_>) -> Result<(), Fai
         Place::Text => push_clean(name, item.text)?,
         Place::Field(number) => {
             let index = number.saturating_sub(1);
-            push_clean(
-                name,
-                item.text.split(item.delimiter).nth(index).unwrap_or(""),
-            )?;
+            match item.text.split(item.delimiter).nth(index) {
+                Some(field) => push_clean(name, field)?,
+                None => {
+                    return Err(Failure::Refused(format!(in *name.allocator();
+                        "it has no field {number} for its file name; --delimiter says what \
+                        separates fields"
+                    )?));
+                }
+            }
         }
     }
     Ok(())
 }
 
-// Writes a text, in which what a file name cannot have on some system is a _.
+// Writes a text, in which what a file name cannot have on some system is a _, and so is a point that
+// would hide the file.
 fn push_clean(name: &mut String, text: &str) -> Result<(), AllocError> {
     for character in text.chars() {
+        let is_hidden = character == '.' && (name.is_empty() || name.ends_with('/'));
         let is_clean = !is_unseen(character)
+            && !is_hidden
             && !matches!(
                 character,
                 '/' | '\\' | ':' | '*' | '?' | '"' | '<' | '>' | '|'

@@ -52,12 +52,7 @@ fn lines_of(alloc: Global, scans: &[Scan]) -> Result<Vec<u8>, AllocError> {
 /// codes that are not read.
 pub(crate) fn codes_of(rt: &HostRuntime, path: &str) -> Result<Codes, Failure> {
     let alloc = rt.alloc();
-    let (name, bytes) = if path == "-" {
-        let bytes = read_standard_input(rt, "a picture", MOST_PICTURE)?;
-        ("standard input", bytes)
-    } else {
-        (path, read_file(rt, path, MOST_PICTURE)?)
-    };
+    let (name, bytes) = picture_of(rt, path)?;
     match read_codes(alloc, &bytes) {
         Ok(codes) => {
             warn_of_missed(rt, &codes);
@@ -68,10 +63,42 @@ pub(crate) fn codes_of(rt: &HostRuntime, path: &str) -> Result<Codes, Failure> {
     }
 }
 
-// Warns of codes that are not read.
-fn warn_of_missed(rt: &HostRuntime, codes: &Codes) {
+// The most codes of a picture that are found whatever stands beside them.
+const MOST_SURE: usize = 64;
+
+// The most bytes of a PBM file of packed pixels: a PNG file may have as many pixels, 67,108,864.
+const MOST_PACKED: usize = 8_389_632;
+
+/// The bytes of a picture, and what a refusal calls it: a file, or standard input where its name is -.
+pub(crate) fn picture_of<'a>(
+    rt: &HostRuntime,
+    path: &'a str,
+) -> Result<(&'a str, Vec<u8>), Failure> {
+    let (name, bytes) = if path == "-" {
+        let bytes = read_standard_input(rt, "a picture", MOST_PICTURE)?;
+        ("standard input", bytes)
+    } else {
+        (path, read_file(rt, path, MOST_PICTURE)?)
+    };
+    if bytes.starts_with(b"P4") && bytes.len() > MOST_PACKED {
+        return Err(Failure::Refused(format!(in rt.alloc();
+            "cannot read {name}: it has more than 67,108,864 pixels; crop it, or make it smaller"
+        )?));
+    }
+    Ok((name, bytes))
+}
+
+/// Warns of codes that are not read, and answers whether there is none.
+pub(crate) fn warn_of_missed(rt: &HostRuntime, codes: &Codes) -> bool {
+    let mut is_none = true;
+    if codes.scans.len() > MOST_SURE {
+        let _ = eprintln!(rt;
+            "goqlanis: warning: of more than {MOST_SURE} codes some may be missed; crop the picture"
+        );
+    }
     for missed in &codes.missed {
         if !codes.has_read(&missed.grid) {
+            is_none = false;
             let (count, cause) = (missed.grid.count, missed.cause);
             let (x, y) = missed.corner();
             let _ = eprintln!(rt;
@@ -80,6 +107,7 @@ fn warn_of_missed(rt: &HostRuntime, codes: &Codes) {
             );
         }
     }
+    is_none
 }
 
 // Warns of a text in another character set than UTF-8 or ASCII.

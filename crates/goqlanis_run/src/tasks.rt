@@ -1,28 +1,29 @@
 //! What the command line asks for, done.
 
+use crate::checking::check;
 use crate::contents::payload_of;
 use crate::drawing::{
     application_drawing, draw_one, elements_drawing, segments_drawing, write_drawing,
 };
 use crate::lines::draw_lines;
-use crate::logos::{SWISS_CROSS, logo_file, with_file};
+use crate::middle::{SWISS_CROSS, has_cross, logo_file, with_file};
 use crate::reading::read;
 use crate::several::{MOST_IN_SEVERAL, draw_several, join_pictures};
 use clap::ArgMatches;
 use clap::error::{Error, ErrorKind};
-use goqlanis_core::Format;
-use goqlanis_files::failure::{Failure, refused, status};
+use goqlanis_core::Request;
+use goqlanis_files::failure::{Failure, refused, status, usage};
 use goqlanis_files::streams::{Escaped, MOST_DATA, print, read_file, read_standard_input};
 use goqlanis_options::advice::{advice, wrapped_help};
 use goqlanis_options::asked::{Asked, Source, asked_for};
-use goqlanis_options::colours::Colours;
+use goqlanis_options::colours::{Colours, Inks};
 use goqlanis_options::command::{command_of, end_of_help};
 use goqlanis_options::completions::{completions_of, shell_named};
 use goqlanis_options::manual::manual_page;
 use goqlanis_options::options::{DRAWING, Purpose, Task, task_named};
 use goqlanis_options::warnings::warn_of_password;
 use qrcode::QrCode;
-use qrcode::types::QrError;
+use qrcode::types::{EcLevel, QrError};
 use qrcode_contents::bill;
 use qrcode_payloads::kinds::Kind;
 use std::alloc::{AllocError, Global};
@@ -50,13 +51,25 @@ fn run_words(rt: &HostRuntime) -> Result<ExitCode, Failure> {
         Err(error) => return refuse(rt, task, &words, &error),
     };
     let colours = Colours::of(rt.alloc(), &given)?;
-    let done = perform(rt, task, &given, &colours);
+    let done = perform_in(rt, task, &given, &colours);
     drop(given);
     done
 }
 
-// The task of the command line. The first word after the program's name may be a command, which then
-// goes into that name; `clap` reads the words after it.
+// Does a task in colours. Those of parts, at most twelve, stand in a list that is not freed, for as
+// long as their names.
+fn perform_in<'a>(
+    rt: &HostRuntime,
+    task: &Task,
+    given: &ArgMatches<'a>,
+    colours: &'a Colours,
+) -> Result<ExitCode, Failure> {
+    let parts = colours.part_inks(rt.alloc())?.leak();
+    perform(rt, task, given, colours.inks(parts))
+}
+
+// The task of the command line. The first word after the program's name may be a command, which
+// then goes into that name; `clap` reads the words after it.
 fn take_command(alloc: Global, words: &mut Vec<String>) -> Result<&'static Task, AllocError> {
     if words.len() > 1 && words[1].as_str() == "help" {
         words.remove(1);
@@ -128,17 +141,32 @@ fn perform<'a>(
     rt: &HostRuntime,
     task: &Task,
     given: &ArgMatches<'a>,
-    colours: &'a Colours,
+    inks: Inks<'a>,
 ) -> Result<ExitCode, Failure> {
     match task.purpose {
         Purpose::Read => read(rt, given),
+        Purpose::Check => check(rt, given),
         Purpose::Join => join_pictures(rt, given),
         Purpose::Draw => match text_about(rt.alloc(), given)? {
             Some(text) => print(rt, text.as_bytes()),
-            None => make(rt, task.purpose, given, colours),
+            None => make(rt, task.purpose, given, inks),
         },
-        purpose => make(rt, purpose, given, colours),
+        purpose => make(rt, purpose, given, inks),
     }
+}
+
+// What is asked for, at level H where a logo is to stand in the middle and neither a level is named
+// nor the format of a payload says one: there is room for a larger logo.
+fn with_level<'a>(asked: Asked<'a>, purpose: Purpose, given: &ArgMatches<'a>) -> Asked<'a> {
+    let has_its_level = matches!(purpose, Purpose::Content(Kind::Payment | Kind::Bill));
+    if asked.logo.is_none() || has_its_level || given.contains_id("level") {
+        return asked;
+    }
+    let request = Request {
+        level: EcLevel::H,
+        ..asked.request
+    };
+    Asked { request, ..asked }
 }
 
 // Makes codes.
@@ -146,9 +174,10 @@ fn make<'a>(
     rt: &HostRuntime,
     purpose: Purpose,
     given: &ArgMatches<'a>,
-    colours: &'a Colours,
+    inks: Inks<'a>,
 ) -> Result<ExitCode, Failure> {
-    let asked = asked_for(rt, given, colours)?;
+    let asked = asked_for(rt, given, inks)?;
+    let asked = with_level(asked, purpose, given);
     let file = logo_file(rt, &asked)?;
     let asked = with_file(asked, &file);
     match purpose {
@@ -199,17 +228,27 @@ fn draw_content(
     let text = payload_of(alloc, kind, given)?;
     if matches!(kind, Kind::Bill) {
         check_bill(alloc, text.as_str())?;
+        if asked.logo.is_some() {
+            return usage(
+                alloc,
+                "--logo, --logo-area: a bill has the Swiss cross in its middle",
+            );
+        }
     }
     if matches!(kind, Kind::Wifi) {
         warn_of_password(rt, given);
     }
-    match (kind, asked.request.format) {
-        (Kind::Bill, Format::Svg | Format::Eps) => {
-            let logo = Some(SWISS_CROSS);
-            draw_one(rt, &Asked { logo, ..*asked }, text.as_bytes())
-        }
-        _ => draw_one(rt, asked, text.as_bytes()),
+    if !matches!(kind, Kind::Bill) {
+        return draw_one(rt, asked, text.as_bytes());
     }
+    if has_cross(asked.request.format) {
+        let logo = Some(SWISS_CROSS);
+        return draw_one(rt, &Asked { logo, ..*asked }, text.as_bytes());
+    }
+    let _ = eprintln!(rt;
+        "goqlanis: warning: this format lacks the Swiss cross of a bill; png, svg and eps have it"
+    );
+    draw_one(rt, asked, text.as_bytes())
 }
 
 // The bytes that a symbol of a bill's level and largest version always holds.

@@ -12,7 +12,11 @@ pub static OTHER_NAMES: &[(&str, &str)] = &[
     ("color", "dark"), ("colour", "dark"), ("foreground", "dark"), ("fg", "dark"),
     ("background", "light"), ("bg", "light"),
     ("p", "mask"), ("pattern", "mask"),
-    ("org", "organisation"),
+    ("org", "organisation"), ("company", "organisation"), ("role", "title"), ("title", "summary"),
+    ("last-name", "family"), ("surname", "family"), ("first-name", "given"),
+    ("tel", "phone"), ("telephone", "phone"), ("cell", "mobile"), ("zip", "code"),
+    ("to", "email"), ("body", "message"), ("lat", "latitude"), ("lon", "longitude"),
+    ("label", "account"), ("key", "secret"),
 ];
 
 /// Older names of commands, and other spellings, that are taken too, and that no help shows.
@@ -44,11 +48,8 @@ pub static ADVICE: &[(&str, &str)] = &[
     ("--rle", "leave it out: SVG files are small as they are"),
     ("--encoding", "text is UTF-8; to say so to readers, add --eci; for other bytes, --input FILE"),
     ("--width", "for pixels per side, add --size"),
-    ("--logo", "no picture is laid over a code: use --level H, and add the logo yourself"),
     ("txt", "for .txt files, --format half-blocks; text has a character per module"),
     ("utf8 UTF8 unicode", "for this, --format half-blocks; terminal adds black on white"),
     ("ansi ANSI ansiutf8 ANSIUTF8", "for this, --format terminal"),
-    ("ascii ASCII", "for a character per module, --format text"),
-    ("pdf PDF", "use --format svg or eps, and convert that"),
     ("jpg JPG jpeg JPEG gif GIF", "use --format png, and convert that"),
 ];

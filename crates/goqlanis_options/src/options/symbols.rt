@@ -20,6 +20,7 @@ const FORMATS: &[&str] = &[
     "escpos",
     "xbm",
     "ppm",
+    "ascii",
 ];
 // Up to here.
 
@@ -38,37 +39,51 @@ pub static DATA: &[Entry] = &[
     entry!("input", 'i', Path, "Encode the contents of a file"),
     entry!("trim", Nothing, "Drop one trailing newline"),
     entry!("allow-empty", Nothing, "Accept empty input"),
-    entry!("bytes", Nothing, "Use the fewest bits, even if some readers then show UTF-8 wrongly"),
+    entry!("bytes", Nothing, "Treat input as bytes: fewest bits, but some readers show UTF-8 wrongly"),
 ];
 
 /// What gives the data of plain codes alone.
 #[rattlefmt::skip]
 pub static ONE_CODE: &[Entry] = &[
     entry!("segment", Texts("MODE:DATA"),
-        "Choose the segments yourself: numeric, alphanumeric, byte, kanji (Shift JIS in hex) or \
-        eci:NUMBER; repeat as needed"),
+        "Choose the segments yourself: numeric, alphanumeric, byte (text), kanji (Shift JIS in \
+        hex) or eci:NUMBER; repeat as needed"),
     entry!("lines", Nothing,
-        "Make one code for each line; output files are numbered, or named by it: {} in --output is \
-        its number, {text} the line, {1} its first field"),
+        "Make one code per line, in numbered files; to name them, use in --output {} for the \
+        line's number, {text} for its text, {1} for its first field"),
     entry!("delimiter", Text("TEXT"),
-        "What separates the fields of a line in file names [default: ,]"),
+        "Separator of the fields in a line [default: ,]"),
 ];
+
+// The level.
+#[rattlefmt::skip]
+const LEVEL: Entry =
+    entry!("level", 'l', Word("LEVEL", &["L", "M", "Q", "H"]), "Error correction level [default: M]");
 
 /// The level and the version.
 #[rattlefmt::skip]
 pub static LEVELS: &[Entry] = &[
-    entry!("level", 'l', Word("LEVEL", &["L", "M", "Q", "H"]), "Error correction level [default: M]"),
+    LEVEL,
     entry!("symbol-version", 'v', Text("VERSION"),
         "Version, 1 to 40 or M1 to M4 [default: the smallest of 1 to 40 that fits]"),
     entry!("min-version", Text("VERSION"),
         "Smallest version to try, in the order M1 to M4, 1 to 40"),
 ];
 
+/// The level and the version of what Micro QR cannot say.
+#[rattlefmt::skip]
+pub static NORMAL_LEVELS: &[Entry] = &[
+    LEVEL,
+    entry!("symbol-version", 'v', Text("VERSION"),
+        "Version, 1 to 40 [default: the smallest that fits]"),
+    entry!("min-version", Text("VERSION"), "Smallest version to try, 1 to 40"),
+];
+
 /// What goes with a text in one code.
 #[rattlefmt::skip]
 pub static TEXTS: &[Entry] = &[
     entry!("micro", Nothing, "Allow Micro QR (--min-version M1)"),
-    entry!("boost", Nothing, "Use the highest level that fits the version"),
+    entry!("boost", Nothing, "Use the highest level that fits the version; with -l L, the smallest version"),
 ];
 
 /// How a text in one code is marked.
@@ -88,28 +103,37 @@ pub static MASKS: &[Entry] = &[
 pub static LOOKS: &[Entry] = &[
     entry!("output", 'o', Path, "Write to FILE, atomically; - is standard output"),
     entry!("format", 'f', Word("FORMAT", FORMATS),
-        "Output format [default: by the file extension]"),
+        "Output format [default: by file extension, else terminal]"),
     entry!("quiet-zone", 'q', Number("MODULES", 0, 255),
         "Quiet zone on each side, 0 to 255 [default: 4, Micro QR 2]"),
     entry!("scale", 's', Number("PIXELS", 1, 1000),
         "Pixels per module, 1 to 1,000 [default: 8; 1 for text and PIC]"),
     entry!("size", Text("SIZE"),
-        "Largest side, in pixels, mm, cm, in or pt, e.g. 300 or 30mm; modules get whole pixels"),
-    entry!("module", Text("LENGTH"), "Side of a module, e.g. 0.5mm, to the nearest pixel"),
-    entry!("dpi", Number("N", 1, 65535), "Resolution of pixels, per inch, 1 to 65,535"),
+        "Largest side of the picture, in pixels or mm, cm, in, pt, e.g. 300 or 30mm; exact in SVG, \
+        EPS and PDF, elsewhere modules get whole pixels"),
+    entry!("module", Text("LENGTH"),
+        "Side of a module, e.g. 0.5mm, exact in SVG, EPS and PDF, elsewhere to the nearest pixel"),
+    entry!("dpi", Number("N", 1, 65535), "Pixels per inch, 1 to 65,535"),
+    entry!("at", Text("X,Y"),
+        "Dots from the left and the top of the label, in ZPL and TSPL [default: 0,0]"),
+    entry!("no-size", Nothing, "Leave the size out of SVG, which then fills what it stands in"),
+    entry!("svg-title", Text("TEXT"), "Title in SVG, for screen readers"),
+    entry!("svg-desc", Text("TEXT"), "Description in SVG, for screen readers"),
+    entry!("svg-id", Text("NAME"), "Name of the SVG element"),
+    entry!("svg-class", Text("NAMES"), "Classes of the SVG element, for style sheets"),
     entry!("dark", Text("COLOUR"),
         "Colour of dark modules in PNG, SVG, EPS, PDF and PPM, e.g. \"#008\" or navy [default: black]"),
     entry!("light", Text("COLOUR"),
-        "Colour of light modules, or transparent [default: white]"),
+        "Colour of light modules, or transparent (PNG, SVG) [default: white]"),
     entry!("invert", Nothing, "Swap dark and light"),
     entry!("logo", Path,
-        "Draw an SVG or PNG file in the middle, in SVG; the code is readable whatever it shows"),
-    entry!("logo-area", Nothing, "Only leave the area of a logo light, in any format"),
+        "Draw an SVG or PNG file in the middle of SVG, or a PNG file in PNG; the code stays readable"),
+    entry!("logo-area", Nothing, "Leave the logo's area light and empty, in any format"),
     entry!("logo-size", Text("SIZE"),
-        "Side of the area, in modules or percent of the code's, e.g. 9 or 20% [default: the largest \
-        that leaves half of what each block may lose]"),
+        "Side of the area, in modules or percent of the code's side, e.g. 9 or 20% [default: the \
+        largest that uses half of what error correction can repair]"),
     entry!("logo-margin", Number("MODULES", 0, 20), "Light modules around the logo [default: 1]"),
-    entry!("keep-alignment", Nothing, "Keep the area off alignment patterns, for weak readers"),
+    entry!("keep-alignment", Nothing, "Keep the logo off alignment patterns, for weak readers"),
     entry!("verbose", Nothing, "Report version, level, mask and sizes on standard error"),
     entry!("json", Nothing, "The same report as a line of JSON"),
 ];
@@ -117,9 +141,9 @@ pub static LOOKS: &[Entry] = &[
 /// Texts about the program.
 #[rattlefmt::skip]
 pub static ABOUT: &[Entry] = &[
-    entry!("completions", Word("SHELL", &["bash", "zsh", "fish"]), "Write the completions of a shell"),
+    entry!("completions", Word("SHELL", &["bash", "zsh", "fish"]), "Write shell completions"),
     entry!("manual", Nothing, "Write the manual page, for man -l"),
-    entry!("version", 'V', Nothing, "Write the version of the program"),
+    entry!("version", 'V', Nothing, "Print the version"),
 ];
 
 /// Examples, as the help shows them.

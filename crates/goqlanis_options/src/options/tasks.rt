@@ -32,7 +32,15 @@ pub static TASKS: &[Task] = &[
                 "Report version, level, mask, position, corrected errors, headers and segments on \
                 standard error"),
             entry!("json", Nothing,
-                "Write a list of JSON with the same and the data in place of the data"),
+                "Write the data and this report as a JSON list instead"),
+        ],
+    },
+    Task {
+        word: "check",
+        about: "Say what of the QR codes of a picture departs from the standard",
+        purpose: Purpose::Check,
+        options: &[
+            entry!("json", Nothing, "Write a list of JSON in place of lines"),
         ],
     },
     Task {
@@ -41,7 +49,7 @@ pub static TASKS: &[Task] = &[
         purpose: Purpose::Several,
         options: &[
             entry!("count", Number("N", 1, 16),
-                "Number of codes, 1 to 16, in the smallest version that does [default: as few as fit]"),
+                "Number of codes, 1 to 16, in the smallest version that fits [default: as few as fit]"),
             entry!("max-version", Text("VERSION"), "Largest version to use, 1 to 40 [default: 40]"),
         ],
     },
@@ -57,9 +65,9 @@ pub static TASKS: &[Task] = &[
     payload!("mecard", Kind::Mecard, "Contact (MECARD)"),
     payload!("vcard", Kind::Vcard, "Contact (vCard 3.0)"),
     payload!("epc", Kind::Payment, "SEPA credit transfer (EPC QR code)"),
-    payload!("bill", Kind::Bill, "Swiss QR-bill, with its cross in SVG and EPS"),
+    payload!("bill", Kind::Bill, "Swiss QR-bill, with its cross in SVG, PNG and EPS"),
     payload!("upi", Kind::Upi, "Payment by UPI (India)"),
-    payload!("pix", Kind::Pix, "Payment by Pix (Brazil), static"),
+    payload!("pix", Kind::Pix, "Static payment by Pix (Brazil)"),
     payload!("promptpay", Kind::Promptpay, "Payment by PromptPay (Thailand)"),
     payload!("email", Kind::Mail, "E-mail"),
     payload!("geo", Kind::Geo, "Location"),
@@ -73,7 +81,7 @@ pub static TASKS: &[Task] = &[
         purpose: Purpose::Elements,
         options: &[
             entry!("application", Text("INDICATOR"),
-                "Data of another application (FNC1 in second position): its two digits or letter, \
+                "Application indicator (FNC1 in second position): two digits or a letter, \
                 assigned by AIM"),
         ],
     },
@@ -133,7 +141,7 @@ fn is_wanted(kind: Kind, field: Field) -> bool {
 #[rattlefmt::skip]
 fn own_help(kind: Kind, field: Field) -> Option<(&'static str, &'static str)> {
     Some(match (kind, field) {
-        (Kind::Vcard, Field::Name) => ("NAME", "Full name, as it is shown"),
+        (Kind::Vcard, Field::Name) => ("NAME", "Full name, as displayed"),
         (Kind::Payment, Field::Amount) =>
             ("EUROS", "Amount in euros, 0.01 to 999999999.99, e.g. 12.30"),
         (Kind::Payment, Field::Reference) =>
@@ -147,7 +155,7 @@ fn own_help(kind: Kind, field: Field) -> Option<(&'static str, &'static str)> {
         (Kind::Bill, Field::City) => ("TEXT", "Payee's city"),
         (Kind::Bill, Field::Country) => ("CODE", "Payee's country, two letters, e.g. CH"),
         (Kind::Bill, Field::Reference) =>
-            ("TEXT", "Reference: 27 digits for a QR-IBAN; RF.. or none for another IBAN"),
+            ("TEXT", "Reference: 27 digits with a QR-IBAN, otherwise RF.. or none"),
         (Kind::Bill, Field::Message) => ("TEXT", "Message, up to 140 characters"),
         (Kind::Upi, Field::Payee) => ("ADDRESS", "Payee's UPI address (VPA), e.g. name@bank"),
         (Kind::Upi, Field::Name) => ("NAME", "Payee's name"),
@@ -157,10 +165,9 @@ fn own_help(kind: Kind, field: Field) -> Option<(&'static str, &'static str)> {
         (Kind::Pix, Field::City) => ("TEXT", "Payee's city, up to 15 ASCII characters"),
         (Kind::Pix, Field::Reference) => ("TEXT", "Reference (txid), up to 25 letters and digits"),
         (Kind::Pix, Field::Description) =>
-            ("TEXT", "Description, with the key up to 73 ASCII characters"),
+            ("TEXT", "Description; up to 73 ASCII characters including the key"),
         (Kind::Promptpay, Field::Payee) => ("NUMBER",
-            "Payee's phone number, e.g. 081 234 5678, national or tax ID of 13 digits, or e-wallet \
-            of 15"),
+            "Payee's phone number (081 234 5678), national or tax ID (13 digits), or e-wallet (15)"),
         _ => return None,
     })
 }

@@ -1,0 +1,89 @@
+//! Where a drawing stands on a label, and what is said at the element of SVG.
+
+use clap::ArgMatches;
+use goqlanis_core::Format;
+use goqlanis_files::failure::{Failure, usage};
+use qrcode::render::svg::{Frame, Size};
+use std::alloc::Global;
+
+/// The dots from the left and from the top of a label that the command line gives.
+pub fn place_of(
+    alloc: Global,
+    given: &ArgMatches<'_>,
+    format: Format,
+) -> Result<(u32, u32), Failure> {
+    let Some(text) = given.get_str("at") else {
+        return Ok((0, 0));
+    };
+    if !matches!(format, Format::Zpl | Format::Tspl) {
+        return usage(
+            alloc,
+            "--at: only labels have a place for the code; add --format zpl or tspl",
+        );
+    }
+    match text.split_once(',') {
+        Some((x, y)) => match (x.parse::<u16>(), y.parse::<u16>()) {
+            (Ok(x), Ok(y)) if x.max(y) <= 32_000 => Ok((u32::from(x), u32::from(y))),
+            _ => no_place(alloc, text),
+        },
+        None => no_place(alloc, text),
+    }
+}
+
+fn no_place(alloc: Global, text: &str) -> Result<(u32, u32), Failure> {
+    Err(Failure::Usage(format!(in alloc;
+        "--at {text}: use dots from the left and from the top, each 0 to 32,000, e.g. 50,30"
+    )?))
+}
+
+/// What the command line says at the element of SVG.
+pub fn frame_of<'a>(
+    alloc: Global,
+    given: &ArgMatches<'a>,
+    format: Format,
+) -> Result<Frame<'a>, Failure> {
+    let [id, class, title, description] = [
+        text_of(alloc, given, format, "svg-id")?,
+        text_of(alloc, given, format, "svg-class")?,
+        text_of(alloc, given, format, "svg-title")?,
+        text_of(alloc, given, format, "svg-desc")?,
+    ];
+    let size = if given.get_flag("no-size") {
+        check_svg(alloc, format, "no-size")?;
+        Size::Free
+    } else {
+        Size::Pixels
+    };
+    Ok(Frame {
+        id,
+        class,
+        title,
+        description,
+        size,
+    })
+}
+
+// The text of an option that only SVG has, empty where it is not given.
+fn text_of<'a>(
+    alloc: Global,
+    given: &ArgMatches<'a>,
+    format: Format,
+    option: &str,
+) -> Result<&'a str, Failure> {
+    let Some(text) = given.get_str(option) else {
+        return Ok("");
+    };
+    check_svg(alloc, format, option)?;
+    if text.is_empty() || text.bytes().any(|byte| byte < b' ') {
+        return Err(Failure::Usage(format!(in alloc; "--{option}: give it a text of one line")?));
+    }
+    Ok(text)
+}
+
+// Refuses an option that only SVG has in another format.
+fn check_svg(alloc: Global, format: Format, option: &str) -> Result<(), Failure> {
+    if format == Format::SvgPath {
+        return Ok(());
+    }
+    Err(Failure::Usage(format!(in alloc; "--{option}: only SVG has it; add --format svg")?))
+}

@@ -1,0 +1,43 @@
+//! Colours of the parts of a code.
+
+use super::Entry;
+use super::Takes::Text;
+use goqlanis_core::Part;
+use qrcode::types::Color;
+
+/// An option that gives the colour of the dark or of the light modules of a part.
+#[derive(Clone, Copy)]
+pub struct PartColour {
+    pub entry: Entry,
+    pub part: Part,
+    pub tone: Color,
+}
+
+// A row of the table: the option's name, whose modules it colours, and what help says of it.
+macro_rules! colour {
+    ($long:literal, $part:ident, $tone:ident, $help:literal) => {
+        PartColour {
+            entry: entry!($long, Text("COLOUR"), $help),
+            part: Part::$part,
+            tone: Color::$tone,
+        }
+    };
+}
+
+/// The colours of parts, in PNG, SVG and EPS.
+#[rattlefmt::skip]
+pub static PART_COLOURS: &[PartColour] = &[
+    colour!("finder-dark", Finder, Dark, "Dark modules of finder patterns [default: as --dark]"),
+    colour!("finder-light", Finder, Light,
+        "Light modules in and around finder patterns [default: as --light]"),
+    colour!("alignment-dark", Alignment, Dark, "Dark modules of alignment patterns"),
+    colour!("alignment-light", Alignment, Light, "Light modules of alignment patterns"),
+    colour!("timing-dark", Timing, Dark, "Dark timing modules"),
+    colour!("timing-light", Timing, Light, "Light timing modules"),
+    colour!("format-dark", FormatWord, Dark, "Dark modules of the format word"),
+    colour!("format-light", FormatWord, Light, "Light modules of the format word"),
+    colour!("version-dark", VersionWord, Dark, "Dark modules of the version word"),
+    colour!("version-light", VersionWord, Light, "Light modules of the version word"),
+    colour!("data-dark", Data, Dark, "Dark modules of data and error correction"),
+    colour!("data-light", Data, Light, "Light modules of data and error correction"),
+];

@@ -1,0 +1,223 @@
+"""What `goqlanis check --json` must say of a square, reckoned by the judge of evidence/judge."""
+import os
+import sys
+
+sys.path.append(os.path.join(os.path.dirname(os.path.realpath(__file__)), os.pardir, "judge"))
+import penalty
+import reading
+from field import Uncorrected, corrected
+from forms import blocks, form, number_of
+from spelling import ECI, FNC1_FIRST, FNC1_SECOND, READERS, Front, Unspelled, count_bits, header
+from tables import CHARACTERS, MICRO_MODES, MODES
+
+# Codewords of error correction that readers keep to tell wrong corrections (Table 9).
+PROTECTION = {("1", "L"): 3, ("1", "M"): 2, ("1", "Q"): 1, ("1", "H"): 1, ("2", "L"): 2,
+              ("3", "L"): 1, ("M1", "L"): 2, ("M2", "L"): 3, ("M2", "M"): 2, ("M3", "L"): 2,
+              ("M4", "L"): 2}
+# Sixths of a bit that a byte takes in a mode.
+SIXTHS = {"numeric": 20, "alphanumeric": 33, "byte": 48, "kanji": 39}
+
+
+def corner(square, shape, left, top, count):
+    """The wrong modules of a finder pattern with its separator; it begins so far out."""
+    width, wrong = shape.width, 0
+    for y in range(top - 1, top + 8):
+        for x in range(left - 1, left + 8):
+            if 0 <= x < width and 0 <= y < width:
+                ring = max(abs(x - left - 3), abs(y - top - 3))
+                wrong += square[y * width + x] != (ring in (0, 1, 3))
+    return wrong
+
+
+def finder(square, shape):
+    """The wrong modules of all finder patterns."""
+    far = shape.width - 7
+    places = [(0, 0)] if shape.is_micro else [(0, 0), (far, 0), (0, far)]
+    return sum(corner(square, shape, left, top, 7) for left, top in places)
+
+
+def alignment(square, shape):
+    """The wrong modules of the alignment patterns."""
+    if shape.is_micro:
+        return 0
+    return sum(square[(i + y) * shape.width + j + x] != (max(abs(x), abs(y)) != 1)
+               for i, j in shape._centres() for y in range(-2, 3) for x in range(-2, 3))
+
+
+def timing(square, shape):
+    """The wrong modules of the timing patterns."""
+    width = shape.width
+    line, last = (0, width) if shape.is_micro else (6, width - 8)
+    return sum((square[line * width + k] != (k % 2 == 0)) + (square[k * width + line] != (k % 2 == 0))
+               for k in range(8, last))
+
+
+def format_bits(square, shape, word):
+    """The wrong bits of the format word, and the module that is always dark."""
+    dark = 0 if shape.is_micro else 1 - square[(shape.width - 8) * shape.width + 8]
+    return sum(reading.wrong_bits(square, copy, word) for copy in shape.copies) + dark
+
+
+def version_bits(square, shape):
+    """The wrong bits of the version word (Annex D)."""
+    if shape.is_micro or shape.number < 7:
+        return 0
+    rest = shape.number << 12
+    for k in range(5, -1, -1):
+        if rest >> (12 + k) & 1:
+            rest ^= 0b1111100100101 << k
+    word, width, wrong = shape.number << 12 | rest, shape.width, 0
+    for k in range(18):
+        near, far = k // 3, width - 11 + k % 3
+        wrong += (square[far * width + near] != word >> k & 1) + (square[near * width + far] != word >> k & 1)
+    return wrong
+
+
+def corrections(square, shape, level, mask):
+    """The wrong codewords by block, the data bits, and the ones among the remainder bits."""
+    parts, stream = blocks(shape.version, level), shape.stream(square, mask)
+    words = reading.words_of(stream, len(shape.places), parts)
+    data, wrong = b"", []
+    for share, length in zip(parts.shares(), parts.lengths):
+        block, count = corrected(bytes(map(words.__getitem__, share)), parts.ec)
+        data, wrong = data + block[:length], [*wrong, count]
+    bits = f"{int.from_bytes(data, 'big'):0{len(data) * 8}b}"[:parts.capacity]
+    rest = len(shape.places) - parts.total * 8 + 4 * parts.has_half
+    return wrong, bits, bin(stream & (1 << rest) - 1).count("1")
+
+
+def parts_of(shape, bits):
+    """Headers and segments, each with its bits and bytes, and where the end begins."""
+    front, parts = Front(bits), []
+    while not front.is_end(shape.number * 2 + 1 if shape.is_micro else 4):
+        at, indicator = front.at, front.number(shape.number - 1 if shape.is_micro else 4)
+        if indicator < 4 if shape.is_micro else indicator in MODES:
+            mode = MICRO_MODES[indicator] if shape.is_micro else MODES[indicator]
+            width = count_bits(shape, mode)
+            if width == 0:
+                raise Unspelled
+            data = READERS[mode](front, front.number(width))
+            parts.append((mode, front.at - at, data))
+        elif shape.is_micro:
+            raise Unspelled
+        else:
+            header(indicator, front)
+            parts.append((indicator, 0, b""))
+    return parts, front.at
+
+
+def may_be(mode, data, at):
+    """Whether a mode has the byte at a place, or the pair that begins there."""
+    if mode == "numeric":
+        return data[at:at + 1].isdigit()
+    if mode == "alphanumeric":
+        return data[at] in CHARACTERS
+    if mode == "byte":
+        return True
+    number = int.from_bytes(data[at:at + 2], "big")
+    return (len(data) > at + 1 and (0x8140 <= number <= 0x9ffc or 0xe040 <= number <= 0xebbf)
+            and 0x40 <= data[at + 1] <= 0xfc and data[at + 1] != 0x7f)
+
+
+def fewest(shape, modes, data):
+    """The fewest bits of segments of bytes in these modes, or None: in sixths, byte by byte."""
+    none = float("inf")
+    ended, going = [0] + [none] * len(data), {mode: [none] * (len(data) + 1) for mode in modes}
+    for at in range(len(data)):
+        for mode in modes:
+            begun = ended[at] + 6 * (count_bits(shape, mode) + (shape.number - 1 if shape.is_micro else 4))
+            step, cost = 1 + (mode == "kanji"), min(going[mode][at], begun)
+            if cost < none and may_be(mode, data, at):
+                to = at + step
+                going[mode][to] = min(going[mode][to], cost + SIXTHS[mode] * step)
+                ended[to] = min(ended[to], -(-going[mode][to] // 6) * 6)
+    return None if ended[-1] == none else ended[-1] // 6
+
+
+def taken(shape, parts):
+    """The bits of the segments and the fewest, where no other header than ECI and structured append
+    stands in front of them, and none behind one."""
+    kinds = [part[0] for part in parts]
+    modes = [it for it in kinds if isinstance(it, str)]
+    if kinds[len(kinds) - len(modes):] != modes or {FNC1_FIRST, FNC1_SECOND} & set(kinds):
+        return {}
+    known = [it for it in READERS if count_bits(shape, it) and (it != "kanji" or "kanji" in modes)]
+    least = fewest(shape, known, b"".join(part[2] for part in parts))
+    return {} if least is None else {"bits": sum(part[1] for part in parts), "fewest_bits": least}
+
+
+def ending(shape, bits, used):
+    """The wrong bits of the terminator with the zeros to a whole byte, and of the padding."""
+    behind = min(used + (2 * shape.number + 1 if shape.is_micro else 4), len(bits))
+    behind = min((behind + 7) // 8 * 8, len(bits))
+    count = (len(bits) - behind) // 8
+    padding = "".join(f"{(0xec, 0x11)[k % 2]:08b}" for k in range(count)).ljust(len(bits) - behind, "0")
+    wrong = sum(a != b for a, b in zip(bits[behind:], padding))
+    return {"wrong_terminator": bits[used:behind].count("1"), "wrong_padding": wrong}
+
+
+def is_utf8(data):
+    """Whether bytes are UTF-8."""
+    try:
+        return bool(data.decode()) or True
+    except UnicodeDecodeError:
+        return False
+
+
+def guesses(parts):
+    """The segments of bytes above 127 before the first number of a character set."""
+    until = next((k for k, part in enumerate(parts) if part[0] == ECI), len(parts))
+    found = [part[2] for part in parts[:until] if part[0] == "byte" and max(part[2], default=0) > 127]
+    return {"guessed_segments": len(found), "guessed_utf8": all(map(is_utf8, found))}
+
+
+def content(shape, bits):
+    """What is said of data bits."""
+    try:
+        parts, used = parts_of(shape, bits)
+    except Unspelled:
+        return {"segments": False}
+    return {"segments": True, **taken(shape, parts), **ending(shape, bits, used), **guesses(parts)}
+
+
+def rank(numbers, at):
+    """How many numbers are lower than one, and how many before it are the same."""
+    return {"lower": sum(it < numbers[at] for it in numbers), "same_before": numbers[:at].count(numbers[at])}
+
+
+def ranks(square, bits):
+    """How the mask stands by the balance of the standard, and by that of goqlanis."""
+    terms, stepped = reading.penalties(square, bits), []
+    shape = form(bits.version)
+    for mask, each in enumerate(terms):
+        balance = 0
+        if not shape.is_micro:
+            other = shape.remasked(square, bits.mask, mask, reading.WORDS[bits.version][bits.level, mask])
+            balance = 10 * (abs(20 * other.count(1) - 10 * len(other)) // len(other)) - each["balance"]
+        stepped.append(sum(each.values()) + balance)
+    own = [sum(each.values()) for each in terms]
+    return {"masks": rank(stepped, bits.mask), "masks_here": rank(own, bits.mask)}
+
+
+def checked(square):
+    """What is said of a square of modules, a byte each, 1 for a dark one."""
+    version = reading.WIDTHS[int(len(square) ** 0.5)]
+    shape = form(version)
+    level, mask = reading.read_format(square, shape)
+    wrong, bits, remainder = corrections(square, shape, level, mask)
+    parts = blocks(version, level)
+    allowed = (parts.ec * parts.count - PROTECTION.get((version, level), 0)) // 2 // parts.count
+    unused = min(100 * max(allowed - it, 0) // allowed if allowed else 100 * (it == 0) for it in wrong)
+    modules = {"finder": finder(square, shape), "alignment": alignment(square, shape),
+               "timing": timing(square, shape),
+               "format": format_bits(square, shape, reading.WORDS[version][level, mask]),
+               "version": version_bits(square, shape), "remainder": remainder}
+    said = {"version": version, "level": level, "mask": mask, "wrong_by_block": wrong,
+            "allowed_by_block": allowed, "unused_correction": unused / 100,
+            "grade": "FDCBA"[sum(unused >= it for it in (25, 37, 50, 62))], "wrong_modules": modules,
+            **content(shape, bits),
+            **ranks(square, reading.Bits(version, level, mask, sum(wrong), bits))}
+    is_data = said["segments"] and not said["wrong_terminator"] and not said["wrong_padding"] \
+        and said.get("bits", 0) <= said.get("fewest_bits", 0)
+    is_mask = not said["masks"]["lower"] or not said["masks_here"]["lower"]
+    return {**said, "standard": bool(is_data and is_mask and not any(wrong) and not any(modules.values()))}

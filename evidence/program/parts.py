@@ -1,0 +1,153 @@
+"""Drawings with colours of parts: what their modules show, against the parts that segno names."""
+import re
+import struct
+import zlib
+
+OPTIONS = {"F": "finder", "A": "alignment", "T": "timing", "W": "format", "V": "version",
+           ".": "data"}
+# A colour for each part: of dark modules, and of light ones.
+INKS = {(letter, tone): f"#{10 * at + 5:02x}0028" if tone else f"#{250 - 10 * at:02x}e6c8"
+        for at, letter in enumerate(OPTIONS) for tone in (1, 0)}
+WORDS = [it for (letter, tone), ink in INKS.items()
+         for it in (f"--{OPTIONS[letter]}-{'dark' if tone else 'light'}", ink)]
+DARK, LIGHT = "#012345", "#fedcba"
+
+
+def parts_of(path):
+    """The letters of evidence/others/parts/types, by version. segno counts the module to the left of
+    the format word's second copy to it as well: there the standard has data, which segno draws."""
+    with open(path, encoding="ascii") as it:
+        sheets = re.findall(r"^\$ (\S+)\n((?:[^$\n]+\n)+)", it.read(), re.MULTILINE)
+    found = {version: rows.split() for version, rows in sheets}
+    for version, rows in found.items():
+        if version[0] != "M":
+            at = len(rows) - 9
+            assert rows[8][at:] == 9 * "W"
+            rows[8] = rows[8][:at] + "." + rows[8][at + 1:]
+    return found
+
+
+def rgb(name):
+    return tuple(bytes.fromhex(name[1:]))
+
+
+def png_cells(file, scale):
+    """The colours of the modules of a PNG file whose rows are not filtered; None where one has two."""
+    head, data, at = None, b"", 8
+    while at < len(file):
+        length, kind = struct.unpack(">I4s", file[at:at + 8])
+        body = file[at + 8:at + 8 + length]
+        head = struct.unpack(">IIBBBBB", body) if kind == b"IHDR" else head
+        data += body if kind == b"IDAT" else b""
+        at += 12 + length
+    across, down, depth, color = head[:4]
+    if (depth, color) != (8, 6):
+        return None
+    rows = zlib.decompress(data)
+    rows = [rows[y * (4 * across + 1):(y + 1) * (4 * across + 1)] for y in range(down)]
+    if any(row[0] for row in rows):
+        return None
+    dots = [[tuple(row[4 * x + 1:4 * x + 5]) for x in range(across)] for row in rows]
+    cells = [line[::scale] for line in dots[::scale]]
+    whole = [[it for it in line for _ in range(scale)] for line in cells for _ in range(scale)]
+    opaque = all(it[3] == 255 for line in cells for it in line)
+    return [[it[:3] for it in line] for line in cells] if whole == dots and opaque else None
+
+
+def rectangles(path):
+    """The left, top, width and height of the subpaths of a path, each a rectangle."""
+    x = y = 0
+    corners = []
+    for letter, body in re.findall(r"([MmhvHV])([^MmhvHV]*)", path):
+        numbers = [int(it) for it in re.findall(r"-?\d+", body)]
+        if letter in "Mm":
+            if corners:
+                yield box(corners)
+            x, y = (x + numbers[0], y + numbers[1]) if letter == "m" else numbers
+            corners = [(x, y)]
+        elif letter in "hH":
+            x = numbers[0] + (x if letter == "h" else 0)
+        else:
+            y = numbers[0] + (y if letter == "v" else 0)
+        corners.append((x, y))
+    if corners:
+        yield box(corners)
+
+
+def box(corners):
+    left, top = (min(it[axis] for it in corners) for axis in (0, 1))
+    right, bottom = (max(it[axis] for it in corners) for axis in (0, 1))
+    return left, top, right - left, bottom - top
+
+
+def svg_cells(text, side):
+    """The colours of the modules of an SVG text, with so many modules a side."""
+    cells = [[None] * side for _ in range(side)]
+    units, sides = [], []
+    for name, rest in re.findall(r"<(/?\w+)([^>]*)>", text.split("?>")[1]):
+        given = dict(re.findall(r'(\w+)="([^"]*)"', rest))
+        if name == "svg":
+            # The side of the element in modules of the whole, and that of its units.
+            whole = int(given["width"]) * units[-1] if units else side
+            units.append(whole / int(given["viewBox"].split()[2]))
+            sides.append(whole)
+        elif name == "/svg":
+            units.pop()
+        elif given["fill"] != "none":
+            found = [box([(0, 0), (int(given["width"]), int(given["height"]))])] if name == "rect" \
+                else rectangles(given["d"])
+            for found_box in found:
+                fill(cells, [round(it * units[-1], 6) for it in found_box], rgb(given["fill"]))
+    return cells if sides and set(sides) == {side} else None
+
+
+def fill(cells, place, color):
+    left, top, width, height = map(int, place)
+    assert [left, top, width, height] == place
+    for y in range(top, top + height):
+        for x in range(left, left + width):
+            cells[y][x] = color
+
+
+def eps_cells(text, side, scale):
+    """The same of an EPS text, whose rows are counted from above behind its ground."""
+    cells = [[None] * side for _ in range(side)]
+    color = None
+    for line in text.splitlines():
+        words = line.split()
+        if words[-1:] == ["setrgbcolor"]:
+            color = tuple(int(it) for it in words[::3][:3])
+        elif words[-1:] == ["rectfill"]:
+            fill(cells, [int(it) / scale for it in words[:4]], color)
+    return cells
+
+
+def wanted(rows, letters, zone, is_inverted):
+    """The colours of modules in a quiet zone: by their parts, and else dark or light."""
+    light = rgb(DARK if is_inverted else LIGHT)
+    across = len(rows) + 2 * zone
+    inner = [[light] * zone + [rgb(INKS[letter, tone != is_inverted]) for letter, tone
+                               in zip(line, row)] + [light] * zone for line, row in zip(letters, rows)]
+    return [[light] * across] * zone + inner + [[light] * across] * zone
+
+
+def are_drawn(run, path):
+    """Whether each module has the colour of its part in PNG, SVG and EPS, where `run` writes what a
+    command line does."""
+    for version, letters in parts_of(path).items():
+        plain = ["-v", version, "-l", "L", "12"]
+        bits = run([*plain, "-f", "pbm", "-s", "8", "-q", "0"]).split(b"\n", 2)[2]
+        width = len(letters)
+        rows = [[bits[8 * y * width + x] & 1 for x in range(width)] for y in range(width)]
+        for is_inverted in (False, True):
+            words = [*plain, "-q", "3", "-s", "2", "--dark", DARK, "--light", LIGHT, *WORDS,
+                     *["--invert"] * is_inverted]
+            colors = wanted(rows, letters, 3, is_inverted)
+            side = width + 6
+            if png_cells(run([*words, "-f", "png"]), 2) != colors:
+                return False
+            if svg_cells(run([*words, "-f", "svg"]).decode(), side) != colors:
+                return False
+            if eps_cells(run([*words, "-f", "eps"]).decode(), side, 2) != colors:
+                return False
+    return True
