@@ -91,7 +91,11 @@ typedef uint32_t goq_answer;
     X(FIELD_WORD, 45, "the field is not one of the words that it may be") \
     X(NO_AREA, 46, "no area in the middle leaves so much: take a higher level or less reserve") \
     X(AREA_BLOCK, 47, "the area touches more codewords of a block than may be lost: take less") \
-    X(AREA_FORMAT, 48, "the area has more than three modules of a copy of the format word: move it")
+    X(AREA_FORMAT, 48, "the area has over three modules of a copy of the format word: move it") \
+    X(NOT_PICTURE, 49, "it is no PNG, PBM or PGM file and no half blocks: convert it to PNG") \
+    X(BROKEN_PICTURE, 50, "the picture is cut off, damaged, interlaced or too wide: save it anew") \
+    X(NO_SQUARE, 51, "the picture shows no code, in an even margin or by finder patterns") \
+    X(LARGE_PICTURE, 52, "the picture is more than 67,108,864 bytes: cut it into smaller ones")
 
 enum {
 #define GOQ_NAMED(name, number, text) GOQ_##name = number,
@@ -134,6 +138,7 @@ enum {
     GOQ_ESC_POS = 13, /* ESC/POS raster for receipt printers, at most 65,535 dots a side */
     GOQ_XBM = 14, /* XBM text */
     GOQ_PPM = 15, /* a PPM file, three bytes a pixel */
+    GOQ_ASCII = 16, /* text, two characters a pixel: ## and two spaces */
     GOQ_FORMATS /* how many there are */
 };
 
@@ -149,6 +154,9 @@ enum {
     GOQ_FNC1_SECOND = 6 /* a header: FNC1 in the second position, `number` being the indicator of
                            the application, below 256 */
 };
+
+/* What a code that is read may have beside these kinds: the header of one of several symbols. */
+enum { GOQ_ONE_OF_SEVERAL = 7 };
 
 /* Kinds of payload. Their fields are texts in UTF-8, in the order of the names below, as people
    write them: account numbers, references, telephone numbers and secrets may have spaces and small
@@ -441,6 +449,38 @@ typedef struct {
     uint32_t position;
 } goq_any_reading;
 
+/* A header or a segment of a code that is read. What it lacks is 0. */
+typedef struct {
+    uint32_t kind; /* GOQ_NUMERIC .. GOQ_FNC1_SECOND as of a goq_segment, or GOQ_ONE_OF_SEVERAL */
+    uint32_t number; /* of GOQ_ECI the character set, of GOQ_FNC1_SECOND the application: two digits
+                        as their number, a letter as its code and 100; of GOQ_ONE_OF_SEVERAL the
+                        parity of the data of all */
+    uint32_t place; /* of GOQ_ONE_OF_SEVERAL: which it is, from 0 on */
+    uint32_t symbols; /* and how many they are */
+    size_t length; /* of a segment: how many bytes it has; after FNC1 two percent signs of
+                      GOQ_ALPHANUMERIC are one byte of the data */
+} goq_part;
+
+/* This many are enough for the parts of a code. */
+enum { GOQ_PARTS_MAX = 5912 };
+
+/* A code of a picture, apart from its parts and bytes. */
+typedef struct {
+    goq_reading reading;
+    uint32_t position; /* how it stands in the picture */
+    size_t parts; /* how many parts it has */
+} goq_code;
+
+/* How much is read of a picture. Begin with GOQ_SCAN. */
+typedef struct {
+    uint32_t size; /* sizeof(goq_scan) */
+    size_t codes;
+    size_t parts; /* those of all codes */
+    size_t length; /* the bytes of all codes */
+} goq_scan;
+
+#define GOQ_SCAN GOQ_INITIAL(goq_scan, 0, 0, 0)
+
 /* A square of modules, as goq_read takes it. */
 typedef struct {
     const uint8_t *modules;
@@ -591,6 +631,19 @@ goq_answer goq_read_text(const uint8_t *modules, size_t modules_length, void *te
 /* The number of the mask that the format word of a square names: 0 to 7, in Micro 0 to 3.
    GOQ_NO_SUCH_SIDE, GOQ_NO_FORMAT; GOQ_OUT_OF_MEMORY. */
 goq_answer goq_mask(const uint8_t *modules, size_t modules_length, uint32_t *mask);
+
+/* Decodes the codes of a picture, a PNG, PBM or PGM file or half blocks: the one in an even margin,
+   or those between finder patterns, from the top down, and from the left where they stand side by
+   side. What each is goes to the beginning of `codes`, its headers and segments to that of `parts`
+   after those of the code before, its bytes so to `bytes`, and how many these are to `scan`, of
+   which only the size is read. After FNC1 a separator (byte 29) stands between elements. For each
+   code GOQ_PARTS_MAX parts and GOQ_BYTES_MAX bytes are enough. GOQ_NO_SUCH_STRUCT,
+   GOQ_LARGE_PICTURE, GOQ_NOT_PICTURE, GOQ_BROKEN_PICTURE, GOQ_NO_SQUARE; of a square that is not
+   read GOQ_NO_SUCH_SIDE, GOQ_NO_FORMAT, GOQ_DAMAGED, GOQ_NOT_SPELLED; GOQ_SMALL_BUFFER;
+   GOQ_OUT_OF_MEMORY. */
+goq_answer goq_read_picture(const void *picture, size_t picture_length, goq_code *codes,
+    size_t codes_length, goq_part *parts, size_t parts_length, void *bytes, size_t bytes_length,
+    goq_scan *scan);
 
 /* Joins the data of several symbols, whose squares may come in any order. It goes to the beginning
    of `out`, and its length to `count`. GOQ_SEVERAL_MAX * GOQ_BYTES_MAX bytes are always enough. For

@@ -138,6 +138,12 @@ static void structs(void)
     }
 }
 
+/* Whether a format has characters for pixels, of which there are at most 4,096 a side. */
+static int is_of_characters(uint32_t format)
+{
+    return format <= GOQ_LIGHT_HALF_BLOCKS || format == GOQ_ASCII;
+}
+
 /* At each of these scales a buffer of as many bytes as goq_draw_length says is enough for the largest symbol, and one of a byte less is not. */
 static void lengths(void)
 {
@@ -145,7 +151,7 @@ static void lengths(void)
     expect(!goq_encode(data, 2953, GOQ_L, modules, sizeof modules, &symbol) && symbol.version == 40, "the largest symbol");
     for (uint32_t format = 0; format < GOQ_FORMATS; format++)
         for (uint32_t scale = 1; scale < 50; scale += scale < 9 ? 1 : 6) {
-            const int is_refused = format <= GOQ_LIGHT_HALF_BLOCKS && 185 * scale > 4096;
+            const int is_refused = is_of_characters(format) && 185 * scale > 4096;
             size_t length = 0, written = 0;
             uint32_t answer = goq_draw_length(modules, 177 * 177, 177, 4, scale, format, &length);
             expect(answer == (is_refused ? GOQ_NO_SUCH_SIZE : GOQ_OK), "the length of a picture");
@@ -172,12 +178,14 @@ static void costs(void)
     setrlimit(RLIMIT_AS, &most);
     expect(!goq_draw_length(modules, 177 * 177, 177, 4, 354, GOQ_GREY, &count) && count == (size_t)65490 * 65490, "grey pixels");
     expect(!goq_draw_length(modules, 177 * 177, 177, 4, 354, GOQ_PBM, &count) && count == 15 + (size_t)65490 * 8187, "a PBM file");
+    expect(!goq_draw_length(modules, 177 * 177, 177, 4, 354, GOQ_PPM, &count) && count == 19 + (size_t)65490 * 65490 * 3, "a PPM file");
+    expect(!goq_draw_length(modules, 177 * 177, 177, 4, 354, GOQ_ESC_POS, &count) && count == 8 + (size_t)65490 * 8187, "a receipt");
+    expect(!goq_draw_length(modules, 177 * 177, 177, 4, 354, GOQ_TSPL, &count) && count == 55 + (size_t)65490 * 8187 + 11, "a label");
+    expect(!goq_draw_length(modules, 177 * 177, 177, 4, 354, GOQ_XBM, &count) && count == 94 + (size_t)65490 * (5 * 8187 + 1) + 3, "an XBM text");
     expect(!goq_draw_length(modules, 177 * 177, 177, 4, 65535, GOQ_GREY, &count) && count == (size_t)12123975 * 12123975, "more pixels");
     for (uint32_t format = 0; format < GOQ_FORMATS; format++) {
         uint32_t answer = goq_draw(modules, 177 * 177, 177, 4, 354, format, out, 99, &count);
-        /* Files for printers, XBM and PPM are drawn to find out that they do not fit. */
-        const goq_answer drawn = format >= GOQ_ZPL ? GOQ_OUT_OF_MEMORY : GOQ_SMALL_BUFFER;
-        expect(answer == (format <= GOQ_LIGHT_HALF_BLOCKS ? GOQ_NO_SUCH_SIZE : drawn), "a short buffer");
+        expect(answer == (is_of_characters(format) ? GOQ_NO_SUCH_SIZE : GOQ_SMALL_BUFFER), "a short buffer");
     }
     expect(!goq_draw_length(&dark, 1, 1, 0, 4096, GOQ_HALF_BLOCKS, &count) && count == 2048 * (4096 * 3 + 1) - 1, "half blocks");
     expect(goq_draw_length(&dark, 1, 1, 0, 4097, GOQ_HALF_BLOCKS, &count) == GOQ_NO_SUCH_SIZE, "more of them");

@@ -8,10 +8,11 @@ extern size_t pool_requests, pool_refused, pool_most;
 size_t pool_live(void);
 
 /* The last number of a call below, how many contents follow, and how many calls with options. */
-enum { LAST = 9 + GOQ_FORMATS, CONTENTS = 5, OPTIONS = 13 };
+enum { LAST = 9 + GOQ_FORMATS, CONTENTS = 5, OPTIONS = 14 };
 
 static uint8_t data[500], text[500], square[GOQ_MODULES_MAX], shown[21 * 21];
-static uint8_t parts[2 * 21 * 21];
+static uint8_t parts[2 * 21 * 21], picture[5000];
+static size_t picture_length;
 static goq_symbol known;
 static struct outputs {
     uint8_t buffer[700000]; /* room for any picture of the symbol's width */
@@ -23,6 +24,9 @@ static struct outputs {
     goq_taken taken;
     goq_rectangle area;
     size_t touched[GOQ_BLOCKS_MAX];
+    goq_code codes[2];
+    goq_part headed[2];
+    goq_scan scan;
 } outputs, before;
 
 /* A content of each way in which its text is written. */
@@ -73,6 +77,11 @@ static uint32_t by_options(int number)
         memcpy(out, shown, sizeof shown);
         memcpy(before.buffer, shown, sizeof shown);
         return goq_cover(out, sizeof shown, &middle, 1, &outputs.place);
+    case 12:
+        memset(before.buffer, 7, sizeof shown);
+        outputs.scan.size = before.scan.size = sizeof outputs.scan;
+        return goq_read_picture(picture, picture_length, outputs.codes, 2, outputs.headed, 2, out,
+            room, &outputs.scan);
     default:
         options.mask = GOQ_MASK(2);
         return goq_encode_with(data, sizeof data, &options, out, room, &outputs.symbol);
@@ -114,6 +123,8 @@ int main(void)
     if (goq_encode_several(text, 20, &two, parts, sizeof parts, &known, &outputs.count) != GOQ_OK)
         return 1;
     if (goq_encode_text(text, 9, GOQ_M, shown, sizeof shown, &known) != GOQ_OK)
+        return 1;
+    if (goq_draw(shown, sizeof shown, 21, 4, 2, GOQ_PNG, picture, sizeof picture, &picture_length))
         return 1;
     if (goq_encode(data, sizeof data, GOQ_M, square, sizeof square, &known) != GOQ_OK)
         return 1;

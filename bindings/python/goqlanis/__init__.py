@@ -31,8 +31,10 @@ Networks, contacts, payments and more are texts of goqlanis.contents:
 >>> goqlanis.encode(goqlanis.contents.wifi("Guests", "secret")).version
 '3'
 
-A symbol, or a square of modules, is read back:
+The codes of a picture, and a symbol or a square of modules, are read back:
 
+>>> [code.text for code in goqlanis.read("code.png")]
+['https://example.org']
 >>> goqlanis.read(symbol).data, goqlanis.read_text(symbol.matrix)
 (b'https://example.org', 'https://example.org')
 
@@ -45,7 +47,8 @@ Traceback (most recent call last):
 goqlanis.NoRoom: 3,000 bytes at level M: at most 2,331 unless they are digits or capitals; no \
 level holds them: encode_sequence parts them between symbols
 
-help(goqlanis.encode), help(goqlanis.Symbol) and help(goqlanis.contents) say all that may be asked.
+help(goqlanis.encode), help(goqlanis.Symbol) and help(goqlanis.contents) say all that may be asked,
+help(goqlanis.Code) and help(goqlanis.Reading) what is read.
 """
 from typing import TYPE_CHECKING
 
@@ -57,6 +60,8 @@ from .encoding import (encode, encode_gs1, encode_segments, encode_sequence, enc
                        is_functional, least_version, least_version_of_segments)
 from .errors import *  # noqa: F403 - its __all__ alone
 from .reading import AnyReading as AnyReading
+from .reading import Code as Code
+from .reading import Part as Part
 from .reading import Reading as Reading
 from .reading import join, read, read_any, read_text
 from .symbol import Symbol
@@ -74,5 +79,6 @@ _HERE = {"make": "encode(data)", "make_qr": "encode(data)", "QRCode": "encode(da
 
 if not TYPE_CHECKING:
     def __getattr__(name):
+        """Refuses a name that is not here, and says what stands for one of another package."""
         helps = f": take goqlanis.{_HERE[name]}" if name in _HERE else ""
         raise AttributeError(f"module 'goqlanis' has no attribute {name!r}{helps}")

@@ -91,7 +91,7 @@ def _fitted(look: Look, name: str, across: int) -> int:
     """The pixels of a module where so many are to fit in a size."""
     if look.scale is not None:
         raise TypeError("scale and size: give one of them")
-    pixels = _pixels(look, 72 if name == "eps" else look.dpi)
+    pixels = _pixels(look, 72 if name in ("eps", "pdf") else look.dpi)
     if pixels < across:
         raise NoSuchSize(f"a side of {pixels} pixels: the symbol and its quiet zone have {across} "
                          "modules a side: take a larger size, or a smaller border")
@@ -104,7 +104,7 @@ def _pixels(look: Look, dots: Any) -> int:
     found = isinstance(size, str) and re.fullmatch(r"([0-9]+([.][0-9]+)?)mm", size)
     if found and dots is None:
         raise ValueError(f"size={shown(size)}: how many pixels are these? Take PNG and dpi=300, or "
-                         "EPS, in points")
+                         "EPS or PDF, in points")
     if found:
         size = int(Fraction(found[1]) * _checks.whole("dpi", dots, 1, MOST_SIDE) * 10 / 254)
     return _checks.whole("size in pixels", size, 1, MOST_SIDE, NoSuchSize)

@@ -51,6 +51,22 @@ class AnyRead(ctypes.Structure):
     _fields_ = [("reading", Read), ("position", _number)]
 
 
+class Part(ctypes.Structure):
+    """goq_part."""
+    _fields_ = [("kind", _number), ("number", _number), ("place", _number), ("symbols", _number),
+                ("length", _size)]
+
+
+class Code(ctypes.Structure):
+    """goq_code."""
+    _fields_ = [("reading", Read), ("position", _number), ("parts", _size)]
+
+
+class Scan(ctypes.Structure):
+    """goq_scan."""
+    _fields_ = [("size", _number), ("codes", _size), ("parts", _size), ("length", _size)]
+
+
 class Square(ctypes.Structure):
     """goq_square."""
     _fields_ = [("modules", _data), ("length", _size)]
@@ -99,6 +115,7 @@ _CALLS: Dict[str, List[Any]] = {
     "goq_read": [*_IN, *_OUT, _to(Read)],
     "goq_read_any": [*_IN, *_OUT, _to(AnyRead)],
     "goq_read_text": [*_IN, *_OUT, _to(Read)],
+    "goq_read_picture": [*_IN, _to(Code), _size, _to(Part), _size, *_OUT, _to(Scan)],
     "goq_mask": [*_IN, _to(_number)],
     "goq_join": [_to(Square), _size, *_OUT, _COUNT, _COUNT],
     "goq_content": [_number, _to(Field), _size, *_OUT, _COUNT, _COUNT],

@@ -18,7 +18,13 @@ HALF = 0xffffffff
 
 
 class Rectangle(NamedTuple):
-    """A rectangle of modules: its left column and its top row, from 0 on, and how many it has."""
+    """A rectangle of modules: its left column and its top row, from 0 on, and how many columns and
+    rows it has.
+
+    >>> from goqlanis import encode
+    >>> encode("01234567", "H").with_area(Rectangle(9, 9, 3, 3)).matrix[10][9:12]
+    (False, False, False)
+    """
     left: int
     top: int
     width: int
@@ -29,7 +35,13 @@ class Reserve(NamedTuple):
     """What an area takes of a symbol, and what it leaves: how many codewords of each block it
     touches; how many of each may be lost; the block that loses most, from 0 on; the modules that it
     has of each copy of the format word, of which 3 may be lost; and how many more codewords of each
-    block may be lost, or None where the area may not show anything."""
+    block may be lost, or None where the area may not show anything.
+
+    >>> from goqlanis import encode
+    >>> found = encode("01234567", "H").reserve((9, 9, 3, 3))
+    >>> found.touched[found.worst] <= found.allowed, found.least is None
+    (True, False)
+    """
     touched: Tuple[int, ...]
     allowed: int
     worst: int

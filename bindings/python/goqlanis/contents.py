@@ -23,7 +23,7 @@ from typing import Any, Iterable, List, NamedTuple, Optional, Tuple
 from . import _checks
 from . import _numbers as goq
 from ._checks import shown
-from ._fields import (ControlCharacter, EmptyField, Number, OutOfRange, Time, TooLong,
+from ._payloads import (ControlCharacter, EmptyField, Number, OutOfRange, Time, TooLong,
                       TooManyDecimals, TooShort, UnknownIdentifier, UnknownWord, Unused,
                       WrongCharacter, WrongCheckDigits, WrongField, WrongLength, elements_of,
                       number, string_of, text_of, time)

@@ -6,7 +6,7 @@ from ._asked import MICRO_1
 from ._library import Segment, library
 from ._numbers import (ALPHANUMERIC, AS_BYTES, AS_MARKED_TEXT, AS_TEXT, BYTES, ECI, FNC1_FIRST,
                        FNC1_SECOND, KANJI, NUMERIC, SEVERAL_MAX)
-from ._fields import elements_of, string_of
+from ._payloads import elements_of, string_of
 from .errors import NoSuchNumber
 from .symbol import Symbol
 

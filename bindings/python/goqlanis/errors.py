@@ -6,7 +6,7 @@ from . import _numbers as goq
 __all__ = ["Error", "NoSuchLevel", "NoSuchVersion", "LevelNotInVersion", "TooLong", "NoMode",
            "NoRoom", "NoSuchMask", "OutOfMemory", "NoSuchSize", "NotInFormat", "NotInMode",
            "NoSuchNumber", "Unread", "NoSuchSide", "NoFormat", "Damaged", "NotSpelled", "NotShown",
-           "NotJoined", "NoSuchArea", "AreaTooLarge"]
+           "NotJoined", "NoSuchArea", "AreaTooLarge", "NotPicture", "BrokenPicture", "NoSquare"]
 
 
 class Error(Exception):
@@ -76,7 +76,7 @@ class NoSuchNumber(Error, ValueError):
 
 
 class Unread(Error, ValueError):
-    """A square of modules is not read."""
+    """A square of modules, or a picture, is not read."""
 
 
 class NoSuchSide(Unread):
@@ -97,6 +97,18 @@ class NotSpelled(Unread):
 
 class NotShown(Unread):
     """The data bits are not a text that readers show."""
+
+
+class NotPicture(Unread):
+    """A file is no picture that is read: no PNG, PBM or PGM file and no half blocks."""
+
+
+class BrokenPicture(Unread):
+    """A picture is cut off, damaged, too large or interlaced."""
+
+
+class NoSquare(Unread):
+    """A picture shows no code."""
 
 
 class NotJoined(Error, ValueError):
@@ -133,11 +145,19 @@ _CAUSES: Dict[int, Tuple[Type[Error], str]] = {
     goq.NOT_SPELLED: (NotSpelled, "the bits are not segments and an end, as behind a header; "
                       "read_text reads a text that says that it is UTF-8"),
     goq.NO_SUCH_MASK: (NoSuchMask, "the masks are 0 to 7, in Micro 0 to 3"),
-    goq.NOT_IN_FORMAT: (NotInFormat, "PNG and SVG have colours, EPS opaque ones, and PNG alone has "
-                        "dpi"),
+    goq.NOT_IN_FORMAT: (NotInFormat, "PNG and SVG have colours, EPS, PDF and PPM opaque ones, and "
+                        "PNG alone has dpi"),
     goq.NOT_SHOWN: (NotShown, "the bits are not a text that readers show; read gives the bytes"),
     goq.NOT_READ: (Unread, "the square is read in none of the sixteen positions, or has a header: "
                    "read says more, once it is upright"),
+    goq.NOT_PICTURE: (NotPicture, "it is neither a PNG, PBM or PGM file nor half blocks; convert "
+                      "it to PNG"),
+    goq.BROKEN_PICTURE: (BrokenPicture, "the picture is cut off, damaged, interlaced or more than "
+                         "65,535 pixels wide; save it anew"),
+    goq.NO_SQUARE: (NoSquare, "the picture shows no code, neither in an even margin nor by its "
+                    "finder patterns"),
+    goq.LARGE_PICTURE: (BrokenPicture, "the picture is more than 67,108,864 bytes: cut it into "
+                        "smaller ones"),
     goq.NO_SUCH_AREA: (NoSuchArea, "an area is a rectangle inside the symbol, or several: left, "
                        "top, width and height in modules"),
     goq.NO_AREA: (AreaTooLarge, "no area in the middle leaves so much: take a higher level, or less "

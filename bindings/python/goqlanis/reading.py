@@ -1,21 +1,29 @@
-"""Squares of modules, read back."""
+"""Squares of modules and pictures, read back."""
 import ctypes
+import io
 import os
-from typing import Any, Iterable, NamedTuple, Sequence, Union
+from typing import (Any, IO, Iterable, Iterator, List, NamedTuple, Optional, Sequence, Tuple, Union,
+                    overload)
 
 from . import _checks, errors
 from . import _numbers as goq
 from ._checks import LEVELS, version_name
-from ._library import AnyRead, Read, Square, library
-from ._numbers import BYTES_MAX, SEVERAL_MAX
+from ._library import AnyRead, Read, Scan, Square, library
+from ._library import Code as KnownCode
+from ._library import Part as KnownPart
+from ._numbers import BYTES_MAX, PARTS_MAX, SEVERAL_MAX
+from .encoding import KINDS
 from .errors import NoSuchSide, NotJoined, refuse
 from .symbol import Symbol
 
 HEADED = ("a header is in front, of several symbols, GS1 or another character set than UTF-8: join "
-          "reads several; save a.pbm, and the program's `goqlanis read a.pbm` reads the others")
+          "reads several; read(symbol.png()) reads the others")
 # Answers of calls for which another call reads the square, unless there is such a header.
 OTHERS = {goq.NOT_SPELLED: library.goq_read_text, goq.NOT_SHOWN: library.goq_read}
 Modules = Union[Symbol, Sequence[Sequence[bool]]]
+Picture = Union[str, bytes, bytearray, memoryview, "os.PathLike[str]", IO[bytes]]
+# The kinds of parts by their numbers.
+PARTS = {**{number: name for name, number in KINDS.items()}, goq.ONE_OF_SEVERAL: "one_of_several"}
 # The positions in the order of their numbers.
 POSITIONS = ("upright", "turned left", "upside down", "turned right", "mirrored", "flipped",
              "transposed", "antitransposed")
@@ -27,7 +35,12 @@ JOINS = {goq.NOT_SEVERAL: "square {place} has no header of one of several symbol
 
 class Reading(NamedTuple):
     """What is read of a square: its bytes, version and level, the number of its mask, and how many
-    codewords were wrong."""
+    codewords were wrong.
+
+    >>> from goqlanis import encode
+    >>> read(encode("01234567"))
+    Reading(data=b'01234567', version='1', level='M', mask=2, wrong=0)
+    """
     data: bytes
     version: str
     level: str
@@ -39,7 +52,12 @@ class AnyReading(NamedTuple):
     """The same of a square in any position: "upright", "turned left" (by a quarter, against the
     clock), "upside down", "turned right", "mirrored" (left and right exchanged), "flipped" (top and
     bottom exchanged), "transposed" (columns and rows exchanged) or "antitransposed" (the same from
-    the other corner), and whether dark and light are exchanged."""
+    the other corner), and whether dark and light are exchanged.
+
+    >>> from goqlanis import encode
+    >>> read_any([[not dark for dark in row] for row in encode("01234567").matrix])[5:]
+    ('upright', True)
+    """
     data: bytes
     version: str
     level: str
@@ -49,11 +67,80 @@ class AnyReading(NamedTuple):
     is_inverted: bool
 
 
-def read(square: Modules) -> Reading:
-    """What a square of modules says: of a symbol, or of rows of modules, True or 1 where one is
-    dark, without a quiet zone.
+class Part(NamedTuple):
+    """A header or a segment of a code: its kind as `encode_segments` has it, or "one_of_several";
+    the number of "eci" (a character set), of "fnc1_second" (an application: two digits as their
+    number, a letter as its code and 100) or of "one_of_several" (the parity of all data); of
+    "one_of_several" its place, from 0 on, and how many symbols they are; and of a segment how many
+    bytes it has. What a part lacks is None.
 
-    >>> from goqlanis import encode
+    >>> from goqlanis import encode_segments
+    >>> symbol = encode_segments([("fnc1_second", 37), ("numeric", b"0123")])
+    >>> [(part.kind, part.number, part.length) for part in read(symbol.png())[0].parts]
+    [('fnc1_second', 37, None), ('numeric', None, 4)]
+    """
+    kind: str
+    number: Optional[int] = None
+    place: Optional[int] = None
+    symbols: Optional[int] = None
+    length: Optional[int] = None
+
+
+class Code(NamedTuple):
+    """A code that a picture shows: as an AnyReading, and its headers and segments in order. After
+    FNC1 its data has a separator (byte 29) between elements.
+
+    >>> from goqlanis import encode_gs1
+    >>> symbol = encode_gs1([("10", "ABCD1234"), ("17", "191125")])
+    >>> code = read(symbol.png())[0]
+    >>> code.data, code.level, code.position, code.parts[0].kind
+    (b'10ABCD1234\\x1d17191125', 'M', 'upright', 'fnc1_first')
+    """
+    data: bytes
+    version: str
+    level: str
+    mask: int
+    wrong: int
+    position: str
+    is_inverted: bool
+    parts: Tuple[Part, ...]
+
+    @property
+    def text(self) -> Optional[str]:
+        """The data where it is UTF-8, or None.
+
+        >>> from goqlanis import encode
+        >>> read(encode("Größe: 5 m²").png())[0].text
+        'Größe: 5 m²'
+        """
+        try:
+            return self.data.decode()
+        except UnicodeDecodeError:
+            return None
+
+
+@overload
+def read(picture: Modules) -> Reading: ...
+@overload
+def read(picture: Picture) -> List[Code]: ...
+def read(picture: Union[Picture, Modules, Any]) -> Union[List[Code], Reading]:
+    """The codes that a picture shows, from the top down, and from the left where they stand side by
+    side. The picture is a path, the bytes of a file, an open file or an image of Pillow: PNG, PBM,
+    PGM or half blocks.
+
+    >>> from goqlanis import encode, encode_sequence
+    >>> encode("https://example.org").save("a.png", scale=4)
+    >>> [(code.text, code.version, code.level) for code in read("a.png")]
+    [('https://example.org', '2', 'M')]
+    >>> read(encode("é", marked=True).png())[0].parts
+    (Part(kind='eci', number=26, place=None, symbols=None, length=None), \
+Part(kind='byte', number=None, place=None, symbols=None, length=2))
+    >>> read(encode_sequence(b"01234567", count=2)[1].png())[0].parts[0]
+    Part(kind='one_of_several', number=0, place=1, symbols=2, length=None)
+
+    Or what a square of modules says, as a Reading: of a symbol, or of rows of modules, True or 1
+    where one is dark, without a quiet zone.
+
     >>> rows = [list(row) for row in encode(b"01234567", "H").matrix]
     >>> rows[20][20] = not rows[20][20]
     >>> found = read(rows)
@@ -64,9 +151,54 @@ def read(square: Modules) -> Reading:
         ...
     goqlanis.NoFormat: no format word is near each of its copies; read_any tries all positions
     """
-    modules, out, found = _modules_of(square), _bytes(), Read()
+    file = _file_of(picture)
+    if file is not None:
+        return list(_codes(file))
+    modules, out, found = _modules_of(picture), _bytes(), Read()
     _refuse(library.goq_read(modules, len(modules), out, len(out), ctypes.byref(found)), modules)
     return _reading(out, found)
+
+
+def _codes(picture: bytes) -> Iterator[Code]:
+    """The codes of a picture: room is made for more of them until there is enough."""
+    count, answer = 4, goq.SMALL_BUFFER
+    while answer == goq.SMALL_BUFFER:
+        codes, parts = (KnownCode * count)(), (KnownPart * (count * PARTS_MAX))()
+        out, scan = _bytes(count), Scan(ctypes.sizeof(Scan))
+        answer = library.goq_read_picture(picture, len(picture), codes, len(codes), parts,
+                                          len(parts), out, len(out), ctypes.byref(scan))
+        count *= 8
+    refuse(answer)
+    said, data = iter(parts[:scan.parts]), io.BytesIO(out[:scan.length])
+    for code in codes[:scan.codes]:
+        own = tuple(_part(next(said)) for _ in range(code.parts))
+        found = _reading(data.read(code.reading.length), code.reading)
+        yield Code(*found, *_position(code.position), own)
+
+
+def _part(part: KnownPart) -> Part:
+    if part.kind == goq.ONE_OF_SEVERAL:
+        return Part(PARTS[part.kind], part.number, part.place, part.symbols)
+    if part.kind in (goq.ECI, goq.FNC1_SECOND):
+        return Part(PARTS[part.kind], part.number)
+    return Part(PARTS[part.kind], length=None if part.kind == goq.FNC1_FIRST else part.length)
+
+
+def _file_of(given: Any) -> Optional[bytes]:
+    """The bytes of a picture, where it is one."""
+    if isinstance(given, _checks.BINARY):
+        return bytes(given)
+    if isinstance(given, (str, os.PathLike)):
+        with open(given, "rb") as file:
+            return file.read()
+    if hasattr(given, "read"):
+        return _checks.binary("what the file gives", given.read())
+    if hasattr(given, "save") and hasattr(given, "mode"):
+        out = io.BytesIO()
+        plain = given if given.mode in ("1", "L", "RGB", "RGBA") else given.convert("RGBA")
+        plain.save(out, "PNG")
+        return out.getvalue()
+    return None
 
 
 def read_any(square: Modules) -> AnyReading:
@@ -79,8 +211,7 @@ def read_any(square: Modules) -> AnyReading:
     """
     modules, out, found = _modules_of(square), _bytes(), AnyRead()
     refuse(library.goq_read_any(modules, len(modules), out, len(out), ctypes.byref(found)))
-    is_inverted, position = divmod(found.position, len(POSITIONS))
-    return AnyReading(*_reading(out, found.reading), POSITIONS[position], bool(is_inverted))
+    return AnyReading(*_reading(out, found.reading), *_position(found.position))
 
 
 def read_text(square: Modules) -> str:
@@ -136,13 +267,18 @@ def _reading(out: Any, found: Read) -> Reading:
                    found.mask, found.wrong)
 
 
+def _position(number: int) -> Tuple[str, bool]:
+    is_inverted, position = divmod(number, len(POSITIONS))
+    return POSITIONS[position], bool(is_inverted)
+
+
 def _modules_of(square: Modules) -> bytes:
     """The modules of a square, a byte each."""
     if isinstance(square, Symbol):
         return square.modules
     if isinstance(square, (str, bytes, os.PathLike)):
         raise TypeError("square is a Symbol, or rows of modules, each True or False, not "
-                        f"{_checks.shown(square)}: the program's `goqlanis read` reads pictures")
+                        f"{_checks.shown(square)}: read reads pictures")
     given = _checks.listed("square", square, "rows of modules, or a Symbol")
     rows = [_row(f"row {at + 1} of the square", it) for at, it in enumerate(given)]
     if any(len(row) != len(rows) for row in rows):

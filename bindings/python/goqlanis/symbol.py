@@ -30,13 +30,15 @@ class Symbol:
     What draws it takes the same arguments everywhere:
 
     - `scale`: the pixels of a module, 8 unless you say otherwise, and 1 in texts and PIC;
-    - `size`, in place of it: pixels that a side may have, or millimetres, as "30mm", of EPS, and of
-      PNG with `dpi`. Modules are as large as there is room for: the picture is at most so wide;
+    - `size`, in place of it: pixels that a side may have, or millimetres, as "30mm", of EPS, of PDF
+      and, with `dpi`, of PNG. Modules are as large as there is room for: the picture is at most so
+      wide;
     - `border`, or `quiet_zone`: its light modules at each side, 4 unless you say otherwise, and 2
       for Micro QR;
     - `dark`, `light`: a colour of CSS by its name, "#rgb", "#rrggbb", "#rrggbbaa", a tuple of red,
-      green, blue and perhaps opacity (0 to 255), or None for a transparent one. EPS has no
-      transparent ones. Of colours that many readers do not tell apart a UserWarning says so.
+      green, blue and perhaps opacity (0 to 255), or None for a transparent one. EPS, PDF
+      and PPM have opaque ones alone, PBM and the like none. Of colours that many readers do not
+      tell apart a UserWarning says so.
 
     >>> from goqlanis import encode
     >>> symbol = encode("01234567")
@@ -58,12 +60,22 @@ class Symbol:
 
     @property
     def width(self) -> int:
-        """The modules along a side."""
+        """The modules along a side, without a quiet zone.
+
+        >>> from goqlanis import encode
+        >>> encode("01234567").width, encode("01234567", version=40).width
+        (21, 177)
+        """
         return math.isqrt(len(self.modules))
 
     @property
     def mask(self) -> int:
-        """The number of the mask: 0 to 7, and of Micro QR 0 to 3."""
+        """The number of the mask: 0 to 7, and of Micro QR 0 to 3.
+
+        >>> from goqlanis import encode
+        >>> encode("01234567", mask=5).mask
+        5
+        """
         found = ctypes.c_uint32()
         refuse(library.goq_mask(self.modules, len(self.modules), ctypes.byref(found)))
         return found.value
@@ -81,7 +93,12 @@ class Symbol:
 
     @property
     def quiet_zone(self) -> int:
-        """The modules of the quiet zone at each side that the standard asks for."""
+        """The modules of the quiet zone at each side that the standard asks for.
+
+        >>> from goqlanis import encode
+        >>> encode("01234567").quiet_zone, encode("01234567", micro=True).quiet_zone
+        (4, 2)
+        """
         return 2 if self.version.startswith("M") else 4
 
     @named
@@ -89,9 +106,9 @@ class Symbol:
              scale: Optional[int] = None, border: Optional[int] = None,
              quiet_zone: Optional[int] = None, dark: Colour = "black", light: Colour = "white",
              dpi: Optional[int] = None, size: Size = None) -> None:
-        """Writes a file, whole or not at all: its ending is png, svg, eps, pbm, pgm, pic or txt, or
-        else `kind` names one of these. `out` may also be a file that is open. A PNG file may name
-        its dots per inch by `dpi`.
+        """Writes a file, whole or not at all: its ending is png, svg, eps, pdf, pbm, pgm, ppm, xbm,
+        pic or txt, and for printers zpl, tspl or escpos, or else `kind` names one of these. `out`
+        may also be a file that is open. A PNG file may name its dots per inch by `dpi`.
 
         >>> from goqlanis import encode
         >>> encode("01234567").save("ticket.png", scale=8, border=4, dark="#008", light=None)
@@ -158,18 +175,38 @@ zpl, tspl, escpos, xbm, ppm: save 'ticket.png', and convert that
     @named
     def grey(self, scale: Optional[int] = None, quiet_zone: Optional[int] = None, *,
              border: Optional[int] = None, size: Size = None) -> bytes:
-        """Rows of pixels, a byte each: 0 for a dark one and 255 for a light one."""
+        """Rows of pixels, a byte each: 0 for a dark one and 255 for a light one.
+
+        >>> from goqlanis import encode
+        >>> encode("01234567").grey(scale=1, border=0)[:8]
+        b'\\x00\\x00\\x00\\x00\\x00\\x00\\x00\\xff'
+        """
         return self._drawn("grey", Look(scale, border, quiet_zone, size=size))
 
     @named
     def pic(self, scale: Optional[int] = None, quiet_zone: Optional[int] = None, *,
             border: Optional[int] = None, size: Size = None) -> str:
-        """A PIC text."""
+        """A PIC text, for troff.
+
+        >>> from goqlanis import encode
+        >>> encode("01234567").pic().splitlines()[0]
+        'maxpswid=29;maxpsht=29;movewid=0;moveht=1;boxwid=1;boxht=1'
+        """
         return self._drawn("pic", Look(scale, border, quiet_zone, size=size)).decode()
 
     def text(self, light: bool = False, quiet_zone: Optional[int] = None, *,
              border: Optional[int] = None) -> str:
-        """Half blocks, two modules a character; `light` for light text on a dark ground."""
+        """Half blocks, two modules a character; `light` for light text on a dark ground.
+
+        >>> from goqlanis import encode
+        >>> print(encode("1", "L", micro=True).text(border=0))
+        █▀▀▀▀▀█ █ ▀
+        █ ███ █ ▄▀▀
+        █ ▀▀▀ █  ▀▀
+        ▀▀▀▀▀▀▀ ▄▀█
+        ▀█ ▄▄█▄▄▄▀█
+        ▀▀▀▀▀▀▀▀ ▀▀
+        """
         if not isinstance(light, bool):
             raise TypeError(f"light is True or False, not {shown(light)}: half blocks have no "
                             "colours")
@@ -178,7 +215,17 @@ zpl, tspl, escpos, xbm, ppm: save 'ticket.png', and convert that
 
     def terminal(self, out: Optional[IO[str]] = None, *, border: Optional[int] = None) -> None:
         """Prints the symbol, or writes it to `out`: black on white whatever the colours of the
-        terminal are; and half blocks alone where that is no terminal, or NO_COLOR is set."""
+        terminal are; and half blocks alone where that is no terminal, or NO_COLOR is set.
+
+        >>> from goqlanis import encode
+        >>> encode("1", "L", micro=True).terminal(border=0)
+        █▀▀▀▀▀█ █ ▀
+        █ ███ █ ▄▀▀
+        █ ▀▀▀ █  ▀▀
+        ▀▀▀▀▀▀▀ ▄▀█
+        ▀█ ▄▄█▄▄▄▀█
+        ▀▀▀▀▀▀▀▀ ▀▀
+        """
         out = sys.stdout if out is None else out
         lines = self.text(border=border).split("\n")
         if out.isatty() and not os.environ.get("NO_COLOR"):
@@ -186,7 +233,8 @@ zpl, tspl, escpos, xbm, ppm: save 'ticket.png', and convert that
         out.write("\n".join(lines) + "\n")
 
     def to_pil(self, **drawing: Any) -> Any:
-        """What `png` gives as an image of Pillow, which has to be installed."""
+        """What `png` gives as an image of Pillow, which has to be installed:
+        `symbol.to_pil(scale=4).rotate(45)`."""
         try:
             from PIL import Image
         except ImportError:

@@ -1,19 +1,22 @@
 -- Lengths of pictures by their sides.
-use Rattle.std.proofs.Common.{◌≡◌, ℕ, zero, suc, ◌+◌, ◌-◌, ◌*◌, ◌/◌, ◌<◌, ◌≤◌, List, [], ◌∷◌, Bool, true, false, ◌++◌, if◌then◌else◌, length, length-append, take, drop, map, flat_map, decimal, refl, sym, ap, ap₂, ◌∙◌, arith}
+use Rattle.std.proofs.Common.{◌≡◌, ℕ, zero, suc, ◌+◌, ◌-◌, ◌*◌, ◌/◌, ◌<◌, ◌≤◌, List, [], ◌∷◌, Bool, true, false, ◌++◌, length, length-append, drop, flat_map, decimal, refl, sym, ap, ap₂, ◌∙◌, arith}
 use Rattle.std.specs.Prelude.{codes}
-use Rattle.std.specs.List.{range_with_len, slice_range}
+use Rattle.std.specs.List.{range_with_len}
 use Rattle.std.proofs.lemmas.List.{length-map, length-take-le, length-drop}
 use Rattle.std.proofs.lemmas.List.FromFn.{length-map-range_with_len}
 use Rattle.std.proofs.lemmas.Nat.{row_fits_turned}
 use Rattle.qrcode_types.specs.declared.types.Color.{Color}
-use Rattle.goqlanis_core.specs.declared.formats.Format.TheVariants.{Grey, Pbm, Pgm}
-use Rattle.goqlanis_buffers.specs.Asking.{pbm_length, pgm_length, side_of, HasLength, IsDrawable}
+use Rattle.goqlanis_core.specs.declared.formats.Format.TheVariants.{EscPos, Grey, Pbm, Pgm, Ppm, Tspl, Xbm}
+use Rattle.goqlanis_core.specs.Formats.{rgb}
+use Rattle.goqlanis_buffers.specs.Asking.{escpos_length, pbm_length, pgm_length, ppm_length, side_of, tspl_length, xbm_length, HasLength, IsDrawable}
+use Rattle.goqlanis_buffers.specs.Colours.{colour_shade}
 use Rattle.std.proofs.Math.Nat.{zero-mul}
 use Rattle.goqlanis_buffers.specs.declared.pictures.Asked.{Asked}
-use Rattle.qrcode_render.specs.Bitmap.{Bitmap, row_of}
-use Rattle.qrcode_render.specs.Files.{inked, packed, pbm_file, pgm_file}
+use Rattle.qrcode_render.specs.Bitmap.{row_of}
+use Rattle.qrcode_render.specs.Files.{inked, packed, pbm_file, pgm_file, ppm_file}
 use Rattle.qrcode_render.specs.Layout.{Layout, layout, pixels_across, pixels_down}
 use Rattle.qrcode_render.specs.Picture.{picture}
+use Rattle.qrcode_render.specs.Printers.{bytes_across, escpos_file, escpos_head, hex_pair, packed_file, tspl_file, tspl_head, tspl_row, tspl_tail, turned, xbm_file, xbm_head, xbm_row, xbm_tail}
 use Rattle.qrcode_render.specs.Shades.{colors_of}
 use Rattle.qrcode_render.specs.Texts.{marks_text, raw_bytes}
 
@@ -30,14 +33,21 @@ length_of_pieces f size (suc n) a each =
 length_of_marks : (at : Layout) (s : List Color) → length (picture at s).marks ≡ pixels_across at * pixels_down at
 length_of_marks at s = length-map-range_with_len _ 0 (pixels_across at * pixels_down at)
 
--- a byte for each pixel
-length_of_bytes : (dark light : ℕ) (marks : List Bool) → length (flat_map (λ m. if m then dark ∷ [] else light ∷ []) marks) ≡ length marks
-length_of_bytes dark light [] = refl
-length_of_bytes dark light (true ∷ marks) = ap suc (length_of_bytes dark light marks)
-length_of_bytes dark light (false ∷ marks) = ap suc (length_of_bytes dark light marks)
+-- texts of one length for each pixel
+length_of_texts : (dark light : List ℕ) (size : ℕ) (marks : List Bool) → length dark ≡ size → length light ≡ size → length (marks_text dark light marks) ≡ length marks * size
+length_of_texts dark light size [] one other = sym (zero-mul size)
+length_of_texts dark light size (true ∷ marks) one other =
+    let more : size + length marks * size ≡ suc (length marks) * size = omega arith in
+    length-append dark (marks_text dark light marks) ∙ ap₂ (λ x y. x + y) one (length_of_texts dark light size marks one other) ∙ more
+length_of_texts dark light size (false ∷ marks) one other =
+    let more : size + length marks * size ≡ suc (length marks) * size = omega arith in
+    length-append light (marks_text dark light marks) ∙ ap₂ (λ x y. x + y) other (length_of_texts dark light size marks one other) ∙ more
 
 pub length_of_grey : (dark light : ℕ) (at : Layout) (s : List Color) → length (raw_bytes (dark ∷ []) (light ∷ []) (picture at s)) ≡ pixels_across at * pixels_down at
-length_of_grey dark light at s = length_of_bytes dark light (picture at s).marks ∙ length_of_marks at s
+length_of_grey dark light at s =
+    let marks = (picture at s).marks in
+    let one : length marks * 1 ≡ length marks = omega arith in
+    length_of_texts (dark ∷ []) (light ∷ []) 1 marks refl refl ∙ one ∙ length_of_marks at s
 
 -- a row of a picture has as many marks as there are pixels across
 length_of_row : (at : Layout) (s : List Color) (y : ℕ) → y < pixels_down at → length (row_of (picture at s) y) ≡ pixels_across at
@@ -70,6 +80,39 @@ length_of_pgm dark light at s =
     let b = picture at s in
     let head = codes "P5\n" ++ (decimal b.across ++ (codes " " ++ (decimal b.down ++ codes "\n255\n"))) in
     length-append head _ ∙ ap (λ n. length head + n) (length_of_grey dark light at s)
+
+length_of_ppm : (dark light : List ℕ) (at : Layout) (s : List Color) → length dark ≡ 3 → length light ≡ 3
+    → length (ppm_file dark light (picture at s)) ≡ length (codes "P6\n" ++ (decimal (pixels_across at) ++ (codes " " ++ (decimal (pixels_down at) ++ codes "\n255\n")))) + pixels_across at * pixels_down at * 3
+unfolding ppm_file
+length_of_ppm dark light at s one other =
+    let b = picture at s in
+    let head = codes "P6\n" ++ (decimal b.across ++ (codes " " ++ (decimal b.down ++ codes "\n255\n"))) in
+    length-append head _ ∙ ap (λ n. length head + n) (length_of_texts dark light 3 b.marks one other ∙ ap (λ n. n * 3) (length_of_marks at s))
+
+-- rows of black and white pixels between a head and a tail, each of which becomes as many bytes
+length_of_file : (before : ℕ → ℕ → List ℕ) (row : List ℕ → List ℕ) (behind : List ℕ) (marked other : Bool) (at : Layout) (s : List Color) (size : ℕ)
+    → ((bytes : List ℕ) → length bytes ≡ bytes_across (pixels_across at) → length (row bytes) ≡ size)
+    → length (packed_file before row behind marked other (picture at s)) ≡ length (before (pixels_across at) (pixels_down at)) + pixels_down at * size + length behind
+unfolding packed_file
+length_of_file before row behind marked other at s size each =
+    let b = picture at s in
+    let head = before b.across b.down in
+    let text = λ (y : ℕ). row (packed (inked marked other (row_of b y))) in
+    let rows : length (flat_map text (range_with_len 0 b.down)) ≡ b.down * size = length_of_pieces text size b.down 0 (λ y low high.
+    each (packed (inked marked other (row_of b y)))
+    (length_of_packed (inked marked other (row_of b y)) ∙ ap (λ n. (n + 7) / 8) (length-map (row_of b y) _ ∙ length_of_row at s y (omega (arith, high))))) in
+    length-append (head ++ flat_map text (range_with_len 0 b.down)) behind
+    ∙ ap (λ n. n + length behind) (length-append head _ ∙ ap (λ n. length head + n) rows)
+
+-- a byte in XBM
+length_of_numbers : (bytes : List ℕ) → length (flat_map (λ b. codes "0x" ++ hex_pair (turned b) ++ codes ",") bytes) ≡ 5 * length bytes
+length_of_numbers [] = refl
+length_of_numbers (b ∷ bytes) =
+    let more : 5 + 5 * length bytes ≡ 5 * suc (length bytes) = omega arith in
+    length-append (codes "0x" ++ hex_pair (turned b) ++ codes ",") _ ∙ ap (λ n. 5 + n) (length_of_numbers bytes) ∙ more
+
+length_of_xbm_row : (bytes : List ℕ) → length (xbm_row bytes) ≡ 5 * length bytes + 1
+length_of_xbm_row bytes = length-append (flat_map (λ b. codes "0x" ++ hex_pair (turned b) ++ codes ",") bytes) _ ∙ ap (λ n. n + 1) (length_of_numbers bytes)
 
 -- pictures of grey pixels that are asked for
 pub grey_picture : (a : Asked) → IsDrawable a Grey → HasLength a (side_of a * side_of a)
@@ -104,5 +147,54 @@ pgm_picture a h =
       (
         record { named = Pgm; asked = h.asked; sized = h.sized; drawn = (h.sayable, refl) },
         sym (length_of_pgm 0 255 at s),
+      ),
+    )
+
+-- and of coloured ones
+pub ppm_picture : (a : Asked) → IsDrawable a Ppm → HasLength a (ppm_length (side_of a))
+ppm_picture a h =
+    let at = layout a.width a.drawing.now.zone a.drawing.now.scale a.drawing.now.scale in
+    let s = colors_of a.modules.now in
+    let dark = rgb (colour_shade a.drawing.now.dark) in
+    let light = rgb (colour_shade a.drawing.now.light) in (
+      ppm_file dark light (picture at s),
+      (
+        record { named = Ppm; asked = h.asked; sized = h.sized; drawn = (h.sayable, refl) },
+        sym (length_of_ppm dark light at s refl refl),
+      ),
+    )
+
+-- and what printers take, and XBM
+pub escpos_picture : (a : Asked) → IsDrawable a EscPos → HasLength a (escpos_length (side_of a))
+escpos_picture a h =
+    let at = layout a.width a.drawing.now.zone a.drawing.now.scale a.drawing.now.scale in
+    let s = colors_of a.modules.now in (
+      escpos_file true false (picture at s),
+      (
+        record { named = EscPos; asked = h.asked; sized = h.sized; drawn = (h.sayable, refl) },
+        sym (length_of_file escpos_head (λ bytes. bytes) [] true false at s (bytes_across (pixels_across at)) (λ bytes long. long)),
+      ),
+    )
+
+pub tspl_picture : (a : Asked) → IsDrawable a Tspl → HasLength a (tspl_length (side_of a))
+tspl_picture a h =
+    let at = layout a.width a.drawing.now.zone a.drawing.now.scale a.drawing.now.scale in
+    let s = colors_of a.modules.now in (
+      tspl_file true false (picture at s),
+      (
+        record { named = Tspl; asked = h.asked; sized = h.sized; drawn = (h.sayable, refl) },
+        sym (length_of_file tspl_head tspl_row tspl_tail true false at s (bytes_across (pixels_across at)) (λ bytes long. length-map bytes _ ∙ long)),
+      ),
+    )
+
+pub xbm_picture : (a : Asked) → IsDrawable a Xbm → HasLength a (xbm_length (side_of a))
+xbm_picture a h =
+    let at = layout a.width a.drawing.now.zone a.drawing.now.scale a.drawing.now.scale in
+    let s = colors_of a.modules.now in (
+      xbm_file true false (picture at s),
+      (
+        record { named = Xbm; asked = h.asked; sized = h.sized; drawn = (h.sayable, refl) },
+        sym (length_of_file xbm_head xbm_row xbm_tail true false at s (5 * bytes_across (pixels_across at) + 1)
+            (λ bytes long. length_of_xbm_row bytes ∙ ap (λ n. 5 * n + 1) long)),
       ),
     )

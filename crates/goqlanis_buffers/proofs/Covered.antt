@@ -1,24 +1,23 @@
 -- Areas that are made light.
-use Rattle.std.proofs.Common.{◌≡◌, ℕ, ◌+◌, ◌*◌, ◌/◌, ◌%◌, ◌<◌, ◌≤◌, not, nat_eq, Bool, List, length, map, get_or, refl, sym, ap, ap₂, ◌∙◌, arith, subst, IsTrue, if◌then◌else◌, Option, Some, None, is_some, true, false, true≢false}
+use Rattle.std.proofs.Common.{◌≡◌, ℕ, ◌+◌, ◌*◌, ◌<◌, ◌≤◌, not, nat_eq, Bool, List, length, get_or, refl, sym, ap, ap₂, ◌∙◌, arith, subst, IsTrue, if◌then◌else◌, Option, Some, None, is_some, true, false, true≢false}
 use Rattle.std.proofs.lemmas.Nat.{div-mul-add, mod-mul-add, mul-add-lt}
 use Rattle.std.proofs.lemmas.List.{get_or-map, length-map}
 use Rattle.qrcode_types.specs.Colors.{color_of}
-use Rattle.qrcode_types.specs.Versions.{block_lengths, ec_length, side}
+use Rattle.qrcode_types.specs.Versions.{side}
 use Rattle.qrcode_types.specs.declared.types.Color.TheVariants.{Light}
 use Rattle.qrcode_types.specs.declared.types.EcLevel.{EcLevel}
 use Rattle.qrcode_types.specs.declared.types.Version.{Version}
 use Rattle.qrcode_layout.specs.declared.masks.MaskPattern.{MaskPattern}
 use Rattle.qrcode_reader.specs.Formats.{HasFormat}
 use Rattle.qrcode_render.specs.Shades.{colors_of}
-use Rattle.qrcode_area.specs.Areas.{AgreesOutside, KeepsFormat, LeavesReserve, MayShowAnything, covers, is_inside, touched}
-use Rattle.qrcode_area.specs.Refusals.{IsLostBlock}
+use Rattle.qrcode_area.specs.Areas.{AgreesOutside, LeavesReserve, MayShowAnything, covers, is_inside, touched}
 use Rattle.qrcode_area.specs.Reserves.{IsItsExcess, IsLeast, IsReserve}
 use Rattle.qrcode_area.specs.declared.areas.Rectangle.{Rectangle}
 use Rattle.qrcode_area.specs.declared.excess.Excess.{Excess}
 use Rattle.qrcode_area.specs.declared.reserve.Reserve.{Reserve}
 use Rattle.qrcode_area.proofs.Bounds.{agrees_along, excess_is_not, length_counts}
 use Rattle.qrcode_area.proofs.Shown.{area_is_read}
-use Rattle.goqlanis_buffers.specs.Areas.{covered_byte, told, IsAreaIn, IsCovered, IsOfLevel, IsTaken, IsUncovered, IsUncoveredCause}
+use Rattle.goqlanis_buffers.specs.Areas.{covered_byte, told, IsCovered, IsTaken, IsUncovered, IsUncoveredCause}
 use Rattle.goqlanis_buffers.specs.declared.answers.Refusal.TheVariants.{AreaFormat}
 use Rattle.goqlanis_buffers.specs.declared.areas.Taken.{Taken}
 use Rattle.goqlanis_buffers.specs.declared.areas.Uncovered.TheVariants.{Block}

@@ -11,4 +11,5 @@ pub mod OnePicture
 pub mod Parts
 pub mod Refused
 pub mod Squares
+pub mod Told
 pub mod Masked

@@ -1,5 +1,5 @@
 -- What the calls for C answer: 0, or the number of a refusal; and the cause of each refusal.
-use Rattle.std.specs.Prelude.{◌≡◌, ◌≢◌, ◌⊎◌, ◌+◌, ◌*◌, ◌^◌, ◌<◌, ◌≤◌, ◌-◌, ◌==◌, nat_le, ⊤, ℕ, pos, Bool, List, [], ◌∷◌, length, chars, false, IsTrue, IsUtf8, Option, Some, None, slice_get, if◌then◌else◌}
+use Rattle.std.specs.Prelude.{◌≡◌, ◌≢◌, ◌⊎◌, ◌+◌, ◌*◌, ◌^◌, ◌<◌, ◌≤◌, ◌-◌, ◌==◌, nat_le, ⊤, ℕ, pos, List, [], ◌∷◌, length, chars, false, IsTrue, IsUtf8, Option, Some, None, slice_get, if◌then◌else◌}
 use Rattle.qrcode_types.specs.Versions.{has_level}
 use Rattle.qrcode_types.specs.declared.types.EcLevel.{EcLevel}
 use Rattle.qrcode_types.specs.declared.types.QrError.{QrError}
@@ -24,7 +24,7 @@ use Rattle.goqlanis_buffers.specs.Segments.{HasNoRoom, HaveNoRoom, IsFirstRefuse
 use Rattle.goqlanis_buffers.specs.Symbols.{ExceedsRoom, IsAutomaticSymbol, IsSymbolIn, IsSegmentsSymbol, IsTextSymbol}
 use Rattle.goqlanis_buffers.specs.declared.segments.Segment as by_hand
 use Rattle.goqlanis_buffers.specs.declared.answers.Refusal.{Refusal}
-use Rattle.goqlanis_buffers.specs.declared.answers.Refusal.TheVariants.{NoSuchLevel, NoSuchVersion, LevelNotInVersion, TooLong, NoMode, NoRoom, SmallBuffer, OutOfMemory, NoSuchFormat, NotSquare, NoSuchSize, NotText, NoSuchKind, NotInMode, NoSuchNumber, NoSuchSide, NoFormat, Damaged, NotSpelled, NoSuchStruct, NoSuchManner, NoSuchMask, NotInFormat, NotShown, NotSeveral, Stranger, Missing, Twice, Parity, NotRead, NoSuchArea, NoArea, AreaBlock, AreaFormat}
+use Rattle.goqlanis_buffers.specs.declared.answers.Refusal.TheVariants.{NoSuchLevel, NoSuchVersion, LevelNotInVersion, TooLong, NoMode, NoRoom, SmallBuffer, OutOfMemory, NoSuchFormat, NotSquare, NoSuchSize, NotText, NoSuchKind, NotInMode, NoSuchNumber, NoSuchSide, NoFormat, Damaged, NotSpelled, NoSuchStruct, NoSuchManner, NoSuchMask, NotInFormat, NotShown, NotSeveral, Stranger, Missing, Twice, Parity, NotRead, NoSuchArea, NoArea, AreaBlock, AreaFormat, NotPicture, BrokenPicture, NoSquare, LargePicture}
 
 abbrev pub refusals : List Refusal  -- the refusals in the order of their numbers, from 1 to 31
 refusals =
@@ -34,7 +34,7 @@ refusals =
     NoSuchMask ∷ NotInFormat ∷ NotShown ∷ NotSeveral ∷ Stranger ∷ Missing ∷ Twice ∷ Parity ∷ NotRead ∷ NoSuchArea ∷ []
 
 abbrev pub more_refusals : List Refusal  -- the same from 46 on: those between are of contents
-more_refusals = NoArea ∷ AreaBlock ∷ AreaFormat ∷ []
+more_refusals = NoArea ∷ AreaBlock ∷ AreaFormat ∷ NotPicture ∷ BrokenPicture ∷ NoSquare ∷ LargePicture ∷ []
 
 abbrev pub refusal_of : ℕ → Option Refusal  -- the refusal of an answer, where it is one
 refusal_of n = if n == 0 then None else (if nat_le 46 n then slice_get more_refusals (n - 46) else slice_get refusals (n - 1))

@@ -1,5 +1,6 @@
 -- What is asked to be drawn.
-use Rattle.std.specs.Prelude.{◌≡◌, ◌+◌, ◌*◌, ◌/◌, ◌++◌, ℕ, List, codes, decimal, length, IsTrue}
+use Rattle.std.specs.Prelude.{◌≡◌, ◌+◌, ◌*◌, ◌/◌, ◌++◌, ℕ, List, [], codes, decimal, length, IsTrue}
+use Rattle.qrcode_render.specs.Printers.{bytes_across, escpos_head, tspl_head, tspl_tail, xbm_head, xbm_tail}
 use Rattle.goqlanis_core.specs.declared.formats.Format.{Format}
 use Rattle.goqlanis_buffers.specs.Answers.{HasSize, IsDrawingCause, IsOfSquare, IsPicture}
 use Rattle.goqlanis_buffers.specs.Drawings.{is_sayable}
@@ -26,6 +27,22 @@ pbm_length side = length (codes "P4\n" ++ (decimal side ++ (codes " " ++ (decima
 
 abbrev pub pgm_length : ℕ → ℕ  -- the same of a PGM file: its head, and a byte for each pixel
 pgm_length side = length (codes "P5\n" ++ (decimal side ++ (codes " " ++ (decimal side ++ codes "\n255\n")))) + side * side
+
+abbrev pub ppm_length : ℕ → ℕ  -- and of a PPM file: three bytes for each pixel
+ppm_length side = length (codes "P6\n" ++ (decimal side ++ (codes " " ++ (decimal side ++ codes "\n255\n")))) + side * side * 3
+
+-- the length of what stands between a head and a tail, in rows of so many bytes each
+abbrev pub rows_length : (ℕ → ℕ → List ℕ) → ℕ → List ℕ → ℕ → ℕ
+rows_length head row tail side = length (head side side) + side * row + length tail
+
+abbrev pub escpos_length : ℕ → ℕ
+escpos_length side = rows_length escpos_head (bytes_across side) [] side
+
+abbrev pub tspl_length : ℕ → ℕ
+tspl_length side = rows_length tspl_head (bytes_across side) tspl_tail side
+
+abbrev pub xbm_length : ℕ → ℕ  -- five characters for each byte, and the end of a line for each row
+xbm_length side = rows_length xbm_head (5 * bytes_across side + 1) xbm_tail side
 
 abbrev pub HasLength : Asked → ℕ → Type 0  -- a picture that is asked for has so many bytes
 HasLength a count = (bytes : List ℕ) × (IsPictureFor a bytes × (count ≡ length bytes))

@@ -9,6 +9,7 @@ pub mod Names
 pub mod Options
 pub mod Outputs
 pub mod Readings
+pub mod Scanning
 pub mod Segments
 pub mod Several
 pub mod Symbols

@@ -12,8 +12,8 @@ use Rattle.goqlanis_buffers.specs.declared.symbols.Symbol.{Symbol}
 abbrev pub module_bytes : List Color → List ℕ  -- modules as bytes, a one for a dark one
 module_bytes modules = map (λ c. select_of c 1 0) modules
 
-abbrev pub IsFilled : List ℕ → List ℕ → List ℕ → Type 0  -- a buffer begins with some bytes, and is otherwise as it was
-IsFilled old new bytes = new ≡ bytes ++ drop (length bytes) old
+abbrev pub IsFilled : {A : Type 0} → List A → List A → List A → Type 0  -- a buffer begins with some items, and is otherwise as it was
+IsFilled old new items = new ≡ items ++ drop (length items) old
 
 -- what a symbol is beside its modules
 pub record IsDescribed (code : Code) (symbol : Symbol) : Type 0 where

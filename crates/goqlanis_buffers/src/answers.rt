@@ -30,8 +30,8 @@ pub enum Refusal {
     NoSuchFormat,
     /// The modules are not as many as the square of their width.
     NotSquare,
-    /// A module would have no pixel, or the picture more than 65,535 modules along a side, or a module
-    /// more pixels.
+    /// A module would have no pixel, or the picture more than 65,535 modules along a side, or a
+    /// module more pixels.
     NoSuchSize,
     /// The bytes are not UTF-8.
     NotText,
@@ -79,6 +79,14 @@ pub enum Refusal {
     AreaBlock,
     /// The area has more than three modules of a copy of the format word.
     AreaFormat,
+    /// The bytes are no picture that is read.
+    NotPicture,
+    /// The picture is broken, has too many pixels, or is of a kind that is not read.
+    BrokenPicture,
+    /// The picture shows no square of modules.
+    NoSquare,
+    /// The picture is more than 67,108,864 bytes.
+    LargePicture,
 }
 
 impl Refusal {
@@ -122,12 +130,16 @@ impl Refusal {
             Refusal::NoArea => 46,
             Refusal::AreaBlock => 47,
             Refusal::AreaFormat => 48,
+            Refusal::NotPicture => 49,
+            Refusal::BrokenPicture => 50,
+            Refusal::NoSquare => 51,
+            Refusal::LargePicture => 52,
         }
     }
 }
 
-/// What an error is reported as: of a push, or of a constructor whose version is valid and whose bytes are
-/// within the limit.
+/// What an error is reported as: of a push, or of a constructor whose version is valid and whose
+/// bytes are within the limit.
 impl From<QrError> for Refusal {
     ghost from_gives = { λ e refusal. refusal ≡ refusal_in e };
 

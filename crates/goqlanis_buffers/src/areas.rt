@@ -96,8 +96,8 @@ impl Uncovered {
     }
 }
 
-/// Writes how many codewords of each block an area touches at the beginning of a buffer, and answers
-/// what it takes beside them.
+/// Writes how many codewords of each block an area touches at the beginning of a buffer, and
+/// answers what it takes beside them.
 ///
 /// An error is the first that applies of `NoSuchLevel`, `NoSuchVersion`, `LevelNotInVersion`,
 /// `NoSuchArea` and `SmallBuffer`, or `OutOfMemory`; then the buffer is as it was.
@@ -224,8 +224,8 @@ fn pair_named(version: u32, level: u32) -> Result<(Version, EcLevel), Refusal>
     }
 }
 
-/// Makes the modules of an area of a symbol light, which then may show anything. After an error they
-/// are as they were.
+/// Makes the modules of an area of a symbol light, which then may show anything. After an error
+/// they are as they were.
 pub fn cover(alloc: Global, modules: &mut [u8], rectangles: &[Rectangle]) -> Result<(), Uncovered>
     ensures made { OnOk result (IsCovered rectangles.now modules.old modules.new) }
     ensures unchanged { OnErr result (modules.new ≡ modules.old) }

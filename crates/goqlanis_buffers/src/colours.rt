@@ -1,5 +1,5 @@
-//! Colours of drawings: transparency, red, green and blue, each from 0 to 255, in the four bytes of a
-//! number, the highest first.
+//! Colours of drawings: transparency, red, green and blue, each from 0 to 255, in the four bytes of
+//! a number, the highest first.
 
 ghost use Rattle.std.specs.Prelude.{◌≡◌, ◌++◌, string_bytes, IfOk, OnOk, IsOkUnless};
 ghost use Rattle.qrcode_types.specs.declared.types.QrError.TheVariants.{OutOfMemory};

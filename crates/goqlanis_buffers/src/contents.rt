@@ -1,5 +1,5 @@
-//! The texts of networks, contacts, payments and their kin, and element strings of GS1, in the buffers of
-//! a caller who numbers their kinds.
+//! The texts of networks, contacts, payments and their kin, and element strings of GS1, in the
+//! buffers of a caller who numbers their kinds.
 
 pub mod answers;
 mod checks;

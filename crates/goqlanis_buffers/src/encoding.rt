@@ -14,10 +14,11 @@ use qrcode::bits::{DATA_LIMIT, encode_auto};
 use qrcode::types::{QrError, Version};
 use std::alloc::Global;
 
-/// Writes the symbol of bytes at the level of a number, of the least Normal version that holds them,
-/// at the beginning of a buffer, and answers what it is beside its modules.
+/// Writes the symbol of bytes at the level of a number, of the least Normal version that holds
+/// them, at the beginning of a buffer, and answers what it is beside its modules.
 ///
-/// An error is `NoSuchLevel`, `NoRoom`, `SmallBuffer` or `OutOfMemory`; then the buffer is as it was.
+/// An error is `NoSuchLevel`, `NoRoom`, `SmallBuffer` or `OutOfMemory`; then the buffer is as it
+/// was.
 pub fn encode(
     alloc: Global,
     bytes: &[u8],

@@ -74,8 +74,8 @@ impl Unjoined {
     }
 }
 
-/// Writes the data of several symbols, whose squares come in any order, at the beginning of a buffer,
-/// and answers its length. After an error the buffer is as it was.
+/// Writes the data of several symbols, whose squares come in any order, at the beginning of a
+/// buffer, and answers its length. After an error the buffer is as it was.
 pub fn join_into(alloc: Global, squares: &[Square<'_>], out: &mut [u8]) -> Result<usize, Unjoined>
     ensures made { IfOk result (IsJoinedInto squares.now out.old out.new) }
     ensures unchanged { OnErr result (out.new ≡ out.old) }

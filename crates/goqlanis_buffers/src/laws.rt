@@ -5,7 +5,7 @@ ghost use Rattle.qrcode_types.specs.declared.types.Color.{Color};
 ghost use Rattle.qrcode_render.specs.Layout.{Layout};
 ghost use Rattle.goqlanis_core.specs.Formats.{View, IsDrawnIn};
 ghost use Rattle.goqlanis_core.specs.declared.formats.Format.{Format};
-ghost use Rattle.goqlanis_core.specs.declared.formats.Format.TheVariants.{Pdf, Png, SvgPath};
+ghost use Rattle.goqlanis_core.specs.declared.formats.Format.TheVariants.{Pdf, Png, SvgPath, Zpl};
 ghost use Rattle.goqlanis_buffers.specs.declared.answers.Refusal.{Refusal};
 ghost use Rattle.goqlanis_buffers.specs.declared.contents.answers.Refusal as of_contents;
 
@@ -19,11 +19,11 @@ pub fn equality()
         → IsTrue (⟦<ContentRefusal as PartialEq>⟧.eq a b) ↔ (a ≡ b) }
 {}
 
-/// A drawing has one picture in a format other than PNG, PDF and SVG of one path, which are defined by
-/// what they show: its length is that of whatever call draws it.
+/// A drawing has one picture in a format other than PNG, PDF, ZPL and SVG of one path, which are
+/// defined by what they show: its length is that of whatever call draws it.
 #[tactic(auto, using(crate::proofs::OnePicture::one_picture))]
 pub fn pictures()
     ensures one { (f : Format) (v : View) (at : Layout) (s : List Color) (a b : List ℕ)
-        → f ≢ Png → f ≢ SvgPath → f ≢ Pdf → IsDrawnIn f v at s a → IsDrawnIn f v at s b
+        → f ≢ Png → f ≢ SvgPath → f ≢ Pdf → f ≢ Zpl → IsDrawnIn f v at s a → IsDrawnIn f v at s b
         → a ≡ b }
 {}

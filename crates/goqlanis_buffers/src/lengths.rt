@@ -2,14 +2,14 @@
 
 ghost use Rattle.std.specs.Prelude.{◌≡◌, ◌<◌, ◌^◌, IfOk, IfSome, IsOkUnless};
 ghost use Rattle.qrcode_types.specs.declared.types.QrError.TheVariants.{OutOfMemory};
-ghost use Rattle.goqlanis_buffers.specs.Asking.{pbm_length, pgm_length, side_of, HasLength, IsDrawable};
+ghost use Rattle.goqlanis_buffers.specs.Asking.{escpos_length, pbm_length, pgm_length, ppm_length, side_of, tspl_length, xbm_length, HasLength, IsDrawable};
 
 use crate::pictures::Asked;
 use goqlanis_core::formats::Format;
 use qrcode::types::{QrError, QrResult};
 use std::alloc::Global;
 
-/// The length of a picture in a format whose pictures have a byte for each pixel or for each eight;
+/// The length of a picture in a format whose pictures have bytes for each pixel or for each eight;
 /// `None` in others, which have few bytes for each module, or few pixels.
 pub(crate) fn known_length(
     alloc: Global,
@@ -25,6 +25,10 @@ pub(crate) fn known_length(
         Format::Grey => Ok(Some(side * side)),
         Format::Pbm => Ok(Some(pbm_length(alloc, side)?)),
         Format::Pgm => Ok(Some(pgm_length(alloc, side)?)),
+        Format::Ppm => Ok(Some(ppm_length(alloc, side)?)),
+        Format::EscPos => Ok(Some(escpos_length(side))),
+        Format::Tspl => Ok(Some(tspl_length(alloc, side)?)),
+        Format::Xbm => Ok(Some(xbm_length(alloc, side)?)),
         _ => Ok(None),
     }
 }
@@ -57,6 +61,62 @@ fn pgm_length(alloc: Global, side: usize) -> QrResult<usize>
 {
     let head = format!(in alloc; "P5\n{side} {side}\n255\n")?;
     match head.len().checked_add(side * side) {
+        Some(length) => Ok(length),
+        None => Err(QrError::OutOfMemory),
+    }
+}
+
+// The length of a PPM file of so many pixels a side.
+fn ppm_length(alloc: Global, side: usize) -> QrResult<usize>
+    requires at_most { side < 2 ^ 32 }
+    ensures value { IfOk result (λ length. length ≡ ppm_length side) }
+    ensures memory { IsOkUnless result OutOfMemory }
+{
+    let head = format!(in alloc; "P6\n{side} {side}\n255\n")?;
+    let Some(bytes) = (side * side).checked_mul(3) else {
+        return Err(QrError::OutOfMemory);
+    };
+    match head.len().checked_add(bytes) {
+        Some(length) => Ok(length),
+        None => Err(QrError::OutOfMemory),
+    }
+}
+
+// The length of a raster for receipt printers of so many dots a side.
+fn escpos_length(side: usize) -> usize
+    requires at_most { side < 2 ^ 32 }
+    ensures value { result ≡ escpos_length side }
+{
+    8 + side * ((side + 7) / 8)
+}
+
+// The length of a label of so many dots a side.
+fn tspl_length(alloc: Global, side: usize) -> QrResult<usize>
+    requires at_most { side < 2 ^ 32 }
+    ensures value { IfOk result (λ length. length ≡ tspl_length side) }
+    ensures memory { IsOkUnless result OutOfMemory }
+{
+    let bytes = (side + 7) / 8;
+    let head = format!(in alloc;
+        "SIZE {side} dot,{side} dot\r\nCLS\r\nBITMAP 0,0,{bytes},{side},0,"
+    )?;
+    Ok(head.len() + side * bytes + 11)
+}
+
+// The length of an XBM text of so many pixels a side.
+fn xbm_length(alloc: Global, side: usize) -> QrResult<usize>
+    requires at_most { side < 2 ^ 32 }
+    ensures value { IfOk result (λ length. length ≡ xbm_length side) }
+    ensures memory { IsOkUnless result OutOfMemory }
+{
+    let head = format!(in alloc;
+        "#define symbol_width {side}\n#define symbol_height {side}\n\
+         static unsigned char symbol_bits[] = {{\n"
+    )?;
+    match head
+        .len()
+        .checked_add(side * (5 * ((side + 7) / 8) + 1) + 3)
+    {
         Some(length) => Ok(length),
         None => Err(QrError::OutOfMemory),
     }

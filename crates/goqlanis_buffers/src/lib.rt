@@ -1,5 +1,5 @@
-//! Symbols, pictures and readings in the buffers of a caller, who names versions, levels and formats by
-//! numbers, as programs in C do. Where a call refuses, all its outputs are as they were.
+//! Symbols, pictures and readings in the buffers of a caller, who names versions, levels and
+//! formats by numbers, as programs in C do. Where a call refuses, all its outputs are as they were.
 #![tactic(auto)]
 
 pub mod answers;
@@ -14,6 +14,7 @@ pub mod names;
 pub mod options;
 pub mod pictures;
 pub mod reading;
+pub mod scanning;
 pub mod segments;
 pub mod several;
 pub mod symbols;

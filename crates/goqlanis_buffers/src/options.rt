@@ -31,8 +31,8 @@ pub struct Options {
     pub least_version: u32,
     /// Other than 0 for the highest level at which that version holds the data.
     pub boost: u32,
-    /// One more than the number of a mask, which the version of the symbol has; or 0 for the first of
-    /// least penalty.
+    /// One more than the number of a mask, which the version of the symbol has; or 0 for the first
+    /// of least penalty.
     pub mask: u32,
 }
 
@@ -49,8 +49,8 @@ pub struct Asked {
     pub mask: Option<usize>,
 }
 
-/// Writes the symbol of data that options ask for at the beginning of a buffer, and answers what it is
-/// beside its modules.
+/// Writes the symbol of data that options ask for at the beginning of a buffer, and answers what it
+/// is beside its modules.
 ///
 /// An error is the first that applies of `NoSuchStruct`, `NoSuchLevel`, `NoSuchVersion`,
 /// `NoSuchManner`, `NotText`, `NoMode`, `LevelNotInVersion`, `NoRoom`, `NoSuchMask` and

@@ -72,8 +72,8 @@ pub struct Asked<'a> {
 /// Writes a picture at the beginning of a buffer, and answers its length.
 ///
 /// An error is the first that applies of `NoSuchStruct`, `NoSuchFormat`, `NotSquare`, `NoSuchSize`,
-/// `NotInFormat` and `SmallBuffer`, or `OutOfMemory`; then the buffer is as it was. Where the length
-/// follows from the side, nothing is drawn that has no room.
+/// `NotInFormat` and `SmallBuffer`, or `OutOfMemory`; then the buffer is as it was. Where the
+/// length follows from the side, nothing is drawn that has no room.
 pub fn put_picture(alloc: Global, asked: &Asked<'_>, out: &mut [u8]) -> Result<usize, Refusal>
     ensures { WritesPicture asked.now.modules.now asked.now.width asked.now.drawing.now
         out.old out.new result }

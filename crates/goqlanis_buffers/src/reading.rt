@@ -48,11 +48,11 @@ pub struct AnyReading {
     pub position: u32,
 }
 
-/// Writes the bytes of a square of modules, which are bytes in row order, dark where they are not zero,
-/// at the beginning of a buffer, and answers what is read beside them.
+/// Writes the bytes of a square of modules, which are bytes in row order, dark where they are not
+/// zero, at the beginning of a buffer, and answers what is read beside them.
 ///
-/// An error is `NoSuchSide`, `NoFormat`, `Damaged`, `NotSpelled`, `SmallBuffer` or `OutOfMemory`; then
-/// the buffer is as it was.
+/// An error is `NoSuchSide`, `NoFormat`, `Damaged`, `NotSpelled`, `SmallBuffer` or `OutOfMemory`;
+/// then the buffer is as it was.
 pub fn read_into(alloc: Global, modules: &[u8], bytes: &mut [u8]) -> Result<Reading, Refusal>
     ensures { WritesReading modules.now bytes.old bytes.new result }
 {
@@ -100,11 +100,11 @@ pub fn read_any_into(alloc: Global, modules: &[u8], bytes: &mut [u8]) -> Result<
     })
 }
 
-/// Writes the text that readers show of a square of modules at the beginning of a buffer, and answers
-/// what is read beside it.
+/// Writes the text that readers show of a square of modules at the beginning of a buffer, and
+/// answers what is read beside it.
 ///
-/// An error is `NoSuchSide`, `NoFormat`, `Damaged`, `NotShown`, `SmallBuffer` or `OutOfMemory`; then
-/// the buffer is as it was.
+/// An error is `NoSuchSide`, `NoFormat`, `Damaged`, `NotShown`, `SmallBuffer` or `OutOfMemory`;
+/// then the buffer is as it was.
 pub fn read_text_into(alloc: Global, modules: &[u8], text: &mut [u8]) -> Result<Reading, Refusal>
     ensures { WritesTextReading modules.now text.old text.new result }
 {
@@ -284,7 +284,7 @@ fn read_shown(alloc: Global, modules: &[u8]) -> Result<TextReading, Refusal>
 }
 
 // What C gets of a reading beside its bytes.
-fn reported(
+pub(crate) fn reported(
     version: Version,
     ec_level: EcLevel,
     mask: MaskPattern,
@@ -304,7 +304,7 @@ fn reported(
 }
 
 // The number of a position, and 8 more where colours are exchanged.
-fn position_number(position: Position, is_inverted: bool) -> u32
+pub(crate) fn position_number(position: Position, is_inverted: bool) -> u32
     ensures value { result ≡ position_number position is_inverted }
 {
     let number = match position {

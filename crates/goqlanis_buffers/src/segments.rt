@@ -44,8 +44,8 @@ pub enum Kind {
     SecondPosition,
 }
 
-// The kind of a number: 0 for digits, 1 for the alphabet of 45 characters, 2 for bytes, 3 for pairs of
-// Shift JIS, 4 for a character set, 5 and 6 for FNC1 in the first and in the second position.
+// The kind of a number: 0 for digits, 1 for the alphabet of 45 characters, 2 for bytes, 3 for pairs
+// of Shift JIS, 4 for a character set, 5 and 6 for FNC1 in the first and in the second position.
 fn kind_named(number: u32) -> Option<Kind>
     ensures value { result ≡ kind_named number }
 {
@@ -61,12 +61,12 @@ fn kind_named(number: u32) -> Option<Kind>
     }
 }
 
-/// Writes the symbol of segments, one behind the other, of a version and level of these numbers, at the
-/// beginning of a buffer, and answers what it is beside its modules.
+/// Writes the symbol of segments, one behind the other, of a version and level of these numbers, at
+/// the beginning of a buffer, and answers what it is beside its modules.
 ///
-/// An error is the first that applies of `NoSuchLevel`, `NoSuchVersion`, `LevelNotInVersion`; of each
-/// segment in order `NoSuchKind`, `NotInMode`, `NoMode`, `NoSuchNumber`, `NoRoom`; then `NoRoom`,
-/// `SmallBuffer`; or `OutOfMemory`. Then the buffer is as it was.
+/// An error is the first that applies of `NoSuchLevel`, `NoSuchVersion`, `LevelNotInVersion`; of
+/// each segment in order `NoSuchKind`, `NotInMode`, `NoMode`, `NoSuchNumber`, `NoRoom`; then
+/// `NoRoom`, `SmallBuffer`; or `OutOfMemory`. Then the buffer is as it was.
 pub fn encode_segments(
     alloc: Global,
     segments: &[Segment<'_>],

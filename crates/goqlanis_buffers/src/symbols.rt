@@ -43,11 +43,11 @@ pub(crate) fn write_symbol(code: QrCode, modules: &mut [u8]) -> Result<Symbol, R
     Ok(symbol)
 }
 
-/// Writes a symbol under the mask of a number, where one is given, at the beginning of a buffer, and
-/// answers what it is beside its modules.
+/// Writes a symbol under the mask of a number, where one is given, at the beginning of a buffer,
+/// and answers what it is beside its modules.
 ///
-/// An error is `NoSuchMask`, where the version has none of the number, `SmallBuffer` or `OutOfMemory`;
-/// then the buffer is as it was.
+/// An error is `NoSuchMask`, where the version has none of the number, `SmallBuffer` or
+/// `OutOfMemory`; then the buffer is as it was.
 #[tactic(auto, using(crate::proofs::Masked::written))]
 pub(crate) fn write_masked(
     alloc: Global,
@@ -103,7 +103,8 @@ pub(crate) fn colors_of(alloc: Global, modules: &[u8]) -> QrResult<Vec<Color>>
     Ok(colors)
 }
 
-// Writes modules that bytes stand for. A loop over places, since the compiler then takes sixteen at once.
+// Writes modules that bytes stand for. A loop over places, since the compiler then takes sixteen at
+// once.
 fn color_all(colors: &mut [Color], modules: &[u8])
     requires room { length colors.old ≡ length modules.now }
     ensures value { colors.new ≡ colors_of modules.now }
@@ -117,10 +118,10 @@ fn color_all(colors: &mut [Color], modules: &[u8])
     }
 }
 
-/// Writes bytes at the beginning of a buffer that has room for them.
-pub(crate) fn fill(out: &mut [u8], bytes: &[u8])
-    requires room { length bytes.now ≤ length out.old }
-    ensures filled { IsFilled out.old out.new bytes.now }
+/// Writes items at the beginning of a buffer that has room for them.
+pub(crate) fn fill<T: Copy>(out: &mut [T], items: &[T])
+    requires room { length items.now ≤ length out.old }
+    ensures filled { IsFilled out.old out.new items.now }
 {
-    out[..bytes.len()].copy_from_slice(bytes);
+    out[..items.len()].copy_from_slice(items);
 }

@@ -13,8 +13,8 @@ use qrcode::bits::Manner;
 use qrcode::types::{QrError, Version};
 use std::alloc::Global;
 
-/// Writes the symbol of a text in a manner, at the level of a number, of the least Normal version that
-/// holds it, at the beginning of a buffer, and answers what it is beside its modules.
+/// Writes the symbol of a text in a manner, at the level of a number, of the least Normal version
+/// that holds it, at the beginning of a buffer, and answers what it is beside its modules.
 ///
 /// An error is the first that applies of `NoSuchLevel`, `NotText`, `NoRoom` and `SmallBuffer`, or
 /// `OutOfMemory`; then the buffer is as it was.

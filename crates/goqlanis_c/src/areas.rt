@@ -9,8 +9,9 @@ use goqlanis_buffers::areas::{Taken, Wish, cover, largest, reserve_into};
 use qrcode_area::areas::Rectangle;
 use std::alloc::Global;
 
-/// What an area takes of a symbol of a version and level of these numbers: how many codewords of each
-/// block it touches, at the beginning of `touched`, for which 81 always have room; and the rest.
+/// What an area takes of a symbol of a version and level of these numbers: how many codewords of
+/// each block it touches, at the beginning of `touched`, for which 81 always have room; and the
+/// rest.
 ///
 /// 0, or the number of a `Refusal`, of which the first that applies is reported: `NoSuchLevel`,
 /// `NoSuchVersion`, `LevelNotInVersion`, `NoSuchArea`, `SmallBuffer`; or `OutOfMemory`. Then the
@@ -33,12 +34,12 @@ pub extern "C" fn goq_reserve(
     )
 }
 
-/// The largest rectangle in the middle of a symbol of a version and level of these numbers that leaves
-/// what is wished, to `rectangle`.
+/// The largest rectangle in the middle of a symbol of a version and level of these numbers that
+/// leaves what is wished, to `rectangle`.
 ///
 /// 0, or the number of a `Refusal`, of which the first that applies is reported: `NoSuchStruct`,
-/// `NoSuchLevel`, `NoSuchVersion`, `LevelNotInVersion`, `NoArea`; or `OutOfMemory`. Then `rectangle` is
-/// as it was.
+/// `NoSuchLevel`, `NoSuchVersion`, `LevelNotInVersion`, `NoArea`; or `OutOfMemory`. Then
+/// `rectangle` is as it was.
 #[unsafe(no_mangle)]
 pub extern "C" fn goq_largest_area(
     alloc: Global,
@@ -53,12 +54,12 @@ pub extern "C" fn goq_largest_area(
     answer(largest(alloc, version, level, wish), rectangle)
 }
 
-/// Makes the modules of an area of a symbol light. The area then may show anything: each square that
-/// agrees outside it is read as the bytes of the symbol, and as nothing else.
+/// Makes the modules of an area of a symbol light. The area then may show anything: each square
+/// that agrees outside it is read as the bytes of the symbol, and as nothing else.
 ///
 /// 0, or the number of a `Refusal`, of which the first that applies is reported: `NoSuchSide`,
-/// `NoFormat`, `NoSuchArea`, `AreaBlock`, `AreaFormat`; or `OutOfMemory`. Then the modules are as they
-/// were, and for `AreaBlock` the block goes to `place`.
+/// `NoFormat`, `NoSuchArea`, `AreaBlock`, `AreaFormat`; or `OutOfMemory`. Then the modules are as
+/// they were, and for `AreaBlock` the block goes to `place`.
 #[unsafe(no_mangle)]
 pub extern "C" fn goq_cover(
     alloc: Global,

@@ -9,8 +9,8 @@ use std::alloc::Global;
 
 /// The text of fields of a kind, at the beginning of `out`, and its length to `count`.
 ///
-/// 0, or the number of a `Refusal`, of which the first that applies is reported: `NoSuchContent`; of
-/// each field in order `NoSuchField`, `NotText`, `Wrong`; what the format refuses (`Wrong`);
+/// 0, or the number of a `Refusal`, of which the first that applies is reported: `NoSuchContent`;
+/// of each field in order `NoSuchField`, `NotText`, `Wrong`; what the format refuses (`Wrong`);
 /// `SmallBuffer`; or `OutOfMemory`. Then `out` and `count` are as they were. Where a field is wrong
 /// its place goes to `place`, and where the text is as a whole, how many fields the kind has.
 #[unsafe(no_mangle)]

@@ -41,12 +41,13 @@ pub extern "C" fn goq_gs1(
     refusal.number()
 }
 
-/// The symbol of elements of GS1 that options ask for, in segments of the fewest bits: its modules row
-/// by row, 1 for a dark one, at the beginning of `modules`, and what it is beside them. Manner and
-/// boost are not looked at.
+/// The symbol of elements of GS1 that options ask for, in segments of the fewest bits: its modules
+/// row by row, 1 for a dark one, at the beginning of `modules`, and what it is beside them. Manner
+/// and boost are not looked at.
 ///
 /// 0, or the number of a `Refusal`: `NoSymbol`, `NotText`, `NotElement` or `OutOfMemory`. Then
-/// `modules` and `symbol` are as they were, and the place of an element that is wrong goes to `place`.
+/// `modules` and `symbol` are as they were, and the place of an element that is wrong goes to
+/// `place`.
 #[unsafe(no_mangle)]
 pub extern "C" fn goq_encode_gs1(
     alloc: Global,

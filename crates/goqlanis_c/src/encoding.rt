@@ -9,11 +9,11 @@ use goqlanis_buffers::symbols::Symbol;
 use std::alloc::Global;
 
 /// The symbol of bytes at a level, of the least Normal version that holds them: its modules row by
-/// row, 1 for a dark one, at the beginning of `modules`, which always has room with 31,329 bytes; and
-/// what it is beside them.
+/// row, 1 for a dark one, at the beginning of `modules`, which always has room with 31,329 bytes;
+/// and what it is beside them.
 ///
-/// 0, or the number of a `Refusal`: `NoSuchLevel`, `NoRoom`, `SmallBuffer` or `OutOfMemory`. Then the
-/// outputs are as they were.
+/// 0, or the number of a `Refusal`: `NoSuchLevel`, `NoRoom`, `SmallBuffer` or `OutOfMemory`. Then
+/// the outputs are as they were.
 #[unsafe(no_mangle)]
 pub extern "C" fn goq_encode(
     alloc: Global,
@@ -28,8 +28,8 @@ pub extern "C" fn goq_encode(
     answer(encode(alloc, bytes, level, modules), symbol)
 }
 
-/// The symbol of bytes, of a version and level of these numbers: its modules row by row, 1 for a dark
-/// one, at the beginning of `modules`, and what it is beside them.
+/// The symbol of bytes, of a version and level of these numbers: its modules row by row, 1 for a
+/// dark one, at the beginning of `modules`, and what it is beside them.
 ///
 /// 0, or the number of a `Refusal`, of which the first that applies is reported: `NoSuchLevel`,
 /// `NoSuchVersion`, `TooLong`, `NoMode`, `LevelNotInVersion`, `NoRoom`, `SmallBuffer`; or
@@ -49,8 +49,8 @@ pub extern "C" fn goq_encode_in(
     answer(encode_in(alloc, bytes, version, level, modules), symbol)
 }
 
-/// The symbol of data that options ask for: its modules row by row, 1 for a dark one, at the beginning
-/// of `modules`, and what it is beside them.
+/// The symbol of data that options ask for: its modules row by row, 1 for a dark one, at the
+/// beginning of `modules`, and what it is beside them.
 ///
 /// 0, or the number of a `Refusal`, of which the first that applies is reported: `NoSuchStruct`,
 /// `NoSuchLevel`, `NoSuchVersion`, `NoSuchManner`, `NotText`, `NoMode`, `LevelNotInVersion`,

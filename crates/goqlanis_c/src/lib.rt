@@ -1,6 +1,6 @@
-//! Symbols, and the texts that they carry, for programs in C: the exported functions alone. Each call works in
-//! buffers that its caller gives; where it refuses, all its outputs are as they were, except for the place of what
-//! is wrong.
+//! Symbols, and the texts that they carry, for programs in C: the exported functions alone. Each
+//! call works in buffers that its caller gives; where it refuses, all its outputs are as they were,
+//! except for the place of what is wrong.
 #![tactic(auto, using(goqlanis_buffers::proofs::Reported::reported))]
 
 mod areas;

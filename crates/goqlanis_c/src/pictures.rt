@@ -8,8 +8,8 @@ use goqlanis_buffers::pictures::{Asked, Drawing, length_of, plain, put_picture};
 use std::alloc::Global;
 
 /// The picture of modules in a format: at the beginning of `out`, and its length to `count`. The
-/// modules are bytes in row order, dark where they are not zero; the quiet zone is `zone` modules at
-/// each side; a module has `scale` pixels across and down. A text ends without a zero.
+/// modules are bytes in row order, dark where they are not zero; the quiet zone is `zone` modules
+/// at each side; a module has `scale` pixels across and down. A text ends without a zero.
 ///
 /// 0, or the number of a `Refusal`: `NoSuchFormat`, `NotSquare`, `NoSuchSize`, `SmallBuffer` or
 /// `OutOfMemory`. Then the outputs are as they were.
@@ -39,8 +39,8 @@ pub extern "C" fn goq_draw(
 
 /// The length of the picture that `goq_draw` would write, to `count`.
 ///
-/// 0, or the number of a `Refusal`: `NoSuchFormat`, `NotSquare`, `NoSuchSize` or `OutOfMemory`. Then
-/// `count` is as it was.
+/// 0, or the number of a `Refusal`: `NoSuchFormat`, `NotSquare`, `NoSuchSize` or `OutOfMemory`.
+/// Then `count` is as it was.
 #[unsafe(no_mangle)]
 pub extern "C" fn goq_draw_length(
     alloc: Global,

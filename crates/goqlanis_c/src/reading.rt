@@ -1,20 +1,24 @@
 //! Squares of modules read back.
 
+ghost use Rattle.std.specs.Prelude.{◌≡◌, ◌≢◌, length, IsSomeAnd};
+ghost use Rattle.goqlanis_buffers.specs.Answers.{refusal_of};
+ghost use Rattle.goqlanis_buffers.specs.Scanning.{IsScanCause, IsScanned};
 ghost use Rattle.goqlanis_buffers.specs.Calls.{IsReported, TellsMask, TellsReadLength, WritesAnyReading, WritesReading, WritesTextReading};
 
-use goqlanis_buffers::answers::answer;
+use goqlanis_buffers::answers::{Refusal, answer};
 use goqlanis_buffers::reading::{
     AnyReading, Reading, mask_of, read_any_into, read_into, read_length, read_text_into,
 };
+use goqlanis_buffers::scanning::{Code, Part, Scan, codes_of};
 use std::alloc::Global;
 
-/// The bytes of a square of modules, which are bytes in row order, dark where they are not zero, without
-/// a quiet zone: at the beginning of `bytes`, for which 7,089 bytes always have room; and what it is
-/// beside them. Each copy of the format word may have three wrong bits, and each block half as many
-/// wrong codewords as it has error correction codewords.
+/// The bytes of a square of modules, which are bytes in row order, dark where they are not zero,
+/// without a quiet zone: at the beginning of `bytes`, for which 7,089 bytes always have room; and
+/// what it is beside them. Each copy of the format word may have three wrong bits, and each block
+/// half as many wrong codewords as it has error correction codewords.
 ///
-/// 0, or the number of a `Refusal`: `NoSuchSide`, `NoFormat`, `Damaged`, `NotSpelled`, `SmallBuffer` or
-/// `OutOfMemory`. Then the outputs are as they were.
+/// 0, or the number of a `Refusal`: `NoSuchSide`, `NoFormat`, `Damaged`, `NotSpelled`,
+/// `SmallBuffer` or `OutOfMemory`. Then the outputs are as they were.
 #[unsafe(no_mangle)]
 pub extern "C" fn goq_read(
     alloc: Global,
@@ -30,8 +34,8 @@ pub extern "C" fn goq_read(
 
 /// How many bytes `goq_read` would write, to `count`.
 ///
-/// 0, or the number of a `Refusal`: `NoSuchSide`, `NoFormat`, `Damaged`, `NotSpelled` or `OutOfMemory`.
-/// Then `count` is as it was.
+/// 0, or the number of a `Refusal`: `NoSuchSide`, `NoFormat`, `Damaged`, `NotSpelled` or
+/// `OutOfMemory`. Then `count` is as it was.
 #[unsafe(no_mangle)]
 pub extern "C" fn goq_read_length(alloc: Global, modules: &[u8], count: &mut usize) -> u32
     ensures { IsReported (TellsReadLength modules.now) result count.old count.new }
@@ -41,8 +45,8 @@ pub extern "C" fn goq_read_length(alloc: Global, modules: &[u8], count: &mut usi
 
 /// The same of a square in any position, in the first of the sixteen in which it is read.
 ///
-/// 0, or the number of a `Refusal`: `NotRead`, `SmallBuffer` or `OutOfMemory`. Then the outputs are as
-/// they were.
+/// 0, or the number of a `Refusal`: `NotRead`, `SmallBuffer` or `OutOfMemory`. Then the outputs are
+/// as they were.
 #[unsafe(no_mangle)]
 pub extern "C" fn goq_read_any(
     alloc: Global,
@@ -58,8 +62,8 @@ pub extern "C" fn goq_read_any(
 
 /// The text that readers show of a square: at the beginning of `text`, and what is read beside it.
 ///
-/// 0, or the number of a `Refusal`: `NoSuchSide`, `NoFormat`, `Damaged`, `NotShown`, `SmallBuffer` or
-/// `OutOfMemory`. Then the outputs are as they were.
+/// 0, or the number of a `Refusal`: `NoSuchSide`, `NoFormat`, `Damaged`, `NotShown`, `SmallBuffer`
+/// or `OutOfMemory`. Then the outputs are as they were.
 #[unsafe(no_mangle)]
 pub extern "C" fn goq_read_text(
     alloc: Global,
@@ -82,4 +86,44 @@ pub extern "C" fn goq_mask(alloc: Global, modules: &[u8], mask: &mut u32) -> u32
     ensures { IsReported (TellsMask modules.now) result mask.old mask.new }
 {
     answer(mask_of(alloc, modules), mask)
+}
+
+/// The codes of a picture, which is a PNG, PBM or PGM file or half blocks, from the top down, and
+/// from the left where they stand side by side: what each is, at the beginning of `codes`; the
+/// headers and segments of each behind those of the one before, at the beginning of `parts`; the
+/// bytes of each behind those of the one before, at the beginning of `bytes`; and how many of these
+/// there are, to `scan`, of which only its size is read.
+///
+/// 0, or the number of a `Refusal`, of which the first that applies is reported: `NoSuchStruct`;
+/// `LargePicture`; `NotPicture` or `BrokenPicture`; `NoSquare`; `NoSuchSide`, `NoFormat`, `Damaged`
+/// or `NotSpelled`; `SmallBuffer`; or `OutOfMemory`. Then the outputs are as they were.
+#[unsafe(no_mangle)]
+pub extern "C" fn goq_read_picture(
+    alloc: Global,
+    picture: &[u8],
+    codes: &mut [Code],
+    parts: &mut [Part],
+    bytes: &mut [u8],
+    scan: &mut Scan,
+) -> u32
+    ensures made { result ≡ 0 → IsScanned picture.now scan.old.size codes.old codes.new
+        parts.old parts.new bytes.old bytes.new scan.new }
+    ensures codes_unchanged { result ≢ 0 → codes.new ≡ codes.old }
+    ensures parts_unchanged { result ≢ 0 → parts.new ≡ parts.old }
+    ensures bytes_unchanged { result ≢ 0 → bytes.new ≡ bytes.old }
+    ensures scan_unchanged { result ≢ 0 → scan.new ≡ scan.old }
+    ensures causes { result ≢ 0 → IsSomeAnd (refusal_of result) (IsScanCause picture.now
+        scan.old.size (length codes.old) (length parts.old) (length bytes.old)) }
+{
+    let told = match codes_of(alloc, picture, scan.size) {
+        Ok(told) => told,
+        Err(refusal) => return refusal.number(),
+    };
+    match told.put(codes, parts, bytes) {
+        Some(found) => {
+            *scan = found;
+            0
+        }
+        None => Refusal::SmallBuffer.number(),
+    }
 }

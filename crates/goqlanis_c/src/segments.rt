@@ -7,13 +7,13 @@ use goqlanis_buffers::segments::{Segment, encode_segments, least_version};
 use goqlanis_buffers::symbols::Symbol;
 use std::alloc::Global;
 
-/// The symbol of segments, one behind the other, of a version and level of these numbers: its modules
-/// row by row, 1 for a dark one, at the beginning of `modules`, and what it is beside them.
+/// The symbol of segments, one behind the other, of a version and level of these numbers: its
+/// modules row by row, 1 for a dark one, at the beginning of `modules`, and what it is beside them.
 ///
 /// 0, or the number of a `Refusal`, of which the first that applies is reported: `NoSuchLevel`,
-/// `NoSuchVersion`, `LevelNotInVersion`; of each segment in order `NoSuchKind`, `NotInMode`, `NoMode`,
-/// `NoSuchNumber`, `NoRoom`; then `NoRoom`, `SmallBuffer`; or `OutOfMemory`. Then the outputs are as
-/// they were.
+/// `NoSuchVersion`, `LevelNotInVersion`; of each segment in order `NoSuchKind`, `NotInMode`,
+/// `NoMode`, `NoSuchNumber`, `NoRoom`; then `NoRoom`, `SmallBuffer`; or `OutOfMemory`. Then the
+/// outputs are as they were.
 #[unsafe(no_mangle)]
 pub extern "C" fn goq_encode_segments(
     alloc: Global,
@@ -33,8 +33,8 @@ pub extern "C" fn goq_encode_segments(
 /// The number of the least Normal version that holds segments, one behind the other, at a level, to
 /// `version`.
 ///
-/// 0, or the number of a `Refusal`: `NoSuchLevel`; of each segment in order `NoSuchKind`, `NotInMode`,
-/// `NoSuchNumber`; `NoRoom`; or `OutOfMemory`. Then `version` is as it was.
+/// 0, or the number of a `Refusal`: `NoSuchLevel`; of each segment in order `NoSuchKind`,
+/// `NotInMode`, `NoSuchNumber`; `NoRoom`; or `OutOfMemory`. Then `version` is as it was.
 #[unsafe(no_mangle)]
 pub extern "C" fn goq_least_version_of_segments(
     alloc: Global,

@@ -12,8 +12,8 @@ use goqlanis_buffers::names::version_named;
 use qrcode::canvas;
 use std::alloc::Global;
 
-/// The modules along a side of a version of a number, 1 to 40 for Normal, 41 to 44 for Micro; 0 where
-/// there is no such version.
+/// The modules along a side of a version of a number, 1 to 40 for Normal, 41 to 44 for Micro; 0
+/// where there is no such version.
 #[unsafe(no_mangle)]
 pub extern "C" fn goq_width(version: u32) -> u32
     ensures value { IfSome (version_named version) (λ v. result ≡ side v) }
@@ -46,8 +46,8 @@ pub extern "C" fn goq_is_functional(version: u32, x: u32, y: u32) -> bool
 
 /// The number of the least Normal version that holds bytes at a level, to `version`.
 ///
-/// 0, or the number of a `Refusal`: `NoSuchLevel`, `NoRoom` or `OutOfMemory`. Then `version` is as it
-/// was.
+/// 0, or the number of a `Refusal`: `NoSuchLevel`, `NoRoom` or `OutOfMemory`. Then `version` is as
+/// it was.
 #[unsafe(no_mangle)]
 pub extern "C" fn goq_least_version(
     alloc: Global,

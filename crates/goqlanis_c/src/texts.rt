@@ -9,12 +9,12 @@ use goqlanis_buffers::texts::encode_text;
 use qrcode::bits::Manner;
 use std::alloc::Global;
 
-/// The symbol of a text in UTF-8 at a level, of the least Normal version that holds it: its modules as
-/// `goq_encode` writes them. Readers show the text, where they take bytes for UTF-8; for readers that
-/// guess there is `goq_encode_marked_text`.
+/// The symbol of a text in UTF-8 at a level, of the least Normal version that holds it: its modules
+/// as `goq_encode` writes them. Readers show the text, where they take bytes for UTF-8; for readers
+/// that guess there is `goq_encode_marked_text`.
 ///
-/// 0, or the number of a `Refusal`, of which the first that applies is reported: `NoSuchLevel`, `NotText`,
-/// `NoRoom`, `SmallBuffer`; or `OutOfMemory`. Then the outputs are as they were.
+/// 0, or the number of a `Refusal`, of which the first that applies is reported: `NoSuchLevel`,
+/// `NotText`, `NoRoom`, `SmallBuffer`; or `OutOfMemory`. Then the outputs are as they were.
 #[unsafe(no_mangle)]
 pub extern "C" fn goq_encode_text(
     alloc: Global,

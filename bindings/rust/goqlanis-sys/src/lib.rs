@@ -29,16 +29,18 @@ constants! { u32, "What a call answers.";
     GOQ_FIELD_CHARACTER = 38, GOQ_FIELD_CHECK_DIGITS = 39, GOQ_FIELD_RANGE = 40,
     GOQ_FIELD_UNUSED = 41, GOQ_NO_SUCH_IDENTIFIER = 42, GOQ_ELEMENT_LENGTH = 43,
     GOQ_FIELD_DECIMALS = 44, GOQ_FIELD_WORD = 45, GOQ_NO_AREA = 46, GOQ_AREA_BLOCK = 47,
-    GOQ_AREA_FORMAT = 48 }
+    GOQ_AREA_FORMAT = 48, GOQ_NOT_PICTURE = 49, GOQ_BROKEN_PICTURE = 50, GOQ_NO_SQUARE = 51,
+    GOQ_LARGE_PICTURE = 52 }
 constants! { u32, "Error correction levels.";
     GOQ_L = 0, GOQ_M = 1, GOQ_Q = 2, GOQ_H = 3 }
 constants! { u32, "Formats of drawings.";
     GOQ_HALF_BLOCKS = 0, GOQ_LIGHT_HALF_BLOCKS = 1, GOQ_SVG = 2, GOQ_PIC = 3, GOQ_GREY = 4,
     GOQ_PNG = 5, GOQ_EPS = 6, GOQ_PBM = 7, GOQ_SVG_PATH = 8, GOQ_PGM = 9, GOQ_PDF = 10,
-    GOQ_ZPL = 11, GOQ_TSPL = 12, GOQ_ESC_POS = 13, GOQ_XBM = 14, GOQ_PPM = 15, GOQ_FORMATS = 16 }
+    GOQ_ZPL = 11, GOQ_TSPL = 12, GOQ_ESC_POS = 13, GOQ_XBM = 14, GOQ_PPM = 15, GOQ_ASCII = 16,
+    GOQ_FORMATS = 17 }
 constants! { u32, "What a segment is.";
     GOQ_NUMERIC = 0, GOQ_ALPHANUMERIC = 1, GOQ_BYTES = 2, GOQ_KANJI = 3, GOQ_ECI = 4,
-    GOQ_FNC1_FIRST = 5, GOQ_FNC1_SECOND = 6 }
+    GOQ_FNC1_FIRST = 5, GOQ_FNC1_SECOND = 6, GOQ_ONE_OF_SEVERAL = 7 }
 constants! { u32, "Kinds of payload.";
     GOQ_WIFI = 0, GOQ_MECARD = 1, GOQ_VCARD = 2, GOQ_PAYMENT = 3, GOQ_BILL = 4, GOQ_MAIL = 5,
     GOQ_GEO = 6, GOQ_TEL = 7, GOQ_SMS = 8, GOQ_OTP = 9, GOQ_EVENT = 10, GOQ_UPI = 11, GOQ_PIX = 12,
@@ -101,6 +103,8 @@ constants! { u32, "The position of a symbol.";
     GOQ_UPRIGHT = 0, GOQ_TURNED_LEFT = 1, GOQ_UPSIDE_DOWN = 2, GOQ_TURNED_RIGHT = 3,
     GOQ_MIRRORED = 4, GOQ_FLIPPED = 5, GOQ_TRANSPOSED = 6, GOQ_ANTITRANSPOSED = 7,
     GOQ_INVERTED = 8 }
+constants! { usize, "This many are enough for the parts of a code.";
+    GOQ_PARTS_MAX = 5912 }
 constants! { usize, "This many numbers are enough for the blocks of every symbol.";
     GOQ_BLOCKS_MAX = 81 }
 /// What a `goq_options` begins with.
@@ -112,6 +116,9 @@ pub const GOQ_SEVERAL: goq_several = goq_several { size: core::mem::size_of::<go
 /// What a `goq_drawing` begins with.
 pub const GOQ_DRAWING: goq_drawing = goq_drawing { size: core::mem::size_of::<goq_drawing>() as u32,
     format: GOQ_PNG, zone: 4, scale: 8, dark: 0x000000, light: 0xffffff, dpi: 0 };
+/// What a `goq_scan` begins with.
+pub const GOQ_SCAN: goq_scan = goq_scan { size: core::mem::size_of::<goq_scan>() as u32, codes: 0,
+    parts: 0, length: 0 };
 /// What a `goq_wish` begins with.
 pub const GOQ_WISH: goq_wish = goq_wish { size: core::mem::size_of::<goq_wish>() as u32, across: 1,
     down: 1, reserve: GOQ_HALF, keep_alignment: 0 };
@@ -167,7 +174,11 @@ pub const fn goq_strerror(answer: u32) -> &'static str {
         45 => "the field is not one of the words that it may be",
         46 => "no area in the middle leaves so much: take a higher level or less reserve",
         47 => "the area touches more codewords of a block than may be lost: take less",
-        48 => "the area has more than three modules of a copy of the format word: move it",
+        48 => "the area has over three modules of a copy of the format word: move it",
+        49 => "it is no PNG, PBM or PGM file and no half blocks: convert it to PNG",
+        50 => "the picture is cut off, damaged, interlaced or too wide: save it anew",
+        51 => "the picture shows no code, in an even margin or by finder patterns",
+        52 => "the picture is more than 67,108,864 bytes: cut it into smaller ones",
         _ => "no answer of this library",
     }
 }
@@ -312,6 +323,50 @@ pub struct goq_any_reading {
     pub reading: goq_reading,
     /// The position.
     pub position: u32,
+}
+
+/// A header or a segment of a code that is read. What it lacks is 0.
+#[repr(C)]
+#[derive(Clone, Copy, Debug, PartialEq, Eq, Default)]
+pub struct goq_part {
+    /// GOQ_NUMERIC .. GOQ_FNC1_SECOND as of a goq_segment, or GOQ_ONE_OF_SEVERAL.
+    pub kind: u32,
+    /// Of GOQ_ECI the character set, of GOQ_FNC1_SECOND the application: two digits as their
+    /// number, a letter as its code and 100; of GOQ_ONE_OF_SEVERAL the parity of the data of all.
+    pub number: u32,
+    /// Of GOQ_ONE_OF_SEVERAL: which it is, from 0 on.
+    pub place: u32,
+    /// And how many they are.
+    pub symbols: u32,
+    /// Of a segment: how many bytes it has; after FNC1 two percent signs of GOQ_ALPHANUMERIC are
+    /// one byte of the data.
+    pub length: usize,
+}
+
+/// A code of a picture, apart from its parts and bytes.
+#[repr(C)]
+#[derive(Clone, Copy, Debug, PartialEq, Eq, Default)]
+pub struct goq_code {
+    /// The reading.
+    pub reading: goq_reading,
+    /// How it stands in the picture.
+    pub position: u32,
+    /// How many parts it has.
+    pub parts: usize,
+}
+
+/// How much is read of a picture. Begin with GOQ_SCAN.
+#[repr(C)]
+#[derive(Clone, Copy, Debug, PartialEq, Eq, Default)]
+pub struct goq_scan {
+    /// Sizeof(goq_scan).
+    pub size: u32,
+    /// The codes.
+    pub codes: usize,
+    /// Those of all codes.
+    pub parts: usize,
+    /// The bytes of all codes.
+    pub length: usize,
 }
 
 /// A square of modules, as goq_read takes it.
@@ -460,6 +515,16 @@ extern "C" {
     /// The number of the mask that the format word of a square names: 0 to 7, in Micro 0 to 3.
     /// GOQ_NO_SUCH_SIDE, GOQ_NO_FORMAT; GOQ_OUT_OF_MEMORY.
     pub fn goq_mask(modules: *const u8, modules_length: usize, mask: *mut u32) -> u32;
+    /// Decodes the codes of a picture, a PNG, PBM or PGM file or half blocks: the one in an even
+    /// margin, or those between finder patterns, from the top down, and from the left where they
+    /// stand side by side. What each is goes to the beginning of `codes`, its headers and segments
+    /// to that of `parts` after those of the code before, its bytes so to `bytes`, and how many
+    /// these are to `scan`, of which only the size is read. After FNC1 a separator (byte 29) stands
+    /// between elements. For each code GOQ_PARTS_MAX parts and GOQ_BYTES_MAX bytes are enough.
+    /// GOQ_NO_SUCH_STRUCT, GOQ_LARGE_PICTURE, GOQ_NOT_PICTURE, GOQ_BROKEN_PICTURE, GOQ_NO_SQUARE;
+    /// of a square that is not read GOQ_NO_SUCH_SIDE, GOQ_NO_FORMAT, GOQ_DAMAGED, GOQ_NOT_SPELLED;
+    /// GOQ_SMALL_BUFFER; GOQ_OUT_OF_MEMORY.
+    pub fn goq_read_picture(picture: *const u8, picture_length: usize, codes: *mut goq_code, codes_length: usize, parts: *mut goq_part, parts_length: usize, bytes: *mut u8, bytes_length: usize, scan: *mut goq_scan) -> u32;
     /// Joins the data of several symbols, whose squares may come in any order. It goes to the
     /// beginning of `out`, and its length to `count`. GOQ_SEVERAL_MAX \* GOQ_BYTES_MAX bytes are
     /// always enough. For the first square that is no part GOQ_NO_SUCH_SIDE, GOQ_NO_FORMAT,

@@ -19,11 +19,12 @@ use std::ops::{Index, Not};
 
 pub mod areas;
 pub mod contents;
+pub mod logos;
 pub mod reading;
 pub mod render;
 pub mod several;
 
-pub use reading::{read, read_any, read_text, Position, Reading, Unread};
+pub use reading::{read, read_any, read_picture, read_text, Code, Part, Position, Reading, Unread};
 
 /// Why no symbol is made.
 #[derive(Clone, Copy, Debug, PartialEq, Eq)]
@@ -282,6 +283,7 @@ pub struct QrCode {
     version: Version,
     ec_level: EcLevel,
     width: usize,
+    logo: Option<logos::Logo>,
 }
 
 impl QrCode {
@@ -416,7 +418,7 @@ impl QrCode {
 
     fn named(modules: Vec<u8>, known: sys::goq_symbol) -> Self {
         let (version, ec_level) = (Version::named(known.version), EcLevel::named(known.level));
-        QrCode { modules, version, ec_level, width: known.width as usize }
+        QrCode { modules, version, ec_level, width: known.width as usize, logo: None }
     }
 
     /// The version.
@@ -467,7 +469,7 @@ impl QrCode {
 
     /// A renderer, with a quiet zone of four modules, or of two for Micro.
     pub fn render<P: render::Pixel>(&self) -> render::Renderer<'_, P> {
-        render::Renderer::new(&self.modules, self.width, if self.version.is_micro() { 2 } else { 4 })
+        render::Renderer::new(self, if self.version.is_micro() { 2 } else { 4 })
     }
 }
 

@@ -1,4 +1,4 @@
-//! Squares of modules read back.
+//! Squares of modules and pictures read back.
 use crate::{Color, EcLevel, Version};
 use goqlanis_sys as sys;
 use std::fmt;
@@ -18,18 +18,30 @@ pub enum Unread {
     NotShown,
     /// The square is read in none of the sixteen positions.
     NotRead,
+    /// It is no PNG, PBM or PGM file and no half blocks.
+    NotPicture,
+    /// The picture is cut off, damaged, interlaced or too wide.
+    BrokenPicture,
+    /// The picture shows no code.
+    NoSquare,
+    /// The picture is more than 67,108,864 bytes.
+    LargePicture,
     /// Memory was refused.
     OutOfMemory,
 }
 
 // The causes, by the answers of the library.
-const CAUSES: [(u32, Unread); 6] = [
+const CAUSES: [(u32, Unread); 10] = [
     (sys::GOQ_NO_SUCH_SIDE, Unread::NoSuchSide),
     (sys::GOQ_NO_FORMAT, Unread::NoFormat),
     (sys::GOQ_DAMAGED, Unread::Damaged),
     (sys::GOQ_NOT_SPELLED, Unread::NotSpelled),
     (sys::GOQ_NOT_SHOWN, Unread::NotShown),
     (sys::GOQ_NOT_READ, Unread::NotRead),
+    (sys::GOQ_NOT_PICTURE, Unread::NotPicture),
+    (sys::GOQ_BROKEN_PICTURE, Unread::BrokenPicture),
+    (sys::GOQ_NO_SQUARE, Unread::NoSquare),
+    (sys::GOQ_LARGE_PICTURE, Unread::LargePicture),
 ];
 
 impl fmt::Display for Unread {
@@ -108,6 +120,118 @@ pub fn read_text(colors: &[Color]) -> Result<String, Unread> {
         data.truncate(known.length);
         String::from_utf8(data).expect("the library writes UTF-8")
     })
+}
+
+/// A header or a segment of a code. Of a segment it says how many bytes it has.
+#[derive(Clone, Copy, Debug, PartialEq, Eq)]
+pub enum Part {
+    /// Digits.
+    Numeric(usize),
+    /// Digits, capitals, the space and `$%*+-./:`. Behind FNC1 two percent signs are one byte of the
+    /// data.
+    Alphanumeric(usize),
+    /// Any bytes.
+    Byte(usize),
+    /// Pairs of bytes of Shift JIS.
+    Kanji(usize),
+    /// The number of the character set of what follows.
+    Eci(u32),
+    /// FNC1 in the first position, as GS1 wants it.
+    Fnc1First,
+    /// FNC1 in the second position, with the indicator of the application: two digits as their
+    /// number, a letter as its code and 100.
+    Fnc1Second(u8),
+    /// The symbol is one of several.
+    OneOfSeveral {
+        /// Which it is, from 0 on.
+        place: u32,
+        /// How many they are.
+        symbols: u32,
+        /// The parity of the data of all.
+        parity: u8,
+    },
+}
+
+impl Part {
+    fn named(known: &sys::goq_part) -> Part {
+        match known.kind {
+            sys::GOQ_NUMERIC => Part::Numeric(known.length),
+            sys::GOQ_ALPHANUMERIC => Part::Alphanumeric(known.length),
+            sys::GOQ_BYTES => Part::Byte(known.length),
+            sys::GOQ_KANJI => Part::Kanji(known.length),
+            sys::GOQ_ECI => Part::Eci(known.number),
+            sys::GOQ_FNC1_FIRST => Part::Fnc1First,
+            sys::GOQ_FNC1_SECOND => Part::Fnc1Second(known.number as u8),
+            _ => Part::OneOfSeveral {
+                place: known.place,
+                symbols: known.symbols,
+                parity: known.number as u8,
+            },
+        }
+    }
+}
+
+/// A code that a picture shows.
+#[derive(Clone, Debug, PartialEq, Eq)]
+pub struct Code {
+    /// What it says.
+    pub reading: Reading,
+    /// How it stands in the picture.
+    pub position: Position,
+    /// Its headers and segments in order.
+    pub parts: Vec<Part>,
+}
+
+/// The codes of a picture, which is a PNG, PBM or PGM file or half blocks: the one in an even margin,
+/// or those between finder patterns, from the top down, and from the left where they stand side by
+/// side.
+///
+/// ```
+/// use goqlanis::{read_picture, render::png, Part, QrCode};
+///
+/// let file = QrCode::new(b"01234567")?.render::<png::Color>().build();
+/// let codes = read_picture(&file)?;
+/// assert_eq!(codes[0].reading.data, b"01234567");
+/// assert_eq!(codes[0].parts, [Part::Numeric(8)]);
+/// # Ok::<(), Box<dyn std::error::Error>>(())
+/// ```
+pub fn read_picture(picture: &[u8]) -> Result<Vec<Code>, Unread> {
+    let mut room = 4;
+    loop {
+        let mut codes = vec![sys::goq_code::default(); room];
+        let mut parts = vec![sys::goq_part::default(); room * sys::GOQ_PARTS_MAX];
+        let mut bytes = vec![0; room * sys::GOQ_BYTES_MAX];
+        let mut scan = sys::GOQ_SCAN;
+        // SAFETY: the lengths are those of the buffers.
+        let answer = unsafe {
+            let (all, count) = (codes.as_mut_ptr(), codes.len());
+            let (headed, items) = (parts.as_mut_ptr(), parts.len());
+            let (out, length) = (bytes.as_mut_ptr(), bytes.len());
+            let (given, size) = (picture.as_ptr(), picture.len());
+            sys::goq_read_picture(given, size, all, count, headed, items, out, length, &mut scan)
+        };
+        match answer {
+            sys::GOQ_OK => return Ok(codes_of(&codes[..scan.codes], &parts, &bytes)),
+            sys::GOQ_SMALL_BUFFER => room *= 8,
+            answer => return Err(unread(answer)),
+        }
+    }
+}
+
+// Codes, whose parts and bytes stand one behind the other.
+fn codes_of(codes: &[sys::goq_code], parts: &[sys::goq_part], bytes: &[u8]) -> Vec<Code> {
+    let (mut parts, mut bytes) = (parts, bytes);
+    let mut of = |code: &sys::goq_code| {
+        let (own, rest) = parts.split_at(code.parts);
+        let (data, behind) = bytes.split_at(code.reading.length);
+        (parts, bytes) = (rest, behind);
+        Code {
+            reading: Reading::named(data.to_vec(), code.reading),
+            position: Position(code.position),
+            parts: own.iter().map(Part::named).collect(),
+        }
+    };
+    codes.iter().map(&mut of).collect()
 }
 
 /// How a symbol stands in a square: by a quarter turned to the left so many times, up to 3; 4 with left

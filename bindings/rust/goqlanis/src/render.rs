@@ -1,4 +1,6 @@
 //! Pictures of a symbol: characters, half blocks, SVG, PIC, EPS, PNG, PBM, PGM, rows of grey pixels and more, drawn by the library.
+use crate::logos::Logo;
+use crate::QrCode;
 use goqlanis_sys as sys;
 use std::fmt;
 
@@ -53,13 +55,14 @@ pub struct Renderer<'a, P> {
     dark: P,
     light: P,
     dpi: u32,
+    logo: Option<&'a Logo>,
 }
 
 impl<'a, P: Pixel> Renderer<'a, P> {
-    pub(crate) fn new(modules: &'a [u8], width: usize, zone: u32) -> Self {
+    pub(crate) fn new(code: &'a QrCode, zone: u32) -> Self {
         Renderer {
-            modules,
-            width,
+            modules: &code.modules,
+            width: code.width,
             zone,
             whole_zone: zone,
             across: P::SIZE,
@@ -67,6 +70,7 @@ impl<'a, P: Pixel> Renderer<'a, P> {
             dark: P::default_color(true),
             light: P::default_color(false),
             dpi: 0,
+            logo: code.logo.as_ref(),
         }
     }
 
@@ -202,8 +206,9 @@ pub use grey::Luma;
 // A format of red, green and blue, from 0 to 255.
 macro_rules! colour_format {
     ($about:literal, $module:ident, $number:ident) => {
+        #[doc = $about]
         pub mod $module {
-            #[doc = $about]
+            /// Red, green and blue, each from 0 to 255.
             #[derive(Clone, Copy, Debug, PartialEq, Eq)]
             pub struct Color(pub [u8; 3]);
         }
@@ -223,17 +228,17 @@ macro_rules! colour_format {
 }
 
 // From goqlanis.h, by bindings/same:
-colour_format!("a PDF file of one page, a point a pixel", pdf, GOQ_PDF);
-file_format!("ZPL II text for label printers, a dot a pixel", zpl::Dot, String, 8, GOQ_ZPL, text);
-file_format!("TSPL commands for label printers, a dot a pixel", tspl::Dot, Vec<u8>, 8, GOQ_TSPL, plain);
-file_format!("ESC/POS raster for receipt printers, at most 65,535 dots a side", escpos::Dot, Vec<u8>, 8, GOQ_ESC_POS, plain);
-file_format!("XBM text", xbm::Dot, String, 8, GOQ_XBM, text);
-colour_format!("a PPM file, three bytes a pixel", ppm, GOQ_PPM);
+colour_format!("A PDF file of one page, a point a pixel.", pdf, GOQ_PDF);
+file_format!("ZPL II text for label printers, a dot a pixel.", zpl::Dot, String, 8, GOQ_ZPL, text);
+file_format!("TSPL commands for label printers, a dot a pixel.", tspl::Dot, Vec<u8>, 8, GOQ_TSPL, plain);
+file_format!("ESC/POS raster for receipt printers, at most 65,535 dots a side.", escpos::Dot, Vec<u8>, 8, GOQ_ESC_POS, plain);
+file_format!("XBM text.", xbm::Dot, String, 8, GOQ_XBM, text);
+colour_format!("A PPM file, three bytes a pixel.", ppm, GOQ_PPM);
 // Up to here.
 
-// A format of SVG, whose colours are texts.
+// A format of SVG, whose colours are texts, and the units of its view that a module of so many pixels has.
 macro_rules! svg_format {
-    ($about:literal, $module:ident, $number:ident) => {
+    ($about:literal, $module:ident, $number:ident, $unit:expr) => {
         #[doc = $about]
         pub mod $module {
             #[doc = $about]
@@ -248,14 +253,19 @@ macro_rules! svg_format {
                 $module::Color(if is_dark { "#000" } else { "#fff" })
             }
             fn picture(renderer: &Renderer<'_, Self>) -> Result<String, RenderError> {
-                Ok(filled(&renderer.text(sys::$number)?, renderer.dark.0, renderer.light.0))
+                let text = filled(&renderer.text(sys::$number)?, renderer.dark.0, renderer.light.0);
+                let (zone, unit) = (renderer.zone as usize, $unit(renderer.across as usize));
+                Ok(match renderer.logo {
+                    Some(logo) => logo.over(&text, zone, unit),
+                    None => text,
+                })
             }
         }
     };
 }
 
-svg_format!("A colour of an SVG text, as CSS has it: `svg::Color(\"#800000\")`, `svg::Color(\"navy\")`.", svg, GOQ_SVG);
-svg_format!("A colour of an SVG text of one path, as CSS has it.", svg_path, GOQ_SVG_PATH);
+svg_format!("A colour of an SVG text, as CSS has it: `svg::Color(\"#800000\")`, `svg::Color(\"navy\")`.", svg, GOQ_SVG, |pixels| pixels);
+svg_format!("A colour of an SVG text of one path, as CSS has it.", svg_path, GOQ_SVG_PATH, |_| 1);
 
 // A black and white SVG text in other colours.
 fn filled(text: &str, dark: &str, light: &str) -> String {

@@ -1,6 +1,9 @@
 use goqlanis::render::{eps, pbm, pgm, pic, png, svg, svg_path, unicode, Luma, RenderError};
 use goqlanis::several::{encode_several, join, Several, Unjoined};
-use goqlanis::{read, read_any, read_text, Color, EcLevel, Options, QrCode, QrError, Segment, Unread};
+use goqlanis::areas::{Excess, Rectangle};
+use goqlanis::logos::{LogoError, LogoOptions};
+use goqlanis::{read, read_any, read_picture, read_text, Color, EcLevel, Options, Part, Position};
+use goqlanis::{QrCode, QrError, Segment, Unread};
 use goqlanis::{Version, Writing};
 
 #[test]
@@ -168,4 +171,66 @@ fn readings() {
     assert_eq!(read_text(&bytes.to_colors()).unwrap_err(), Unread::NotShown);
     let header = QrCode::with_segments(&[Segment::Fnc1First, Segment::Numeric(b"0109501101530003")], Version::Normal(1), EcLevel::M).unwrap();
     assert_eq!(read(&header.to_colors()).unwrap_err(), Unread::NotSpelled);
+}
+
+// Two symbols side by side, and one below the first, in a picture of their own.
+#[test]
+fn codes_of_pictures() {
+    let squares: Vec<_> = ["left", "right", "below"]
+        .iter()
+        .map(|data| QrCode::new(data).unwrap().render::<Luma>().module_size(3).build())
+        .collect();
+    let (side, white) = (29 * 3, vec![255; 29 * 3]);
+    let mut file = format!("P5 {} {} 255\n", 2 * side, 2 * side).into_bytes();
+    for y in 0..side {
+        let rows = y * side..(y + 1) * side;
+        file.extend_from_slice(&squares[0][rows.clone()]);
+        file.extend_from_slice(&squares[1][rows]);
+    }
+    for y in 0..side {
+        file.extend_from_slice(&squares[2][y * side..(y + 1) * side]);
+        file.extend_from_slice(&white);
+    }
+    let codes = read_picture(&file).unwrap();
+    let data: Vec<_> = codes.iter().map(|code| code.reading.data.as_slice()).collect();
+    assert_eq!(data, [&b"left"[..], b"right", b"below"]);
+    assert!(codes.iter().all(|code| code.position == Position(0) && code.reading.wrong == 0));
+    assert_eq!(codes[1].parts, [Part::Byte(5)]);
+    assert_eq!(read_picture(b"hello").unwrap_err(), Unread::NotPicture);
+    assert_eq!(read_picture(b"P1 2 2 0 0 0").unwrap_err(), Unread::BrokenPicture);
+    assert_eq!(read_picture(b"P1 2 2 0 0 0 0").unwrap_err(), Unread::NoSquare);
+    assert_eq!(read_picture(&vec![0; (1 << 26) + 1]).unwrap_err(), Unread::LargePicture);
+}
+
+#[test]
+fn parts_of_codes() {
+    let parts = [Segment::Eci(9), Segment::Byte(b"a"), Segment::Fnc1Second(37), Segment::Alphanumeric(b"A%%")];
+    let code = QrCode::with_segments(&parts, Version::Normal(2), EcLevel::M).unwrap();
+    let found = read_picture(&code.render::<png::Color>().build()).unwrap();
+    let wanted = [Part::Eci(9), Part::Byte(1), Part::Fnc1Second(37), Part::Alphanumeric(3)];
+    assert_eq!((found[0].parts.as_slice(), found[0].reading.data.as_slice()), (&wanted[..], &b"aA%"[..]));
+    let two = Several { count: Some(2), ..Several::default() };
+    let second = &encode_several("12", &two).unwrap()[1];
+    let found = read_picture(second.render::<unicode::Dense1x2>().build().as_bytes()).unwrap();
+    let parity = b'1' ^ b'2';
+    assert_eq!(found[0].parts, [Part::OneOfSeveral { place: 1, symbols: 2, parity }, Part::Numeric(1)]);
+}
+
+#[test]
+fn logos() {
+    let code = QrCode::with_error_correction_level("01234567", EcLevel::H).unwrap();
+    let logo = br#"<svg xmlns="http://www.w3.org/2000/svg" viewBox="0 0 1 1"/>"#;
+    let area = Some(Rectangle { left: 9, top: 9, width: 3, height: 3 });
+    let covered = code.with_logo(logo, &LogoOptions { area, ..LogoOptions::default() }).unwrap();
+    // The module in the middle, with a margin of one, behind a quiet zone of four.
+    let path = covered.render::<svg_path::Color>().build();
+    assert!(path.contains(r#"<image x="14" y="14" width="1" height="1" href="data:image/svg+xml;base64,PHN2Zy"#));
+    let text = covered.render::<svg::Color>().module_size(2).quiet_zone(false).build();
+    assert!(text.contains(r#"<image x="20" y="20" width="2" height="2" href="#) && text.ends_with("/></svg>"));
+    assert_eq!(covered.render::<Luma>().build(), code.with_area(&[area.unwrap()]).unwrap().render::<Luma>().build());
+    assert_eq!(read(&covered.to_colors()).unwrap().data, b"01234567");
+    assert!(code.with_logo(b"\x89PNG\r\n\x1a\n\0\0\0\x0dIHDR\0\0\0\x10\0\0\0\x09\x08", &LogoOptions::default()).is_ok());
+    assert_eq!(code.with_logo(b"GIF89a", &LogoOptions::default()).unwrap_err(), LogoError::NoSides);
+    let outside = LogoOptions { area: Some(Rectangle { left: 20, top: 0, width: 2, height: 1 }), ..LogoOptions::default() };
+    assert_eq!(code.with_logo(logo, &outside).unwrap_err(), LogoError::Area(Excess::Outside));
 }

@@ -1,5 +1,5 @@
 -- The fields that C gives.
-use Rattle.std.specs.Prelude.{◌≡◌, ℕ, ◌<◌, nat_lt, Bool, List, [], Option, Some, None, Result, Ok, Err, slice_get, unwrap_or, if◌then◌else◌}
+use Rattle.std.specs.Prelude.{◌≡◌, ℕ, ◌<◌, nat_lt, List, [], Option, Some, None, Result, Ok, Err, slice_get, unwrap_or, if◌then◌else◌}
 use Rattle.std.specs.Option.{option_map}
 use Rattle.std.specs.Str.{is_utf8}
 use Rattle.qrcode_contents.specs.declared.fields.errors.Field.{Field}

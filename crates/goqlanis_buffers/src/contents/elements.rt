@@ -31,7 +31,8 @@ pub struct Part<'a> {
 
 /// Writes the string of elements at the beginning of a buffer, and answers its length.
 ///
-/// An error is `NotText`, `NotElement`, `SmallBuffer` or `OutOfMemory`. Then the buffer is as it was.
+/// An error is `NotText`, `NotElement`, `SmallBuffer` or `OutOfMemory`. Then the buffer is as it
+/// was.
 pub fn write_elements(alloc: Global, parts: &[Part<'_>], out: &mut [u8]) -> Result<usize, Refusal>
     ensures made { IfOk result (IsStringIn parts.now out.old out.new) }
     ensures unchanged { OnErr result (out.new ≡ out.old) }
@@ -48,8 +49,8 @@ pub fn write_elements(alloc: Global, parts: &[Part<'_>], out: &mut [u8]) -> Resu
     Ok(bytes.len())
 }
 
-/// Writes the symbol of elements that options ask for at the beginning of a buffer, and answers what
-/// it is beside its modules. Manner and boost are not looked at.
+/// Writes the symbol of elements that options ask for at the beginning of a buffer, and answers
+/// what it is beside its modules. Manner and boost are not looked at.
 ///
 /// An error is `NoSymbol`, `NotText`, `NotElement` or `OutOfMemory`. Then the buffer is as it was.
 pub fn encode_elements(

@@ -1,4 +1,4 @@
-use Rattle.std.proofs.Common.{rules, length, refl, sym, subst, arith}
+use Rattle.std.proofs.Common.{rules, refl, sym, subst}
 use Rattle.qrcode_area.specs.Reserves.{IsLeast}
 use Rattle.goqlanis_buffers.proofs.Covered.{taken}
 use Rattle.goqlanis_buffers.proofs.areas.made_of.Goals as goal

@@ -1,0 +1,188 @@
+/* Pictures that are read: each format, several codes in order, headers by their places, every answer, the first of two causes, and outputs untouched on each
+   refusal. */
+#define _GNU_SOURCE
+#include "goqlanis.h"
+#include <stdio.h>
+#include <stdlib.h>
+#include <sys/mman.h>
+#include <unistd.h>
+
+static uint8_t modules[3 * GOQ_MODULES_MAX], file[1000000], pixels[3][1000000], picture[3000000];
+static goq_symbol symbol;
+static size_t count;
+static int wrong;
+static struct outputs {
+    goq_code codes[4];
+    goq_part parts[40];
+    uint8_t bytes[400];
+    goq_scan scan;
+} outputs, before;
+
+static void expect(int holds, const char *what)
+{
+    if (!holds) {
+        printf("WRONG: %s\n", what);
+        wrong++;
+    }
+}
+
+/* Reads bytes into buffers that are marked, but for the size of the struct. */
+static uint32_t scanned(const void *bytes, size_t length)
+{
+    memset(&outputs, 7, sizeof outputs);
+    outputs.scan.size = sizeof outputs.scan;
+    before = outputs;
+    return goq_read_picture(bytes, length, outputs.codes, 4, outputs.parts, 40, outputs.bytes, sizeof outputs.bytes, &outputs.scan);
+}
+
+static int refuses(const void *bytes, size_t length, uint32_t answer)
+{
+    return scanned(bytes, length) == answer && !memcmp(&outputs, &before, sizeof outputs);
+}
+
+/* The codes, parts and bytes are as many, what they say is in order, and nothing is written behind them. */
+static int says(size_t codes, size_t parts, const char *data)
+{
+    const goq_scan *s = &outputs.scan;
+    const size_t length = strlen(data);
+    return s->size == sizeof *s && s->codes == codes && s->parts == parts && s->length == length && !memcmp(outputs.bytes, data, length)
+        && !memcmp(outputs.codes + codes, before.codes + codes, (4 - codes) * sizeof(goq_code))
+        && !memcmp(outputs.parts + parts, before.parts + parts, (40 - parts) * sizeof(goq_part))
+        && !memcmp(outputs.bytes + length, before.bytes + length, sizeof outputs.bytes - length);
+}
+
+static int is_part(size_t at, uint32_t kind, uint32_t number, uint32_t place, uint32_t symbols, size_t length)
+{
+    const goq_part p = outputs.parts[at];
+    return p.kind == kind && p.number == number && p.place == place && p.symbols == symbols && p.length == length;
+}
+
+static size_t drawn(const uint8_t *square, uint32_t width, uint32_t scale, uint32_t format)
+{
+    return goq_draw(square, width * width, width, 4, scale, format, file, sizeof file, &count) ? 0 : count;
+}
+
+static void formats(void)
+{
+    static const uint32_t kinds[] = {GOQ_HALF_BLOCKS, GOQ_LIGHT_HALF_BLOCKS, GOQ_PNG, GOQ_PBM, GOQ_PGM};
+    for (size_t i = 0; i < sizeof kinds / sizeof *kinds; i++) {
+        goq_encode("01234567", 8, GOQ_H, modules, sizeof modules, &symbol);
+        modules[440] ^= 1; /* damage that can be corrected */
+        const size_t length = drawn(modules, 21, kinds[i] <= GOQ_LIGHT_HALF_BLOCKS ? 1 : 3, kinds[i]);
+        const goq_code *found = outputs.codes;
+        uint32_t mask;
+        expect(!scanned(file, length) && says(1, 1, "01234567") && is_part(0, GOQ_NUMERIC, 0, 0, 0, 8), "what it says");
+        expect(found->reading.version == 1 && found->reading.level == GOQ_H && found->reading.wrong == 1 && found->reading.length == 8 && found->parts == 1, "what it is");
+        expect(!goq_mask(modules, 441, &mask) && found->reading.mask == mask, "its mask");
+        expect(found->position == (kinds[i] == GOQ_LIGHT_HALF_BLOCKS ? GOQ_INVERTED : GOQ_UPRIGHT), "its position");
+    }
+}
+
+static uint32_t read_segments(const goq_segment *parts, size_t length)
+{
+    if (goq_encode_segments(parts, length, 2, GOQ_M, modules, sizeof modules, &symbol))
+        return 99;
+    return scanned(file, drawn(modules, 25, 2, GOQ_PNG));
+}
+
+static void headers(void)
+{
+    const goq_segment digits = {GOQ_NUMERIC, 0, "0123", 4}, set[] = {{GOQ_ECI, 7, 0, 0}, {GOQ_BYTES, 0, "ab", 2}, {GOQ_ECI, 899, 0, 0}, digits};
+    const goq_segment gs1[] = {{GOQ_FNC1_FIRST, 0, 0, 0}, {GOQ_ALPHANUMERIC, 0, "10A%21%%B", 9}}, health[] = {{GOQ_FNC1_SECOND, 37, 0, 0}, digits};
+    const goq_segment kanji = {GOQ_KANJI, 0, "\x93\xfa", 2};
+    const goq_several three = {sizeof three, GOQ_L, GOQ_AS_BYTES, 1, 40, 3};
+    expect(!read_segments(set, 4) && says(1, 4, "ab0123") && outputs.codes[0].parts == 4, "two character sets");
+    expect(is_part(0, GOQ_ECI, 7, 0, 0, 0) && is_part(1, GOQ_BYTES, 0, 0, 0, 2) && is_part(2, GOQ_ECI, 899, 0, 0, 0) && is_part(3, GOQ_NUMERIC, 0, 0, 0, 4), "each before its segment");
+    expect(!read_segments(gs1, 2) && says(1, 2, "10A\x1d" "21%B"), "elements of GS1");
+    expect(is_part(0, GOQ_FNC1_FIRST, 0, 0, 0, 0) && is_part(1, GOQ_ALPHANUMERIC, 0, 0, 0, 9), "their header and segment");
+    expect(!read_segments(health, 2) && says(1, 2, "0123") && is_part(0, GOQ_FNC1_SECOND, 37, 0, 0, 0), "an application");
+    expect(!read_segments(&kanji, 1) && says(1, 1, "\x93\xfa") && is_part(0, GOQ_KANJI, 0, 0, 0, 2), "Kanji");
+    expect(!goq_encode_several("01234567", 8, &three, modules, sizeof modules, &symbol, &count) && count == 3, "three symbols");
+    expect(!scanned(file, drawn(modules + 441, 21, 1, GOQ_PBM)) && says(1, 2, "234") && is_part(1, GOQ_NUMERIC, 0, 0, 0, 3), "the second");
+    expect(is_part(0, GOQ_ONE_OF_SEVERAL, '0' ^ '1' ^ '2' ^ '3' ^ '4' ^ '5' ^ '6' ^ '7', 1, 3, 0), "which it is");
+}
+
+/* The most parts that a code can have: the shortest is FNC1, of four bits. */
+static void most_parts(void)
+{
+    static goq_segment marks[GOQ_PARTS_MAX + 1];
+    static goq_part found[GOQ_PARTS_MAX];
+    goq_scan scan = GOQ_SCAN;
+    for (size_t i = 0; i <= GOQ_PARTS_MAX; i++)
+        marks[i].kind = GOQ_FNC1_FIRST;
+    expect(goq_encode_segments(marks, GOQ_PARTS_MAX + 1, 40, GOQ_L, modules, sizeof modules, &symbol) == GOQ_NO_ROOM, "one more has no room");
+    expect(!goq_encode_segments(marks, GOQ_PARTS_MAX, 40, GOQ_L, modules, sizeof modules, &symbol), "as many as there is room for");
+    const size_t length = drawn(modules, 177, 1, GOQ_PBM);
+    expect(!goq_read_picture(file, length, outputs.codes, 1, found, GOQ_PARTS_MAX, NULL, 0, &scan) && scan.parts == GOQ_PARTS_MAX && scan.length == 0, "all of them are read");
+}
+
+/* Three codes, two side by side and one below: drawn in another order than they are read in. */
+static void several(void)
+{
+    enum { SIDE = 29 * 3 };
+    const char *data[] = {"left", "right", "below"};
+    const int head = sprintf((char *)picture, "P5\n%d %d\n255\n", 2 * SIDE, 2 * SIDE);
+    uint8_t *out = picture + head;
+    for (int i = 0; i < 3; i++) {
+        goq_encode(data[i], strlen(data[i]), GOQ_M, modules, sizeof modules, &symbol);
+        goq_draw(modules, 441, 21, 4, 3, GOQ_GREY, pixels[i], sizeof pixels[i], &count);
+    }
+    memset(out, 255, 4 * SIDE * SIDE);
+    for (int y = 0; y < SIDE; y++) {
+        memcpy(out + 2 * SIDE * (y + SIDE) + SIDE, pixels[2] + SIDE * y, SIDE);
+        memcpy(out + 2 * SIDE * y, pixels[0] + SIDE * y, SIDE);
+        memcpy(out + 2 * SIDE * y + SIDE, pixels[1] + SIDE * y, SIDE);
+    }
+    const size_t length = head + 4 * SIDE * SIDE;
+    goq_scan scan = GOQ_SCAN;
+    expect(!scanned(picture, length) && says(3, 3, "leftrightbelow"), "from the top, and from the left");
+    expect(outputs.codes[0].reading.length == 4 && outputs.codes[1].reading.length == 5 && outputs.codes[2].reading.length == 5 && outputs.codes[1].parts == 1, "how long each is");
+    outputs = before;
+    expect(goq_read_picture(picture, length, outputs.codes, 2, outputs.parts, 40, outputs.bytes, 400, &scan) == GOQ_SMALL_BUFFER, "two codes");
+    expect(goq_read_picture(picture, length, outputs.codes, 4, outputs.parts, 2, outputs.bytes, 400, &scan) == GOQ_SMALL_BUFFER, "two parts");
+    expect(goq_read_picture(picture, length, outputs.codes, 4, outputs.parts, 40, outputs.bytes, 13, &scan) == GOQ_SMALL_BUFFER, "13 bytes");
+    expect(!memcmp(&outputs, &before, sizeof outputs) && scan.codes == 0 && scan.parts == 0 && scan.length == 0, "buffers untouched");
+    expect(!goq_read_picture(picture, length, outputs.codes, 3, outputs.parts, 3, outputs.bytes, 14, &scan) && scan.codes == 3, "as much as there is");
+}
+
+static void causes(void)
+{
+    const size_t most = 67108864;
+    uint8_t *large = mmap(NULL, most + 1, PROT_READ, MAP_PRIVATE | MAP_ANONYMOUS | MAP_NORESERVE, -1, 0);
+    goq_encode("01234567", 8, GOQ_H, modules, sizeof modules, &symbol);
+    const size_t length = drawn(modules, 21, 3, GOQ_PNG);
+    expect(refuses("hello", 5, GOQ_NOT_PICTURE) && refuses(NULL, 0, GOQ_BROKEN_PICTURE) && refuses("\xff\xd8\xff", 3, GOQ_NOT_PICTURE), "no picture, and JPEG");
+    expect(refuses(file, length - 9, GOQ_BROKEN_PICTURE) && refuses("P1 2 2 0 0 0", 12, GOQ_BROKEN_PICTURE), "a cut one");
+    expect(refuses("P1 2 2 0 0 0 0", 14, GOQ_NO_SQUARE), "nothing in it");
+    expect(large != MAP_FAILED && refuses(large, most + 1, GOQ_LARGE_PICTURE) && refuses(large, most, GOQ_NOT_PICTURE), "size before kind");
+    memset(modules, 1, 9 * 21);
+    expect(refuses(file, drawn(modules, 21, 3, GOQ_PNG), GOQ_NO_FORMAT), "no symbol");
+    goq_scan scan = {sizeof scan - 1, 7, 7, 7};
+    expect(goq_read_picture(large, most + 1, NULL, 0, NULL, 0, NULL, 0, &scan) == GOQ_NO_SUCH_STRUCT && scan.codes == 7, "struct before size");
+}
+
+/* No call reads a struct further than to its size, where that is not its own: here the next page may not be read. */
+static void structs(void)
+{
+    const size_t page = (size_t)sysconf(_SC_PAGESIZE);
+    uint8_t *two = mmap(NULL, 2 * page, PROT_READ | PROT_WRITE, MAP_PRIVATE | MAP_ANONYMOUS, -1, 0);
+    if (two == MAP_FAILED || mprotect(two + page, page, PROT_NONE))
+        exit(2);
+    for (uint32_t size = 4; size < sizeof(goq_scan); size += 4) {
+        void *given = two + page - size;
+        *(uint32_t *)given = size;
+        expect(goq_read_picture(file, 9, NULL, 0, NULL, 0, NULL, 0, given) == GOQ_NO_SUCH_STRUCT, "a scan");
+    }
+}
+
+int main(void)
+{
+    formats();
+    headers();
+    most_parts();
+    several();
+    causes();
+    structs();
+    printf("%d wrong\n", wrong);
+    return wrong != 0;
+}

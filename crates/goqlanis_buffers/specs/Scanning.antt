@@ -1,0 +1,120 @@
+-- What the calls for C read of pictures.
+use Rattle.std.specs.Prelude.{◌≡◌, ◌≢◌, ◌⊎◌, ◌+◌, ◌<◌, ◌≤◌, ⊤, ℕ, Bool, not, List, All, flat_map, length, map, if◌then◌else◌}
+use Rattle.std.specs.List.{AllZip}
+use Rattle.qrcode_types.specs.declared.types.Mode.{Mode}
+use Rattle.qrcode_types.specs.declared.types.Mode.TheVariants.{Numeric, Alphanumeric, Byte, Kanji}
+use Rattle.qrcode_reader.specs.declared.refusals.Unread as square
+use Rattle.qrcode_reader.specs.declared.scan.pixels.Unscanned as pixels
+use Rattle.qrcode_reader.specs.declared.spell.headers.Header.TheVariants.{Eci, Fnc1First, Fnc1Second, StructuredAppend}
+use Rattle.qrcode_reader.specs.declared.spell.parts.Part as piece
+use Rattle.qrcode_reader.specs.declared.spell.parts.Part.TheVariants.{Front, Bytes}
+use Rattle.qrcode_png.specs.declared.reading.Unread as png
+use Rattle.goqlanis_core.specs.Scans.{IsScanOf, IsUnreadPicture}
+use Rattle.goqlanis_core.specs.declared.scanning.Scan as found
+use Rattle.goqlanis_core.specs.declared.scanning.Unread.{Unread}
+use Rattle.goqlanis_core.specs.declared.scanning.Unread.TheVariants.{Unscanned, Png, Jpeg, NoSquare, NoSymbol, OutOfMemory}
+use Rattle.goqlanis_buffers.specs.Outputs.{IsFilled}
+use Rattle.goqlanis_buffers.specs.Readings.{position_number, IsReported}
+use Rattle.goqlanis_buffers.specs.declared.answers.Refusal.{Refusal}
+use Rattle.goqlanis_buffers.specs.declared.answers.Refusal.TheVariants as refusals
+use Rattle.goqlanis_buffers.specs.declared.scanning.Code.{Code}
+use Rattle.goqlanis_buffers.specs.declared.scanning.Part.{Part}
+use Rattle.goqlanis_buffers.specs.declared.scanning.Scan.{Scan}
+use Rattle.goqlanis_buffers.specs.declared.scanning.Told.{Told}
+
+abbrev pub mode_kind : Mode → ℕ  -- the number of the kind of a segment in a mode
+mode_kind Numeric = 0
+mode_kind Alphanumeric = 1
+mode_kind Byte = 2
+mode_kind Kanji = 3
+
+abbrev pub told_part : piece.Part → Part  -- what C gets of a header or a segment
+told_part (Front (Eci n)) = record { kind = 4; number = n; place = 0; symbols = 0; length = 0 }
+told_part (Front Fnc1First) = record { kind = 5; number = 0; place = 0; symbols = 0; length = 0 }
+told_part (Front (Fnc1Second n)) = record { kind = 6; number = n; place = 0; symbols = 0; length = 0 }
+told_part (Front (StructuredAppend place last parity)) = record { kind = 7; number = parity; place = place; symbols = last + 1; length = 0 }
+told_part (Bytes m n) = record { kind = mode_kind m; number = 0; place = 0; symbols = 0; length = n }
+
+abbrev pub parts_in : found.Scan → List Part  -- what it gets of those of a code
+parts_in scan = map told_part scan.parts.items
+
+abbrev pub bytes_in : found.Scan → List ℕ
+bytes_in scan = scan.any.reading.data.items
+
+abbrev pub differ : Bool → Bool → Bool
+differ a b = if a then not b else b
+
+-- what C gets of a code beside its parts and bytes
+pub record IsToldOf (scan : found.Scan) (code : Code) : Type 0 where
+  pub reported : IsReported scan.any.reading.version scan.any.reading.ec_level scan.any.reading.mask (length scan.any.reading.wrong.items)
+      (length scan.any.reading.data.items) code.reading
+  pub position : code.position ≡ position_number scan.any.position (differ scan.is_inverted scan.any.is_inverted)
+  pub parts : code.parts ≡ length scan.parts.items
+
+abbrev pub AreCodesOf : List found.Scan → List Code → Type 0
+AreCodesOf scans codes = AllZip IsToldOf scans codes
+
+-- what C gets of codes: one behind the other, as their parts and their bytes
+pub record AreTold (scans : List found.Scan) (told : Told) : Type 0 where
+  pub codes : AreCodesOf scans told.codes.items
+  pub parts : told.parts.items ≡ flat_map parts_in scans
+  pub bytes : told.bytes.items ≡ flat_map bytes_in scans
+
+abbrev pub most : ℕ  -- the bytes of the greatest picture
+most = 67108864
+
+-- what C gets of a picture, for a struct of this size
+pub record IsToldIn (picture : List ℕ) (size : ℕ) (told : Told) : Type 0 where
+  pub sized : size ≡ 32
+  pub limited : length picture ≤ most
+  pub scans : List found.Scan
+  pub read : All (IsScanOf picture) scans
+  pub some : 1 ≤ length scans
+  pub codes : AreTold scans told
+
+-- the same at the beginnings of buffers, which are otherwise as they were
+pub record IsPut (told : Told) (codes new_codes : List Code) (parts new_parts : List Part) (bytes new_bytes : List ℕ) (scan : Scan) : Type 0 where
+  pub codes_filled : IsFilled codes new_codes told.codes.items
+  pub parts_filled : IsFilled parts new_parts told.parts.items
+  pub bytes_filled : IsFilled bytes new_bytes told.bytes.items
+  pub counted : scan ≡ record { size = 32; codes = length told.codes.items; parts = length told.parts.items; length = length told.bytes.items }
+
+abbrev pub ExceedsRoom : Told → ℕ → ℕ → ℕ → Type 0  -- one of the buffers is too small
+ExceedsRoom told codes parts bytes = (codes < length told.codes.items) ⊎ ((parts < length told.parts.items) ⊎ (bytes < length told.bytes.items))
+
+abbrev pub square_refusal : square.Unread → Refusal
+square_refusal square.TheVariants.NoSuchSide = refusals.NoSuchSide
+square_refusal square.TheVariants.NoFormat = refusals.NoFormat
+square_refusal (square.TheVariants.Damaged b) = refusals.Damaged
+square_refusal square.TheVariants.NotSpelled = refusals.NotSpelled
+square_refusal square.TheVariants.OutOfMemory = refusals.OutOfMemory
+
+abbrev pub picture_refusal : Unread → Refusal  -- what C gets of a picture that is not read
+picture_refusal (Unscanned pixels.TheVariants.NotPicture) = refusals.NotPicture
+picture_refusal (Unscanned pixels.TheVariants.OutOfMemory) = refusals.OutOfMemory
+picture_refusal (Unscanned e) = refusals.BrokenPicture
+picture_refusal (Png png.TheVariants.OutOfMemory) = refusals.OutOfMemory
+picture_refusal (Png e) = refusals.BrokenPicture
+picture_refusal Jpeg = refusals.NotPicture
+picture_refusal NoSquare = refusals.NoSquare
+picture_refusal (NoSymbol count e) = square_refusal e
+picture_refusal OutOfMemory = refusals.OutOfMemory
+
+-- why a picture is not read, for a struct of this size: the first of these causes that applies
+abbrev pub IsUnreadFor : List ℕ → ℕ → Refusal → Type 0
+IsUnreadFor picture size refusals.NoSuchStruct = size ≢ 32
+IsUnreadFor picture size refusals.LargePicture = (size ≡ 32) × (most < length picture)
+IsUnreadFor picture size refusals.OutOfMemory = ⊤
+IsUnreadFor picture size refusal = (e : Unread) × ((size ≡ 32) × ((length picture ≤ most) × (IsUnreadPicture picture e × (refusal ≡ picture_refusal e))))
+
+-- the codes of a picture in buffers
+pub record IsScanned (picture : List ℕ) (size : ℕ) (codes new_codes : List Code) (parts new_parts : List Part) (bytes new_bytes : List ℕ) (scan : Scan) : Type 0 where
+  pub told : Told
+  pub read : IsToldIn picture size told
+  pub put : IsPut told codes new_codes parts new_parts bytes new_bytes scan
+
+-- why they are not written into buffers of so much room: they are not read, or one of the buffers is too small
+abbrev pub IsScanCause : List ℕ → ℕ → ℕ → ℕ → ℕ → Refusal → Type 0
+IsScanCause picture size codes parts bytes refusal =
+    IsUnreadFor picture size refusal
+    ⊎ ((refusal ≡ refusals.SmallBuffer) × ((told : Told) × (IsToldIn picture size told × ExceedsRoom told codes parts bytes)))
