@@ -6,18 +6,18 @@ use qrcode::render::Renderer;
 use qrcode::types::Color::{self as Module, Dark, Light};
 use qrcode::types::{QrError, QrResult};
 use qrcode_png::sums::crc;
-use qrcode_png::{Color, Unread, grey, read, with_density};
+use qrcode_png::{Color, Unread, full_color, grey, read, with_density};
 use std::alloc::Global;
 
 // Three rows of three modules.
 const THREE: &[Module] = &[Dark, Light, Dark, Light, Light, Dark, Dark, Dark, Light];
 
 /// The length of a file and its CRC-32: of so many pixels across and down, of which each third or
-/// the like is dark; or of a square of modules of so many pixels across and down, with so many on a
+/// the like is dark, or blue in full colour; or of a square of modules of so many pixels across and down, with so many on a
 /// metre, where that is given. Or what a file shows: how many pixels across, and the CRC-32 of all.
 pub fn run(alloc: Global, asked: &Asked<'_>) -> QrResult<Digest> {
     match asked.kind {
-        "grey" => of_file(&of_pixels(alloc, asked)?),
+        "grey" | "colors" => of_file(&of_pixels(alloc, asked)?),
         "shown" => of_picture(alloc, asked.data()),
         "three" => of_file(&of_modules(alloc, THREE, 3, asked)?),
         _ => of_file(&of_modules(alloc, &[Dark; 4], 2, asked)?),
@@ -64,7 +64,27 @@ fn of_pixels(alloc: Global, asked: &Asked<'_>) -> QrResult<Vec<u8>> {
     if marks.len() != count {
         return Err(QrError::InvalidCharacter);
     }
+    if asked.kind == "colors" {
+        return of_colors(alloc, &marks, across, down);
+    }
     Ok(grey(alloc, &marks, u32::from(across), u32::from(down))?)
+}
+
+// The file of pixels in full colour, blue where they are marked and clear elsewhere.
+fn of_colors(alloc: Global, marks: &[bool], across: u16, down: u16) -> QrResult<Vec<u8>> {
+    let mut pixels = Vec::with_capacity(alloc, marks.len())?;
+    for mark in marks {
+        pixels.push(if *mark {
+            [0, 0, 255, 255]
+        } else {
+            [255, 255, 255, 0]
+        })?;
+    }
+    let (across, down) = (u32::from(across), u32::from(down));
+    if across == 0 || down == 0 || pixels.len() as u64 != u64::from(down) * u64::from(across) {
+        return Err(QrError::InvalidCharacter);
+    }
+    Ok(full_color(alloc, &pixels, across, down, Some(11811))?)
 }
 
 // The file of a square of modules with no quiet zone.

@@ -76,11 +76,15 @@ static LABELS: [Row<tspl::Dot, File>; 1] = [
     )),
 ];
 
-// By the makers' pages: eight bytes in all, two in a row.
+// By the makers' pages: eight bytes in all, two in a row; H is twice, z 400 times, k 100 and V 16
+// times.
 #[rattlefmt::skip]
-static GRAPHICS: [Row<zpl::Dot, File>; 1] = [
+static GRAPHICS: [Row<zpl::Dot, File>; 2] = [
     Row(DIAGONAL, On(0), Usual, Of(5, 2), File(
-        b"^XA^FO0,0^GFA,8,8,2,", b"F800F80007C007C0^FS^XZ\n",
+        b"^XA^FO0,0^GFA,8,8,2,", b"F8H0:07C0:^FS^XZ\n",
+    )),
+    Row(DARK, On(0), Usual, Of(2064, 2), File(
+        b"^XA^FO0,0^GFA,516,516,258,", b"zFkVF:^FS^XZ\n",
     )),
 ];
 
@@ -144,7 +148,7 @@ static PATHS: [Row<svg::Path<'static>, Text>; 2] = [
             "version=\"1.1\" width=\"12\" height=\"8\" viewBox=\"0 0 4 4\" ",
             "preserveAspectRatio=\"none\" shape-rendering=\"crispEdges\">",
             "<rect width=\"4\" height=\"4\" fill=\"t&amp;n\"/>",
-            "<path fill=\"a&quot;b&lt;c&amp;d>\" d=\"m1 1h2v1h-2m1 0h1v1h-1\"/></svg>"
+            "<path fill=\"a&quot;b&lt;c&amp;d&gt;\" d=\"m1 1h2v1h-2m1 0h1v1h-1\"/></svg>"
         )),
     ),
     Row(DARK, On(1), Usual, Default, Is(concat!(
