@@ -3,7 +3,8 @@
      calls symbol COUNT FILE VERSION LEVEL                  a version of 0 is the least of Normal
      calls picture COUNT FILE VERSION LEVEL FORMAT SCALE    of the symbol; prints its length
      calls least COUNT FILE VERSION LEVEL                   the least version
-     calls read COUNT FILE                                  of modules, 0 and 1 row by row */
+     calls read COUNT FILE                                  of modules, 0 and 1 row by row
+     calls scan COUNT FILE                                  of a picture */
 #include "goqlanis.h"
 #include <stdio.h>
 #include <stdlib.h>
@@ -12,6 +13,8 @@
 static uint8_t data[GOQ_MODULES_MAX], modules[GOQ_MODULES_MAX], out[4000000];
 static size_t size, length;
 static goq_symbol symbol;
+static goq_code code;
+static goq_part parts[GOQ_PARTS_MAX];
 static uint32_t version, level, format, scale;
 
 static uint32_t encode(void)
@@ -25,6 +28,7 @@ static uint32_t call(const char *kind)
 {
     size_t side = symbol.width;
     goq_reading reading;
+    goq_scan scan = GOQ_SCAN;
     if (!strcmp(kind, "picture"))
         return goq_draw(modules, side * side, symbol.width, 4, scale, format, out, sizeof out,
             &length);
@@ -32,6 +36,8 @@ static uint32_t call(const char *kind)
         return goq_least_version(data, size, level, &symbol.version);
     if (!strcmp(kind, "read"))
         return goq_read(data, size, out, sizeof out, &reading);
+    if (!strcmp(kind, "scan"))
+        return goq_read_picture(data, size, &code, 1, parts, GOQ_PARTS_MAX, out, sizeof out, &scan);
     return encode();
 }
 

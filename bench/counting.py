@@ -150,6 +150,15 @@ def squares(folder):
     return found
 
 
+@functools.cache
+def png_file(folder):
+    """The PNG file of Normal 40, 8 by 8 pixels for each module."""
+    build_calls(folder)
+    os.environ["GOQLANIS_LIB"] = str(folder / "libgoqlanis.so.1")
+    import goqlanis
+    return goqlanis.encode(SYMBOLS["40"], "M").png(8)
+
+
 def short(number):
     """A number with three digits, in thousands or millions if it is so large."""
     for unit, name in ((1e6, " M"), (1e3, " k")):
