@@ -7,7 +7,7 @@ use crate::scan::pixels::Pixels;
 use std::alloc::{AllocError, Global};
 
 // The most finder patterns that are kept of a picture. It bounds memory and time.
-const MOST_FINDERS: usize = 256;
+const MOST_FINDERS: usize = 1024;
 
 // A finder pattern: twice its centre, and the pixels of its seven modules across and down.
 #[derive(Clone, Copy)]
@@ -56,11 +56,11 @@ pub(crate) fn column_of(pixels: &Pixels, x: usize) -> Line
     }
 }
 
-/// The finder patterns of pixels in the order of their rows, at most 256.
+/// The finder patterns of pixels in the order of their rows, at most 1,024.
 ///
 /// It fails only where memory runs out.
 pub(crate) fn finders(alloc: Global, pixels: &Pixels) -> Result<Vec<Finder>, AllocError>
-    ensures { IfOk result (λ found. length found.items ≤ 256) }
+    ensures { IfOk result (λ found. length found.items ≤ 1024) }
 {
     let mut found = Vec::new(alloc);
     for y in 0..pixels.sides().1 {
@@ -72,8 +72,8 @@ pub(crate) fn finders(alloc: Global, pixels: &Pixels) -> Result<Vec<Finder>, All
 // Appends the finder patterns through a row, but for those that are there.
 fn push_finders(found: &mut Vec<Finder>, pixels: &Pixels, y: usize) -> Result<(), AllocError>
     requires row { (y < pixels.now.down) × (y ≤ 65535) }
-    requires at_most { length found.old.items ≤ 256 }
-    ensures { OnOk result (length found.new.items ≤ 256) }
+    requires at_most { length found.old.items ≤ 1024 }
+    ensures { OnOk result (length found.new.items ≤ 1024) }
 {
     let row = row_of(pixels, y);
     for x in 0..row.length {
@@ -92,8 +92,8 @@ fn push_finders(found: &mut Vec<Finder>, pixels: &Pixels, y: usize) -> Result<()
 
 // Appends a finder pattern, unless it is there or there are too many.
 fn push_new(found: &mut Vec<Finder>, finder: Option<Finder>) -> Result<(), AllocError>
-    requires { length found.old.items ≤ 256 }
-    ensures { OnOk result (length found.new.items ≤ 256) }
+    requires { length found.old.items ≤ 1024 }
+    ensures { OnOk result (length found.new.items ≤ 1024) }
 {
     let Some(finder) = finder else {
         return Ok(());
@@ -104,14 +104,15 @@ fn push_new(found: &mut Vec<Finder>, finder: Option<Finder>) -> Result<(), Alloc
     Ok(())
 }
 
-// Whether the centre of a finder pattern stands within one that is there.
+// Whether a finder pattern is there already.
 fn is_known(found: &[Finder], finder: Finder) -> bool {
-    for other in found {
-        if finder.x.abs_diff(other.x) <= other.width && finder.y.abs_diff(other.y) <= other.height {
-            return true;
-        }
-    }
-    false
+    found.iter().any(|other| is_same(finder, *other))
+}
+
+// Whether the centres of finder patterns are less than a module and half a pixel apart.
+fn is_same(finder: Finder, other: Finder) -> bool {
+    7 * finder.x.abs_diff(other.x) <= 2 * finder.width.min(other.width) + 7
+        && 7 * finder.y.abs_diff(other.y) <= 2 * finder.height.min(other.height) + 7
 }
 
 // The finder pattern around a pixel, about so many pixels wide: neither side is more than twice as
@@ -179,11 +180,11 @@ fn finder_before(pixels: &Pixels, line: Line, end: usize) -> Option<usize>
     }
 }
 
-// Whether a run is so many sevenths of a total, but for less than half of that.
+// Whether a run is so many sevenths of a total, but for less than half of that and half a pixel.
 pub(crate) fn is_near(run: usize, sevenths: usize, total: usize) -> bool
     requires { (run ≤ 65535) × (total ≤ 65535) × (sevenths ≤ 3) }
 {
-    2 * (7 * run).abs_diff(sevenths * total) < sevenths * total
+    2 * (7 * run).abs_diff(sevenths * total) < sevenths * total + 7
 }
 
 // Where the pixels of one kind end that begin at a place of a line.

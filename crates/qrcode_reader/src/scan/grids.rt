@@ -55,7 +55,7 @@ pub fn grids_of(alloc: Global, pixels: &Pixels) -> Result<Vec<Grid>, AllocError>
 fn push_grids(alloc: Global, grids: &mut Vec<Grid>, pixels: &Pixels) -> Result<(), AllocError> {
     let found = finders(alloc, pixels)?;
     for corner in &found {
-        push_beside(grids, pixels, &found, *corner)?;
+        push_corners(alloc, grids, pixels, &found, *corner)?;
     }
     for finder in &found {
         push_micro(grids, pixels, *finder)?;
@@ -64,37 +64,41 @@ fn push_grids(alloc: Global, grids: &mut Vec<Grid>, pixels: &Pixels) -> Result<(
 }
 
 // Appends those of a finder pattern in the corner.
-fn push_beside(
+fn push_corners(
+    alloc: Global,
     grids: &mut Vec<Grid>,
     pixels: &Pixels,
     found: &[Finder],
     corner: Finder,
 ) -> Result<(), AllocError> {
+    let belows: Vec<Finder> = found
+        .iter()
+        .filter(|it| is_below(corner, **it))
+        .copied()
+        .collect(alloc)?;
     for beside in found {
         if is_beside(corner, *beside) {
-            push_below(grids, pixels, found, corner, *beside)?;
+            push_below(grids, pixels, &belows, corner, *beside)?;
         }
     }
     Ok(())
 }
 
-// Appends those of a finder pattern in the corner and one beside it.
+// Appends those of a finder pattern in the corner, one beside it and others above or below it.
 fn push_below(
     grids: &mut Vec<Grid>,
     pixels: &Pixels,
-    found: &[Finder],
+    belows: &[Finder],
     corner: Finder,
     beside: Finder,
 ) -> Result<(), AllocError> {
-    for below in found {
-        if is_below(corner, *below) {
-            let corner = Corner {
-                corner,
-                beside,
-                below: *below,
-            };
-            push_grid(grids, grid_of(pixels, &corner))?;
-        }
+    for below in belows {
+        let corner = Corner {
+            corner,
+            beside,
+            below: *below,
+        };
+        push_grid(grids, grid_of(pixels, &corner))?;
     }
     Ok(())
 }
