@@ -54,7 +54,7 @@ abbrev pub is_content_standard : Option Content → Bool  -- nothing of the data
 is_content_standard None = false
 is_content_standard (Some c) = is_least c.taken && (c.ending.terminator == 0 && c.ending.padding == 0)
 
--- nothing departs from the standard; the mask has the least penalty by one balance or the other
+-- nothing departs from the standard, headers aside; the mask has the least penalty by one balance or the other
 abbrev pub is_standard : Check → Bool
 is_standard c =
     (list_all (λ n. n == 0) c.wrong.items && are_right c.modules)

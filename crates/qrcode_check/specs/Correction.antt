@@ -30,5 +30,5 @@ unused_in_block allowed wrong = if allowed == 0 then (if wrong == 0 then 100 els
 abbrev pub unused_correction : ℕ → List ℕ → ℕ
 unused_correction allowed counts = fold (λ least wrong. min least (unused_in_block allowed wrong)) 100 counts
 
-abbrev pub grade : ℕ → Grade  -- the grade of such hundredths (ISO/IEC 15415, Table 7)
+abbrev pub grade : ℕ → Grade  -- the grade of such hundredths (ISO/IEC 15415, 7.8.8)
 grade unused = if nat_le 62 unused then A else (if nat_le 50 unused then B else (if nat_le 37 unused then C else (if nat_le 25 unused then D else F)))

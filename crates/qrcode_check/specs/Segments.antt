@@ -57,8 +57,9 @@ are_comparable (p ∷ parts) = if is_plain_header p then are_comparable parts el
 abbrev pub IsLeastLengthIn : Modes → Version → List ℕ → ℕ → Type 0
 IsLeastLengthIn set v bytes n = (segments : List Segment) × (IsLeastCutIn set v bytes segments × (n ≡ total_cost v segments))
 
--- the bits that the segments take, and those of a least cut of their bytes
+-- the bits that segments take which stand so, and those of a least cut of their bytes
 pub record AreTaken (v : Version) (bytes : List ℕ) (parts : List Part) (t : Taken) : Type 0 where
+  pub comparable : are_comparable parts ≡ true
   pub bits : t.bits ≡ taken v parts
   pub least : IsLeastLengthIn (modes_of parts) v bytes t.least
 

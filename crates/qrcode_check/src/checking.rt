@@ -50,8 +50,8 @@ pub struct Check {
     pub unused: usize,
     /// How many modules of patterns are wrong.
     pub modules: WrongModules,
-    /// How the mask stands among all by the penalty of this project. Where something is wrong, the
-    /// penalties are those of the wrong modules.
+    /// How the mask stands among all by the penalty of this project. Where modules are wrong, the
+    /// penalties are those of the wrong modules, but of right format words.
     pub own: Rank,
     /// How it stands by the penalty of the standard, whose balance goes up in steps of 5 %.
     pub stepped: Rank,
@@ -67,7 +67,8 @@ impl Check {
         place_of(self.version, self.mask)
     }
 
-    /// Whether nothing departs from the standard. A mask of least penalty is one by either balance.
+    /// Whether nothing departs from the standard. A mask of least penalty is one by either balance;
+    /// which header stands where is not looked at.
     pub fn is_standard(&self) -> bool
         ensures { result ≡ is_standard self.now }
     {
@@ -162,8 +163,10 @@ pub fn check_seen(
     is_inverted: bool,
     modules: &[Color],
 ) -> Result<Check, Unread>
-    ensures { IfOk result (λ check. (side : ℕ) → side * side ≡ length modules.now
+    ensures value { IfOk result (λ check. (side : ℕ) → side * side ≡ length modules.now
         → IsCheck (seen side position is_inverted modules.now) check) }
+    ensures causes { IfErr result (λ error. (side : ℕ) → side * side ≡ length modules.now
+        → IsBitCause (seen side position is_inverted modules.now) error) }
 {
     let Some(version) = version_of(modules.len()) else {
         return Err(Unread::NoSuchSide);

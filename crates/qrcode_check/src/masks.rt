@@ -20,6 +20,7 @@ use qrcode_types::types::{Color, EcLevel, Version};
 use std::alloc::{AllocError, Global};
 
 /// How a mask stands among all masks of its version.
+#[repr(C)]
 #[derive(Debug, PartialEq, Eq, Copy, Clone)]
 pub struct Rank {
     /// How many have a lower penalty.

@@ -21,6 +21,7 @@ use qrcode_types::types::{Color, EcLevel, Version};
 use std::alloc::{AllocError, Global};
 
 /// How many modules of each kind of pattern are wrong. One where two kinds meet counts for both.
+#[repr(C)]
 #[derive(Debug, PartialEq, Eq, Copy, Clone)]
 pub struct WrongModules {
     /// Of the finder patterns and their separators.
