@@ -10,7 +10,8 @@ use Rattle.qrcode_types.specs.declared.types.Color.{Color}
 use Rattle.qrcode_types.specs.declared.types.Version.{Version}
 use Rattle.qrcode_render.specs.Layout.{Layout}
 use Rattle.goqlanis_core.specs.Formats.{View, light_of}
-use Rattle.goqlanis_core.specs.Layers.{is_painted, layer, module_bytes, module_shade, pixel_bytes, pixel_in, pixel_shade, shade_bytes, ArePaths, IsPath}
+use Rattle.goqlanis_core.specs.Layers.{is_painted, layer, module_bytes, module_shade, pixel_bytes, pixel_in, pixel_shade, shade_bytes, AreLayers, IsLayer}
+use Rattle.goqlanis_core.specs.declared.formats.Format.{Format}
 use Rattle.goqlanis_core.specs.declared.layers.PartInk.{PartInk}
 
 -- one more value
@@ -25,17 +26,18 @@ pub length_layer : (v : Version) (s : List Color) (k : PartInk) → length (laye
 unfolding layer
 length_layer v s k = length-map-range_with_len (λ i. color_of (is_painted v s k i)) 0 (length s)
 
--- one more element
-paths_behind : (at : Layout) (v : Version) (s : List Color) (inks : List PartInk) (k : PartInk) (text more : List ℕ) → ArePaths at v s inks text → IsPath at v s k more → ArePaths at v s (inks ++ k ∷ []) (text ++ more)
-paths_behind at v s [] k text more is path = (more, (path, ([], (refl, ap (λ t. t ++ more) is ∙ sym (append-nil more)))))
-paths_behind at v s (x ∷ inks) k text more is path =
+-- one more layer
+layers_behind : (f : Format) (at : Layout) (v : Version) (s : List Color) (inks : List PartInk) (k : PartInk) (text more : List ℕ)
+    → AreLayers f at v s inks text → IsLayer f at v s k more → AreLayers f at v s (inks ++ k ∷ []) (text ++ more)
+layers_behind f at v s [] k text more is one = (more, (one, ([], (refl, ap (λ t. t ++ more) is ∙ sym (append-nil more)))))
+layers_behind f at v s (x ∷ inks) k text more is one =
     let rest = is.1.1.0 in
-    (is.0, (is.1.0, (rest ++ more, (paths_behind at v s inks k rest more is.1.1.1.0 path, ap (λ t. t ++ more) is.1.1.1.1 ∙ append_assoc is.0 rest more))))
+    (is.0, (is.1.0, (rest ++ more, (layers_behind f at v s inks k rest more is.1.1.1.0 one, ap (λ t. t ++ more) is.1.1.1.1 ∙ append_assoc is.0 rest more))))
 
-pub paths_more : (at : Layout) (v : Version) (s : List Color) (inks : List PartInk) (i : ℕ) (d : PartInk) (text more : List ℕ) → i < length inks
-    → ArePaths at v s (take i inks) text → IsPath at v s (get_or inks i d) more → ArePaths at v s (take (i + 1) inks) (text ++ more)
-paths_more at v s inks i d text more inside is path =
-    subst (λ (l : List PartInk). ArePaths at v s l (text ++ more)) (sym (take_more inks i d inside)) (paths_behind at v s (take i inks) (get_or inks i d) text more is path)
+pub layers_more : (f : Format) (at : Layout) (v : Version) (s : List Color) (inks : List PartInk) (i : ℕ) (d : PartInk) (text more : List ℕ) → i < length inks
+    → AreLayers f at v s (take i inks) text → IsLayer f at v s (get_or inks i d) more → AreLayers f at v s (take (i + 1) inks) (text ++ more)
+layers_more f at v s inks i d text more inside is one =
+    subst (λ (l : List PartInk). AreLayers f at v s l (text ++ more)) (sym (take_more inks i d inside)) (layers_behind f at v s (take i inks) (get_or inks i d) text more is one)
 
 pub modules_whole : (w : View) (v : Version) (inks : List PartInk) (s : List Color) (n : ℕ) → n ≡ length s → map (λ i. shade_bytes (module_shade w v inks s i)) (range_with_len 0 n) ≡ module_bytes w v inks s
 unfolding module_bytes

@@ -1,5 +1,5 @@
 -- What a request shows of a symbol.
-use Rattle.std.specs.Prelude.{ℕ, ◌+◌, ◌*◌, ◌/◌, List, Option, None, Some, true, max, unwrap_or, if◌then◌else◌}
+use Rattle.std.specs.Prelude.{ℕ, ◌+◌, ◌*◌, ◌/◌, List, [], Option, None, Some, true, max, unwrap_or, if◌then◌else◌}
 use Rattle.std.specs.Option.{option_map}
 use Rattle.qrcode_types.specs.Versions.{side}
 use Rattle.qrcode_types.specs.declared.types.Color.{Color}
@@ -8,7 +8,7 @@ use Rattle.qrcode_render.specs.Layout.{Layout, layout}
 use Rattle.qrcode_render.specs.Paths.{Frame, frame_of}
 use Rattle.qrcode_render.specs.declared.svg_path.Size.TheVariants.{Dots}
 use Rattle.qrcode.specs.Pictures.{quiet_zone}
-use Rattle.goqlanis_core.specs.Formats.{Sheet, View, shade_of}
+use Rattle.goqlanis_core.specs.Formats.{Sheet, View, shade_of, units}
 use Rattle.goqlanis_core.specs.Layers.{IsPaintedIn}
 use Rattle.goqlanis_core.specs.Masks.{AreUnder}
 use Rattle.goqlanis_core.specs.declared.drawing.Drawing.{Drawing}
@@ -20,6 +20,10 @@ zone_for r v = unwrap_or r.zone (quiet_zone v)
 -- the pixels of a module: as many as a side of so many pixels has room for, where that is asked for
 abbrev pub scale_for : Request → Version → ℕ
 scale_for r v = unwrap_or (option_map (λ size. size / (side v + 2 * zone_for r v)) r.size) r.scale
+
+-- the units of a module, in which what stands over a drawing is placed
+abbrev pub unit_for : Request → Version → ℕ
+unit_for r v = units r.format (max (scale_for r v) 1)
 
 -- where modules stand: behind the quiet zone, and of so many pixels a side, at least 1
 abbrev pub layout_for : Request → Version → Layout
@@ -45,4 +49,4 @@ sheet_for r v = record { dots = dots_for r v; place = r.place; frame = sized (do
 -- bytes that show their symbol, under the mask that is asked for, as a request asks for it
 abbrev pub IsShownIn : Request → Drawing → Type 0
 IsShownIn r d =
-    (s : List Color) × (AreUnder r.mask d.code s × IsPaintedIn r.format (sheet_for r d.code.version) (view_for r) (layout_for r d.code.version) d.code.version r.parts.now s d.bytes.items)
+    (s : List Color) × (AreUnder r.mask d.code s × IsPaintedIn r.format (sheet_for r d.code.version) (view_for r) (layout_for r d.code.version) d.code.version r.parts.now [] s d.bytes.items)

@@ -1,6 +1,5 @@
 -- What the formats are called, what is known of each, and what it draws of a square of modules.
 use Rattle.std.specs.Prelude.{◌≡◌, ℕ, zero, suc, ◌+◌, ◌*◌, ◌/◌, Bool, true, false, List, [], ◌∷◌, ◌++◌, Option, Some, None, codes, encode_utf8, slice_get, max, unwrap_or, if◌then◌else◌}
-use Rattle.std.specs.Borrow.{Bor}
 use Rattle.std.specs.Option.{option_map, option_or}
 use Rattle.std.specs.Str.{str_eq_ignore_ascii_case}
 use Rattle.qrcode_types.specs.declared.types.Color.{Color}
@@ -101,6 +100,17 @@ pixels Pic = 1
 pixels Ascii = 1
 pixels f = 8
 
+abbrev pub units : Format → ℕ → ℕ  -- the units of a module of so many pixels: in SVG of one path and in PDF a module is the unit
+units SvgPath n = 1
+units Pdf n = 1
+units f n = n
+
+abbrev pub tail : Format → Option (List ℕ)  -- what ends a drawing, behind all that it draws, where that may stand before it
+tail Svg = Some (codes "</svg>")
+tail SvgPath = Some (codes "</svg>")
+tail Eps = Some (codes "showpage\n%%EOF\n")
+tail f = None
+
 abbrev pub format_numbered : ℕ → Option Format  -- the format of a number in C, in this order from 0 on
 format_numbered n = slice_get (HalfBlocks ∷ LightHalfBlocks ∷ Svg ∷ Pic ∷ Grey ∷ Png ∷ Eps ∷ Pbm ∷ SvgPath ∷ Pgm ∷ Pdf ∷ Zpl ∷ Tspl ∷ EscPos ∷ Xbm ∷ Ppm ∷ Ascii ∷ []) n
 
@@ -191,9 +201,10 @@ eps_on dots v at s = eps_in (option_or dots v.dpi) at s (dark_of v (eps_ink v.da
 abbrev pub pdf_dots : Option ℕ → ℕ  -- the pixels of an inch in PDF: those that are given, or points
 pdf_dots dpi = max (unwrap_or dpi 72) 1
 
--- bytes are a PDF file in the colours of a view, where pixels of an inch are given or not
-abbrev pub IsPdfOn : Option ℕ → View → Layout → List Color → List ℕ → Type 0
-IsPdfOn dots v at s bytes = IsPdfOf (pdf_dots (option_or dots v.dpi)) (dark_of v (rgb v.dark) (rgb v.light)) (light_of v (rgb v.dark) (rgb v.light)) (picture at s) bytes
+-- bytes are a PDF file in the colours of a view, where pixels of an inch are given or not, with a title and operators over the modules
+abbrev pub IsPdfOn : Option ℕ → List ℕ → View → Layout → List Color → List ℕ → List ℕ → Type 0
+IsPdfOn dots title v at s over bytes =
+    IsPdfOf (pdf_dots (option_or dots v.dpi)) (dark_of v (rgb v.dark) (rgb v.light)) (light_of v (rgb v.dark) (rgb v.light)) (picture at s) over title bytes
 
 -- bytes are an SVG text of one path in the colours of a view, in a frame
 abbrev pub IsPathIn : Frame → View → Layout → List Color → List ℕ → Type 0
@@ -228,7 +239,7 @@ IsDrawnIn Pic v at s bytes = bytes ≡ pic_text at s
 IsDrawnIn Pbm v at s bytes = bytes ≡ pbm_file (dark_of v true false) (light_of v true false) (picture at s)
 IsDrawnIn Pgm v at s bytes = bytes ≡ pgm_file (dark_of v 0 255) (light_of v 0 255) (picture at s)
 IsDrawnIn Grey v at s bytes = bytes ≡ raw_bytes (dark_of v (0 ∷ []) (255 ∷ [])) (light_of v (0 ∷ []) (255 ∷ [])) (picture at s)
-IsDrawnIn Pdf v at s bytes = IsPdfOn None v at s bytes
+IsDrawnIn Pdf v at s bytes = IsPdfOn None [] v at s [] bytes
 IsDrawnIn Zpl v at s bytes = IsZplOf (0, 0) (dark_of v true false) (light_of v true false) (picture at s) bytes
 IsDrawnIn Tspl v at s bytes = bytes ≡ tspl_file (dark_of v true false) (light_of v true false) (picture at s)
 IsDrawnIn EscPos v at s bytes = bytes ≡ escpos_file (dark_of v true false) (light_of v true false) (picture at s)
@@ -240,7 +251,7 @@ IsDrawnIn Ppm v at s bytes = bytes ≡ ppm_file (dark_of v (rgb v.dark) (rgb v.l
 abbrev pub IsDrawnOn : Format → Sheet → View → Layout → List Color → List ℕ → Type 0
 IsDrawnOn SvgPath t v at s bytes = IsPathIn t.frame v at s bytes
 IsDrawnOn Eps t v at s bytes = bytes ≡ eps_on t.dots v at s
-IsDrawnOn Pdf t v at s bytes = IsPdfOn t.dots v at s bytes
+IsDrawnOn Pdf t v at s bytes = IsPdfOn t.dots t.frame.title v at s [] bytes
 IsDrawnOn Zpl t v at s bytes = IsZplOf t.place (dark_of v true false) (light_of v true false) (picture at s) bytes
 IsDrawnOn Tspl t v at s bytes = bytes ≡ tspl_file_at t.place (dark_of v true false) (light_of v true false) (picture at s)
 IsDrawnOn f t v at s bytes = IsDrawnIn f v at s bytes

@@ -1,5 +1,5 @@
 -- A drawing with colours of parts: each is drawn over what is there.
-use Rattle.std.specs.Prelude.{◌≡◌, ℕ, ◌+◌, ◌-◌, ◌*◌, ◌/◌, ◌%◌, ◌==◌, nat_le, nat_lt, ◌&&◌, Bool, not, List, [], ◌∷◌, ◌++◌, Some, option_map, codes, fold, length, map, slice_index_or, if◌then◌else◌}
+use Rattle.std.specs.Prelude.{◌≡◌, ℕ, ◌+◌, ◌-◌, ◌*◌, ◌/◌, ◌%◌, ◌==◌, nat_le, nat_lt, ◌&&◌, Bool, not, List, [], ◌∷◌, ◌++◌, Option, None, Some, option_map, codes, fold, length, map, slice_index_or, if◌then◌else◌}
 use Rattle.std.specs.List.{range_with_len}
 use Rattle.qrcode_types.specs.Colors.{color_of, is_dark, select_of}
 use Rattle.qrcode_types.specs.Versions.{side}
@@ -10,12 +10,13 @@ use Rattle.qrcode_render.specs.Drawn.{drawn}
 use Rattle.qrcode_render.specs.Eps.{eps_paint, eps_rect}
 use Rattle.qrcode_render.specs.Layout.{Layout, layout, pixels_across, pixels_down}
 use Rattle.qrcode_render.specs.Paths.{plain, IsPathOf}
+use Rattle.qrcode_render.specs.Pdf.{IsLayerOf}
 use Rattle.qrcode_render.specs.Picture.{picture}
 use Rattle.qrcode_png.specs.Image.{image_of, rgba}
-use Rattle.goqlanis_core.specs.Formats.{Sheet, View, Shade, dark_of, light_of, eps_ink, per_metre, shade_of, IsDrawnOn}
+use Rattle.goqlanis_core.specs.Formats.{Sheet, View, Shade, dark_of, light_of, eps_ink, per_metre, rgb, shade_of, tail, units, IsDrawnOn, IsPdfOn}
 use Rattle.goqlanis_core.specs.Parts.{part_of}
 use Rattle.goqlanis_core.specs.declared.formats.Format.{Format}
-use Rattle.goqlanis_core.specs.declared.formats.Format.TheVariants.{Png, Svg, SvgPath, Eps}
+use Rattle.goqlanis_core.specs.declared.formats.Format.TheVariants.{Png, Pdf, Eps}
 use Rattle.goqlanis_core.specs.declared.layers.PartInk.{PartInk}
 use Rattle.goqlanis_core.specs.declared.parts.Part.{Part}
 use Rattle.goqlanis_core.specs.declared.parts.Part.TheVariants.{Finder, Alignment, Timing, FormatWord, VersionWord, Data}
@@ -39,22 +40,24 @@ is_painted v s k i = is_tone k.tone (slice_index_or s i Light) && order k.part =
 unfoldable pub layer : Version → List Color → PartInk → List Color
 layer v s k = map (λ i. color_of (is_painted v s k i)) (range_with_len 0 (length s))
 
--- an element of SVG fills these modules, and nothing else
-abbrev pub IsPath : Layout → Version → List Color → PartInk → List ℕ → Type 0
-IsPath at v s k text = IsPathOf [] plain k.ink.name.now (codes "none") (picture at (layer v s k)) text
+-- where modules stand, in the units of a format
+abbrev pub unit_layout : Format → Layout → Layout
+unit_layout f at = layout at.count at.zone (units f at.across) (units f at.down)
 
--- elements of SVG do so for each of some colours, one behind the other
-abbrev pub ArePaths : Layout → Version → List Color → List PartInk → List ℕ → Type 0
-ArePaths at v s [] text = text ≡ []
-ArePaths at v s (k ∷ inks) text = (first : List ℕ) × (IsPath at v s k first × ((rest : List ℕ) × (ArePaths at v s inks rest × (text ≡ first ++ rest))))
+-- lines of PostScript, operators of PDF or an element of SVG fill these modules in the colour, and draw nothing else
+abbrev pub IsLayer : Format → Layout → Version → List Color → PartInk → List ℕ → Type 0
+IsLayer Eps at v s k text = text ≡ drawn eps_rect at (layer v s k) (eps_paint (eps_ink (shade_of k.ink)))
+IsLayer Pdf at v s k text = IsLayerOf (rgb (shade_of k.ink)) (picture at (layer v s k)) text
+IsLayer f at v s k text = IsPathOf [] plain k.ink.name.now (codes "none") (picture at (layer v s k)) text
 
--- lines of PostScript, behind others, fill these modules
-abbrev pub eps_layer : Layout → Version → List Color → List ℕ → PartInk → List ℕ
-eps_layer at v s text k = drawn eps_rect at (layer v s k) (text ++ eps_paint (eps_ink (shade_of k.ink)))
+-- such a layer for each of some colours, one behind the other
+abbrev pub AreLayers : Format → Layout → Version → List Color → List PartInk → List ℕ → Type 0
+AreLayers f at v s [] text = text ≡ []
+AreLayers f at v s (k ∷ inks) text = (first : List ℕ) × (IsLayer f at v s k first × ((rest : List ℕ) × (AreLayers f at v s inks rest × (text ≡ first ++ rest))))
 
--- and do so for each of some colours
-abbrev pub eps_layers : Layout → Version → List Color → List PartInk → List ℕ
-eps_layers at v s inks = fold (eps_layer at v s) [] inks
+-- and something over all
+abbrev pub AreOver : Format → Layout → Version → List Color → List PartInk → List ℕ → List ℕ → Type 0
+AreOver f at v s inks over text = (layers : List ℕ) × (AreLayers f at v s inks layers × (text ≡ layers ++ over))
 
 -- the colour of a module, over another one
 abbrev pub shade_over : Version → List Color → ℕ → Shade → PartInk → Shade
@@ -109,15 +112,14 @@ abbrev pub IsOver : List ℕ → (List ℕ → Type 0) → (List ℕ → Type 0)
 IsOver tail IsDrawing IsElement text =
     (drawing : List ℕ) × (IsDrawing drawing × ((element : List ℕ) × (IsElement element × IsInserted tail element drawing text)))
 
--- what each format draws of modules with colours of parts. A unit of SVG of one path is a module
-abbrev pub IsPaintedBy : Format → Sheet → View → Layout → Version → List PartInk → List Color → List ℕ → Type 0
-IsPaintedBy Png t w at v inks s bytes = IsPaintedFile w at v inks s bytes
-IsPaintedBy Svg t w at v inks s bytes = IsOver (codes "</svg>") (IsDrawnOn Svg t w at s) (ArePaths at v s inks) bytes
-IsPaintedBy SvgPath t w at v inks s bytes = IsOver (codes "</svg>") (IsDrawnOn SvgPath t w at s) (ArePaths (layout at.count at.zone 1 1) v s inks) bytes
-IsPaintedBy Eps t w at v inks s bytes = IsOver (codes "showpage\n%%EOF\n") (IsDrawnOn Eps t w at s) (λ text. text ≡ eps_layers at v s inks) bytes
-IsPaintedBy f t w at v inks s bytes = IsDrawnOn f t w at s bytes
+-- what a format draws with something over the modules, by its tail: in PDF operators are over them, and a PNG file has the colours of parts in
+-- its pixels
+abbrev pub IsUnder : Option (List ℕ) → Format → Sheet → View → Layout → Version → List PartInk → List ℕ → List Color → List ℕ → Type 0
+IsUnder (Some tail) f t w at v inks over s bytes = IsOver tail (IsDrawnOn f t w at s) (AreOver f (unit_layout f at) v s inks over) bytes
+IsUnder None Pdf t w at v inks over s bytes = (text : List ℕ) × (AreOver Pdf (unit_layout Pdf at) v s inks over text × IsPdfOn t.dots t.frame.title w at s text bytes)
+IsUnder None Png t w at v (k ∷ inks) over s bytes = IsPaintedFile w at v (k ∷ inks) s bytes
+IsUnder None f t w at v inks over s bytes = IsDrawnOn f t w at s bytes
 
--- the same, where there may be no such colours
-abbrev pub IsPaintedIn : Format → Sheet → View → Layout → Version → List PartInk → List Color → List ℕ → Type 0
-IsPaintedIn f t w at v [] s bytes = IsDrawnOn f t w at s bytes
-IsPaintedIn f t w at v (k ∷ inks) s bytes = IsPaintedBy f t w at v (k ∷ inks) s bytes
+-- what each format draws of modules with colours of parts, and something over all
+abbrev pub IsPaintedIn : Format → Sheet → View → Layout → Version → List PartInk → List ℕ → List Color → List ℕ → Type 0
+IsPaintedIn f t w at v inks over s bytes = IsUnder (tail f) f t w at v inks over s bytes

@@ -1,17 +1,22 @@
 -- What stands in the area of a drawing.
-use Rattle.std.specs.Prelude.{◌≡◌, ℕ, ◌/◌, ◌%◌, ◌&&◌, not, nat_le, nat_lt, Bool, List, ◌++◌, codes, decimal, if◌then◌else◌}
+use Rattle.std.specs.Prelude.{ℕ, ◌+◌, ◌*◌, ◌/◌, ◌%◌, ◌&&◌, not, nat_le, nat_lt, Bool, List, [], ◌++◌, codes, decimal, if◌then◌else◌}
+use Rattle.qrcode_types.specs.Versions.{side}
 use Rattle.qrcode_types.specs.declared.types.Color.{Color}
+use Rattle.qrcode_types.specs.declared.types.Version.{Version}
 use Rattle.qrcode.specs.Code.{Code}
 use Rattle.qrcode_area.specs.Areas.{AgreesOutside}
 use Rattle.qrcode_area.specs.Covered.{IsLightInside}
 use Rattle.qrcode_area.specs.Rectangles.{only}
 use Rattle.qrcode_area.specs.declared.areas.Rectangle.{Rectangle}
 use Rattle.qrcode_png.specs.Image.{Shade, grey_shade}
-use Rattle.goqlanis_core.specs.Drawings.{view_for, layout_for, sheet_for}
-use Rattle.goqlanis_core.specs.Layers.{IsInserted, IsPaintedIn}
+use Rattle.goqlanis_core.specs.Drawings.{layout_for, sheet_for, unit_for, view_for, zone_for}
+use Rattle.goqlanis_core.specs.Layers.{IsPaintedIn}
 use Rattle.goqlanis_core.specs.Masks.{AreUnder}
 use Rattle.goqlanis_core.specs.declared.formats.Format.{Format}
-use Rattle.goqlanis_core.specs.declared.formats.Format.TheVariants.{Svg, SvgPath, Eps}
+use Rattle.goqlanis_core.specs.declared.formats.Format.TheVariants.{Eps, Pdf}
+use Rattle.goqlanis_core.specs.declared.overlays.Inside.{Inside}
+use Rattle.goqlanis_core.specs.declared.overlays.Inside.TheVariants.{Nothing, Cross, Element}
+use Rattle.goqlanis_core.specs.Places.{place_in}
 use Rattle.goqlanis_core.specs.declared.places.Place.{Place}
 use Rattle.goqlanis_core.specs.declared.request.Request.{Request}
 
@@ -20,26 +25,39 @@ abbrev pub AreBeside : Request → Code → Rectangle → List Color → Type 0
 AreBeside r code area light =
     (s : List Color) × (AreUnder r.mask code s × (AgreesOutside code.version (only area) s light × IsLightInside code.version (only area) light))
 
--- bytes show such modules
-abbrev pub IsShownBeside : Request → Code → Rectangle → List ℕ → Type 0
-IsShownBeside r code area bytes =
-    (light : List Color) × (AreBeside r code area light × IsPaintedIn r.format (sheet_for r code.version) (view_for r) (layout_for r code.version) code.version r.parts.now light bytes)
-
--- bytes are a drawing, in SVG and EPS with an element behind all that is drawn
-abbrev pub IsWith : Format → List ℕ → List ℕ → List ℕ → Type 0
-IsWith Svg element drawing bytes = IsInserted (codes "</svg>") element drawing bytes
-IsWith SvgPath element drawing bytes = IsInserted (codes "</svg>") element drawing bytes
-IsWith Eps element drawing bytes = IsInserted (codes "showpage\n%%EOF\n") element drawing bytes
-IsWith f element drawing bytes = bytes ≡ drawing
-
--- and the drawing is that of a symbol with the modules of a rectangle light
-abbrev pub IsShownWith : Request → Code → Rectangle → List ℕ → List ℕ → Type 0
-IsShownWith r code area element bytes = (drawing : List ℕ) × (IsShownBeside r code area drawing × IsWith r.format element drawing bytes)
-
 -- an `svg` element in a place, of what follows its place and size
 abbrev pub svg_element : Place → List ℕ → List ℕ
 svg_element p rest =
     codes "<svg x=\"" ++ (decimal p.left ++ (codes "\" y=\"" ++ (decimal p.top ++ (codes "\" width=\"" ++ (decimal p.width ++ (codes "\" height=\"" ++ (decimal p.height ++ (codes "\"" ++ rest))))))))
+
+-- the cross in a format, of the units of a module, the modules along a side, and where it begins. A module has 1656 parts, and the cross 252
+-- times as many of these along its side as the code has modules
+abbrev pub cross_text : Format → ℕ → ℕ → ℕ → List ℕ
+cross_text Eps unit side left =
+    codes "gsave " ++ (decimal unit ++ (codes " 1656 div dup scale " ++ (decimal left ++ (codes " dup translate " ++ (decimal side
+    ++ codes " dup scale\n1 setgray 0 0 252 252 rectfill 0 setgray 18 18 216 216 rectfill\n1 setgray 105 56 42 140 rectfill 56 105 140 42 rectfill grestore\n")))))
+cross_text Pdf unit side left =
+    codes "\nq .000603864734 0 0 .000603864734 0 0 cm " ++ (decimal side ++ (codes " 0 0 " ++ (decimal side ++ (codes " " ++ (decimal left ++ (codes " " ++ (decimal left
+    ++ codes " cm\n1 g 0 0 252 252 re f 0 g 18 18 216 216 re f\n1 g 105 56 42 140 re 56 105 140 42 re f Q")))))))
+cross_text f unit side left =
+    codes "<g transform=\"scale(" ++ (decimal unit ++ (codes ") scale(.000603864734) translate(" ++ (decimal left ++ (codes " " ++ (decimal left ++ (codes ") scale(" ++ (decimal side
+    ++ codes ")\" shape-rendering=\"auto\"><path fill=\"#fff\" d=\"M0 0h252v252H0z\"/><path d=\"M18 18h216v216H18z\"/><path fill=\"#fff\" d=\"M105 56h42v49h49v42h-49v49h-42v-49H56v-42h49z\"/></g>")))))))
+
+-- the same in the middle of a drawing: 252 of 1656 is 7 of 46, and 702 are left on either side
+abbrev pub cross_for : Request → Version → List ℕ
+cross_for r v = cross_text r.format (unit_for r v) (side v) (1656 * zone_for r v + 702 * side v)
+
+-- what is drawn of what stands in an area
+abbrev pub element_for : Request → Version → Rectangle → Inside → List ℕ
+element_for r v area Nothing = []
+element_for r v area Cross = cross_for r v
+element_for r v area (Element margin rest) = svg_element (place_in r v area margin) rest.now
+
+-- bytes show a symbol with the modules of a rectangle light, and what stands there over all that is drawn
+abbrev pub IsShownWith : Request → Code → Rectangle → Inside → List ℕ → Type 0
+IsShownWith r code area inside bytes =
+    (light : List Color) × (AreBeside r code area light
+    × IsPaintedIn r.format (sheet_for r code.version) (view_for r) (layout_for r code.version) code.version r.parts.now (element_for r code.version area inside) light bytes)
 
 abbrev pub lies_between : ℕ → ℕ → ℕ → Bool  -- from one number on, below another
 lies_between from to n = nat_le from n && nat_lt n to

@@ -1,8 +1,8 @@
--- Places of pixels in a drawing.
+-- Places in a drawing.
 use Rattle.std.specs.Prelude.{ℕ, ◌+◌, ◌-◌, ◌*◌, ◌/◌, ◌%◌, ◌<◌, ◌≤◌, ◌^◌, ◌&&◌, nat_le, nat_lt, max, min, Bool}
 use Rattle.qrcode_types.specs.declared.types.Version.{Version}
 use Rattle.qrcode_area.specs.declared.areas.Rectangle.{Rectangle}
-use Rattle.goqlanis_core.specs.Drawings.{scale_for, zone_for}
+use Rattle.goqlanis_core.specs.Drawings.{unit_for, zone_for}
 use Rattle.goqlanis_core.specs.declared.places.Place.{Place}
 use Rattle.goqlanis_core.specs.declared.request.Request.{Request}
 
@@ -16,15 +16,15 @@ pub record HasPixels (p : Place) : Type 0 where
 abbrev pub is_in_place : Place → ℕ → ℕ → Bool  -- it has the pixel in column x and row y
 is_in_place p x y = nat_le p.left x && nat_lt x (p.left + p.width) && nat_le p.top y && nat_lt y (p.top + p.height)
 
--- the pixels of a rectangle of modules less a margin at each side
+-- the units of a rectangle of modules less a margin at each side
 abbrev pub place_in : Request → Version → Rectangle → ℕ → Place
 place_in r v area margin =
-    let pixels = max (scale_for r v) 1 in
+    let unit = unit_for r v in
     record {
-      left = (zone_for r v + area.left + margin) * pixels;
-      top = (zone_for r v + area.top + margin) * pixels;
-      width = (area.width - 2 * margin) * pixels;
-      height = (area.height - 2 * margin) * pixels;
+      left = (zone_for r v + area.left + margin) * unit;
+      top = (zone_for r v + area.top + margin) * unit;
+      width = (area.width - 2 * margin) * unit;
+      height = (area.height - 2 * margin) * unit;
     }
 
 -- the largest place of a ratio in the middle of a place: as wide as its height allows, and as high as its width does

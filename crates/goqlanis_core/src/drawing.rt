@@ -5,7 +5,7 @@ ghost use Rattle.qrcode_types.specs.declared.types.QrError.TheVariants.{InvalidV
 ghost use Rattle.qrcode.specs.Pictures.{quiet_zone};
 ghost use Rattle.qrcode_gs1.specs.Items.{item};
 ghost use Rattle.qrcode_gs1.specs.declared.symbol.errors.SymbolError.TheVariants.{Symbol};
-ghost use Rattle.goqlanis_core.specs.Drawings.{IsShownIn, dots_for, layout_for, scale_for, sheet_for, view_for};
+ghost use Rattle.goqlanis_core.specs.Drawings.{IsShownIn, dots_for, layout_for, scale_for, sheet_for, unit_for, view_for};
 ghost use Rattle.goqlanis_core.specs.Elements.{IsElementsIn, IsElementsRefused, IsApplicationIn, IsApplicationRefused};
 ghost use Rattle.goqlanis_core.specs.Formats.{sheet_of};
 ghost use Rattle.goqlanis_core.specs.Layers.{IsPaintedIn};
@@ -156,22 +156,23 @@ pub fn drawing_of(alloc: Global, request: &Request<'_>, code: QrCode) -> QrResul
         ⊎ ((e ≡ InvalidVersion) × LacksMask request.now.mask code.version)) }
 {
     let modules = modules_under(alloc, &code, request.mask)?;
-    let bytes = modules_drawn(alloc, request, &code, &modules)?;
+    let bytes = modules_drawn(alloc, request, &code, &modules, &[])?;
     Ok(Drawing { code, bytes })
 }
 
-/// Modules of a symbol, drawn as a request asks for.
+/// Modules of a symbol, drawn as a request asks for, in SVG, EPS and PDF with something over them.
 pub(crate) fn modules_drawn(
     alloc: Global,
     request: &Request<'_>,
     code: &QrCode,
     modules: &[Color],
+    over: &[u8],
 ) -> QrResult<Vec<u8>>
     requires { length modules.now ≡ length code.now.modules }
     ensures drawn { IfOk result (λ bytes. IsPaintedIn request.now.format
         (sheet_for request.now code.now.version) (view_for request.now)
         (layout_for request.now code.now.version) code.now.version request.now.parts.now
-        modules.now bytes.items) }
+        over.now modules.now bytes.items) }
     ensures memory { IsOkUnless result OutOfMemory }
 {
     let picture = Picture {
@@ -185,14 +186,15 @@ pub(crate) fn modules_drawn(
         dpi: request.dpi,
         ends_lines: true,
     };
-    let sheet = sheet(request, code);
+    let sheet = sheet(request, code, over);
     painted(alloc, request.format, code.version(), &picture, &sheet)
 }
 
-// The sheet of a symbol.
-fn sheet<'a>(request: &Request<'a>, code: &QrCode) -> Sheet<'a>
+// The sheet of a symbol, with something over the modules.
+fn sheet<'a>(request: &Request<'a>, code: &QrCode, over: &'a [u8]) -> Sheet<'a>
     ensures sheet { sheet_of result ≡ sheet_for request.now code.now.version }
     ensures parts { result.parts.now ≡ request.now.parts.now }
+    ensures over { result.over.now ≡ over.entry.now }
 {
     let dots = dots(request, code);
     let size = match dots {
@@ -207,6 +209,7 @@ fn sheet<'a>(request: &Request<'a>, code: &QrCode) -> Sheet<'a>
             ..request.frame
         },
         parts: request.parts,
+        over,
     }
 }
 
@@ -234,6 +237,15 @@ pub fn quiet_zone(request: &Request<'_>, code: &QrCode) -> u32
         None if code.version().is_micro() => 2,
         None => 4,
     }
+}
+
+/// The units of a module, in which what stands over a drawing is placed.
+pub(crate) fn unit(request: &Request<'_>, code: &QrCode) -> u32
+    ensures value { result ≡ unit_for request.now code.now.version }
+    ensures at_least { 1 ≤ result }
+    ensures at_most { result ≤ 65535 }
+{
+    request.format.units(scale(request, code).max(1))
 }
 
 /// The pixels of a module, as many as there is room for where the pixels of a side are given; 0

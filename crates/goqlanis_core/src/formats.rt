@@ -1,8 +1,8 @@
 //! The formats of drawings: what each is called, and what is known of it next to what it draws.
 
-ghost use Rattle.std.specs.Prelude.{◌≡◌, map};
+ghost use Rattle.std.specs.Prelude.{◌≡◌, ◌≤◌, map};
 ghost use Rattle.std.specs.Option.{option_map};
-ghost use Rattle.goqlanis_core.specs.Formats.{ending_among, format_named, format_numbered, format_of_ending, greatest_side, has_colours, is_known, is_text, named_among, pixels, row_of};
+ghost use Rattle.goqlanis_core.specs.Formats.{ending_among, format_named, format_numbered, format_of_ending, greatest_side, has_colours, is_known, is_text, named_among, pixels, row_of, tail, units};
 
 use Format::{
     Ascii, Chars, Eps, EscPos, Grey, HalfBlocks, LightHalfBlocks, Pbm, Pdf, Pgm, Pic, Png, Ppm,
@@ -180,6 +180,31 @@ impl Format {
         match self {
             HalfBlocks | LightHalfBlocks | Terminal | Chars | Pic | Ascii => 1,
             _ => 8,
+        }
+    }
+
+    /// The units of a module of so many pixels, in which what stands over a drawing is placed: a unit
+    /// of SVG of one path and of PDF is a module.
+    pub fn units(self, pixels: u32) -> u32
+        requires { 1 ≤ pixels }
+        ensures value { result ≡ units self pixels }
+        ensures at_least { 1 ≤ result }
+        ensures at_most { result ≤ pixels }
+    {
+        match self {
+            SvgPath | Pdf => 1,
+            _ => pixels,
+        }
+    }
+
+    /// What ends a drawing, behind all that it draws, where that may stand before it.
+    pub fn tail(self) -> Option<&'static str>
+        ensures { option_map (λ text. text.now) result ≡ tail self }
+    {
+        match self {
+            Svg | SvgPath => Some("</svg>"),
+            Eps => Some("showpage\n%%EOF\n"),
+            _ => None,
         }
     }
 

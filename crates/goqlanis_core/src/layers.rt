@@ -1,27 +1,27 @@
 //! Drawings with colours of parts: each is drawn over what is there.
 
-ghost use Rattle.std.specs.Prelude.{◌≡◌, ◌==◌, ◌^◌, ◌<◌, ◌≤◌, ℕ, List, false, length, string_bytes, IsTrue, IfOk, OnOk, IsOkUnless};
+ghost use Rattle.std.specs.Prelude.{◌≡◌, ◌==◌, ◌^◌, ◌<◌, ◌≤◌, false, length, string_bytes, IsTrue, IfOk, OnOk, IsOkUnless};
 ghost use Rattle.qrcode_types.specs.Versions.{is_valid, side};
 ghost use Rattle.qrcode_types.specs.declared.types.Color.TheVariants.{Dark};
 ghost use Rattle.qrcode_types.specs.declared.types.QrError.TheVariants.{OutOfMemory};
 ghost use Rattle.qrcode_render.specs.Drawn.{drawn, module_step};
-ghost use Rattle.qrcode_render.specs.Eps.{eps_rect};
+ghost use Rattle.qrcode_render.specs.Eps.{eps_paint, eps_rect};
 ghost use Rattle.qrcode_render.specs.Layout.{layout};
-ghost use Rattle.goqlanis_core.specs.Formats.{layout_of, sheet_of, view_of, IsDrawnOn};
-ghost use Rattle.goqlanis_core.specs.Layers.{eps_layer, eps_layers, is_painted, is_tone, layer, order, ArePaths, HasTail, IsInserted, IsOver, IsPaintedIn, IsPath};
+ghost use Rattle.goqlanis_core.specs.Formats.{eps_ink, layout_of, shade_of, sheet_of, tail, view_of};
+ghost use Rattle.goqlanis_core.specs.Layers.{is_painted, is_tone, layer, order, unit_layout, AreOver, HasTail, IsInserted, IsLayer, IsPaintedIn};
 
 use crate::formats::Format;
 use crate::parts::{Part, part_of};
 use crate::picture::{Ink, Picture, Sheet};
-use crate::render::{draw_on, drawn};
+use crate::render::{draw_on, drawn, pdf_file, rgb};
 use crate::shades::png_file;
-use qrcode::render::svg;
+use qrcode::render::{pdf, svg};
 use qrcode::types::{Color, QrResult, Version};
 use qrcode_layout::figures::color_of;
 use qrcode_reader::walk::side;
 use std::alloc::{AllocError, Global};
 
-/// The colour of the dark or of the light modules of a part, in PNG, SVG and EPS.
+/// The colour of the dark or of the light modules of a part, in PNG, SVG, EPS and PDF.
 #[derive(Clone, Copy)]
 pub struct PartInk<'a> {
     pub part: Part,
@@ -30,8 +30,9 @@ pub struct PartInk<'a> {
     pub ink: Ink<'a>,
 }
 
-/// A picture of a symbol of a version in a format, with colours of parts in PNG, SVG and EPS. Of two
-/// colours for the same modules the later one is taken.
+/// A picture of a symbol of a version in a format, with colours of parts in PNG, SVG, EPS and PDF, and
+/// in the last three with something over all. Of two colours for the same modules the later one is
+/// taken.
 ///
 /// `OutOfMemory`: memory was refused, or a PNG file would have no pixel, or more than 65,535 along a
 /// side; with colours of parts, more than 8,192.
@@ -46,29 +47,19 @@ pub(crate) fn painted(
     requires width { shown.now.width ≡ side version }
     ensures drawing { IfOk result (λ drawing. IsPaintedIn format (sheet_of sheet.now)
         (view_of shown.now) (layout_of shown.now) version sheet.now.parts.now
-        shown.now.modules.now drawing.items) }
+        sheet.now.over.now shown.now.modules.now drawing.items) }
     ensures memory { IsOkUnless result OutOfMemory }
 {
-    let inks = sheet.parts;
-    if inks.is_empty() {
-        return draw_on(alloc, format, shown, sheet);
+    if let Some(tail) = format.tail() {
+        let over = over(alloc, format, version, shown, sheet)?;
+        let bytes = draw_on(alloc, format, shown, sheet)?;
+        return Ok(inserted(bytes, tail, &over)?);
     }
     match format {
-        Format::Png => png_file(alloc, version, shown, inks),
-        Format::Svg => {
-            let element = svg_layers(alloc, version, shown, inks)?;
-            let (tail, element) = (b"</svg>", element.as_str());
-            with_element(alloc, format, shown, sheet, Overlay { tail, element })
-        }
-        Format::SvgPath => {
-            let element = svg_layers(alloc, version, &redrawn(shown, shown.modules, 1), inks)?;
-            let (tail, element) = (b"</svg>", element.as_str());
-            with_element(alloc, format, shown, sheet, Overlay { tail, element })
-        }
-        Format::Eps => {
-            let element = eps_layers(alloc, version, shown, inks)?;
-            let (tail, element) = (b"showpage\n%%EOF\n", element.as_str());
-            with_element(alloc, format, shown, sheet, Overlay { tail, element })
+        Format::Png if !sheet.parts.is_empty() => png_file(alloc, version, shown, sheet.parts),
+        Format::Pdf => {
+            let over = over(alloc, format, version, shown, sheet)?;
+            pdf_file(alloc, shown, sheet.dots, &over, sheet.frame.title)
         }
         _ => draw_on(alloc, format, shown, sheet),
     }
@@ -135,6 +126,8 @@ fn redrawn<'a>(shown: &Picture<'_>, modules: &'a [Color], scale: u32) -> Picture
     requires square { length modules.now ≡ length shown.now.modules.now }
     requires scale_at_least { 1 ≤ scale }
     requires scale_at_most { scale < 2 ^ 16 }
+    ensures width { result.width ≡ shown.now.width }
+    ensures zone { result.zone ≡ shown.now.zone }
     ensures layout { layout_of result ≡ layout shown.now.width shown.now.zone scale scale }
     ensures modules { result.modules.now ≡ modules.entry.now }
     ensures plain { result.is_inverted ≡ false }
@@ -152,87 +145,65 @@ fn redrawn<'a>(shown: &Picture<'_>, modules: &'a [Color], scale: u32) -> Picture
     }
 }
 
-// The elements of SVG of colours, one behind the other.
-fn svg_layers(
+// What is drawn over the modules: a layer for each colour, and something over all.
+fn over(
     alloc: Global,
+    format: Format,
     version: Version,
     shown: &Picture<'_>,
-    inks: &[PartInk<'_>],
-) -> QrResult<String>
+    sheet: &Sheet<'_>,
+) -> QrResult<Vec<u8>>
     requires { IsTrue (is_valid version) }
-    ensures value { IfOk result (λ text. ArePaths (layout_of shown.now) version
-        shown.now.modules.now inks.now (string_bytes text)) }
+    ensures value { IfOk result (λ text. AreOver format (unit_layout format (layout_of shown.now))
+        version shown.now.modules.now sheet.now.parts.now sheet.now.over.now text.items) }
     ensures memory { IsOkUnless result OutOfMemory }
 {
-    let mut text = String::new(alloc);
-    for ink in inks {
-        text.push_str(svg_layer(alloc, version, shown, ink)?.as_str())?;
+    let mut text = Vec::new(alloc);
+    for ink in sheet.parts {
+        text.extend_from_slice(&layer_in(alloc, format, version, shown, ink)?)?;
     }
+    text.extend_from_slice(sheet.over)?;
     Ok(text)
 }
 
-// The element of SVG of a colour.
-fn svg_layer(
+// The layer of a colour.
+fn layer_in(
     alloc: Global,
+    format: Format,
     version: Version,
     shown: &Picture<'_>,
     ink: &PartInk<'_>,
-) -> QrResult<String>
+) -> QrResult<Vec<u8>>
     requires { IsTrue (is_valid version) }
-    ensures value { IfOk result (λ text. IsPath (layout_of shown.now) version
-        shown.now.modules.now ink.now (string_bytes text)) }
+    ensures value { IfOk result (λ text. IsLayer format (unit_layout format (layout_of shown.now))
+        version shown.now.modules.now ink.now text.items) }
     ensures memory { IsOkUnless result OutOfMemory }
 {
     let modules = layer(alloc, version, shown.modules, ink)?;
-    let over = redrawn(shown, &modules, shown.scale);
-    drawn(
-        alloc,
-        &over,
-        svg::PathElement(ink.ink.name),
-        svg::PathElement("none"),
-    )
-}
-
-// The lines of PostScript of colours.
-fn eps_layers(
-    alloc: Global,
-    version: Version,
-    shown: &Picture<'_>,
-    inks: &[PartInk<'_>],
-) -> QrResult<String>
-    requires { IsTrue (is_valid version) }
-    ensures value { IfOk result (λ text. string_bytes text
-        ≡ eps_layers (layout_of shown.now) version shown.now.modules.now inks.now) }
-    ensures memory { IsOkUnless result OutOfMemory }
-{
-    let mut text = String::new(alloc);
-    for ink in inks {
-        push_eps_layer(&mut text, version, shown, ink)?;
+    let over = redrawn(shown, &modules, format.units(shown.scale));
+    match format {
+        Format::Eps => eps_layer(alloc, &over, ink.ink),
+        Format::Pdf => {
+            let color = pdf::Color(rgb(ink.ink));
+            pdf::layer(alloc, color, over.modules, over.width, over.zone)
+        }
+        _ => {
+            let (dark, light) = (svg::PathElement(ink.ink.name), svg::PathElement("none"));
+            Ok(drawn(alloc, &over, dark, light)?.into_bytes())
+        }
     }
-    Ok(text)
 }
 
-// Appends those of a colour.
-fn push_eps_layer(
-    text: &mut String,
-    version: Version,
-    shown: &Picture<'_>,
-    ink: &PartInk<'_>,
-) -> QrResult<()>
-    requires { IsTrue (is_valid version) }
-    ensures appends { OnOk result (string_bytes text.new ≡ eps_layer (layout_of shown.now) version
-        shown.now.modules.now (string_bytes text.old) ink.now) }
+// Lines of PostScript that fill the dark modules in a colour.
+fn eps_layer(alloc: Global, shown: &Picture<'_>, ink: Ink<'_>) -> QrResult<Vec<u8>>
+    ensures value { IfOk result (λ text. text.items ≡ drawn eps_rect (layout_of shown.now)
+        shown.now.modules.now (eps_paint (eps_ink (shade_of ink.entry)))) }
     ensures memory { IsOkUnless result OutOfMemory }
 {
-    let modules = layer(*text.allocator(), version, shown.modules, ink)?;
-    let over = redrawn(shown, &modules, shown.scale);
-    let (red, green, blue) = (ink.ink.red, ink.ink.green, ink.ink.blue);
-    write!(
-        text,
-        "{red} 255 div {green} 255 div {blue} 255 div setrgbcolor\n"
-    )?;
-    push_boxes(text, &over)?;
-    Ok(())
+    let (red, green, blue) = (ink.red, ink.green, ink.blue);
+    let mut text = format!(in alloc; "{red} 255 div {green} 255 div {blue} 255 div setrgbcolor\n")?;
+    push_boxes(&mut text, shown)?;
+    Ok(text.into_bytes())
 }
 
 // Appends a box for each dark module.
@@ -267,44 +238,14 @@ fn push_box(text: &mut String, shown: &Picture<'_>, index: usize) -> QrResult<()
     Ok(())
 }
 
-// What stands before the tail of a drawing.
-#[derive(Clone, Copy)]
-struct Overlay<'a> {
-    tail: &'a [u8],
-    element: &'a str,
-}
-
-// A picture in a format whose drawings have a tail, with an element before it.
-fn with_element(
-    alloc: Global,
-    format: Format,
-    shown: &Picture<'_>,
-    sheet: &Sheet<'_>,
-    over: Overlay<'_>,
-) -> QrResult<Vec<u8>>
-    requires { (drawing : List ℕ) → IsDrawnOn format (sheet_of sheet.now) (view_of shown.now)
-        (layout_of shown.now) shown.now.modules.now drawing → HasTail over.tail.now drawing }
-    ensures drawing { IfOk result (λ bytes. IsOver over.entry.tail.now (IsDrawnOn format
-        (sheet_of sheet.now) (view_of shown.now) (layout_of shown.now) shown.now.modules.now)
-        (λ text. text ≡ over.entry.element.now) bytes.items) }
-    ensures memory { IsOkUnless result OutOfMemory }
+/// A text with something before its tail.
+pub(crate) fn inserted(text: Vec<u8>, tail: &str, over: &[u8]) -> Result<Vec<u8>, AllocError>
+    requires { HasTail tail.now text.items }
+    ensures { IfOk result (λ new. IsInserted tail.now over.now text.items new.items) }
 {
-    let bytes = draw_on(alloc, format, shown, sheet)?;
-    Ok(inserted(alloc, &bytes, over.tail, over.element)?)
-}
-
-/// A text with an element before its tail.
-pub(crate) fn inserted(
-    alloc: Global,
-    text: &[u8],
-    tail: &[u8],
-    element: &str,
-) -> Result<Vec<u8>, AllocError>
-    requires { HasTail tail.now text.now }
-    ensures { IfOk result (λ new. IsInserted tail.now element.now text.now new.items) }
-{
-    let mut new = Vec::from_slice(alloc, &text[..text.len() - tail.len()])?;
-    new.extend_from_slice(element.as_bytes())?;
-    new.extend_from_slice(tail)?;
+    let mut new = text;
+    new.truncate(new.len() - tail.len());
+    new.extend_from_slice(over)?;
+    new.extend_from_slice(tail.as_bytes())?;
     Ok(new)
 }

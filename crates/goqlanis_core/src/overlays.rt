@@ -1,17 +1,16 @@
 //! What stands in the area of a drawing: a logo, or the Swiss cross.
 
-ghost use Rattle.std.specs.Prelude.{◌≡◌, ◌⊎◌, length, map, ◌*◌, if◌then◌else◌, string_bytes, IfOk, IfErr};
+ghost use Rattle.std.specs.Prelude.{◌≡◌, ◌⊎◌, length, map, ◌*◌, if◌then◌else◌, string_bytes, IfOk, IfErr, IfSome};
 ghost use Rattle.qrcode_types.specs.declared.types.QrError.TheVariants.{InvalidVersion, OutOfMemory};
 ghost use Rattle.std.specs.List.{range_with_len};
 ghost use Rattle.qrcode_png.specs.Image.{grey_shade, rgba};
 ghost use Rattle.goqlanis_core.specs.Masks.{LacksMask};
-ghost use Rattle.goqlanis_core.specs.Overlays.{AreBeside, IsShownBeside, IsShownWith, cross_shade, is_black_unit, is_in_bar, lies_between, svg_element};
+ghost use Rattle.goqlanis_core.specs.Overlays.{AreBeside, IsShownWith, cross_for, cross_shade, cross_text, element_for, is_black_unit, is_in_bar, lies_between, svg_element};
 
-use crate::drawing::{modules_drawn, quiet_zone, scale};
+use crate::drawing::{modules_drawn, quiet_zone, scale, unit};
 use crate::formats::Format;
-use crate::layers::inserted;
 use crate::masking::modules_under;
-use crate::places::Place;
+use crate::places::{Place, place_in};
 use crate::request::Request;
 use qrcode::QrCode;
 use qrcode::types::{Color, QrResult};
@@ -31,10 +30,8 @@ pub fn cross_width(request: &Request<'_>, code: &QrCode) -> u32 {
     ((7 * pixels + 23) / 46) as u32
 }
 
-/// An `svg` element in a place. What follows its place and size ends it.
-///
-/// `AllocError`: memory was refused.
-pub fn element_in(alloc: Global, place: Place, rest: &str) -> Result<String, AllocError>
+// An `svg` element in a place. What follows its place and size ends it.
+fn svg_element(alloc: Global, place: Place, rest: &str) -> Result<String, AllocError>
     ensures { IfOk result (λ text. string_bytes text ≡ svg_element place rest.now) }
 {
     let Place {
@@ -46,39 +43,44 @@ pub fn element_in(alloc: Global, place: Place, rest: &str) -> Result<String, All
     format!(in alloc; "<svg x=\"{left}\" y=\"{top}\" width=\"{width}\" height=\"{height}\"{rest}")
 }
 
-/// The Swiss cross of a bill in SVG: what follows the place of an element that has so many modules along
-/// its side, in a symbol with so many. It is black with a white frame, 7 mm of 46 mm wide.
-///
-/// `AllocError`: memory was refused.
-pub fn cross_content(alloc: Global, area: usize, side: usize) -> Result<String, AllocError> {
-    // In parts of 92 to a module all of these are whole.
-    let (all, size) = (area.saturating_mul(92), side.saturating_mul(14));
-    let left = all.saturating_sub(size) / 2;
-    format!(in alloc;
-        " viewBox=\"0 0 {all} {all}\"><svg x=\"{left}\" y=\"{left}\" width=\"{size}\" \
-        height=\"{size}\" viewBox=\"0 0 252 252\" shape-rendering=\"auto\">\
-        <path fill=\"#fff\" d=\"M0 0h252v252H0z\"/><path d=\"M18 18h216v216H18z\"/>\
-        <path fill=\"#fff\" d=\"M105 56h42v49h49v42h-49v49h-42v-49H56v-42h49z\"/></svg></svg>"
-    )
+// The Swiss cross of a bill in SVG, EPS and PDF, in the middle of a drawing: 7 mm of 46 mm wide.
+fn cross(alloc: Global, request: &Request<'_>, code: &QrCode) -> Result<String, AllocError>
+    ensures { IfOk result (λ text. string_bytes text ≡ cross_for request.now code.now.version) }
+{
+    let (side, zone) = (code.width(), quiet_zone(request, code) as usize);
+    let unit = unit(request, code);
+    cross_text(alloc, request.format, unit, side, 1656 * zone + 702 * side)
 }
 
-/// The Swiss cross of a bill in EPS, in the middle of a drawing.
-///
-/// `AllocError`: memory was refused.
-pub fn eps_cross(
+// The cross in a format, of the units of a module, the modules along a side, and where it begins, in
+// parts of which a module has 1656: 0.000603864734 is one of them.
+fn cross_text(
     alloc: Global,
-    request: &Request<'_>,
-    code: &QrCode,
-) -> Result<String, AllocError> {
-    let (side, zone) = (code.width() as u64, quiet_zone(request, code) as u64);
-    let pixels = scale(request, code).max(1) as u64;
-    let left = (92 * zone + 39 * side) * pixels * 1000 / 92;
-    let width = 7 * side * pixels * 1000 / 46;
-    format!(in alloc;
-        "gsave {left} 1000 div dup translate {width} 252000 div dup scale\n\
-        1 setgray 0 0 252 252 rectfill 0 setgray 18 18 216 216 rectfill\n\
-        1 setgray 105 56 42 140 rectfill 56 105 140 42 rectfill grestore\n"
-    )
+    format: Format,
+    unit: u32,
+    side: usize,
+    left: usize,
+) -> Result<String, AllocError>
+    ensures { IfOk result (λ text. string_bytes text ≡ cross_text format unit side left) }
+{
+    match format {
+        Format::Eps => format!(in alloc;
+            "gsave {unit} 1656 div dup scale {left} dup translate {side} dup scale\n\
+            1 setgray 0 0 252 252 rectfill 0 setgray 18 18 216 216 rectfill\n\
+            1 setgray 105 56 42 140 rectfill 56 105 140 42 rectfill grestore\n"
+        ),
+        Format::Pdf => format!(in alloc;
+            "\nq .000603864734 0 0 .000603864734 0 0 cm {side} 0 0 {side} {left} {left} cm\n\
+            1 g 0 0 252 252 re f 0 g 18 18 216 216 re f\n\
+            1 g 105 56 42 140 re 56 105 140 42 re f Q"
+        ),
+        _ => format!(in alloc;
+            "<g transform=\"scale({unit}) scale(.000603864734) translate({left} {left}) \
+            scale({side})\" shape-rendering=\"auto\"><path fill=\"#fff\" d=\"M0 0h252v252H0z\"/>\
+            <path d=\"M18 18h216v216H18z\"/>\
+            <path fill=\"#fff\" d=\"M105 56h42v49h49v42h-49v49h-42v-49H56v-42h49z\"/></g>"
+        ),
+    }
 }
 
 /// The units along the side of the Swiss cross of a bill, of which each has a colour of its own.
@@ -131,8 +133,21 @@ fn lies_between(from: u32, to: u32, n: u32) -> bool
     from <= n && n < to
 }
 
-/// A symbol with the modules of a rectangle light, drawn as a request asks for; in SVG and EPS with
-/// an element behind all that is drawn.
+/// What stands in an area.
+#[derive(Clone, Copy)]
+pub enum Inside<'a> {
+    /// Nothing: its modules are light.
+    Nothing,
+    /// The Swiss cross of a bill in SVG, EPS and PDF, black with a white frame, in the middle.
+    Cross,
+    /// An `svg` element in the area less a margin of so many modules at each side, by what follows its
+    /// place and size and ends it.
+    Element(u8, &'a str),
+}
+
+/// A symbol with the modules of a rectangle light, drawn as a request asks for, and what stands there,
+/// over all that is drawn. `None`: its margin leaves no module, or the rectangle is not inside the
+/// symbol.
 ///
 /// `InvalidVersion`: its version has no mask of the number. `OutOfMemory`: memory was refused.
 pub fn with_logo(
@@ -140,35 +155,40 @@ pub fn with_logo(
     request: &Request<'_>,
     code: &QrCode,
     area: Rectangle,
-    element: &str,
-) -> QrResult<Vec<u8>>
-    ensures shown { IfOk result (λ bytes.
-        IsShownWith request.now code.now area element.now bytes.items) }
+    inside: Inside<'_>,
+) -> QrResult<Option<Vec<u8>>>
+    ensures shown { IfOk result (λ drawn. IfSome drawn (λ bytes.
+        IsShownWith request.now code.now area inside.entry bytes.items)) }
     ensures causes { IfErr result (λ e. (e ≡ OutOfMemory)
         ⊎ ((e ≡ InvalidVersion) × LacksMask request.now.mask code.now.version)) }
 {
-    let drawn = with_area(alloc, request, code, area)?;
-    match request.format {
-        Format::Svg => Ok(inserted(alloc, &drawn, b"</svg>", element)?),
-        Format::SvgPath => Ok(inserted(alloc, &drawn, b"</svg>", element)?),
-        Format::Eps => Ok(inserted(alloc, &drawn, b"showpage\n%%EOF\n", element)?),
-        _ => Ok(drawn),
-    }
+    let Some(element) = element(alloc, request, code, area, inside)? else {
+        return Ok(None);
+    };
+    let light = modules_beside(alloc, request, code, area)?;
+    let bytes = modules_drawn(alloc, request, code, &light, element.as_bytes())?;
+    Ok(Some(bytes))
 }
 
-// The same without an element.
-fn with_area(
+// What is drawn of what stands in an area, where there is room for it.
+fn element(
     alloc: Global,
     request: &Request<'_>,
     code: &QrCode,
     area: Rectangle,
-) -> QrResult<Vec<u8>>
-    ensures shown { IfOk result (λ bytes. IsShownBeside request.now code.now area bytes.items) }
-    ensures causes { IfErr result (λ e. (e ≡ OutOfMemory)
-        ⊎ ((e ≡ InvalidVersion) × LacksMask request.now.mask code.now.version)) }
+    inside: Inside<'_>,
+) -> Result<Option<String>, AllocError>
+    ensures { IfOk result (λ found. IfSome found (λ text. string_bytes text
+        ≡ element_for request.now code.now.version area inside.entry)) }
 {
-    let light = modules_beside(alloc, request, code, area)?;
-    modules_drawn(alloc, request, code, &light)
+    match inside {
+        Inside::Nothing => Ok(Some(String::new(alloc))),
+        Inside::Cross => Ok(Some(cross(alloc, request, code)?)),
+        Inside::Element(margin, rest) => match place_in(request, code, area, margin) {
+            Some(place) => Ok(Some(svg_element(alloc, place, rest)?)),
+            None => Ok(None),
+        },
+    }
 }
 
 /// The modules of a symbol under the mask that is asked for, with those of a rectangle light.

@@ -61,7 +61,7 @@ pub fn pasted(
         parts: &[],
         ..*request
     };
-    let marks = modules_drawn(alloc, &grey, code, &modules)?;
+    let marks = modules_drawn(alloc, &grey, code, &modules, &[])?;
     let ground = Ground {
         marks: &marks,
         side: side as usize,

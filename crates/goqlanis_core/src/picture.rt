@@ -27,8 +27,11 @@ pub struct Sheet<'a> {
     pub place: (u32, u32),
     /// What stands at the element of SVG of one path.
     pub frame: Frame<'a>,
-    /// The colours of parts in SVG, EPS and PNG. Of two for the same modules the later one is taken.
+    /// The colours of parts in SVG, EPS, PDF and PNG. Of two for the same modules the later one is
+    /// taken.
     pub parts: &'a [PartInk<'a>],
+    /// What is drawn over all modules in SVG, EPS and PDF: an element, lines or operators.
+    pub over: &'a [u8],
 }
 
 /// A square of modules, and how it is drawn.

@@ -1,14 +1,14 @@
-//! Places of pixels in a drawing.
+//! Places in a drawing.
 
 ghost use Rattle.std.specs.Prelude.{◌≡◌, ◌+◌, ◌<◌, ◌≤◌, IsTrue, IfSome};
 ghost use Rattle.goqlanis_core.specs.Places.{fitted, is_in_place, place_in, square, HasPixels};
 
-use crate::drawing::{quiet_zone, scale};
+use crate::drawing::{quiet_zone, unit};
 use crate::request::Request;
 use qrcode::QrCode;
 use qrcode_area::areas::Rectangle;
 
-/// A rectangle of pixels.
+/// A rectangle of pixels, or of the units of a drawing.
 #[derive(Clone, Copy)]
 pub struct Place {
     pub left: u32,
@@ -17,7 +17,7 @@ pub struct Place {
     pub height: u32,
 }
 
-/// The pixels of a rectangle of modules less a margin of so many at each side, in a drawing that a
+/// The units of a rectangle of modules less a margin of so many at each side, in a drawing that a
 /// request asks for. `None`: they have no module, or the rectangle is not inside the symbol.
 pub fn place_in(request: &Request<'_>, code: &QrCode, area: Rectangle, margin: u8) -> Option<Place>
     ensures value { IfSome result (λ place.
@@ -25,7 +25,7 @@ pub fn place_in(request: &Request<'_>, code: &QrCode, area: Rectangle, margin: u
     ensures pixels { IfSome result HasPixels }
 {
     let (side, both) = (code.width(), 2 * margin as usize);
-    let (zone, pixels) = (quiet_zone(request, code), scale(request, code).max(1));
+    let (zone, unit) = (quiet_zone(request, code), unit(request, code));
     if !is_within(side, area.left, area.width) || !is_within(side, area.top, area.height) {
         return None;
     }
@@ -33,10 +33,10 @@ pub fn place_in(request: &Request<'_>, code: &QrCode, area: Rectangle, margin: u
         return None;
     }
     Some(Place {
-        left: (zone + area.left as u32 + margin as u32) * pixels,
-        top: (zone + area.top as u32 + margin as u32) * pixels,
-        width: (area.width - both) as u32 * pixels,
-        height: (area.height - both) as u32 * pixels,
+        left: (zone + area.left as u32 + margin as u32) * unit,
+        top: (zone + area.top as u32 + margin as u32) * unit,
+        width: (area.width - both) as u32 * unit,
+        height: (area.height - both) as u32 * unit,
     })
 }
 

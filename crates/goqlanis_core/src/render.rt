@@ -1,6 +1,6 @@
 //! How each format draws a picture.
 
-ghost use Rattle.std.specs.Prelude.{◌≡◌, ◌^◌, ◌<◌, true, false, string_bytes, IsTrue, IfOk, IsOkUnless};
+ghost use Rattle.std.specs.Prelude.{◌≡◌, ◌^◌, ◌<◌, ◌≤◌, Some, true, false, string_bytes, IsTrue, IfOk, IsOkUnless};
 ghost use Rattle.std.specs.Option.{option_or};
 ghost use Rattle.qrcode_types.specs.declared.types.QrError.TheVariants.{OutOfMemory};
 ghost use Rattle.qrcode_render.specs.Picture.{picture};
@@ -15,6 +15,7 @@ use crate::terminal::coloured;
 use qrcode::render::image::Luma;
 use qrcode::render::packed::{Dot, Packing};
 use qrcode::render::pbm::Bit;
+use qrcode::render::pdf::Extras;
 use qrcode::render::string::Str;
 use qrcode::render::unicode::Dense1x2;
 use qrcode::render::{Pixel, Renderer, eps, escpos, pdf, pgm, pic, ppm, svg, tspl, xbm, zpl};
@@ -55,7 +56,7 @@ pub fn draw_in(alloc: Global, format: Format, picture: &Picture<'_>) -> QrResult
         Format::Pbm => drawn(alloc, picture, Bit::Black, Bit::White),
         Format::Pgm => drawn(alloc, picture, pgm::Grey(0), pgm::Grey(255)),
         Format::Grey => Ok(drawn(alloc, picture, Luma([0]), Luma([255]))?.into_raw()),
-        Format::Pdf => pdf(alloc, picture, None),
+        Format::Pdf => pdf_file(alloc, picture, None, &[], ""),
         Format::Ppm => drawn(
             alloc,
             picture,
@@ -88,7 +89,7 @@ pub fn draw_on(
     match format {
         Format::SvgPath => path(alloc, picture, sheet),
         Format::Eps => eps(alloc, picture, sheet.dots),
-        Format::Pdf => pdf(alloc, picture, sheet.dots),
+        Format::Pdf => pdf_file(alloc, picture, sheet.dots, &[], sheet.frame.title),
         Format::Zpl => zpl(alloc, picture, sheet),
         Format::Tspl => tspl(alloc, picture, sheet),
         _ => draw_in(alloc, format, picture),
@@ -210,18 +211,42 @@ fn eps(alloc: Global, picture: &Picture<'_>, given: Option<u32>) -> QrResult<Vec
         (layout_of picture.now) picture.now.modules.now) }
     ensures memory { IsOkUnless result OutOfMemory }
 {
-    let renderer = renderer(picture, eps_ink(picture.dark), eps_ink(picture.light));
-    let text = match dots_of(picture, given) {
-        Some(dots) if dots > 0 => eps::with_density(alloc, &renderer, dots)?,
-        _ => renderer.build(alloc)?,
-    };
-    Ok(text.into_bytes())
+    match dots_of(picture, given) {
+        Some(dots) if dots > 0 => sized_eps(alloc, picture, dots),
+        _ => {
+            let text = drawn(
+                alloc,
+                picture,
+                eps_ink(picture.dark),
+                eps_ink(picture.light),
+            )?;
+            Ok(text.into_bytes())
+        }
+    }
 }
 
-// A PDF file, of so many pixels to an inch where they are given.
-fn pdf(alloc: Global, picture: &Picture<'_>, given: Option<u32>) -> QrResult<Vec<u8>>
-    ensures shows { IfOk result (λ file. IsPdfOn given (view_of picture.now)
-        (layout_of picture.now) picture.now.modules.now file.items) }
+// An EPS text, of so many pixels to an inch.
+fn sized_eps(alloc: Global, picture: &Picture<'_>, dots: u32) -> QrResult<Vec<u8>>
+    requires { 1 ≤ dots }
+    ensures text { IfOk result (λ text. text.items ≡ eps_on (Some dots) (view_of picture.now)
+        (layout_of picture.now) picture.now.modules.now) }
+    ensures memory { IsOkUnless result OutOfMemory }
+{
+    let renderer = renderer(picture, eps_ink(picture.dark), eps_ink(picture.light));
+    Ok(eps::with_density(alloc, &renderer, dots)?.into_bytes())
+}
+
+/// A PDF file, of so many pixels to an inch where they are given, with operators over the modules, and
+/// a title unless it is empty.
+pub(crate) fn pdf_file(
+    alloc: Global,
+    picture: &Picture<'_>,
+    given: Option<u32>,
+    over: &[u8],
+    title: &str,
+) -> QrResult<Vec<u8>>
+    ensures shows { IfOk result (λ file. IsPdfOn given title.now (view_of picture.now)
+        (layout_of picture.now) picture.now.modules.now over.now file.items) }
     ensures memory { IsOkUnless result OutOfMemory }
 {
     let (dark, light) = (
@@ -229,11 +254,12 @@ fn pdf(alloc: Global, picture: &Picture<'_>, given: Option<u32>) -> QrResult<Vec
         pdf::Color(rgb(picture.light)),
     );
     let dots = dots_of(picture, given).unwrap_or(72).max(1);
-    pdf::with_density(alloc, &renderer(picture, dark, light), dots)
+    let extras = Extras { dots, over, title };
+    pdf::with_extras(alloc, &renderer(picture, dark, light), extras)
 }
 
-// Red, green and blue.
-fn rgb(ink: Ink<'_>) -> [u8; 3]
+/// Red, green and blue.
+pub(crate) fn rgb(ink: Ink<'_>) -> [u8; 3]
     ensures value { result ≡ rgb (shade_of ink.entry) }
 {
     [ink.red, ink.green, ink.blue]

@@ -61,7 +61,8 @@ pub struct Request<'a> {
     /// The colours of SVG, EPS and PNG.
     pub dark: Ink<'a>,
     pub light: Ink<'a>,
-    /// The colours of parts in SVG, EPS and PNG. Of two for the same modules the later one is taken.
+    /// The colours of parts in SVG, EPS, PDF and PNG. Of two for the same modules the later one is
+    /// taken.
     pub parts: &'a [PartInk<'a>],
     /// Whether dark and light are exchanged. PIC, which draws no light, is as it is.
     pub is_inverted: bool,

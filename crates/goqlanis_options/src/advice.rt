@@ -112,7 +112,7 @@ fn other_help(
             format!(in alloc; "{word}: no such option; goqlanis{space}{name} --help lists them")
         }
         _ if words.iter().any(|word| word.as_str() == "--version") => format!(in alloc;
-            "{word}: --version is of the program; for that of the code, use -v"
+            "{word}: --version is the program's; for the code's version, use -v"
         ),
         Some(operand) => {
             let name = operand.name;

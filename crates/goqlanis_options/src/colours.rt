@@ -157,7 +157,8 @@ pub fn check_colours(
 ) -> Result<(), Failure> {
     if let Some(option) = part_colour(given).filter(|_| !has_parts(format)) {
         return Err(Failure::Usage(format!(in alloc;
-            "--{option}: only PNG, SVG and EPS have colours of parts; add --format png, svg or eps"
+            "--{option}: only PNG, SVG, EPS and PDF have colours of parts; add --format png, svg, eps or \
+            pdf"
         )?));
     }
     let is_opaque = inks.dark.opacity == 255 && inks.light.opacity == 255;
@@ -170,8 +171,8 @@ pub fn check_colours(
     if format != Format::Png && !inks.parts.iter().all(|part| part.ink.opacity == 255) {
         return usage(
             alloc,
-            "colours of parts are drawn over --dark and --light in SVG and EPS: for transparent ones \
-            use --format png",
+            "colours of parts are drawn over --dark and --light in SVG, EPS and PDF: for transparent \
+            ones use --format png",
         );
     }
     Ok(())
@@ -189,6 +190,6 @@ pub fn part_colour(given: &ArgMatches<'_>) -> Option<&'static str> {
 fn has_parts(format: Format) -> bool {
     matches!(
         format,
-        Format::Png | Format::Svg | Format::SvgPath | Format::Eps
+        Format::Png | Format::Svg | Format::SvgPath | Format::Eps | Format::Pdf
     )
 }

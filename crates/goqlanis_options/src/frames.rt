@@ -1,4 +1,4 @@
-//! Where a drawing stands on a label, and what is said at the element of SVG.
+//! Where a drawing stands on a label, and what is said at the element of SVG and of a PDF file.
 
 use clap::ArgMatches;
 use goqlanis_core::Format;
@@ -36,20 +36,22 @@ fn no_place(alloc: Global, text: &str) -> Result<(u32, u32), Failure> {
     )?))
 }
 
-/// What the command line says at the element of SVG.
+/// What the command line says at the element of SVG; in PDF its title.
 pub fn frame_of<'a>(
     alloc: Global,
     given: &ArgMatches<'a>,
     format: Format,
 ) -> Result<Frame<'a>, Failure> {
-    let [id, class, title, description] = [
+    let [id, class, in_svg, description, in_pdf] = [
         text_of(alloc, given, format, "svg-id")?,
         text_of(alloc, given, format, "svg-class")?,
         text_of(alloc, given, format, "svg-title")?,
         text_of(alloc, given, format, "svg-desc")?,
+        text_of(alloc, given, format, "pdf-title")?,
     ];
+    let title = if in_pdf.is_empty() { in_svg } else { in_pdf };
     let size = if given.get_flag("no-size") {
-        check_svg(alloc, format, "no-size")?;
+        check_format(alloc, format, "no-size")?;
         Size::Free
     } else {
         Size::Pixels
@@ -63,7 +65,7 @@ pub fn frame_of<'a>(
     })
 }
 
-// The text of an option that only SVG has, empty where it is not given.
+// The text of an option that one format has, empty where it is not given.
 fn text_of<'a>(
     alloc: Global,
     given: &ArgMatches<'a>,
@@ -73,17 +75,22 @@ fn text_of<'a>(
     let Some(text) = given.get_str(option) else {
         return Ok("");
     };
-    check_svg(alloc, format, option)?;
+    check_format(alloc, format, option)?;
     if text.is_empty() || text.bytes().any(|byte| byte < b' ') {
         return Err(Failure::Usage(format!(in alloc; "--{option}: give it a text of one line")?));
     }
     Ok(text)
 }
 
-// Refuses an option that only SVG has in another format.
-fn check_svg(alloc: Global, format: Format, option: &str) -> Result<(), Failure> {
-    if format == Format::SvgPath {
+// Refuses an option that only SVG or only PDF has in another format.
+fn check_format(alloc: Global, format: Format, option: &str) -> Result<(), Failure> {
+    let (wanted, name, word) = if option == "pdf-title" {
+        (Format::Pdf, "PDF", "pdf")
+    } else {
+        (Format::SvgPath, "SVG", "svg")
+    };
+    if format == wanted {
         return Ok(());
     }
-    Err(Failure::Usage(format!(in alloc; "--{option}: only SVG has it; add --format svg")?))
+    Err(Failure::Usage(format!(in alloc; "--{option}: only {name} has it; add --format {word}")?))
 }

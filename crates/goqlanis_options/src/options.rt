@@ -246,7 +246,7 @@ fn push_under(
 // Appends the colours of parts.
 fn push_part_colours(all: &mut Vec<Headed>) -> Result<(), AllocError> {
     for colour in PART_COLOURS {
-        all.push(("Colours of parts, in PNG, SVG and EPS", colour.entry))?;
+        all.push(("Colours of parts, in PNG, SVG, EPS and PDF", colour.entry))?;
     }
     Ok(())
 }

@@ -1,7 +1,7 @@
 //! What was made, on standard error: `--verbose` and `--json`.
 
 use crate::asked::{Asked, Reporting};
-use crate::warnings::{Decimal, hundredths_of, warn_of_modules, warn_of_size};
+use crate::warnings::{Decimal, hundredths_of, warn_of_label, warn_of_modules, warn_of_size};
 use goqlanis_core::{Drawing, VersionName, dots, quiet_zone, scale};
 use qrcode::types::EcLevel;
 use std::alloc::{AllocError, Global};
@@ -24,7 +24,7 @@ struct Report {
 }
 
 /// Says on standard error what was made, where that is asked for, and warns of a size that differs
-/// from the one that is asked for.
+/// from the one that is asked for, and of one that printers may refuse.
 pub fn show_report(
     rt: &HostRuntime,
     asked: &Asked<'_>,
@@ -32,7 +32,9 @@ pub fn show_report(
 ) -> Result<(), AllocError> {
     let report = report_of(asked, drawing);
     let zone = report.zone.saturating_mul(2);
-    warn_of_size(rt, asked, report.modules.saturating_add(zone));
+    let modules = report.modules.saturating_add(zone);
+    warn_of_size(rt, asked, modules);
+    warn_of_label(rt, asked, modules.saturating_mul(report.scale));
     warn_of_modules(rt, asked, report.scale, report.dots);
     let text = match asked.reporting {
         None => return Ok(()),

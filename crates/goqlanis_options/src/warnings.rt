@@ -13,7 +13,7 @@ pub fn warn(rt: &HostRuntime, asked: &Asked<'_>) {
     let request = &asked.request;
     if let Some((dark, light)) = close_colours(request) {
         let why = if is_brighter(dark, light) {
-            "are lighter than these; few readers take that, and --invert says it"
+            "are lighter than these; few readers accept that; to swap them, use --invert"
         } else {
             "have less than 40 % contrast, which many readers need"
         };
@@ -76,6 +76,20 @@ pub fn warn_of_modules(rt: &HostRuntime, asked: &Asked<'_>, scale: u32, dots: Op
         let side = Decimal(side);
         let _ = eprintln!(rt;
             "goqlanis: warning: modules of {side} mm are under the 0.25 mm that many readers need"
+        );
+    }
+}
+
+// The most bytes of a graphic field in ZPL, by the format of its command ^GF.
+const MOST_FIELD: u32 = 99_999;
+
+/// Warns of a label whose side has so many dots that printers that speak ZPL may refuse it.
+pub fn warn_of_label(rt: &HostRuntime, asked: &Asked<'_>, side: u32) {
+    let bytes = side.div_ceil(8).saturating_mul(side);
+    if asked.request.format == Format::Zpl && bytes > MOST_FIELD {
+        let _ = eprintln!(rt;
+            "goqlanis: warning: ZPL takes at most {MOST_FIELD} bytes of a picture, and this one has \
+            {bytes}; use a smaller --scale, --module or --dpi"
         );
     }
 }

@@ -1,5 +1,7 @@
 //! Files of logos.
 
+ghost use Rattle.std.specs.Prelude.{◌+◌, ◌<◌, length};
+
 use base64::engine::general_purpose::STANDARD;
 use goqlanis_files::failure::Failure;
 use qrcode_png::{Unread, read};
@@ -40,6 +42,8 @@ pub(crate) fn logo_of(alloc: Global, path: &str, file: &[u8]) -> Result<Logo, Fa
         Err(LogoFault::Scripts) => "it has scripts or entities; save it as plain SVG",
         Err(LogoFault::Sizeless) =>
             "its svg element needs a viewBox, or width and height in pixels",
+        Err(LogoFault::Nameless) =>
+            "its svg element needs xmlns=\"http://www.w3.org/2000/svg\", as every SVG file has",
     };
     Err(Failure::Refused(format!(in alloc; "--logo {path}: {why}")?))
 }
@@ -63,6 +67,8 @@ enum LogoFault {
     Scripts,
     // It says no size: it has no `viewBox`, and no width and height in pixels.
     Sizeless,
+    // It does not name SVG, without which no browser draws it as an image.
+    Nameless,
     OutOfMemory,
 }
 
@@ -74,41 +80,23 @@ impl From<AllocError> for LogoFault {
 
 // The logo of an SVG or PNG file.
 fn logo_in(alloc: Global, file: &[u8]) -> Result<Logo, LogoFault> {
-    match (str::from_utf8(file), file) {
-        (Ok(text), _) => svg_logo(alloc, text),
-        (
-            Err(_),
-            [
-                0x89,
-                b'P',
-                b'N',
-                b'G',
-                _,
-                _,
-                _,
-                _,
-                _,
-                _,
-                _,
-                _,
-                _,
-                _,
-                _,
-                _,
-                sides @ ..,
-            ],
-        ) => { png_logo(alloc, file, sides) }
-        _ => Err(LogoFault::Unknown),
+    if let Ok(text) = str::from_utf8(file) {
+        let (across, down) = svg_sides(text)?;
+        return Ok(image(alloc, across, down, "svg+xml", file)?);
     }
+    if file.len() < 24 || !file.starts_with(b"\x89PNG") {
+        return Err(LogoFault::Unknown);
+    }
+    // Its sides stand behind sixteen bytes, each in four.
+    let (across, down) = (number_at(file, 18), number_at(file, 22));
+    Ok(image(alloc, across.max(1), down.max(1), "png", file)?)
 }
 
-// The logo of a PNG file, in which its sides stand behind sixteen bytes.
-fn png_logo(alloc: Global, file: &[u8], sides: &[u8]) -> Result<Logo, LogoFault> {
-    let [_, _, w, x, _, _, h, y, ..] = sides else {
-        return Err(LogoFault::Unknown);
-    };
-    let (across, down) = (*w as u32 * 256 + *x as u32, *h as u32 * 256 + *y as u32);
-    Ok(image(alloc, across.max(1), down.max(1), "png", file)?)
+// The number of two bytes.
+fn number_at(file: &[u8], at: usize) -> u32
+    requires { at + 1 < length file.now }
+{
+    file[at] as u32 * 256 + file[at + 1] as u32
 }
 
 // The logo of the bytes of a picture of so many units across and down. As an image it draws nothing
@@ -129,17 +117,17 @@ fn image(
     Ok(Logo { across, down, rest })
 }
 
-// The root element of an SVG text, while its attributes are read.
-#[derive(Drop)]
+// What the root element of an SVG text says of its size, while its attributes are read.
+#[derive(Clone, Copy)]
 struct Root<'a> {
-    kept: String,
-    view: Option<&'a str>,
+    view: &'a str,
     width: &'a str,
     height: &'a str,
+    space: &'a str,
 }
 
-// The logo of an SVG text.
-fn svg_logo(alloc: Global, text: &str) -> Result<Logo, LogoFault> {
+// How wide and how high an SVG text is, in proportion.
+fn svg_sides(text: &str) -> Result<(u32, u32), LogoFault> {
     if text.contains("<script") || text.contains("<!ENTITY") || has_handler(text) {
         return Err(LogoFault::Scripts);
     }
@@ -147,20 +135,26 @@ fn svg_logo(alloc: Global, text: &str) -> Result<Logo, LogoFault> {
         return Err(LogoFault::Unknown);
     };
     let mut root = Root {
-        kept: String::new(alloc),
-        view: None,
+        view: "",
         width: "",
         height: "",
+        space: "",
     };
     for _ in 0..text.len() {
-        let text = left.trim_start();
-        if let Some(content) = text.strip_prefix('>') {
-            return closed(&root, content);
+        left = left.trim_start();
+        if left.starts_with('>') && text.trim_end().ends_with("</svg>") {
+            return sides(&root);
         }
-        let Some((name, value, rest)) = next_attribute(text) else {
+        let Some((name, value, rest)) = next_attribute(left) else {
             return Err(LogoFault::Unknown);
         };
-        take(&mut root, name, value)?;
+        match name {
+            "width" => root.width = value,
+            "height" => root.height = value,
+            "viewBox" => root.view = value,
+            "xmlns" => root.space = value,
+            _ => {}
+        }
         left = rest;
     }
     Err(LogoFault::Unknown)
@@ -213,49 +207,15 @@ fn next_attribute(text: &str) -> Option<(&str, &str, &str)> {
     Some((name, value, rest))
 }
 
-// Keeps an attribute, unless it says the place or the size.
-fn take<'a>(root: &mut Root<'a>, name: &str, value: &'a str) -> Result<(), AllocError> {
-    match name {
-        "width" => root.width = value,
-        "height" => root.height = value,
-        "x" | "y" => {}
-        _ => {
-            if name == "viewBox" {
-                root.view = Some(value);
-            }
-            let mark = if value.contains('"') { '\'' } else { '"' };
-            write!(root.kept, " {name}={mark}{value}{mark}")?;
-        }
+// How wide and how high a root element is, in proportion: by its sides in pixels, or by its units.
+fn sides(root: &Root<'_>) -> Result<(u32, u32), LogoFault> {
+    let mut units = root.view.split_whitespace().skip(2);
+    let found = pixels(root.width).zip(pixels(root.height));
+    match found.or(units.next().zip(units.next())) {
+        None => Err(LogoFault::Sizeless),
+        Some(_) if root.space != "http://www.w3.org/2000/svg" => Err(LogoFault::Nameless),
+        Some((across, down)) => Ok((whole(across), whole(down))),
     }
-    Ok(())
-}
-
-// The logo of a root element with what stands behind its attributes.
-fn closed(root: &Root<'_>, content: &str) -> Result<Logo, LogoFault> {
-    let alloc = *root.kept.allocator();
-    let content = content.trim_end();
-    if !content.ends_with("</svg>") {
-        return Err(LogoFault::Unknown);
-    }
-    let mut text = format!(in alloc; "<svg{}", root.kept)?;
-    if !root.kept.contains("xmlns=") {
-        write!(text, " xmlns=\"http://www.w3.org/2000/svg\"")?;
-    }
-    let (across, down) = match root.view {
-        Some(view) => {
-            let mut numbers = view.split_whitespace().skip(2);
-            (whole(numbers.next()), whole(numbers.next()))
-        }
-        None => {
-            let (Some(width), Some(height)) = (pixels(root.width), pixels(root.height)) else {
-                return Err(LogoFault::Sizeless);
-            };
-            write!(text, " viewBox=\"0 0 {width} {height}\"")?;
-            (whole(Some(width)), whole(Some(height)))
-        }
-    };
-    write!(text, ">{content}")?;
-    Ok(image(alloc, across, down, "svg+xml", text.as_bytes())?)
 }
 
 // The text of a number of pixels, without their name, where it is one.
@@ -270,11 +230,8 @@ fn pixels(text: &str) -> Option<&str> {
     (is_number && !number.is_empty()).then_some(number)
 }
 
-// The whole part of a number, at least 1, where it is one.
-fn whole(number: Option<&str>) -> u32 {
-    let Some(number) = number else {
-        return 1;
-    };
+// The whole part of a number, at least 1.
+fn whole(number: &str) -> u32 {
     let digits = match number.split_once('.') {
         Some((digits, _)) => digits,
         None => number,

@@ -6,8 +6,7 @@ ghost use Rattle.goqlanis_core.specs.Places.{HasPixels};
 use crate::logos::{Logo, Raster, logo_of, pixels_of};
 use goqlanis_core::areas::{LogoError, LogoSize, LogoWish, logo_area, roomier};
 use goqlanis_core::overlays::{
-    CROSS_UNITS, cross_content, cross_pixels, cross_size, cross_width, element_in, eps_cross,
-    with_logo,
+    CROSS_UNITS, Inside, cross_pixels, cross_size, cross_width, with_logo,
 };
 use goqlanis_core::pasting::{GREATEST_SIDE, Inset, pasted};
 use goqlanis_core::places::{Place, place_in};
@@ -37,7 +36,7 @@ pub(crate) const SWISS_CROSS: AskedLogo<'static> = AskedLogo {
 pub(crate) fn has_cross(format: Format) -> bool {
     matches!(
         format,
-        Format::Svg | Format::SvgPath | Format::Eps | Format::Png
+        Format::Svg | Format::SvgPath | Format::Eps | Format::Pdf | Format::Png
     )
 }
 
@@ -89,12 +88,22 @@ pub(crate) fn redrawn(
             pixels_drawn(alloc, request, code, logo, &pixels_of(alloc, path, file)?)
         }
         (Middle::Logo(path, file), _) => {
-            element_drawn(alloc, request, code, logo, &logo_of(alloc, path, file)?)
+            let found = logo_of(alloc, path, file)?;
+            let inside = Inside::Element(logo.margin, found.rest.as_str());
+            let area = area_of(alloc, code, wish_of(logo, (found.across, found.down), code))?;
+            drawn(alloc, request, code, area, inside)
         }
-        (Middle::Cross, _) => cross_drawn(alloc, request, code, logo),
+        (Middle::Cross, format) => {
+            let area = area_of(alloc, code, wish_of(logo, (1, 1), code))?;
+            if format == Format::Png {
+                cross_in_pixels(alloc, request, code, area)
+            } else {
+                drawn(alloc, request, code, area, Inside::Cross)
+            }
+        }
         (Middle::Light, _) => {
             let area = area_of(alloc, code, wish_of(logo, (1, 1), code))?;
-            drawn(alloc, request, code, area, "")
+            drawn(alloc, request, code, area, Inside::Nothing)
         }
     };
     Ok(Some(bytes?))
@@ -120,36 +129,14 @@ fn pixels_drawn(
     inset_drawn(alloc, request, code, area, &inset)
 }
 
-// A code drawn with the Swiss cross.
-fn cross_drawn(
-    alloc: Global,
-    request: &Request<'_>,
-    code: &QrCode,
-    asked: &AskedLogo<'_>,
-) -> Result<Vec<u8>, Failure> {
-    let area = area_of(alloc, code, wish_of(asked, (1, 1), code))?;
-    let place = place_of(alloc, request, code, area, 0)?;
-    let element = match request.format {
-        Format::Png => return cross_in_pixels(alloc, request, code, area, place),
-        Format::Eps => eps_cross(alloc, request, code)?,
-        _ => {
-            let content = cross_content(alloc, area.width, code.width())?;
-            element_in(alloc, place, content.as_str())?
-        }
-    };
-    drawn(alloc, request, code, area, element.as_str())
-}
-
-// A code drawn with the Swiss cross in the middle of a place, as a PNG file.
+// A code drawn with the Swiss cross in the middle of its area, as a PNG file.
 fn cross_in_pixels(
     alloc: Global,
     request: &Request<'_>,
     code: &QrCode,
     area: Rectangle,
-    place: Place,
-) -> Result<Vec<u8>, Failure>
-    requires { HasPixels place }
-{
+) -> Result<Vec<u8>, Failure> {
+    let place = place_of(alloc, request, code, area, 0)?;
     let pixels = cross_pixels(alloc)?;
     let inset = Inset {
         pixels: &pixels,
@@ -181,30 +168,17 @@ fn inset_drawn(
     }
 }
 
-// A code drawn with an element of a logo.
-fn element_drawn(
-    alloc: Global,
-    request: &Request<'_>,
-    code: &QrCode,
-    asked: &AskedLogo<'_>,
-    logo: &Logo,
-) -> Result<Vec<u8>, Failure> {
-    let area = area_of(alloc, code, wish_of(asked, (logo.across, logo.down), code))?;
-    let place = place_of(alloc, request, code, area, asked.margin)?;
-    let element = element_in(alloc, place, logo.rest.as_str())?;
-    drawn(alloc, request, code, area, element.as_str())
-}
-
-// A code drawn with its area light, and in SVG and EPS with an element.
+// A code drawn with what stands in its area, where that is not drawn in pixels.
 fn drawn(
     alloc: Global,
     request: &Request<'_>,
     code: &QrCode,
     area: Rectangle,
-    element: &str,
+    inside: Inside<'_>,
 ) -> Result<Vec<u8>, Failure> {
-    match with_logo(alloc, request, code, area, element) {
-        Ok(bytes) => Ok(bytes),
+    match with_logo(alloc, request, code, area, inside) {
+        Ok(Some(bytes)) => Ok(bytes),
+        Ok(None) => Err(no_room(alloc, area)?),
         Err(_) => Err(Failure::OutOfMemory),
     }
 }
@@ -230,6 +204,15 @@ fn wish_of(asked: &AskedLogo<'_>, sides: (u32, u32), code: &QrCode) -> LogoWish 
     }
 }
 
+// That an area leaves no room within a margin.
+fn no_room(alloc: Global, area: Rectangle) -> Result<Failure, AllocError> {
+    let (width, height) = (area.width, area.height);
+    Ok(Failure::Refused(format!(in alloc;
+        "the area of {width} by {height} modules leaves no room for a logo within its margin; use a \
+        higher --level, or a smaller --logo-margin"
+    )?))
+}
+
 // The pixels of an area within a margin.
 fn place_of(
     alloc: Global,
@@ -240,24 +223,9 @@ fn place_of(
 ) -> Result<Place, Failure>
     ensures { IfOk result HasPixels }
 {
-    // A unit of SVG of one path is a module.
-    let units = match request.format {
-        Format::SvgPath => Request {
-            scale: 1,
-            size: None,
-            ..*request
-        },
-        _ => *request,
-    };
-    match place_in(&units, code, area, margin) {
+    match place_in(request, code, area, margin) {
         Some(place) => Ok(place),
-        None => {
-            let (width, height) = (area.width, area.height);
-            Err(Failure::Refused(format!(in alloc;
-                "the area of {width} by {height} modules leaves no room for a logo within its margin; \
-                use a higher --level, or a smaller --logo-margin"
-            )?))
-        }
+        None => Err(no_room(alloc, area)?),
     }
 }
 

@@ -246,7 +246,8 @@ fn draw_content(
         return draw_one(rt, &Asked { logo, ..*asked }, text.as_bytes());
     }
     let _ = eprintln!(rt;
-        "goqlanis: warning: this format lacks the Swiss cross of a bill; png, svg and eps have it"
+        "goqlanis: warning: this format lacks the Swiss cross of a bill; png, svg, eps and pdf have \
+        it"
     );
     draw_one(rt, asked, text.as_bytes())
 }

@@ -5,6 +5,7 @@ use Rattle.qrcode_types.specs.declared.types.Color.{Color}
 use Rattle.qrcode_render.specs.declared.eps.Color as eps
 use Rattle.qrcode_render.specs.Drawn.{drawn}
 use Rattle.qrcode_render.specs.Layout.{Layout, pixels_across, pixels_down}
+use Rattle.qrcode_render.specs.Paths.{thousandths}
 use Rattle.qrcode_render.specs.Strokes.{rect_text, regroup}
 
 -- what follows is drawn in this colour
@@ -38,9 +39,15 @@ eps_start w h dark light = eps_head w h ++ (eps_paint light ++ (eps_ground w h +
 abbrev pub begun_points : ℕ → ℕ → ℕ
 begun_points dots n = (72 * n + dots - 1) / dots
 
--- the same head, of so many pixels to an inch, and how large a pixel is
+-- the lines of the head that say how large a picture is: the points that it begins, and those that it has, to the next thousandth
+unfoldable pub eps_boxes : ℕ → ℕ → ℕ → List ℕ
+eps_boxes dots w h =
+    codes "%!PS-Adobe-3.0 EPSF-3.0\n%%BoundingBox: 0 0 " ++ (decimal (begun_points dots w) ++ (codes " " ++ (decimal (begun_points dots h)
+    ++ (codes "\n%%HiResBoundingBox: 0 0 " ++ (thousandths (begun_points dots (1000 * w)) ++ (codes " " ++ (thousandths (begun_points dots (1000 * h)) ++ codes "\n")))))))
+
+-- the head, and how large a pixel is
 abbrev pub eps_sized_head : ℕ → ℕ → ℕ → List ℕ
-eps_sized_head dots w h = eps_head (begun_points dots w) (begun_points dots h) ++ (codes "72 " ++ (decimal dots ++ codes " div dup scale\n"))
+eps_sized_head dots w h = eps_boxes dots w h ++ (codes "%%LanguageLevel: 2\n%%EndComments\n72 " ++ (decimal dots ++ codes " div dup scale\n"))
 
 -- what stands before the first dark rectangle then
 abbrev pub eps_sized_start : ℕ → ℕ → ℕ → eps.Color → eps.Color → List ℕ

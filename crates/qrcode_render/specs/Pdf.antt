@@ -1,8 +1,11 @@
 -- PDF 1.4 of one page as large as the picture, on which the runs of dark modules are filled.
-use Rattle.std.specs.Prelude.{◌≡◌, ℕ, ◌+◌, ◌*◌, ◌/◌, ◌%◌, ◌^◌, ◌<◌, List, [], ◌∷◌, ◌++◌, codes, decimal, length, map, flat_map}
+use Rattle.std.specs.Prelude.{◌≡◌, ℕ, ◌+◌, ◌*◌, ◌/◌, ◌%◌, ◌^◌, ◌<◌, ◌==◌, if◌then◌else◌, List, [], ◌∷◌, ◌++◌, codes, decimal, length, map, flat_map}
+use Rattle.std.specs.Char.Escape.{encode_utf16}
 use Rattle.std.specs.List.{range_with_len}
+use Rattle.std.specs.Str.{chars}
 use Rattle.qrcode_render.specs.Bitmap.{Bitmap}
 use Rattle.qrcode_render.specs.Paths.{Run, is_filled}
+use Rattle.qrcode_render.specs.Printers.{hex_pair}
 
 -- the digit of a number that stands for a power of ten
 abbrev pub digit_at : ℕ → ℕ → ℕ
@@ -56,9 +59,13 @@ run_box r = decimal r.left ++ (codes " " ++ (decimal r.top ++ (codes " " ++ (dec
 abbrev pub under : Sheet → List ℕ → List ℕ → List ℕ
 under s dark light = turn s ++ (paint light ++ (ground s ++ paint dark))
 
--- what is drawn: the light ground, and the runs, filled as one path
-abbrev pub content : Sheet → List ℕ → List ℕ → List Run → List ℕ
-content s dark light runs = under s dark light ++ flat_map run_box runs ++ codes "f"
+-- runs, filled as one path
+abbrev pub filled : List Run → List ℕ
+filled runs = flat_map run_box runs ++ codes "f"
+
+-- what is drawn: the light ground, the runs, and what is over them
+abbrev pub content : Sheet → List ℕ → List ℕ → List Run → List ℕ → List ℕ
+content s dark light runs over = (under s dark light ++ filled runs) ++ over
 
 -- a file while it is written, and its table of where objects begin
 pub record Body : Type 0 where
@@ -91,20 +98,43 @@ page s = codes "3 0 obj\n<</Type/Page/Parent 2 0 R/Resources<<>>/Contents 4 0 R/
 abbrev pub stream : List ℕ → List ℕ
 stream drawn = codes "4 0 obj\n<</Length " ++ (decimal (length drawn) ++ (codes ">>\nstream\n" ++ (drawn ++ codes "\nendstream\nendobj\n")))
 
--- the four objects
-abbrev pub body : Sheet → List ℕ → Body
-body s drawn = with_object (stream drawn) (with_object (page s) (with_object pages (with_object catalog start)))
+-- a character as digits to the base 16 of its units in UTF-16
+abbrev pub character_digits : ℕ → List ℕ
+character_digits c = flat_map (λ unit. hex_pair (unit / 256) ++ hex_pair (unit % 256)) (encode_utf16 c)
+
+-- a title as a text of PDF, which begins with the mark of UTF-16
+unfoldable pub title_text : List ℕ → List ℕ
+title_text title = codes "<FEFF" ++ (flat_map character_digits (chars title) ++ codes ">")
+
+-- what is said of the file: its title, if it has one
+abbrev pub information : List ℕ → List ℕ
+information title = codes "5 0 obj\n<<" ++ (if length title == 0 then [] else codes "/Title" ++ title_text title) ++ codes ">>\nendobj\n"
+
+-- the five objects
+abbrev pub body : Sheet → List ℕ → List ℕ → Body
+body s drawn title = with_object (information title) (with_object (stream drawn) (with_object (page s) (with_object pages (with_object catalog start))))
 
 -- the table, and where it begins
 abbrev pub ending : List ℕ → ℕ → List ℕ
-ending table start = codes "xref\n0 5\n" ++ table ++ (codes "trailer\n<</Size 5/Root 1 0 R>>\nstartxref\n" ++ (decimal start ++ codes "\n%%EOF\n"))
+ending table start = codes "xref\n0 6\n" ++ table ++ (codes "trailer\n<</Size 6/Root 1 0 R/Info 5 0 R>>\nstartxref\n" ++ (decimal start ++ codes "\n%%EOF\n"))
 
 -- the objects, and behind them the table
 abbrev pub closed : Body → List ℕ
 closed b = b.text ++ ending b.table (length b.text)
 
--- a file of a page that shows the picture: each module is so many pixels across and down, and the pixels of the filled ones are dark
-pub record IsPdfOf (dots : ℕ) (dark light : List ℕ) (b : Bitmap) (file : List ℕ) : Type 0 where
+-- the pixels of runs of modules, each of so many pixels across and down, are the dark ones
+abbrev pub AreRunsOf : ℕ → ℕ → Bitmap → List Run → Type 0
+AreRunsOf across down b runs = b.marks ≡ map (λ i. is_filled runs (i % b.across / across) (i / b.across / down)) (range_with_len 0 (b.across * b.down))
+
+-- operators fill the dark pixels of a picture, each of which is a unit, in a colour
+pub record IsLayerOf (parts : List ℕ) (b : Bitmap) (text : List ℕ) : Type 0 where
+  pub runs : List Run
+  pub written : text ≡ codes "\n" ++ paint parts ++ filled runs
+  pub shown : AreRunsOf 1 1 b runs
+
+-- a file of a page that shows the picture: each module is so many pixels across and down, the pixels of the filled ones are dark, and
+-- operators are drawn over them; the file has a title, unless that is empty
+pub record IsPdfOf (dots : ℕ) (dark light : List ℕ) (b : Bitmap) (over title file : List ℕ) : Type 0 where
   pub sheet : Sheet
   pub runs : List Run
   pub inch : sheet.dots ≡ dots
@@ -112,6 +142,6 @@ pub record IsPdfOf (dots : ℕ) (dark light : List ℕ) (b : Bitmap) (file : Lis
   pub high : sheet.high ≡ b.down
   pub columns : b.across ≡ sheet.columns * sheet.across
   pub rows : b.down ≡ sheet.rows * sheet.down
-  pub written : file ≡ closed (body sheet (content sheet dark light runs))
-  pub fits : length (body sheet (content sheet dark light runs)).text < 10 ^ 10
-  pub shown : b.marks ≡ map (λ i. is_filled runs (i % b.across / sheet.across) (i / b.across / sheet.down)) (range_with_len 0 (b.across * b.down))
+  pub written : file ≡ closed (body sheet (content sheet dark light runs over) title)
+  pub fits : length (body sheet (content sheet dark light runs over) title).text < 10 ^ 10
+  pub shown : AreRunsOf sheet.across sheet.down b runs

@@ -2,10 +2,11 @@
 //! `with_density` says otherwise.
 
 ghost use Rattle.std.proofs.Common.{rules};
-ghost use Rattle.std.specs.Prelude.{◌≡◌, ◌≤◌, string_bytes, IfOk, IsOkUnless, IsTrue};
+ghost use Rattle.std.specs.Prelude.{◌≡◌, ◌<◌, ◌≤◌, ◌^◌, string_bytes, IfOk, IsOkUnless, IsTrue};
 ghost use Rattle.qrcode_types.specs.declared.types.QrError.TheVariants.{OutOfMemory};
 ghost use Rattle.qrcode_types.specs.Colors.{select_of};
-ghost use Rattle.qrcode_render.specs.Eps.{begun_points, eps_start, eps_rect, eps_rect-is, eps_column, eps_row, eps_end, eps_sized_start, eps_sized_text};
+ghost use Rattle.qrcode_render.specs.Eps.{begun_points, eps_start, eps_rect, eps_rect-is, eps_column, eps_row, eps_end, eps_boxes, eps_sized_start, eps_sized_text};
+ghost use Rattle.qrcode_render.specs.Paths.{thousandths};
 ghost use Rattle.qrcode_render.specs.Setting.{fits, layout_of};
 
 use crate::ink::{Piece, Script, Word};
@@ -130,20 +131,46 @@ fn sized_head(
     ensures memory { IsOkUnless result OutOfMemory }
 {
     let (width, height) = sides;
-    let (across, down) = (begun_points(dots, width), begun_points(dots, height));
+    let head = sized_boxes(alloc, sides, dots)?;
     Ok(format!(in alloc;
-        "%!PS-Adobe-3.0 EPSF-3.0\n%%BoundingBox: 0 0 {across} {down}\n%%LanguageLevel: 2\n\
-         %%EndComments\n72 {dots} div dup scale\n{} 255 div {} 255 div {} 255 div setrgbcolor\n\
+        "{head}%%LanguageLevel: 2\n%%EndComments\n72 {dots} div dup scale\n\
+         {} 255 div {} 255 div {} 255 div setrgbcolor\n\
          0 0 {width} {height} rectfill\n0 {height} translate 1 -1 scale\n\
          {} 255 div {} 255 div {} 255 div setrgbcolor\n",
         light.red, light.green, light.blue, dark.red, dark.green, dark.blue
     )?)
 }
 
-// The points that pixels begin.
-fn begun_points(dots: u32, pixels: u32) -> u64
+// The lines of the head that say how large a picture of so many pixels across and down is.
+fn sized_boxes(alloc: Global, sides: (u32, u32), dots: u32) -> QrResult<String>
     requires { 1 ≤ dots }
+    ensures value { IfOk result (λ text. string_bytes text ≡ eps_boxes dots sides.0 sides.1) }
+    ensures memory { IsOkUnless result OutOfMemory }
+{
+    let (wide, high) = (sides.0 as u64, sides.1 as u64);
+    let (across, down) = (begun_points(dots, wide), begun_points(dots, high));
+    let wide = thousandths(alloc, begun_points(dots, 1000 * wide))?;
+    let high = thousandths(alloc, begun_points(dots, 1000 * high))?;
+    Ok(format!(in alloc;
+        "%!PS-Adobe-3.0 EPSF-3.0\n%%BoundingBox: 0 0 {across} {down}\n\
+         %%HiResBoundingBox: 0 0 {wide} {high}\n"
+    )?)
+}
+
+// Thousandths, as a number with three digits behind its point.
+fn thousandths(alloc: Global, n: u64) -> QrResult<String>
+    ensures value { IfOk result (λ text. string_bytes text ≡ thousandths n) }
+    ensures memory { IsOkUnless result OutOfMemory }
+{
+    let (hundreds, tens, ones) = (n / 100 % 10, n / 10 % 10, n % 10);
+    Ok(format!(in alloc; "{}.{hundreds}{tens}{ones}", n / 1000)?)
+}
+
+// The points that pixels begin.
+fn begun_points(dots: u32, pixels: u64) -> u64
+    requires at_least { 1 ≤ dots }
+    requires few { pixels < 2 ^ 48 }
     ensures { result ≡ begun_points dots pixels }
 {
-    (72 * u64::from(pixels) + u64::from(dots) - 1) / u64::from(dots)
+    (72 * pixels + u64::from(dots) - 1) / u64::from(dots)
 }

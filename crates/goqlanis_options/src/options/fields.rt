@@ -25,7 +25,7 @@ pub fn option_of(field: Field) -> (&'static str, Takes, &'static str)
         Field::Family => ("family", Text("NAME"), "Family name"),
         Field::Given => ("given", Text("NAME"), "Given names"),
         Field::Organisation => ("organisation", Text("NAME"), "Organisation"),
-        Field::Title => ("title", Text("TEXT"), "Title or function"),
+        Field::Title => ("title", Text("TEXT"), "Job title"),
         Field::Phone => ("phone", Text("NUMBER"), "Phone number, e.g. +41 44 123 45 67"),
         Field::Mobile => ("mobile", Text("NUMBER"), "Mobile phone number"),
         Field::WorkPhone => ("work-phone", Text("NUMBER"), "Phone number at work"),

@@ -24,7 +24,7 @@ macro_rules! colour {
     };
 }
 
-/// The colours of parts, in PNG, SVG and EPS.
+/// The colours of parts, in PNG, SVG, EPS and PDF.
 #[rattlefmt::skip]
 pub static PART_COLOURS: &[PartColour] = &[
     colour!("finder-dark", Finder, Dark, "Dark modules of finder patterns [default: as --dark]"),
@@ -34,10 +34,10 @@ pub static PART_COLOURS: &[PartColour] = &[
     colour!("alignment-light", Alignment, Light, "Light modules of alignment patterns"),
     colour!("timing-dark", Timing, Dark, "Dark timing modules"),
     colour!("timing-light", Timing, Light, "Light timing modules"),
-    colour!("format-dark", FormatWord, Dark, "Dark modules of the format word"),
-    colour!("format-light", FormatWord, Light, "Light modules of the format word"),
-    colour!("version-dark", VersionWord, Dark, "Dark modules of the version word"),
-    colour!("version-light", VersionWord, Light, "Light modules of the version word"),
+    colour!("format-dark", FormatWord, Dark, "Dark modules of the format information"),
+    colour!("format-light", FormatWord, Light, "Light modules of the format information"),
+    colour!("version-dark", VersionWord, Dark, "Dark modules of the version information"),
+    colour!("version-light", VersionWord, Light, "Light modules of the version information"),
     colour!("data-dark", Data, Dark, "Dark modules of data and error correction"),
     colour!("data-light", Data, Light, "Light modules of data and error correction"),
 ];

@@ -49,8 +49,8 @@ pub static ONE_CODE: &[Entry] = &[
         "Choose the segments yourself: numeric, alphanumeric, byte (text), kanji (Shift JIS in \
         hex) or eci:NUMBER; repeat as needed"),
     entry!("lines", Nothing,
-        "Make one code per line, in numbered files; to name them, use in --output {} for the \
-        line's number, {text} for its text, {1} for its first field"),
+        "Make one code per line, in numbered files; --output may contain {} (line number), \
+        {text} (the line), {1} (its first field)"),
     entry!("delimiter", Text("TEXT"),
         "Separator of the fields in a line [default: ,]"),
 ];
@@ -83,7 +83,7 @@ pub static NORMAL_LEVELS: &[Entry] = &[
 #[rattlefmt::skip]
 pub static TEXTS: &[Entry] = &[
     entry!("micro", Nothing, "Allow Micro QR (--min-version M1)"),
-    entry!("boost", Nothing, "Use the highest level that fits the version; with -l L, the smallest version"),
+    entry!("boost", Nothing, "Raise the level as far as the version allows; add -l L for the smallest version"),
 ];
 
 /// How a text in one code is marked.
@@ -109,33 +109,34 @@ pub static LOOKS: &[Entry] = &[
     entry!("scale", 's', Number("PIXELS", 1, 1000),
         "Pixels per module, 1 to 1,000 [default: 8; 1 for text and PIC]"),
     entry!("size", Text("SIZE"),
-        "Largest side of the picture, in pixels or mm, cm, in, pt, e.g. 300 or 30mm; exact in SVG, \
-        EPS and PDF, elsewhere modules get whole pixels"),
+        "Maximum side of the picture, in pixels or mm, cm, in, pt, e.g. 300 or 30mm; exact in SVG, \
+        EPS and PDF, whole pixels per module elsewhere"),
     entry!("module", Text("LENGTH"),
         "Side of a module, e.g. 0.5mm, exact in SVG, EPS and PDF, elsewhere to the nearest pixel"),
     entry!("dpi", Number("N", 1, 65535), "Pixels per inch, 1 to 65,535"),
     entry!("at", Text("X,Y"),
-        "Dots from the left and the top of the label, in ZPL and TSPL [default: 0,0]"),
-    entry!("no-size", Nothing, "Leave the size out of SVG, which then fills what it stands in"),
+        "Position on the label, in dots from the left and top, in ZPL and TSPL [default: 0,0]"),
+    entry!("no-size", Nothing, "Omit width and height in SVG, so that it fills its container"),
     entry!("svg-title", Text("TEXT"), "Title in SVG, for screen readers"),
     entry!("svg-desc", Text("TEXT"), "Description in SVG, for screen readers"),
     entry!("svg-id", Text("NAME"), "Name of the SVG element"),
     entry!("svg-class", Text("NAMES"), "Classes of the SVG element, for style sheets"),
+    entry!("pdf-title", Text("TEXT"), "Title of a PDF file"),
     entry!("dark", Text("COLOUR"),
         "Colour of dark modules in PNG, SVG, EPS, PDF and PPM, e.g. \"#008\" or navy [default: black]"),
     entry!("light", Text("COLOUR"),
         "Colour of light modules, or transparent (PNG, SVG) [default: white]"),
     entry!("invert", Nothing, "Swap dark and light"),
     entry!("logo", Path,
-        "Draw an SVG or PNG file in the middle of SVG, or a PNG file in PNG; the code stays readable"),
-    entry!("logo-area", Nothing, "Leave the logo's area light and empty, in any format"),
+        "Put a logo in the middle: an SVG or PNG file in SVG, a PNG file in PNG; the code stays readable"),
+    entry!("logo-area", Nothing, "Leave an empty area for a logo, in any format"),
     entry!("logo-size", Text("SIZE"),
         "Side of the area, in modules or percent of the code's side, e.g. 9 or 20% [default: the \
         largest that uses half of what error correction can repair]"),
     entry!("logo-margin", Number("MODULES", 0, 20), "Light modules around the logo [default: 1]"),
-    entry!("keep-alignment", Nothing, "Keep the logo off alignment patterns, for weak readers"),
+    entry!("keep-alignment", Nothing, "Do not cover alignment patterns, which some readers need"),
     entry!("verbose", Nothing, "Report version, level, mask and sizes on standard error"),
-    entry!("json", Nothing, "The same report as a line of JSON"),
+    entry!("json", Nothing, "Write this report as a line of JSON"),
 ];
 
 /// Texts about the program.

@@ -37,10 +37,10 @@ pub static TASKS: &[Task] = &[
     },
     Task {
         word: "check",
-        about: "Say what of the QR codes of a picture departs from the standard",
+        about: "Report where the QR codes in a picture depart from the standard",
         purpose: Purpose::Check,
         options: &[
-            entry!("json", Nothing, "Write a list of JSON in place of lines"),
+            entry!("json", Nothing, "Write a JSON list instead of text"),
         ],
     },
     Task {
@@ -65,7 +65,7 @@ pub static TASKS: &[Task] = &[
     payload!("mecard", Kind::Mecard, "Contact (MECARD)"),
     payload!("vcard", Kind::Vcard, "Contact (vCard 3.0)"),
     payload!("epc", Kind::Payment, "SEPA credit transfer (EPC QR code)"),
-    payload!("bill", Kind::Bill, "Swiss QR-bill, with its cross in SVG, PNG and EPS"),
+    payload!("bill", Kind::Bill, "Swiss QR-bill, with its cross in SVG, PNG, EPS and PDF"),
     payload!("upi", Kind::Upi, "Payment by UPI (India)"),
     payload!("pix", Kind::Pix, "Static payment by Pix (Brazil)"),
     payload!("promptpay", Kind::Promptpay, "Payment by PromptPay (Thailand)"),

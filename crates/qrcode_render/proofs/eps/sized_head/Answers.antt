@@ -3,4 +3,4 @@ use Rattle.qrcode_render.proofs.eps.sized_head.Goals as goal
 
 -- The pieces of the text, one behind the other.
 pub returns-clause-value : goal.returns-clause-value
-returns-clause-value c = c.in_ok-format.ensures.ok ∙ simp (append_assoc, c.begun_points-across.ensures, c.begun_points-down.ensures)
+returns-clause-value c = c.in_ok-format.ensures.ok ∙ simp (append_assoc, c.in_ok-head.ensures.value)
