@@ -481,6 +481,59 @@ typedef struct {
 
 #define GOQ_SCAN GOQ_INITIAL(goq_scan, 0, 0, 0)
 
+/* How many modules of each pattern of a code are wrong. */
+typedef struct {
+    size_t finder; /* of the finder patterns with their separators */
+    size_t alignment; /* of the alignment patterns */
+    size_t timing; /* of the timing patterns */
+    size_t format; /* of the copies of the format word, and the module that is always dark */
+    size_t version; /* of the copies of the version word */
+    size_t remainder; /* of those behind the last codeword */
+} goq_wrong_modules;
+
+/* What is said of the data bits of a code. All is 0 where they are not segments and an end. */
+typedef struct {
+    uint32_t segments; /* 1 if they are */
+    uint32_t compared; /* 1 if the next two are known: not behind FNC1, nor with a header between */
+    size_t bits; /* the bits of the segments */
+    size_t fewest; /* the fewest that their bytes need */
+    size_t terminator; /* wrong bits of the terminator, and of the zeros up to a whole byte */
+    size_t padding; /* wrong bits behind these */
+    size_t guessed; /* segments of bytes above 127 whose character set is not said */
+    uint32_t are_utf8; /* 1 if each of these is UTF-8 */
+} goq_data_bits;
+
+/* How the mask of a code stands among all of its version. */
+typedef struct {
+    size_t lower; /* masks of a lower penalty */
+    size_t equal; /* masks of the same, with a lower number */
+} goq_rank;
+
+/* What of a code departs from the standard, apart from the wrong codewords of each block. */
+typedef struct {
+    uint32_t version;
+    uint32_t level;
+    uint32_t mask;
+    uint32_t standard; /* 1 if nothing departs, with the lowest penalty by one of the balances */
+    uint32_t grade; /* of the unused error correction, by ISO/IEC 15415: 'A' to 'D', or 'F' */
+    size_t blocks; /* how many blocks it has */
+    size_t allowed; /* how many codewords of each readers are to correct */
+    size_t unused; /* the unused error correction of the worst block, in hundredths */
+    goq_wrong_modules wrong; /* the wrong modules */
+    goq_data_bits data; /* what is said of the data bits */
+    goq_rank masks; /* by the balance of the standard, in steps of 5 % */
+    goq_rank masks_here; /* by the balance that goq_encode takes */
+} goq_checked;
+
+/* How much is said of a picture. Begin with GOQ_CHECKS. */
+typedef struct {
+    uint32_t size; /* sizeof(goq_checks) */
+    size_t codes;
+    size_t blocks; /* those of all codes */
+} goq_checks;
+
+#define GOQ_CHECKS GOQ_INITIAL(goq_checks, 0, 0)
+
 /* A square of modules, as goq_read takes it. */
 typedef struct {
     const uint8_t *modules;
@@ -644,6 +697,22 @@ goq_answer goq_mask(const uint8_t *modules, size_t modules_length, uint32_t *mas
 goq_answer goq_read_picture(const void *picture, size_t picture_length, goq_code *codes,
     size_t codes_length, goq_part *parts, size_t parts_length, void *bytes, size_t bytes_length,
     goq_scan *scan);
+
+/* What of the codes of a picture, as goq_read_picture takes it and in its order, departs from the
+   standard. What is said of each goes to the beginning of `checks`; how many codewords of its
+   blocks are wrong to that of `wrong`, after those of the code before; and how many these are to
+   `counts`, of which only the size is read. For each code GOQ_BLOCKS_MAX numbers are enough. Where
+   no code is read, and the bits of a square in an even margin are not segments and an end, that
+   square is checked. GOQ_NO_SUCH_STRUCT, GOQ_LARGE_PICTURE, GOQ_NOT_PICTURE, GOQ_BROKEN_PICTURE,
+   GOQ_NO_SQUARE; of a square that is not read GOQ_NO_SUCH_SIDE, GOQ_NO_FORMAT, GOQ_DAMAGED;
+   GOQ_SMALL_BUFFER; GOQ_OUT_OF_MEMORY. */
+goq_answer goq_check(const void *picture, size_t picture_length, goq_checked *checks,
+    size_t checks_length, size_t *wrong, size_t wrong_length, goq_checks *counts);
+
+/* The same of a square of modules, as goq_read takes it. GOQ_NO_SUCH_SIDE, GOQ_NO_FORMAT,
+   GOQ_DAMAGED, GOQ_SMALL_BUFFER; GOQ_OUT_OF_MEMORY. */
+goq_answer goq_check_square(const uint8_t *modules, size_t modules_length, size_t *wrong,
+    size_t wrong_length, goq_checked *check);
 
 /* Joins the data of several symbols, whose squares may come in any order. It goes to the beginning
    of `out`, and its length to `count`. GOQ_SEVERAL_MAX * GOQ_BYTES_MAX bytes are always enough. For

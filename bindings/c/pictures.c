@@ -1,30 +1,23 @@
-/* Pictures that are read: each format, several codes in order, headers by their places, every answer, the first of two causes, and outputs untouched on each
-   refusal. */
+/* Pictures that are read and checked: each format, several codes in order, headers by their places, every answer, the first of two causes, and outputs untouched
+   on each refusal. */
 #define _GNU_SOURCE
 #include "goqlanis.h"
-#include <stdio.h>
-#include <stdlib.h>
-#include <sys/mman.h>
-#include <unistd.h>
+#include "looks.h"
 
 static uint8_t modules[3 * GOQ_MODULES_MAX], file[1000000], pixels[3][1000000], picture[3000000];
 static goq_symbol symbol;
 static size_t count;
-static int wrong;
 static struct outputs {
     goq_code codes[4];
     goq_part parts[40];
     uint8_t bytes[400];
     goq_scan scan;
 } outputs, before;
-
-static void expect(int holds, const char *what)
-{
-    if (!holds) {
-        printf("WRONG: %s\n", what);
-        wrong++;
-    }
-}
+static struct { /* what is said of pictures */
+    goq_checked codes[4];
+    size_t wrong[8];
+    goq_checks counts;
+} said, unsaid;
 
 /* Reads bytes into buffers that are marked, but for the size of the struct. */
 static uint32_t scanned(const void *bytes, size_t length)
@@ -35,9 +28,23 @@ static uint32_t scanned(const void *bytes, size_t length)
     return goq_read_picture(bytes, length, outputs.codes, 4, outputs.parts, 40, outputs.bytes, sizeof outputs.bytes, &outputs.scan);
 }
 
+/* The same of what is said. */
+static uint32_t checked(const void *bytes, size_t length, size_t codes, size_t blocks)
+{
+    memset(&said, 7, sizeof said);
+    said.counts.size = sizeof said.counts;
+    unsaid = said;
+    return goq_check(bytes, length, said.codes, codes, said.wrong, blocks, &said.counts);
+}
+
+static int refuses_check(const void *bytes, size_t length, size_t codes, size_t blocks, uint32_t answer)
+{
+    return checked(bytes, length, codes, blocks) == answer && !memcmp(&said, &unsaid, sizeof said);
+}
+
 static int refuses(const void *bytes, size_t length, uint32_t answer)
 {
-    return scanned(bytes, length) == answer && !memcmp(&outputs, &before, sizeof outputs);
+    return scanned(bytes, length) == answer && !memcmp(&outputs, &before, sizeof outputs) && refuses_check(bytes, length, 4, 8, answer);
 }
 
 /* The codes, parts and bytes are as many, what they say is in order, and nothing is written behind them. */
@@ -125,6 +132,7 @@ static void several(void)
     uint8_t *out = picture + head;
     for (int i = 0; i < 3; i++) {
         goq_encode(data[i], strlen(data[i]), GOQ_M, modules, sizeof modules, &symbol);
+        modules[440] ^= i == 1;
         goq_draw(modules, 441, 21, 4, 3, GOQ_GREY, pixels[i], sizeof pixels[i], &count);
     }
     memset(out, 255, 4 * SIDE * SIDE);
@@ -143,6 +151,55 @@ static void several(void)
     expect(goq_read_picture(picture, length, outputs.codes, 4, outputs.parts, 40, outputs.bytes, 13, &scan) == GOQ_SMALL_BUFFER, "13 bytes");
     expect(!memcmp(&outputs, &before, sizeof outputs) && scan.codes == 0 && scan.parts == 0 && scan.length == 0, "buffers untouched");
     expect(!goq_read_picture(picture, length, outputs.codes, 3, outputs.parts, 3, outputs.bytes, 14, &scan) && scan.codes == 3, "as much as there is");
+    expect(!checked(picture, length, 3, 3) && said.counts.codes == 3 && said.counts.blocks == 3 && said.counts.size == sizeof said.counts, "three are checked");
+    expect(said.wrong[0] == 0 && said.wrong[1] == 1 && said.wrong[2] == 0 && said.wrong[3] == unsaid.wrong[3], "the one in the middle has a wrong codeword");
+    expect(said.codes[0].standard == 1 && said.codes[1].standard == 0 && said.codes[2].standard == 1, "and the others are as the standard has them");
+    expect(!memcmp(said.codes + 3, unsaid.codes + 3, sizeof *said.codes), "nothing is written behind them");
+    expect(refuses_check(picture, length, 2, 8, GOQ_SMALL_BUFFER) && refuses_check(picture, length, 4, 2, GOQ_SMALL_BUFFER), "two checks, and two blocks");
+}
+
+/* A square of 21 rows of modules as numbers, the first module highest of 24 bits. */
+static void square_of(const uint32_t *rows)
+{
+    for (int i = 0; i < 441; i++)
+        modules[i] = rows[i / 21] >> (23 - i % 21) & 1;
+}
+
+/* What departs is known of three squares: one in which we turn modules, and two by segno 1.4.1, of which evidence/program/symbols says how they are made: there
+   a byte of zeros too many stands before the padding, and segments of one mode that are joined are no segments. */
+static void checks(void)
+{
+    static const uint32_t zeros[] = {0xFE2BF8, 0x82AA08, 0xBAB2E8, 0xBA0AE8, 0xBAFAE8, 0x82E208, 0xFEABF8, 0x008000, 0xD33BB0, 0xA877D8, 0x8F3708, 0x816AC8, 0x8F1188, 0x00E348, 0xFEFD90, 0x820580, 0xBA4F10, 0xBAA7D8, 0xBA13A8, 0x82D880, 0xFEA1D0};
+    static const uint32_t joined[] = {0xFE4BF8, 0x829208, 0xBA42E8, 0xBA92E8, 0xBA3AE8, 0x82EA08, 0xFEABF8, 0x003800, 0xFBCD50, 0x60A918, 0xBF74E8, 0x3021A0, 0x57D4B0, 0x00DF20, 0xFEEB38, 0x825F40, 0xBA8920, 0xBA8940, 0xBAD580, 0x82A070, 0xFE9580};
+    static const goq_data_bits none;
+    size_t blocks[GOQ_BLOCKS_MAX];
+    goq_checked check, other;
+    uint32_t mask;
+    goq_encode_in("01234567", 8, 5, GOQ_Q, modules, sizeof modules, &symbol);
+    goq_mask(modules, 37 * 37, &mask);
+    expect(!goq_check_square(modules, 37 * 37, blocks, 4, &check) && check.standard == 1, "a symbol of the library");
+    expect(check.version == 5 && check.level == GOQ_Q && check.mask == mask && check.blocks == 4 && check.allowed == 9 && check.unused == 100 && check.grade == 'A', "what it is");
+    expect(check.data.segments == 1 && check.data.compared == 1 && check.data.bits == 4 + 10 + 27 && check.data.fewest == 41, "eight digits");
+    modules[0] ^= 1; /* of a finder pattern, a timing pattern, the alignment pattern, the dark module, and the first codeword */
+    modules[6 * 37 + 10] ^= 1;
+    modules[30 * 37 + 30] ^= 1;
+    modules[29 * 37 + 8] ^= 1;
+    modules[37 * 37 - 1] ^= 1;
+    expect(!goq_check_square(modules, 37 * 37, blocks, 4, &check) && check.standard == 0 && blocks[0] == 1 && !blocks[1] && !blocks[2] && !blocks[3], "one wrong codeword of nine");
+    expect(check.wrong.finder == 1 && check.wrong.timing == 1 && check.wrong.alignment == 1 && check.wrong.format == 1 && check.wrong.version == 0 && check.wrong.remainder == 0, "the wrong modules");
+    expect(check.unused == 88 && check.data.terminator == 0 && check.data.padding == 0 && check.data.guessed == 0, "eight ninths are unused");
+    other = check;
+    blocks[0] = 7;
+    expect(goq_check_square(modules, 37 * 37, blocks, 3, &check) == GOQ_SMALL_BUFFER && goq_check_square(modules, 21 * 21, blocks, 81, &check) == GOQ_NO_FORMAT
+        && goq_check_square(modules, 12, blocks, 81, &check) == GOQ_NO_SUCH_SIDE && !memcmp(&check, &other, sizeof check) && blocks[0] == 7, "outputs untouched");
+    memset(modules + 11 * 37, 1, 15 * 37);
+    expect(goq_check_square(modules, 37 * 37, blocks, 81, &check) == GOQ_DAMAGED, "too many wrong codewords");
+    square_of(zeros);
+    expect(!checked(file, drawn(modules, 21, 3, GOQ_PNG), 1, 1) && said.codes[0].level == GOQ_L && said.codes[0].data.padding == 54 && said.codes[0].standard == 0, "a byte of zeros");
+    expect(said.codes[0].data.bits == 84 && said.codes[0].data.fewest == 84 && said.codes[0].data.terminator == 0 && said.wrong[0] == 0, "its segment");
+    square_of(joined);
+    expect(!checked(file, drawn(modules, 21, 3, GOQ_PNG), 1, 1) && said.counts.codes == 1 && !memcmp(&said.codes[0].data, &none, sizeof none), "no segments");
+    expect(scanned(file, count) == GOQ_NOT_SPELLED && said.codes[0].standard == 0 && said.wrong[0] == 0, "which is not read");
 }
 
 static void causes(void)
@@ -159,19 +216,19 @@ static void causes(void)
     expect(refuses(file, drawn(modules, 21, 3, GOQ_PNG), GOQ_NO_FORMAT), "no symbol");
     goq_scan scan = {sizeof scan - 1, 7, 7, 7};
     expect(goq_read_picture(large, most + 1, NULL, 0, NULL, 0, NULL, 0, &scan) == GOQ_NO_SUCH_STRUCT && scan.codes == 7, "struct before size");
+    goq_checks counts = {sizeof counts - 1, 7, 7};
+    expect(goq_check(large, most + 1, NULL, 0, NULL, 0, &counts) == GOQ_NO_SUCH_STRUCT && counts.codes == 7, "the same of checks");
 }
 
 /* No call reads a struct further than to its size, where that is not its own: here the next page may not be read. */
 static void structs(void)
 {
-    const size_t page = (size_t)sysconf(_SC_PAGESIZE);
-    uint8_t *two = mmap(NULL, 2 * page, PROT_READ | PROT_WRITE, MAP_PRIVATE | MAP_ANONYMOUS, -1, 0);
-    if (two == MAP_FAILED || mprotect(two + page, page, PROT_NONE))
-        exit(2);
+    uint8_t *end = end_of_memory();
     for (uint32_t size = 4; size < sizeof(goq_scan); size += 4) {
-        void *given = two + page - size;
+        void *given = end - size;
         *(uint32_t *)given = size;
         expect(goq_read_picture(file, 9, NULL, 0, NULL, 0, NULL, 0, given) == GOQ_NO_SUCH_STRUCT, "a scan");
+        expect(size == sizeof(goq_checks) || goq_check(file, 9, NULL, 0, NULL, 0, given) == GOQ_NO_SUCH_STRUCT, "checks");
     }
 }
 
@@ -181,6 +238,7 @@ int main(void)
     headers();
     most_parts();
     several();
+    checks();
     causes();
     structs();
     printf("%d wrong\n", wrong);

@@ -8,7 +8,7 @@ extern size_t pool_requests, pool_refused, pool_most;
 size_t pool_live(void);
 
 /* The last number of a call below, how many contents follow, and how many calls with options. */
-enum { LAST = 9 + GOQ_FORMATS, CONTENTS = 5, OPTIONS = 14 };
+enum { LAST = 9 + GOQ_FORMATS, CONTENTS = 5, OPTIONS = 16 };
 
 static uint8_t data[500], text[500], square[GOQ_MODULES_MAX], shown[21 * 21];
 static uint8_t parts[2 * 21 * 21], picture[5000];
@@ -27,6 +27,8 @@ static struct outputs {
     goq_code codes[2];
     goq_part headed[2];
     goq_scan scan;
+    goq_checked checks[2];
+    goq_checks counts;
 } outputs, before;
 
 /* A content of each way in which its text is written. */
@@ -82,6 +84,11 @@ static uint32_t by_options(int number)
         outputs.scan.size = before.scan.size = sizeof outputs.scan;
         return goq_read_picture(picture, picture_length, outputs.codes, 2, outputs.headed, 2, out,
             room, &outputs.scan);
+    case 13: return goq_check_square(square, modules, outputs.touched, GOQ_BLOCKS_MAX, outputs.checks);
+    case 14:
+        outputs.counts.size = before.counts.size = sizeof outputs.counts;
+        return goq_check(picture, picture_length, outputs.checks, 2, outputs.touched,
+            GOQ_BLOCKS_MAX, &outputs.counts);
     default:
         options.mask = GOQ_MASK(2);
         return goq_encode_with(data, sizeof data, &options, out, room, &outputs.symbol);

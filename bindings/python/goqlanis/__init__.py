@@ -48,7 +48,7 @@ goqlanis.NoRoom: 3,000 bytes at level M: at most 2,331 unless they are digits or
 level holds them: encode_sequence parts them between symbols
 
 help(goqlanis.encode), help(goqlanis.Symbol) and help(goqlanis.contents) say all that may be asked,
-help(goqlanis.Code) and help(goqlanis.Reading) what is read.
+help(goqlanis.Code) and help(goqlanis.Reading) what is read, help(goqlanis.Check) what is checked.
 """
 from typing import TYPE_CHECKING
 
@@ -56,6 +56,8 @@ from . import contents
 from ._checks import Version as Version
 from .areas import Rectangle as Rectangle
 from .areas import Reserve as Reserve
+from .checking import Check as Check
+from .checking import check
 from .encoding import (encode, encode_gs1, encode_segments, encode_sequence, encode_text,
                        is_functional, least_version, least_version_of_segments)
 from .errors import *  # noqa: F403 - its __all__ alone
@@ -68,7 +70,7 @@ from .symbol import Symbol
 
 __version__ = "1.0.0"
 __all__ = ["contents", "Symbol", "encode", "encode_sequence", "encode_segments", "encode_gs1",
-           "encode_text", "read", "read_any", "read_text", "join", "least_version",
+           "encode_text", "read", "read_any", "read_text", "join", "check", "least_version",
            "least_version_of_segments", "is_functional"]
 
 # Names that other packages have.

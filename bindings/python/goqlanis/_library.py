@@ -67,6 +67,36 @@ class Scan(ctypes.Structure):
     _fields_ = [("size", _number), ("codes", _size), ("parts", _size), ("length", _size)]
 
 
+class WrongModules(ctypes.Structure):
+    """goq_wrong_modules."""
+    _fields_ = [("finder", _size), ("alignment", _size), ("timing", _size), ("format", _size),
+                ("version", _size), ("remainder", _size)]
+
+
+class DataBits(ctypes.Structure):
+    """goq_data_bits."""
+    _fields_ = [("segments", _number), ("compared", _number), ("bits", _size), ("fewest", _size),
+                ("terminator", _size), ("padding", _size), ("guessed", _size),
+                ("are_utf8", _number)]
+
+
+class Rank(ctypes.Structure):
+    """goq_rank."""
+    _fields_ = [("lower", _size), ("equal", _size)]
+
+
+class Checked(ctypes.Structure):
+    """goq_checked."""
+    _fields_ = [("version", _number), ("level", _number), ("mask", _number), ("standard", _number),
+                ("grade", _number), ("blocks", _size), ("allowed", _size), ("unused", _size),
+                ("wrong", WrongModules), ("data", DataBits), ("masks", Rank), ("masks_here", Rank)]
+
+
+class Checks(ctypes.Structure):
+    """goq_checks."""
+    _fields_ = [("size", _number), ("codes", _size), ("blocks", _size)]
+
+
 class Square(ctypes.Structure):
     """goq_square."""
     _fields_ = [("modules", _data), ("length", _size)]
@@ -116,6 +146,8 @@ _CALLS: Dict[str, List[Any]] = {
     "goq_read_any": [*_IN, *_OUT, _to(AnyRead)],
     "goq_read_text": [*_IN, *_OUT, _to(Read)],
     "goq_read_picture": [*_IN, _to(Code), _size, _to(Part), _size, *_OUT, _to(Scan)],
+    "goq_check": [*_IN, _to(Checked), _size, _COUNT, _size, _to(Checks)],
+    "goq_check_square": [*_IN, _COUNT, _size, _to(Checked)],
     "goq_mask": [*_IN, _to(_number)],
     "goq_join": [_to(Square), _size, *_OUT, _COUNT, _COUNT],
     "goq_content": [_number, _to(Field), _size, *_OUT, _COUNT, _COUNT],

@@ -1,3 +1,4 @@
+pub mod Checked
 pub mod Covered
 pub mod Ended
 pub mod Known

@@ -14,6 +14,12 @@ zip_more R [] (b ∷ ys) x y all here = absurd all
 zip_more R (a ∷ xs) [] x y all here = absurd all
 zip_more R (a ∷ xs) (b ∷ ys) x y all here = (all.0, zip_more R xs ys x y all.1 here)
 
+-- the same where the items of the first list are taken from a longer one
+pub zip_taken : {A B : Type 0} (R : A → B → Type 0) (xs : List A) (ys : List B) (i : ℕ) (d : A) (y : B) → i < length xs → AllZip R (take i xs) ys → R (get_or xs i d) y
+    → AllZip R (take (i + 1) xs) (ys ++ y ∷ [])
+zip_taken R xs ys i d y inside before here =
+    subst (λ taken. AllZip R taken (ys ++ y ∷ [])) (sym (take_more xs i d inside)) (zip_more R (take i xs) ys (get_or xs i d) y before here)
+
 -- one square more is read
 pub parts_more : (squares : List Square) (found : List Found) (i : ℕ) (d : Square) (f : Found) → i < length squares
     → ArePartsOf (take i squares) (map found_part found) → IsPartOf (colors_of (get_or squares i d).modules.now) (found_part f)

@@ -100,12 +100,15 @@ picture_refusal NoSquare = refusals.NoSquare
 picture_refusal (NoSymbol count e) = square_refusal e
 picture_refusal OutOfMemory = refusals.OutOfMemory
 
--- why a picture is not read, for a struct of this size: the first of these causes that applies
-abbrev pub IsUnreadFor : List ℕ → ℕ → Refusal → Type 0
-IsUnreadFor picture size refusals.NoSuchStruct = size ≢ 32
-IsUnreadFor picture size refusals.LargePicture = (size ≡ 32) × (most < length picture)
-IsUnreadFor picture size refusals.OutOfMemory = ⊤
-IsUnreadFor picture size refusal = (e : Unread) × ((size ≡ 32) × ((length picture ≤ most) × (IsUnreadPicture picture e × (refusal ≡ picture_refusal e))))
+-- why codes of a picture are not told, for a struct of this size that is to have another, where these are the causes of the reader: the first that applies
+abbrev pub IsPictureCause : ℕ → (Unread → Type 0) → List ℕ → ℕ → Refusal → Type 0
+IsPictureCause own Cause picture size refusals.NoSuchStruct = size ≢ own
+IsPictureCause own Cause picture size refusals.LargePicture = (size ≡ own) × (most < length picture)
+IsPictureCause own Cause picture size refusals.OutOfMemory = ⊤
+IsPictureCause own Cause picture size refusal = (e : Unread) × ((size ≡ own) × ((length picture ≤ most) × (Cause e × (refusal ≡ picture_refusal e))))
+
+abbrev pub IsUnreadFor : List ℕ → ℕ → Refusal → Type 0  -- why a picture is not read, for a struct of this size
+IsUnreadFor picture size refusal = IsPictureCause 32 (IsUnreadPicture picture) picture size refusal
 
 -- the codes of a picture in buffers
 pub record IsScanned (picture : List ℕ) (size : ℕ) (codes new_codes : List Code) (parts new_parts : List Part) (bytes new_bytes : List ℕ) (scan : Scan) : Type 0 where

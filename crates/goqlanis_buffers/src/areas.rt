@@ -13,6 +13,7 @@ ghost use Rattle.goqlanis_buffers.specs.Areas.{covered_byte, place_reported, ref
 use crate::answers::Refusal;
 use crate::names::{level_named, version_named};
 use crate::reading::format_of;
+use crate::symbols::fill;
 use qrcode::types::{EcLevel, Version};
 use qrcode_area::areas::{Area, Rectangle};
 use qrcode_area::rectangles::{Kept, Wish as Wanted, largest_rectangle};
@@ -124,16 +125,8 @@ pub fn reserve_into(
     if touched.len() < counts.len() {
         return Err(Refusal::SmallBuffer);
     }
-    fill_counts(touched, counts);
+    fill(touched, counts);
     Ok(made_of(&reserve))
-}
-
-// Writes numbers at the beginning of a buffer that has room for them.
-fn fill_counts(out: &mut [usize], counts: &[usize])
-    requires room { length counts.now ≤ length out.old }
-    ensures filled { IsFilled out.old out.new counts.now }
-{
-    out[..counts.len()].copy_from_slice(counts);
 }
 
 // What C gets of a reserve beside the counts of its blocks.

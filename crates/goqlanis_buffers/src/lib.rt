@@ -4,6 +4,7 @@
 
 pub mod answers;
 pub mod areas;
+pub mod checking;
 mod colours;
 pub mod contents;
 pub mod encoding;

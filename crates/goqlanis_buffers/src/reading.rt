@@ -321,7 +321,7 @@ pub(crate) fn position_number(position: Position, is_inverted: bool) -> u32
 }
 
 // The number of a mask of a version.
-fn mask_number(version: Version, mask: MaskPattern) -> u32
+pub(crate) fn mask_number(version: Version, mask: MaskPattern) -> u32
     ensures { result ≡ mask_number_in version mask }
 {
     let number = if version.is_micro() {

@@ -67,7 +67,7 @@ pub struct Told {
 const SIZE: u32 = 32;
 
 // The greatest picture, in bytes.
-const MOST: usize = 67_108_864;
+pub(crate) const MOST: usize = 67_108_864;
 
 /// Reads the codes of a picture, for a `Scan` of this size.
 ///
@@ -126,7 +126,7 @@ impl Told {
 }
 
 // What C gets of a picture that is not read.
-fn picture_refusal(unread: Unread) -> Refusal
+pub(crate) fn picture_refusal(unread: Unread) -> Refusal
     ensures { result ≡ picture_refusal unread }
 {
     match unread {

@@ -4,6 +4,7 @@
 #![tactic(auto, using(goqlanis_buffers::proofs::Reported::reported))]
 
 mod areas;
+mod checking;
 mod contents;
 mod elements;
 mod encoding;

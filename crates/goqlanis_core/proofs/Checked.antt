@@ -3,9 +3,10 @@ use Rattle.std.proofs.Common.{◌≡◌, ◌∙◌, ◌*◌, ◌++◌, ◌∷◌
 use Rattle.std.specs.List.{AllZip}
 use Rattle.std.proofs.lemmas.List.Elements.{All-cons, All-drop, All-nil, All-weaker}
 use Rattle.qrcode_check.specs.declared.checking.Check.{Check}
-use Rattle.goqlanis_core.specs.Checked.{HasSquare, IsCheckOf, IsCheckOfScan, IsSquareCheckOf}
-use Rattle.goqlanis_core.specs.Scans.{IsScanOf}
+use Rattle.goqlanis_core.specs.Checked.{HasSquare, IsCheckOf, IsCheckOfScan, IsSquareCheckOf, IsUncheckedPicture, IsUncheckedSquare, unspelled}
+use Rattle.goqlanis_core.specs.Scans.{IsScanOf, IsUnreadPicture}
 use Rattle.goqlanis_core.specs.declared.scanning.Scan.{Scan}
+use Rattle.goqlanis_core.specs.declared.scanning.Unread.{Unread}
 use Rattle.goqlanis_core.proofs.Sampled.{sampled_length}
 
 -- one pair more
@@ -39,3 +40,7 @@ all_checks bytes (s ∷ scans) (c ∷ checks) are all =
 -- the only one
 pub only_check : (bytes : List ℕ) (check : Check) (checks : List Check) → checks ≡ check ∷ [] → IsSquareCheckOf bytes check → All (IsCheckOf bytes) checks
 only_check bytes check checks same is = subst (All (IsCheckOf bytes)) (sym same) (All-cons (IsCheckOf bytes) check [] (inr is) (All-nil (IsCheckOf bytes)))
+
+-- its bits are no headers and segments, and it is not read as bits
+pub no_bits : (bytes : List ℕ) (count : ℕ) (e : Unread) → IsUnreadPicture bytes (unspelled count) → IsUncheckedSquare bytes e → IsUncheckedPicture bytes e
+no_bits bytes count e unread cause = inr ((count, unread), cause)

@@ -1,9 +1,9 @@
 //! The codes of a picture, checked.
 
-ghost use Rattle.std.specs.Prelude.{◌≡◌, ◌≤◌, ◌++◌, ◌∷◌, [], All, length, IfOk, IfSome, OnOk};
+ghost use Rattle.std.specs.Prelude.{◌≡◌, ◌≤◌, ◌++◌, ◌∷◌, [], All, length, IfErr, IfOk, OnOk};
 ghost use Rattle.std.specs.List.{AllZip};
 ghost use Rattle.qrcode_reader.specs.scan.Squares.{inverted};
-ghost use Rattle.goqlanis_core.specs.Checked.{HasSquare, IsCheckOfScan, IsCheckOf, IsSquareCheck, IsSquareCheckOf};
+ghost use Rattle.goqlanis_core.specs.Checked.{HasSquare, IsCheckOfScan, IsCheckOf, IsSquareCheck, IsSquareCheckOf, IsUncheckedIn, IsUncheckedPicture, IsUncheckedSquare};
 ghost use Rattle.goqlanis_core.specs.Codes.{IsMissedOf};
 
 use crate::codes::{Codes, read_codes};
@@ -17,40 +17,32 @@ use std::alloc::{AllocError, Global};
 pub struct Checks {
     /// What is said of each, in the order of `read_codes`.
     pub checks: Vec<Check>,
-    /// The codes that are read, and those that seem to be there and are not. There are none where all
-    /// that the picture shows is a square in a margin that is read as bits alone.
+    /// The codes that are read, and those that seem to be there and are not. There are none where
+    /// all that the picture shows is a square in a margin that is read as bits alone.
     pub codes: Codes,
 }
 
-/// Checks the codes of a picture: those that are read, or the square in a margin where it is read as
-/// bits, and these are no headers and segments.
+/// Checks the codes of a picture: those that are read, or the square in a margin where it is read
+/// as bits, and these are no headers and segments.
 ///
-/// The errors are those of `read_codes`.
-#[tactic(auto, using(crate::proofs::Checked::have_squares, crate::proofs::Checked::all_checks, crate::proofs::Checked::only_check))]
+/// The errors are those of `read_codes`, except for bits that are no headers and segments.
+#[tactic(auto, using(crate::proofs::Checked::have_squares, crate::proofs::Checked::all_checks, crate::proofs::Checked::only_check, crate::proofs::Checked::no_bits))]
 pub fn check_codes(alloc: Global, bytes: &[u8]) -> Result<Checks, Unread>
     ensures value { IfOk result (λ found. All (IsCheckOf bytes.now) found.checks.items) }
     ensures some { IfOk result (λ found. 1 ≤ length found.checks.items) }
     ensures missed { IfOk result (λ found. All (IsMissedOf bytes.now) found.codes.missed.items) }
+    ensures causes { IfErr result (IsUncheckedPicture bytes.now) }
 {
-    let cause = match read_codes(alloc, bytes) {
-        Ok(codes) => return checked(alloc, codes),
-        Err(cause) => cause,
-    };
-    if !is_unspelled(cause) {
-        return Err(cause);
+    match read_codes(alloc, bytes) {
+        Ok(codes) => Ok(checked(alloc, codes)?),
+        Err(Unread::NoSymbol(_, qrcode_reader::Unread::NotSpelled)) => {
+            match unspelled(alloc, bytes) {
+                Ok(check) => Ok(only(alloc, check)?),
+                Err(cause) => Err(cause),
+            }
+        }
+        Err(cause) => Err(cause),
     }
-    match unspelled(alloc, bytes)? {
-        Some(check) => Ok(only(alloc, check)?),
-        None => Err(cause),
-    }
-}
-
-// Whether the bits of a square are no headers and segments.
-fn is_unspelled(cause: Unread) -> bool {
-    matches!(
-        cause,
-        Unread::NoSymbol(_, qrcode_reader::Unread::NotSpelled)
-    )
 }
 
 // One check.
@@ -70,9 +62,10 @@ fn only(alloc: Global, check: Check) -> Result<Checks, AllocError>
 }
 
 // Checks the codes that are read.
-fn checked(alloc: Global, codes: Codes) -> Result<Checks, Unread>
+fn checked(alloc: Global, codes: Codes) -> Result<Checks, AllocError>
     requires { All HasSquare codes.scans.items }
-    ensures checks { IfOk result (λ found. AllZip IsCheckOfScan codes.scans.items found.checks.items) }
+    ensures checks { IfOk result (λ found.
+        AllZip IsCheckOfScan codes.scans.items found.checks.items) }
     ensures codes { IfOk result (λ found. found.codes ≡ codes) }
 {
     let mut checks = Vec::new(alloc);
@@ -90,26 +83,26 @@ fn push_check(checks: &mut Vec<Check>, check: Check) -> Result<(), AllocError>
     Ok(())
 }
 
-// Checks a code that is read.
-fn check_scan(alloc: Global, scan: &Scan) -> Result<Check, Unread>
+// Checks a code that is read. It is read as bits, so that memory alone may be refused.
+fn check_scan(alloc: Global, scan: &Scan) -> Result<Check, AllocError>
     requires { HasSquare scan.now }
     ensures { IfOk result (IsCheckOfScan scan.now) }
 {
-    let (square, any) = (&scan.square, &scan.any);
-    match check_seen(alloc, any.position, any.is_inverted, &square.modules) {
+    let any = &scan.any;
+    match check_seen(alloc, any.position, any.is_inverted, &scan.square.modules) {
         Ok(check) => Ok(check),
-        Err(error) => Err(no_symbol(square.count, error)),
+        Err(_) => Err(AllocError),
     }
 }
 
 // Checks the square in a margin of a picture as bits.
-fn unspelled(alloc: Global, bytes: &[u8]) -> Result<Option<Check>, AllocError>
-    ensures { IfOk result (λ found. IfSome found (IsSquareCheckOf bytes.now)) }
+fn unspelled(alloc: Global, bytes: &[u8]) -> Result<Check, Unread>
+    ensures value { IfOk result (IsSquareCheckOf bytes.now) }
+    ensures causes { IfErr result (IsUncheckedSquare bytes.now) }
 {
     let pixels = match pixels_in(alloc, bytes) {
         Ok(pixels) => pixels,
-        Err(Unread::OutOfMemory) => return Err(AllocError),
-        Err(_) => return Ok(None),
+        Err(cause) => return Err(cause),
     };
     if pixels.has_dark_edge() {
         unspelled_inverted(alloc, &pixels)
@@ -119,23 +112,24 @@ fn unspelled(alloc: Global, bytes: &[u8]) -> Result<Option<Check>, AllocError>
 }
 
 // The same of pixels with dark and light exchanged.
-fn unspelled_inverted(alloc: Global, pixels: &Pixels) -> Result<Option<Check>, AllocError>
-    ensures { IfOk result (λ found. IfSome found (IsSquareCheck (inverted pixels.now))) }
+fn unspelled_inverted(alloc: Global, pixels: &Pixels) -> Result<Check, Unread>
+    ensures value { IfOk result (IsSquareCheck (inverted pixels.now)) }
+    ensures causes { IfErr result (IsUncheckedIn (inverted pixels.now)) }
 {
     let pixels = pixels.inverted(alloc)?;
     unspelled_in(alloc, &pixels)
 }
 
 // The same of pixels.
-fn unspelled_in(alloc: Global, pixels: &Pixels) -> Result<Option<Check>, AllocError>
-    ensures { IfOk result (λ found. IfSome found (IsSquareCheck pixels.now)) }
+fn unspelled_in(alloc: Global, pixels: &Pixels) -> Result<Check, Unread>
+    ensures value { IfOk result (IsSquareCheck pixels.now) }
+    ensures causes { IfErr result (IsUncheckedIn pixels.now) }
 {
     let Some(square) = square_of(alloc, pixels)? else {
-        return Ok(None);
+        return Err(Unread::NoSquare);
     };
     match check_square(alloc, &square.modules) {
-        Ok(check) => Ok(Some(check)),
-        Err(qrcode_reader::Unread::OutOfMemory) => Err(AllocError),
-        Err(_) => Ok(None),
+        Ok(check) => Ok(check),
+        Err(error) => Err(no_symbol(square.count, error)),
     }
 }

@@ -14,16 +14,32 @@
 #![warn(missing_docs)]
 
 use goqlanis_sys as sys;
-use std::fmt;
 use std::ops::{Index, Not};
 
+// What the values of an error say.
+macro_rules! says {
+    ($name:ident: $($value:pat => $($said:expr),+;)+) => {
+        impl std::fmt::Display for $name {
+            fn fmt(&self, out: &mut std::fmt::Formatter<'_>) -> std::fmt::Result {
+                match self {
+                    $($value => write!(out, $($said),+),)+
+                }
+            }
+        }
+
+        impl std::error::Error for $name {}
+    };
+}
+
 pub mod areas;
+pub mod checking;
 pub mod contents;
 pub mod logos;
 pub mod reading;
 pub mod render;
 pub mod several;
 
+pub use checking::{check, check_square, Check};
 pub use reading::{read, read_any, read_picture, read_text, Code, Part, Position, Reading, Unread};
 
 /// Why no symbol is made.
@@ -43,20 +59,16 @@ pub enum QrError {
     OutOfMemory,
 }
 
-impl fmt::Display for QrError {
-    fn fmt(&self, out: &mut fmt::Formatter<'_>) -> fmt::Result {
-        out.write_str(match self {
-            QrError::DataTooLong => "data too long: take a larger version, a lower level, or several symbols",
-            QrError::InvalidVersion => "invalid version: take one that has the level and the mask",
-            QrError::UnsupportedCharacterSet => "unsupported character set: Normal versions, and Micro 3 and 4, write any bytes",
-            QrError::InvalidEciDesignator => "invalid ECI designator: take one below 1,000,000",
-            QrError::InvalidCharacter => "invalid character: the mode of a segment lacks it, or a text is not UTF-8",
-            QrError::OutOfMemory => "out of memory",
-        })
-    }
+says! { QrError:
+    QrError::DataTooLong => "data too long: take a larger version, a lower level, or several symbols";
+    QrError::InvalidVersion => "invalid version: take one that has the level and the mask";
+    QrError::UnsupportedCharacterSet =>
+        "unsupported character set: Normal versions, and Micro 3 and 4, write any bytes";
+    QrError::InvalidEciDesignator => "invalid ECI designator: take one below 1,000,000";
+    QrError::InvalidCharacter =>
+        "invalid character: the mode of a segment lacks it, or a text is not UTF-8";
+    QrError::OutOfMemory => "out of memory";
 }
-
-impl std::error::Error for QrError {}
 
 /// What a request for a symbol gives.
 pub type QrResult<T> = Result<T, QrError>;
@@ -286,6 +298,15 @@ pub struct QrCode {
     logo: Option<logos::Logo>,
 }
 
+// The symbol that a call of the library makes of what it is given.
+macro_rules! made {
+    ($call:ident($($given:expr),+)) => {
+        Self::made(|modules, known| unsafe {
+            sys::$call($($given,)+ modules.as_mut_ptr(), modules.len(), known)
+        })
+    };
+}
+
 impl QrCode {
     /// The symbol of bytes at level `M`, of the least Normal version that holds them.
     pub fn new<D: AsRef<[u8]>>(data: D) -> QrResult<Self> {
@@ -295,31 +316,23 @@ impl QrCode {
     /// The symbol of bytes at a level, of the least Normal version that holds them.
     pub fn with_error_correction_level<D: AsRef<[u8]>>(data: D, ec_level: EcLevel) -> QrResult<Self> {
         let data = data.as_ref();
-        Self::made(|modules, known| unsafe {
-            sys::goq_encode(data.as_ptr(), data.len(), ec_level as u32, modules.as_mut_ptr(), modules.len(), known)
-        })
+        made!(goq_encode(data.as_ptr(), data.len(), ec_level as u32))
     }
 
     /// The symbol of bytes, of a version and level.
     pub fn with_version<D: AsRef<[u8]>>(data: D, version: Version, ec_level: EcLevel) -> QrResult<Self> {
         let data = data.as_ref();
-        Self::made(|modules, known| unsafe {
-            sys::goq_encode_in(data.as_ptr(), data.len(), version.number(), ec_level as u32, modules.as_mut_ptr(), modules.len(), known)
-        })
+        made!(goq_encode_in(data.as_ptr(), data.len(), version.number(), ec_level as u32))
     }
 
     /// The symbol of a text at a level, of the least Normal version that holds it. Readers show the text, where they take bytes for UTF-8.
     pub fn of_text(text: &str, ec_level: EcLevel) -> QrResult<Self> {
-        Self::made(|modules, known| unsafe {
-            sys::goq_encode_text(text.as_ptr(), text.len(), ec_level as u32, modules.as_mut_ptr(), modules.len(), known)
-        })
+        made!(goq_encode_text(text.as_ptr(), text.len(), ec_level as u32))
     }
 
     /// The same with the number 26 of UTF-8 (ECI) in front, for readers that guess.
     pub fn of_marked_text(text: &str, ec_level: EcLevel) -> QrResult<Self> {
-        Self::made(|modules, known| unsafe {
-            sys::goq_encode_marked_text(text.as_ptr(), text.len(), ec_level as u32, modules.as_mut_ptr(), modules.len(), known)
-        })
+        made!(goq_encode_marked_text(text.as_ptr(), text.len(), ec_level as u32))
     }
 
     /// The symbol of segments, one behind the other, of a version and level.
@@ -334,9 +347,8 @@ impl QrCode {
     /// ```
     pub fn with_segments(segments: &[Segment<'_>], version: Version, ec_level: EcLevel) -> QrResult<Self> {
         let given: Vec<_> = segments.iter().map(Segment::given).collect();
-        Self::made(|modules, known| unsafe {
-            sys::goq_encode_segments(given.as_ptr(), given.len(), version.number(), ec_level as u32, modules.as_mut_ptr(), modules.len(), known)
-        })
+        let (version, level) = (version.number(), ec_level as u32);
+        made!(goq_encode_segments(given.as_ptr(), given.len(), version, level))
     }
 
     /// The symbol of segments, one behind the other, at a level, of the least Normal version that holds them.
@@ -356,16 +368,7 @@ impl QrCode {
     /// ```
     pub fn with_options<D: AsRef<[u8]>>(data: D, options: &Options) -> QrResult<Self> {
         let (data, given) = (data.as_ref(), options.given());
-        Self::made(|modules, known| unsafe {
-            sys::goq_encode_with(
-                data.as_ptr(),
-                data.len(),
-                &given,
-                modules.as_mut_ptr(),
-                modules.len(),
-                known,
-            )
-        })
+        made!(goq_encode_with(data.as_ptr(), data.len(), &given))
     }
 
     /// The symbol of elements of GS1 in segments of the fewest bits; writing and boost are not looked

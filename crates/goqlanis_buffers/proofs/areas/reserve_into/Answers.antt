@@ -31,7 +31,7 @@ returns c =
         counts = c.as_slice-counts.result.now;
         taken = subst (λ (counts : List ℕ). IsTaken p.0 p.1 (covers c.args.rectangles.now) counts c.made_of.result) (sym c.as_slice-counts.ensures.value)
             (c.made_of.ensures p.0 p.1 (covers c.args.rectangles.now) h);
-        filled = c.fill_counts.ensures.filled;
+        filled = c.fill.ensures.filled;
       };
       unchanged = tt;
       causes = tt;

@@ -1,0 +1,135 @@
+"""What of codes departs from the standard."""
+import ctypes
+from itertools import islice
+from typing import Any, Iterator, List, NamedTuple, Optional, Tuple, Union, overload
+
+from . import _numbers as goq
+from ._checks import LEVELS, version_name
+from ._library import Checked, Checks, library
+from ._numbers import BLOCKS_MAX
+from .errors import refuse
+from .reading import Modules, Picture, _file_of, _modules_of
+
+LINES = """\
+version {0.version}, level {0.level}, mask {0.mask}
+wrong codewords by block: {wrong}; {0.allowed_by_block} may be wrong in each
+unused error correction: {0.unused_correction:.2f}, grade {0.grade}
+wrong modules: {modules}
+{data}
+masks of a lower penalty: {0.masks.lower}; of the same, before it: {0.masks.same_before}
+masks by the balance of goqlanis of a lower penalty: {0.masks_here.lower}; of the same, before it: \
+{0.masks_here.same_before}"""
+DATA = """\
+segments: {segments}
+wrong bits: terminator {0.wrong_terminator}, padding {0.wrong_padding}
+segments whose character set is guessed: {0.guessed_segments}{guess}"""
+
+
+class WrongModules(NamedTuple):
+    """How many modules of each pattern are wrong: separators are counted with the finder patterns,
+    the module that is always dark with the format word."""
+    finder: int
+    alignment: int
+    timing: int
+    format: int
+    version: int
+    remainder: int
+
+
+class Rank(NamedTuple):
+    """How many masks have a lower penalty, and how many before this one the same."""
+    lower: int
+    same_before: int
+
+
+class Check(NamedTuple):
+    """What of a code departs from the standard, as `goqlanis check --json` says it, and by str() as
+    `goqlanis check`. What is not known is None: bits and fewest_bits behind FNC1 or with a header
+    between segments, and all of the data where its bits are not segments and an end.
+
+    >>> from goqlanis import encode_segments
+    >>> found = check(encode_segments([("numeric", b"1"), ("numeric", b"23")]))
+    >>> found.is_standard, found.bits, found.fewest_bits
+    (False, 39, 24)
+    """
+    version: str
+    level: str
+    mask: int
+    wrong_by_block: Tuple[int, ...]
+    allowed_by_block: int
+    unused_correction: float
+    grade: str
+    wrong_modules: WrongModules
+    segments: bool
+    bits: Optional[int]
+    fewest_bits: Optional[int]
+    wrong_terminator: Optional[int]
+    wrong_padding: Optional[int]
+    guessed_segments: Optional[int]
+    guessed_utf8: Optional[bool]
+    masks: Rank
+    masks_here: Rank
+    is_standard: bool
+
+    def __str__(self) -> str:
+        data = "segments: none, since the data bits are no segments and an end"
+        if self.segments:
+            more = "not compared with others, for their headers" if self.bits is None else \
+                f"{self.bits} bits, {self.bits - (self.fewest_bits or 0)} more than the fewest"
+            guess = ", as UTF-8" if self.guessed_utf8 else ", not all as UTF-8"
+            data = DATA.format(self, segments=more, guess=guess if self.guessed_segments else "")
+        wrong = self.wrong_modules._asdict().items()
+        modules = ", ".join(f"{name} {count}" for name, count in wrong)
+        return LINES.format(self, wrong=", ".join(map(str, self.wrong_by_block)), modules=modules,
+                            data=data)
+
+
+@overload
+def check(picture: Modules) -> Check: ...
+@overload
+def check(picture: Picture) -> List[Check]: ...
+def check(picture: Union[Picture, Modules, Any]) -> Union[List[Check], Check]:
+    """What of the codes of a picture departs from the standard, in the order of `read`, or of a
+    symbol or a square of modules. Both are as `read` takes them.
+
+    >>> from goqlanis import encode
+    >>> rows = [list(row) for row in encode(b"01234567", "H").matrix]
+    >>> rows[20][20] = not rows[20][20]
+    >>> found = check(rows)
+    >>> found.is_standard, found.wrong_by_block, found.allowed_by_block, found.unused_correction
+    (False, (1,), 8, 0.87)
+    >>> [it.is_standard for it in check(encode("01234567").png())]
+    [True]
+    """
+    file = _file_of(picture)
+    if file is not None:
+        return list(_checks(file))
+    modules, known, wrong = _modules_of(picture), Checked(), (ctypes.c_size_t * BLOCKS_MAX)()
+    refuse(library.goq_check_square(modules, len(modules), wrong, len(wrong), ctypes.byref(known)))
+    return _check(known, wrong[:known.blocks])
+
+
+def _checks(picture: bytes) -> Iterator[Check]:
+    """Checks of a picture: room is made for more of them until there is enough."""
+    count, answer = 4, goq.SMALL_BUFFER
+    while answer == goq.SMALL_BUFFER:
+        checks, wrong = (Checked * count)(), (ctypes.c_size_t * (count * BLOCKS_MAX))()
+        counts = Checks(ctypes.sizeof(Checks))
+        answer = library.goq_check(picture, len(picture), checks, len(checks), wrong, len(wrong),
+                                   ctypes.byref(counts))
+        count *= 8
+    refuse(answer)
+    numbers = iter(wrong)
+    for known in checks[:counts.codes]:
+        yield _check(known, list(islice(numbers, known.blocks)))
+
+
+def _check(known: Checked, wrong: List[int]) -> Check:
+    data, masks, here = known.data, known.masks, known.masks_here
+    said = data.terminator, data.padding, data.guessed, bool(data.are_utf8)
+    modules = WrongModules(*(getattr(known.wrong, name) for name in WrongModules._fields))
+    return Check(version_name(known.version), LEVELS[known.level], known.mask, tuple(wrong),
+                 known.allowed, known.unused / 100, chr(known.grade), modules, bool(data.segments),
+                 *((data.bits, data.fewest) if data.compared else (None, None)),
+                 *(said if data.segments else (None,) * 4), Rank(masks.lower, masks.equal),
+                 Rank(here.lower, here.equal), bool(known.standard))

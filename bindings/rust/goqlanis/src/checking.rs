@@ -1,0 +1,205 @@
+//! What of codes departs from the standard.
+use crate::reading::{modules, unread};
+use crate::{Color, EcLevel, Unread, Version};
+use goqlanis_sys as sys;
+use std::fmt;
+
+/// How many modules of each pattern are wrong.
+pub type WrongModules = sys::goq_wrong_modules;
+
+/// How the mask stands among all of its version.
+pub type Rank = sys::goq_rank;
+
+/// What of a code departs from the standard, in words by `Display`.
+#[derive(Clone, Debug, PartialEq, Eq)]
+pub struct Check {
+    /// The version.
+    pub version: Version,
+    /// The error correction level.
+    pub ec_level: EcLevel,
+    /// The number of the mask, 0 to 7, in Micro 0 to 3.
+    pub mask: u32,
+    /// How many codewords of each block are wrong.
+    pub wrong_by_block: Vec<usize>,
+    /// How many of each block readers are to correct.
+    pub allowed_by_block: usize,
+    /// The unused error correction of the worst block, in hundredths.
+    pub unused_correction: usize,
+    /// Its grade by ISO/IEC 15415, `A` to `D` or `F`.
+    pub grade: char,
+    /// The wrong modules of each pattern.
+    pub wrong_modules: WrongModules,
+    /// What is said of the data, where its bits are segments and an end.
+    pub data: Option<DataCheck>,
+    /// How the mask stands by the balance of the standard, in steps of 5 %.
+    pub masks: Rank,
+    /// How it stands by the balance of this crate.
+    pub masks_here: Rank,
+    /// Whether nothing departs, the mask having the lowest penalty by one of the balances.
+    pub is_standard: bool,
+}
+
+/// What is said of the data of a code.
+#[derive(Clone, Copy, Debug, PartialEq, Eq)]
+pub struct DataCheck {
+    /// The bits of the segments and the fewest that their bytes need; not behind FNC1, nor with a
+    /// header between segments.
+    pub bits: Option<(usize, usize)>,
+    /// The wrong bits of the terminator, and of the zeros up to a whole byte.
+    pub wrong_terminator: usize,
+    /// The wrong bits behind these.
+    pub wrong_padding: usize,
+    /// How many segments of bytes above 127 have a character set that readers guess.
+    pub guessed_segments: usize,
+    /// Whether each of these is UTF-8.
+    pub guessed_utf8: bool,
+}
+
+/// What of the codes of a picture departs from the standard, in the order of `read_picture`, which
+/// takes the same pictures. Where no code is read, and the bits of a square in an even margin are
+/// no segments and an end, that square is checked.
+///
+/// ```
+/// use goqlanis::{check, render::png, QrCode};
+///
+/// let file = QrCode::new(b"01234567")?.render::<png::Color>().build();
+/// assert!(check(&file)?[0].is_standard);
+/// # Ok::<(), Box<dyn std::error::Error>>(())
+/// ```
+pub fn check(picture: &[u8]) -> Result<Vec<Check>, Unread> {
+    let mut room = 4;
+    loop {
+        let mut checks = vec![sys::goq_checked::default(); room];
+        let mut wrong = vec![0; room * sys::GOQ_BLOCKS_MAX];
+        let mut counts = sys::GOQ_CHECKS;
+        // SAFETY: the lengths are those of the buffers.
+        let answer = unsafe {
+            let (all, count) = (checks.as_mut_ptr(), checks.len());
+            let (numbers, length) = (wrong.as_mut_ptr(), wrong.len());
+            let (given, size) = (picture.as_ptr(), picture.len());
+            sys::goq_check(given, size, all, count, numbers, length, &mut counts)
+        };
+        match answer {
+            sys::GOQ_OK => return Ok(checks_of(&checks[..counts.codes], &wrong)),
+            sys::GOQ_SMALL_BUFFER => room *= 8,
+            answer => return Err(unread(answer)),
+        }
+    }
+}
+
+// Checks, whose wrong codewords stand one behind the other.
+fn checks_of(checks: &[sys::goq_checked], wrong: &[usize]) -> Vec<Check> {
+    let mut rest = wrong;
+    let mut of = |known: &sys::goq_checked| {
+        let (own, behind) = rest.split_at(known.blocks);
+        rest = behind;
+        Check::named(*known, own)
+    };
+    checks.iter().map(&mut of).collect()
+}
+
+/// What of a square of modules departs from the standard, row by row from the top left corner,
+/// without a quiet zone.
+///
+/// ```
+/// use goqlanis::{check_square, Color, EcLevel, QrCode};
+///
+/// let code = QrCode::with_error_correction_level(b"01234567", EcLevel::H)?;
+/// let mut colors = code.to_colors();
+/// colors[440] = !colors[440];
+/// let found = check_square(&colors)?;
+/// assert_eq!((found.wrong_by_block, found.allowed_by_block), (vec![1], 8));
+/// assert_eq!((found.unused_correction, found.grade), (87, 'A'));
+/// assert!(!found.is_standard);
+/// # Ok::<(), Box<dyn std::error::Error>>(())
+/// ```
+pub fn check_square(colors: &[Color]) -> Result<Check, Unread> {
+    let (given, mut known) = (modules(colors), sys::goq_checked::default());
+    let mut wrong = [0; sys::GOQ_BLOCKS_MAX];
+    // SAFETY: the lengths are those of the buffers.
+    let answer = unsafe {
+        let (out, length) = (wrong.as_mut_ptr(), wrong.len());
+        sys::goq_check_square(given.as_ptr(), given.len(), out, length, &mut known)
+    };
+    match answer {
+        sys::GOQ_OK => Ok(Check::named(known, &wrong[..known.blocks])),
+        answer => Err(unread(answer)),
+    }
+}
+
+impl Check {
+    fn named(known: sys::goq_checked, wrong: &[usize]) -> Check {
+        let data = DataCheck {
+            bits: (known.data.compared == 1).then_some((known.data.bits, known.data.fewest)),
+            wrong_terminator: known.data.terminator,
+            wrong_padding: known.data.padding,
+            guessed_segments: known.data.guessed,
+            guessed_utf8: known.data.are_utf8 == 1,
+        };
+        Check {
+            version: Version::named(known.version),
+            ec_level: EcLevel::named(known.level),
+            mask: known.mask,
+            wrong_by_block: wrong.to_vec(),
+            allowed_by_block: known.allowed,
+            unused_correction: known.unused,
+            grade: char::from(known.grade as u8),
+            wrong_modules: known.wrong,
+            data: (known.data.segments == 1).then_some(data),
+            masks: known.masks,
+            masks_here: known.masks_here,
+            is_standard: known.standard == 1,
+        }
+    }
+}
+
+impl fmt::Display for Check {
+    fn fmt(&self, out: &mut fmt::Formatter<'_>) -> fmt::Result {
+        let version = match self.version {
+            Version::Normal(number) => format!("{number}"),
+            Version::Micro(number) => format!("M{number}"),
+        };
+        let wrong: Vec<String> = self.wrong_by_block.iter().map(usize::to_string).collect();
+        let (unused, modules) = (self.unused_correction, self.wrong_modules);
+        writeln!(out, "version {version}, level {:?}, mask {}", self.ec_level, self.mask)?;
+        write!(out, "wrong codewords by block: {}", wrong.join(", "))?;
+        writeln!(out, "; {} may be wrong in each", self.allowed_by_block)?;
+        write!(out, "unused error correction: {}.{:02}", unused / 100, unused % 100)?;
+        writeln!(out, ", grade {}", self.grade)?;
+        write!(out, "wrong modules: finder {}, ", modules.finder)?;
+        write!(out, "alignment {}, timing {}, ", modules.alignment, modules.timing)?;
+        write!(out, "format {}, version {}, ", modules.format, modules.version)?;
+        writeln!(out, "remainder {}", modules.remainder)?;
+        match self.data {
+            Some(data) => writeln!(out, "{data}")?,
+            None => {
+                writeln!(out, "segments: none, since the data bits are no segments and an end")?;
+            }
+        }
+        for (name, rank) in [("", self.masks), (" by the balance of goqlanis", self.masks_here)] {
+            write!(out, "masks{name} of a lower penalty: {}; ", rank.lower)?;
+            let end = if name.is_empty() { "\n" } else { "" };
+            write!(out, "of the same, before it: {}{end}", rank.equal)?;
+        }
+        Ok(())
+    }
+}
+
+impl fmt::Display for DataCheck {
+    fn fmt(&self, out: &mut fmt::Formatter<'_>) -> fmt::Result {
+        match self.bits {
+            Some((bits, fewest)) => {
+                writeln!(out, "segments: {bits} bits, {} more than the fewest", bits - fewest)?;
+            }
+            None => writeln!(out, "segments: not compared with others, for their headers")?,
+        }
+        let (terminator, padding) = (self.wrong_terminator, self.wrong_padding);
+        writeln!(out, "wrong bits: terminator {terminator}, padding {padding}")?;
+        let guess = match (self.guessed_segments, self.guessed_utf8) {
+            (0, _) => "",
+            (_, true) => ", as UTF-8",
+            (_, false) => ", not all as UTF-8",
+        };
+        write!(out, "segments whose character set is guessed: {}{guess}", self.guessed_segments)
+    }
+}
