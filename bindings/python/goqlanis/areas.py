@@ -155,10 +155,13 @@ def loaded(logo: Any) -> Tuple[str, Tuple[int, int]]:
 
 
 def _sides(data: bytes) -> List[Any]:
-    """The width and height of an SVG file."""
+    """The width and height of an SVG file, which is UTF-8 without entities, as these may take any
+    time and memory to parse."""
+    if b"<!ENTITY" in data or b"\0" in data:
+        raise ValueError("the logo has entities, or is no UTF-8: save it as plain SVG")
     try:
         root = xml.fromstring(data)
-    except xml.ParseError:
+    except (xml.ParseError, LookupError, ValueError):
         raise ValueError("a logo is an SVG or a PNG file") from None
     box = root.get("viewBox", "").replace(",", " ").split()[2:]
     said = box if len(box) == 2 else [root.get("width", ""), root.get("height", "")]

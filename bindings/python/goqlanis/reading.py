@@ -20,6 +20,8 @@ HEADED = ("a header is in front, of several symbols, GS1 or another character se
           "reads several; read(symbol.png()) reads the others")
 # Answers of calls for which another call reads the square, unless there is such a header.
 OTHERS = {goq.NOT_SPELLED: library.goq_read_text, goq.NOT_SHOWN: library.goq_read}
+# The bytes of the largest picture that the library reads.
+MOST_PICTURE = 67_108_864
 Modules = Union[Symbol, Sequence[Sequence[bool]]]
 Picture = Union[str, bytes, bytearray, memoryview, "os.PathLike[str]", IO[bytes]]
 # The kinds of parts by their numbers.
@@ -190,7 +192,7 @@ def _file_of(given: Any) -> Optional[bytes]:
         return bytes(given)
     if isinstance(given, (str, os.PathLike)):
         with open(given, "rb") as file:
-            return file.read()
+            return file.read(MOST_PICTURE + 1)
     if hasattr(given, "read"):
         return _checks.binary("what the file gives", given.read())
     if hasattr(given, "save") and hasattr(given, "mode"):
