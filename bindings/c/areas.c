@@ -1,23 +1,11 @@
 /* Areas that may show anything: every answer, the first of two causes, and outputs untouched on each refusal. */
 #define _GNU_SOURCE
 #include "goqlanis.h"
-#include <stdio.h>
-#include <stdlib.h>
-#include <sys/mman.h>
-#include <unistd.h>
+#include "looks.h"
 
 static uint8_t modules[GOQ_MODULES_MAX], before[GOQ_MODULES_MAX], bytes[GOQ_BYTES_MAX];
 static goq_symbol symbol;
 static size_t place, touched[GOQ_BLOCKS_MAX];
-static int wrong;
-
-static void expect(int holds, const char *what)
-{
-    if (!holds) {
-        printf("WRONG: %s\n", what);
-        wrong++;
-    }
-}
 
 /* The modules of an area are light, dark, or neither; the others are as they were. */
 static void fill(goq_rectangle r, uint32_t how)
@@ -113,13 +101,10 @@ static void areas(void)
 /* No call reads a struct further than to its size, where that is not its own: here the next page may not be read. */
 static void structs(void)
 {
-    const size_t page = (size_t)sysconf(_SC_PAGESIZE);
-    uint8_t *two = mmap(NULL, 2 * page, PROT_READ | PROT_WRITE, MAP_PRIVATE | MAP_ANONYMOUS, -1, 0);
+    uint8_t *end = end_of_memory();
     goq_rectangle found;
-    if (two == MAP_FAILED || mprotect(two + page, page, PROT_NONE))
-        exit(2);
     for (uint32_t size = 4; size < sizeof(goq_wish); size += 4) {
-        void *given = two + page - size;
+        void *given = end - size;
         *(uint32_t *)given = size;
         expect(goq_largest_area(1, 0, given, &found) == GOQ_NO_SUCH_STRUCT, "a wish");
     }

@@ -1,133 +1,44 @@
 /* Which of two causes is answered; structs that end where memory does; lengths of pictures, and what pictures and squares cost. */
 #define _GNU_SOURCE
 #include "goqlanis.h"
-#include <stdio.h>
-#include <stdlib.h>
-#include <sys/mman.h>
+#include "looks.h"
 #include <sys/resource.h>
-#include <unistd.h>
 
 static uint8_t modules[GOQ_MODULES_MAX], out[100], data[1048577];
 static goq_symbol symbol;
 static size_t count, place;
-static int wrong;
 
-static void expect(int holds, const char *what)
-{
-    if (!holds) {
-        printf("WRONG: %s\n", what);
-        wrong++;
-    }
-}
+#define FILL(at, byte, length) memset(data + (at), byte, length);
+#define IN(length, version, level, answer, what) \
+    expect(goq_encode_in(data, length, version, level, modules, 0, &symbol) == answer, what);
+#define OF_DATA(call, length, level, answer, what) \
+    expect(call(data, length, level, modules, 0, &symbol) == answer, what);
+#define WITH(length, size, level, manner, version, least, boost, mask, answer, what) \
+    expect(goq_encode_with(data, length, &(goq_options){size, level, manner, version, least, boost, \
+        mask}, modules, 0, &symbol) == answer, what);
+#define SEVERAL(size, level, manner, least, greatest, number, answer, what) \
+    expect(goq_encode_several(data, 999, &(goq_several){size, level, manner, least, greatest, \
+        number}, modules, 0, &symbol, &count) == answer, what);
+#define SEGMENT(kind, bytes, length, version, level, answer, what) \
+    expect(goq_encode_segments(&(goq_segment){kind, 0, bytes, length}, 1, version, level, modules, \
+        0, &symbol) == answer, what);
+#define DRAW(length, size, format, zone, scale, dark, light, dpi, answer, what) \
+    expect(goq_draw_with(data, length, 21, &(goq_drawing){size, format, zone, scale, dark, light, \
+        dpi}, out, 0, &count) == answer, what);
 
-static uint32_t in(size_t length, uint32_t version, uint32_t level, size_t room)
+static void orders(void)
 {
-    return goq_encode_in(data, length, version, level, modules, room, &symbol);
-}
-
-/* Each has two causes or more. In Micro 1 are digits alone, and level L. */
-static void orders_of_versions(void)
-{
-    memset(data, 'a', sizeof data);
-    expect(in(8, 45, 4, 0) == GOQ_NO_SUCH_LEVEL, "level before version");
-    expect(in(sizeof data, 45, GOQ_L, 0) == GOQ_NO_SUCH_VERSION, "version before length");
-    expect(in(sizeof data, GOQ_MICRO(1), GOQ_H, 0) == GOQ_TOO_LONG, "length before mode");
-    expect(in(100, GOQ_MICRO(1), GOQ_H, 0) == GOQ_NO_MODE, "mode before level and room");
-    memset(data, '1', 100);
-    expect(in(100, GOQ_MICRO(1), GOQ_H, 0) == GOQ_LEVEL_NOT_IN_VERSION, "level before room");
-    expect(in(100, GOQ_MICRO(1), GOQ_L, 0) == GOQ_NO_ROOM, "room before buffer");
-    expect(goq_encode(data, sizeof data, 4, modules, 0, &symbol) == GOQ_NO_SUCH_LEVEL, "level");
-    expect(goq_encode(data, sizeof data, 0, modules, 0, &symbol) == GOQ_NO_ROOM, "room");
-    memset(data, 0xff, sizeof data);
-    expect(goq_encode_text(data, 9, 4, modules, 0, &symbol) == GOQ_NO_SUCH_LEVEL, "level of text");
-    expect(goq_encode_text(data, 9999, 0, modules, 0, &symbol) == GOQ_NOT_TEXT, "text before room");
-}
-
-static uint32_t with(size_t length, goq_options options)
-{
-    return goq_encode_with(data, length, &options, modules, 0, &symbol);
-}
-
-static void orders_of_options(void)
-{
-    const uint32_t size = sizeof(goq_options), m1 = GOQ_MICRO(1), mask = GOQ_MASK(9);
-    memset(data, 0xff, 100);
-    expect(with(9, (goq_options){27, 4, 9, 0, 0, 0, mask}) == GOQ_NO_SUCH_STRUCT, "struct");
-    expect(with(9, (goq_options){size, 4, 9, 45, 0, 0, mask}) == GOQ_NO_SUCH_LEVEL, "level");
-    expect(with(9, (goq_options){size, 3, 9, 45, 0, 0, mask}) == GOQ_NO_SUCH_VERSION, "version");
-    expect(with(9, (goq_options){size, 3, 9, m1, 0, 0, mask}) == GOQ_NO_SUCH_MANNER, "manner");
-    expect(with(9, (goq_options){size, 3, 1, m1, 0, 0, mask}) == GOQ_NOT_TEXT, "text");
-    expect(with(9, (goq_options){size, 3, 0, m1, 0, 0, mask}) == GOQ_NO_MODE, "mode");
-    memset(data, '1', 100);
-    expect(with(9, (goq_options){size, 3, 1, m1, 0, 0, mask}) == GOQ_LEVEL_NOT_IN_VERSION, "H");
-    expect(with(9, (goq_options){size, 0, 1, m1, 0, 0, mask}) == GOQ_NO_ROOM, "room before mask");
-    expect(with(5, (goq_options){size, 0, 1, m1, 0, 0, mask}) == GOQ_NO_SUCH_MASK, "mask");
-    expect(with(5, (goq_options){size, 0, 1, m1, 0, 0, 0}) == GOQ_SMALL_BUFFER, "buffer");
-}
-
-static uint32_t several(size_t length, goq_several options)
-{
-    return goq_encode_several(data, length, &options, modules, 0, &symbol, &count);
-}
-
-static void orders_of_several(void)
-{
-    const uint32_t size = sizeof(goq_several);
-    memset(data, 0xff, 1000);
-    expect(several(999, (goq_several){23, 4, 9, 0, 0, 17}) == GOQ_NO_SUCH_STRUCT, "struct");
-    expect(several(999, (goq_several){size, 4, 9, 0, 0, 17}) == GOQ_NO_SUCH_LEVEL, "level");
-    expect(several(999, (goq_several){size, 3, 9, 0, 0, 17}) == GOQ_NO_SUCH_VERSION, "version");
-    expect(several(999, (goq_several){size, 3, 9, 1, 1, 17}) == GOQ_NO_SUCH_MANNER, "manner");
-    expect(several(999, (goq_several){size, 3, 1, 1, 1, 17}) == GOQ_NO_SUCH_NUMBER, "number");
-    expect(several(999, (goq_several){size, 3, 1, 1, 1, 16}) == GOQ_NOT_TEXT, "text before room");
-    expect(several(999, (goq_several){size, 3, 0, 1, 1, 16}) == GOQ_NO_ROOM, "room");
-}
-
-static uint32_t of_segments(goq_segment segment, uint32_t version, uint32_t level)
-{
-    return goq_encode_segments(&segment, 1, version, level, modules, 0, &symbol);
-}
-
-static void orders_of_segments(void)
-{
-    const goq_segment unknown = {9, 0, data, 1}, letters = {GOQ_NUMERIC, 0, data, 999};
-    const goq_segment bytes = {GOQ_BYTES, 0, data, 999}, digits = {GOQ_NUMERIC, 0, data + 1000, 99};
-    memset(data, 'a', 1000);
-    memset(data + 1000, '1', 100);
-    expect(of_segments(unknown, 45, 4) == GOQ_NO_SUCH_LEVEL, "level before version");
-    expect(of_segments(unknown, 45, 3) == GOQ_NO_SUCH_VERSION, "version");
-    expect(of_segments(unknown, GOQ_MICRO(1), 3) == GOQ_LEVEL_NOT_IN_VERSION, "level before kind");
-    expect(of_segments(letters, GOQ_MICRO(1), 0) == GOQ_NOT_IN_MODE, "character before room");
-    expect(of_segments(bytes, GOQ_MICRO(1), 0) == GOQ_NO_MODE, "mode before room");
-    expect(of_segments(digits, GOQ_MICRO(1), 0) == GOQ_NO_ROOM, "room before buffer");
-}
-
-static uint32_t draw(size_t length, goq_drawing drawing)
-{
-    return goq_draw_with(data, length, 21, &drawing, out, 0, &count);
-}
-
-static void orders_of_drawings(void)
-{
-    const uint32_t size = sizeof(goq_drawing);
-    expect(draw(440, (goq_drawing){27, 99, 4, 0, 1, 2, 3}) == GOQ_NO_SUCH_STRUCT, "struct");
-    expect(draw(440, (goq_drawing){size, 99, 4, 0, 1, 2, 3}) == GOQ_NO_SUCH_FORMAT, "format");
-    expect(draw(440, (goq_drawing){size, GOQ_PIC, 4, 0, 1, 2, 3}) == GOQ_NOT_SQUARE, "square");
-    expect(draw(441, (goq_drawing){size, GOQ_PIC, 4, 0, 1, 2, 3}) == GOQ_NO_SUCH_SIZE, "size");
-    expect(draw(441, (goq_drawing){size, GOQ_PIC, 4, 1, 1, 2, 3}) == GOQ_NOT_IN_FORMAT, "colours");
-    expect(draw(441, (goq_drawing){size, GOQ_GREY, 4, 1, 0, 0xffffff, 0}) == GOQ_SMALL_BUFFER, "0");
+    const uint32_t m1 = GOQ_MICRO(1), mask = GOQ_MASK(9);
+#include "orders.inc"
 }
 
 /* No call reads a struct further than to its size, where that is not its own: here the next page may not be read. */
 static void structs(void)
 {
-    const size_t page = (size_t)sysconf(_SC_PAGESIZE);
     const goq_element element = {out, 0, out, 0};
-    uint8_t *two = mmap(NULL, 2 * page, PROT_READ | PROT_WRITE, MAP_PRIVATE | MAP_ANONYMOUS, -1, 0);
-    if (two == MAP_FAILED || mprotect(two + page, page, PROT_NONE))
-        exit(2);
+    uint8_t *end = end_of_memory();
     for (uint32_t size = 4; size < sizeof(goq_options); size += 4) {
-        void *given = two + page - size;
+        void *given = end - size;
         memset(given, 0, size);
         *(uint32_t *)given = size == sizeof(goq_several) ? 0 : size;
         expect(goq_encode_with(data, 1, given, modules, 0, &symbol) == GOQ_NO_SUCH_STRUCT, "options");
@@ -197,11 +108,7 @@ static void costs(void)
 
 int main(void)
 {
-    orders_of_versions();
-    orders_of_options();
-    orders_of_several();
-    orders_of_segments();
-    orders_of_drawings();
+    orders();
     structs();
     lengths();
     costs();

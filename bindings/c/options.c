@@ -1,19 +1,10 @@
 /* Calls with options: what each asks for, every answer, outputs untouched on each refusal. */
+#define _GNU_SOURCE
 #include "goqlanis.h"
-#include <stdio.h>
-#include <string.h>
+#include "looks.h"
 
 static uint8_t modules[GOQ_MODULES_MAX + 1], other[GOQ_MODULES_MAX], out[100000];
 static goq_symbol symbol;
-static int wrong;
-
-static void expect(int holds, const char *what)
-{
-    if (!holds) {
-        printf("WRONG: %s\n", what);
-        wrong++;
-    }
-}
 
 static uint32_t encode(const char *data, const goq_options *options)
 {
@@ -65,31 +56,16 @@ static void choices(void)
     expect(goq_encode_with(NULL, 0, &plain, modules, sizeof modules, &symbol) == GOQ_OK, "NULL");
 }
 
+#define REFUSES(data, level, manner, version, least, mask, answer, what) \
+    refuses(data, (goq_options){sizeof o, level, manner, version, least, 0, mask}, answer, what);
+
 static void refusals(void)
 {
     goq_options o = GOQ_OPTIONS;
     static char long_text[2955];
     memset(long_text, 'a', 2954);
     refuses("1", (goq_options){27, 1, 0, 0, 1, 0, 0}, GOQ_NO_SUCH_STRUCT, "a size of 27");
-    refuses("1", (goq_options){sizeof o, 4, 0, 0, 1, 0, 0}, GOQ_NO_SUCH_LEVEL, "level 4");
-    refuses("1", (goq_options){sizeof o, 1, 0, 45, 1, 0, 0}, GOQ_NO_SUCH_VERSION, "version 45");
-    refuses("1", (goq_options){sizeof o, 1, 0, 0, 0, 0, 0}, GOQ_NO_SUCH_VERSION, "from 0 on");
-    refuses("1", (goq_options){sizeof o, 1, 3, 0, 1, 0, 0}, GOQ_NO_SUCH_MANNER, "manner 3");
-    refuses("\xff", (goq_options){sizeof o, 1, GOQ_AS_TEXT, 0, 1, 0, 0}, GOQ_NOT_TEXT, "no UTF-8");
-    refuses("a", (goq_options){sizeof o, 0, 0, GOQ_MICRO(2), 1, 0, 0}, GOQ_NO_MODE, "M2");
-    refuses("1", (goq_options){sizeof o, 0, GOQ_AS_MARKED_TEXT, GOQ_MICRO(4), 1, 0, 0},
-        GOQ_NO_MODE, "a marked text in M4");
-    refuses("1", (goq_options){sizeof o, 1, 0, GOQ_MICRO(1), 1, 0, 0}, GOQ_LEVEL_NOT_IN_VERSION,
-        "M1 at M");
-    refuses("0123456789012", (goq_options){sizeof o, 3, 0, GOQ_MICRO(4), 1, 0, 0},
-        GOQ_LEVEL_NOT_IN_VERSION, "M4 at H");
-    refuses("01234567890", (goq_options){sizeof o, 0, 0, GOQ_MICRO(2), 1, 0, 0}, GOQ_NO_ROOM,
-        "11 digits in M2");
-    refuses(long_text, (goq_options){sizeof o, 0, 0, 0, 1, 0, 0}, GOQ_NO_ROOM, "2,954 bytes");
-    refuses("1", (goq_options){sizeof o, 1, 0, 0, 1, 0, GOQ_MASK(8)}, GOQ_NO_SUCH_MASK, "mask 8");
-    refuses("1", (goq_options){sizeof o, 1, 0, 0, 1, 0, UINT32_MAX}, GOQ_NO_SUCH_MASK, "no mask");
-    refuses("1", (goq_options){sizeof o, 0, 0, GOQ_MICRO(2), 1, 0, GOQ_MASK(4)}, GOQ_NO_SUCH_MASK,
-        "mask 4 of M2");
+#include "options.inc"
     expect(goq_encode_with((const uint8_t *)"1", 1, &o, modules, 440, &symbol) == GOQ_SMALL_BUFFER,
         "a module too few");
 }
@@ -151,6 +127,11 @@ static void undrawn(goq_drawing drawing, uint32_t wanted, const char *what)
     expect(draw(drawing, sizeof out) == wanted, what);
 }
 
+#define DRAWN(format, scale, dark, light, dpi, bytes, what) \
+    drawn((goq_drawing){size, format, 4, scale, dark, light, dpi}, bytes, sizeof bytes - 1, what);
+#define UNDRAWN(format, scale, dark, light, dpi, answer, what) \
+    undrawn((goq_drawing){size, format, 4, scale, dark, light, dpi}, answer, what);
+
 static void drawings(void)
 {
     const uint32_t size = sizeof(goq_drawing), half = 0x80000000u, none = GOQ_TRANSPARENT;
@@ -159,26 +140,10 @@ static void drawings(void)
     drawn(plain, "fill=\"#000\"", 11, "black");
     goq_draw(modules, 441, 21, 4, 2, GOQ_SVG, other, sizeof other, &count);
     expect(!memcmp(out, other, count), "as goq_draw");
-    drawn((goq_drawing){size, GOQ_SVG, 4, 2, 0x0080ff, 0xffffff, 0}, "\"#0080ff\"", 9, "blue");
-    drawn((goq_drawing){size, GOQ_SVG_PATH, 4, 2, half | 0x0a0b0c, none, 0}, "\"#0a0b0c7f\"", 11,
-        "half transparent");
-    expect(has("viewBox=\"0 0 29 29\"", 19) && has("\"none\"", 6), "one path, by modules");
-    drawn((goq_drawing){size, GOQ_EPS, 4, 2, 0x0080ff, 0xffffff, 0},
-        "\n0 255 div 128 255 div 255 255 div setrgbcolor\n", 46, "blue in EPS");
-    drawn((goq_drawing){size, GOQ_PNG, 4, 2, 0x0080ff, none | 0x010203, 300},
-        "PLTE\x00\x80\xff\x01\x02\x03", 10, "a palette");
-    expect(has("tRNS\xff\x00", 6), "a transparent ground");
-    expect(has("pHYs\0\0\x2e\x23\0\0\x2e\x23\x01", 13), "300 dots per inch are 11,811 per metre");
-    expect(draw(plain, count) == GOQ_SMALL_BUFFER, "too small a buffer");
+    draw(plain, sizeof out);
+    expect(draw(plain, count - 1) == GOQ_SMALL_BUFFER, "too small a buffer");
     undrawn((goq_drawing){27, 2, 4, 2, 0, 0xffffff, 0}, GOQ_NO_SUCH_STRUCT, "a size of 27");
-    undrawn((goq_drawing){size, GOQ_FORMATS, 4, 2, 0, 0xffffff, 0}, GOQ_NO_SUCH_FORMAT, "format");
-    undrawn((goq_drawing){size, 2, 4, 0, 0, 0xffffff, 0}, GOQ_NO_SUCH_SIZE, "scale 0");
-    undrawn((goq_drawing){size, GOQ_PBM, 4, 2, 1, 0xffffff, 0}, GOQ_NOT_IN_FORMAT, "blue PBM");
-    undrawn((goq_drawing){size, GOQ_PIC, 4, 2, 0, 0xfffffe, 0}, GOQ_NOT_IN_FORMAT, "yellow PIC");
-    undrawn((goq_drawing){size, GOQ_EPS, 4, 2, 0, none, 0}, GOQ_NOT_IN_FORMAT, "EPS on nothing");
-    undrawn((goq_drawing){size, GOQ_EPS, 4, 2, half, 0, 0}, GOQ_NOT_IN_FORMAT, "half an EPS");
-    undrawn((goq_drawing){size, GOQ_SVG, 4, 2, 0, 0xffffff, 1}, GOQ_NOT_IN_FORMAT, "dpi of SVG");
-    undrawn((goq_drawing){size, GOQ_PNG, 4, 2, 0, 0xffffff, 65536}, GOQ_NOT_IN_FORMAT, "dpi");
+#include "drawings.inc"
     goq_drawing zero = plain;
     expect(goq_draw_with(NULL, 0, 0, &zero, out, sizeof out, &count) == GOQ_OK, "no modules");
 }

@@ -1,21 +1,11 @@
 /* What the library for C answers: every call, every answer, outputs untouched on each refusal. It prints the digest of a symbol of each pair of version and
    level, which `bindings/c/test` compares with those of other encoders. */
+#define _GNU_SOURCE
 #include "goqlanis.h"
-#include <stdio.h>
-#include <stdlib.h>
-#include <string.h>
+#include "looks.h"
 
 static uint8_t modules[GOQ_MODULES_MAX], before[GOQ_MODULES_MAX], out[4000000];
 static goq_symbol symbol;
-static int wrong;
-
-static void expect(int holds, const char *what)
-{
-    if (!holds) {
-        printf("WRONG: %s\n", what);
-        wrong++;
-    }
-}
 
 static void mark(void)
 {
@@ -139,9 +129,9 @@ static void drawings(void)
     expect(goq_draw_length(modules, 441, 21, 4, 65536, 0, &count) == GOQ_NO_SUCH_SIZE && count == 5, "too great a scale");
 }
 
-static uint32_t encode_one(uint32_t kind, uint32_t number, const char *bytes, size_t length, uint32_t version, uint32_t level)
+static uint32_t encode_one(uint32_t kind, uint32_t number, const void *bytes, size_t length, uint32_t version, uint32_t level)
 {
-    goq_segment segment = {kind, number, (const uint8_t *)bytes, length};
+    goq_segment segment = {kind, number, bytes, length};
     return goq_encode_segments(&segment, 1, version, level, modules, sizeof modules, &symbol);
 }
 
@@ -157,6 +147,9 @@ static void empty_segments(void)
     expect(encode_one(GOQ_BYTES, 0, NULL, 0, 1, GOQ_L) == GOQ_OK && symbol.width == 21, "an empty segment alone");
 }
 
+#define SEGMENT(kind, number, bytes, length, version, level, answer, what) \
+    refuses(encode_one(kind, number, bytes, length, version, level), answer, what);
+
 /* Segments by hand. That their symbols are those of other encoders bindings/c/facts says. */
 static void by_hand(void)
 {
@@ -167,19 +160,7 @@ static void by_hand(void)
     expect(goq_encode_segments(NULL, 0, 1, GOQ_M, modules, sizeof modules, &symbol) == GOQ_OK, "no segments, from NULL");
     empty_segments();
     mark();
-    refuses(encode_one(GOQ_BYTES, 0, "a", 1, 1, 4), GOQ_NO_SUCH_LEVEL, "level 4 of segments");
-    refuses(encode_one(GOQ_BYTES, 0, "a", 1, 0, GOQ_L), GOQ_NO_SUCH_VERSION, "version 0 of segments");
-    refuses(encode_one(GOQ_NUMERIC, 0, "1", 1, GOQ_MICRO(1), GOQ_M), GOQ_LEVEL_NOT_IN_VERSION, "Micro 1 at M of segments");
-    refuses(encode_one(7, 0, "a", 1, 1, GOQ_L), GOQ_NO_SUCH_KIND, "kind 7");
-    refuses(encode_one(GOQ_NUMERIC, 0, "1a", 2, 1, GOQ_L), GOQ_NOT_IN_MODE, "a letter among digits");
-    refuses(encode_one(GOQ_ALPHANUMERIC, 0, "a", 1, 1, GOQ_L), GOQ_NOT_IN_MODE, "a small letter");
-    refuses(encode_one(GOQ_KANJI, 0, "\x88\x9f\x88", 3, 1, GOQ_L), GOQ_NOT_IN_MODE, "half a pair");
-    refuses(encode_one(GOQ_BYTES, 0, "a", 1, GOQ_MICRO(2), GOQ_L), GOQ_NO_MODE, "bytes in Micro 2");
-    refuses(encode_one(GOQ_FNC1_FIRST, 0, NULL, 0, GOQ_MICRO(4), GOQ_L), GOQ_NO_MODE, "FNC1 in Micro 4");
-    refuses(encode_one(GOQ_ECI, 1000000, NULL, 0, 1, GOQ_L), GOQ_NO_SUCH_NUMBER, "character set 1,000,000");
-    refuses(encode_one(GOQ_FNC1_SECOND, 256, NULL, 0, 1, GOQ_L), GOQ_NO_SUCH_NUMBER, "application 256");
-    refuses(encode_one(GOQ_BYTES, 0, (const char *)before, 256, 1, GOQ_L), GOQ_NO_ROOM, "more bytes than their count says");
-    refuses(encode_one(GOQ_BYTES, 0, (const char *)before, 18, 1, GOQ_L), GOQ_NO_ROOM, "18 bytes in Normal 1");
+#include "segments.inc"
     refuses(goq_encode_segments(segments, 4, 1, GOQ_M, modules, 440, &symbol), GOQ_SMALL_BUFFER, "a module too few of segments");
 }
 
@@ -191,18 +172,13 @@ static uint32_t least_of(uint32_t kind, uint32_t number, const void *bytes, size
     return goq_least_version_of_segments(segments, 2, level, &version);
 }
 
-/* The least version of a header of 12 bits and bytes at level L, where Normal 1 has 152 bits, and Normal 40 23,648 (ISO/IEC 18004, table 7). */
+#define LEAST(kind, number, bytes, length, level, answer, wanted, what) \
+    version = 77; \
+    expect(least_of(kind, number, bytes, length, level) == answer && version == wanted, what);
+
 static void least_of_segments(void)
 {
-    version = 77;
-    expect(least_of(GOQ_BYTES, 0, before, 1, 9) == GOQ_NO_SUCH_LEVEL && version == 77, "level 9 of a least version");
-    expect(least_of(7, 0, before, 1, GOQ_L) == GOQ_NO_SUCH_KIND && version == 77, "kind 7 of a least version");
-    expect(least_of(GOQ_NUMERIC, 0, "1a", 2, GOQ_L) == GOQ_NOT_IN_MODE && version == 77, "a letter among digits of a least version");
-    expect(least_of(GOQ_ECI, 1000000, NULL, 0, GOQ_L) == GOQ_NO_SUCH_NUMBER && version == 77, "character set 1,000,000 of a least version");
-    expect(least_of(GOQ_BYTES, 0, out, 2953, GOQ_L) == GOQ_NO_ROOM && version == 77, "no version for segments");
-    expect(least_of(GOQ_BYTES, 0, out, 2952, GOQ_L) == GOQ_OK && version == 40, "Normal 40 for segments");
-    expect(least_of(GOQ_BYTES, 0, out, 16, GOQ_L) == GOQ_OK && version == 1, "Normal 1 for segments");
-    expect(least_of(GOQ_BYTES, 0, out, 17, GOQ_L) == GOQ_OK && version == 2, "Normal 2 for segments");
+#include "least.inc"
     expect(goq_least_version_of_segments(NULL, 0, GOQ_H, &version) == GOQ_OK && version == 1, "the least version of no segments, from NULL");
 }
 

@@ -52,7 +52,7 @@ def least_glibc(data):
 
 
 def build_wheel(wheel_directory, config_settings=None, metadata_directory=None):
-    paths = [it for it in sorted((HERE / NAME).iterdir()) if it.suffix in (".py", ".typed")]
+    paths = [it for it in sorted((HERE / NAME).iterdir()) if it.suffix in (".py", ".txt", ".typed")]
     files = {f"{NAME}/{path.name}": path.read_bytes() for path in paths}
     files[f"{NAME}/libgoqlanis.so.1"] = library()
     tag = f"py3-none-manylinux_2_{least_glibc(files[f'{NAME}/libgoqlanis.so.1'])}_x86_64"

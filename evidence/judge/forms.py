@@ -6,7 +6,7 @@ in it.
 """
 from functools import lru_cache
 
-from tables import CENTRES, LEVELS, MASKS, MICRO_BLOCKS, MICRO_MASKS, NORMAL_BLOCKS, normal_row
+from tables import CENTRES, LEVELS, MASKS, MICRO_BLOCKS, MICRO_MASKS, NORMAL_BLOCKS
 
 
 class Form:
@@ -63,7 +63,7 @@ class Form:
     def _centres(self):
         """The centres of alignment patterns: each row with each column, except in finder
         patterns."""
-        lines = list(map(int, normal_row(CENTRES, self.number - 1))) if self.number > 1 else []
+        lines = list(map(int, CENTRES[self.number - 2])) if self.number > 1 else []
         corners = {(6, 6), (6, self.width - 7), (self.width - 7, 6)}
         return [(i, j) for i in lines for j in lines if (i, j) not in corners]
 
@@ -111,7 +111,7 @@ class Blocks:
     """The blocks of a version at a level."""
 
     def __init__(self, form, level):
-        words = normal_row(MICRO_BLOCKS if form.is_micro else NORMAL_BLOCKS, form.number)
+        words = (MICRO_BLOCKS if form.is_micro else NORMAL_BLOCKS)[form.number - 1]
         self.ec, self.count = map(int, words[LEVELS.index(level)].split("x"))
         bits = len(form.places)
         self.has_half = form.is_micro and bits % 8 == 4
@@ -160,7 +160,7 @@ WIDTHS |= {9 + 2 * number: f"M{number}" for number in range(1, 5)}
 def levels(version):
     """The levels that a version has."""
     known = form(version)
-    return LEVELS[:len(normal_row(MICRO_BLOCKS if known.is_micro else NORMAL_BLOCKS, known.number))]
+    return LEVELS[:len((MICRO_BLOCKS if known.is_micro else NORMAL_BLOCKS)[known.number - 1])]
 
 
 def pairs():

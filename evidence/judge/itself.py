@@ -12,9 +12,12 @@ from field import Uncorrected, corrected, syndromes
 from forms import blocks, form
 from looks import damaged, drawn, not_alike, not_least, not_read, square_of, turn_word
 from masks import not_beyond, not_decided
-from printed import DIGITS_MICRO, DIGITS_NORMAL, PUBLISHED
 
-OTHERS = Path(__file__).resolve().parent.parent / "others" / "symbols"
+HERE = Path(__file__).resolve().parent
+OTHERS = HERE.parent / "others" / "symbols"
+# The printed symbols of printed.txt: two of `01234567`, and one whose penalty is published.
+DIGITS_NORMAL, DIGITS_MICRO, PUBLISHED = (
+    part.split() for part in (HERE / "printed.txt").read_text().split("\n\n")[1::2])
 
 
 def other_squares():

@@ -6,42 +6,8 @@ from itertools import combinations, product
 import goqlanis
 import reading
 from forms import blocks, form
-from looks import answered, differs, judged, not_read, square_of, turn_format, turn_word
+from looks import answered, differs, judged, listed, not_read, square_of, turn_format, turn_word
 from spelling import count_bits
-
-# Data or segments, version, level, and the codewords of data, the last one filled with zeros. Those
-# of `HELLO WORLD` are printed in many places, and those of the text of coders in the chapter on
-# Reed-Solomon codes at Wikiversity; `01234567` and the two pairs are examples of the standard; the
-# others were written by hand.
-CODEWORDS = [
-    (b"123A", "M2", "L", "18f72500ec"),
-    (b"99999", "M1", "L", "bf3e30"),
-    (b"0" * 20, "M3", "L", "2800000000000000000000"),
-    (b"HELLO WORLD", "1", "Q", "205b0b78d172dc4d4340ec11ec"),
-    (b"01234567", "1", "M", "10200c566180ec11ec11ec11ec11ec11"),
-    (b"01234567", "1", "H", "10200c566180ec11ec"),
-    (b"\x93\x5f\xe4\xaa", "1", "H", "8026cfeaa800ec11ec"),
-    (b"\x93\x5f\xe4\xaa", "M4", "Q", "64d9fd550000ec11ec11"),
-    (b"", "1", "M", "00ec11ec11ec11ec11ec11ec11ec11ec"),
-    (b"'Twas brillig", "1", "M", "40d2754776173206272696c6c69670ec"),
-    ([("eci", 9), ("byte", b"\xca\xfe\xe4\xe9\xea\xe1\xf2 QR")], "1", "L",
-     "70940acafee4e9eae1f220515200ec11ec11ec"),
-    ([("eci", 899)], "1", "H", "783830ec11ec11ec11"),
-    ([("eci", 999999)], "1", "H", "7cf423f0ec11ec11ec"),
-    ([("fnc1_first", None)], "1", "H", "50ec11ec11ec11ec11"),
-    ([("fnc1_second", 37)], "1", "H", "9250ec11ec11ec11ec"),
-    ([("eci", 26), ("byte", "é".encode())], "1", "H", "71a402c3a900ec11ec"),
-    ([("numeric", b"0123456789012345")], "1", "Q", "10400c566a6e14ea50ec11ec11"),
-    ([("numeric", b"0123456789012345")], "M3", "M", "20062b35370a752800"),
-    ([("alphanumeric", b"AC-42")], "1", "H", "2029cee72100ec11ec"),
-    ([("byte", b"\x12\x34\x56\x78\x9a\xbc\xde\xf0")], "1", "Q", "408123456789abcdef00ec11ec"),
-    ([("numeric", b"9999")], "M1", "L", "9f3c80"),
-    ([("numeric", b"999")], "M1", "L", "7f3800"),
-    ([("numeric", b"")], "M1", "L", "00ec00"),
-    ([("numeric", b"1"), ("numeric", b"1")], "M1", "L", "224400"),
-    ([("numeric", b"12"), ("numeric", b"12")], "1", "H", "100860804300ec11ec"),
-]
-
 
 def hexadecimal(bits):
     bits += "0" * (-len(bits) % 8)
@@ -51,28 +17,23 @@ def hexadecimal(bits):
 def printed_codewords():
     """Data bits are those that are printed"""
     found = []
-    for data, version, level, words in CODEWORDS:
+    rows = listed("codewords")
+    for data, version, level, words in rows:
         make = goqlanis.encode if isinstance(data, bytes) else goqlanis.encode_segments
         bits = reading.read_bits(square_of(make(data, level, version))).bits
-        found += [f"{data} in {version}-{level}: {hexadecimal(bits)}"] if hexadecimal(bits) != words else []
-    return found, f"{len(CODEWORDS)} symbols"
-
-
-# Data, version, level, and the bits of its least cut, by hand: of thirty aABCDEF 204 bytes and six
-# letters take 1690 bits, and all bytes in one segment 1692. For the others one segment takes fewer
-# bits than any cut, but of a byte and eight pairs of Kanji, and of digits and a letter in Micro.
-LEAST = [(b"aABCDEF" * 30, "9", "L", 1690), (b"a1234b", "1", "L", 60), (b"1234567A", "1", "L", 57),
-         (b"a1234bc", "1", "L", 68), (b"123A", "M2", "L", 25),
-         (b"\x81" + b"\x81\x40" * 8, "1", "L", 136)]
+        if hexadecimal(bits) != words:
+            found.append(f"{data} in {version}-{level}: {hexadecimal(bits)}")
+    return found, f"{len(rows)} symbols"
 
 
 def least_cuts():
     """Data takes as many bits as its least cut"""
     found = []
-    for data, version, level, length in LEAST:
+    rows = listed("least cuts")
+    for data, version, level, length in rows:
         _, said = reading.read_headed(square_of(goqlanis.encode(data, level, version)))
         found += [f"{data}: {said.length}"] if (said.data, said.length) != (data, length) else []
-    return found, f"{len(LEAST)} symbols"
+    return found, f"{len(rows)} symbols"
 
 
 def written(shape, count):
@@ -139,31 +100,17 @@ def segments_in_any_order():
     return list(filter(None, (it, empty))), "2 symbols"
 
 
-# Segments with headers in front, the version and level of their symbol, and the headers and bytes
-# that are read of it.
-HEADED = [
-    ([("eci", 9), ("byte", b"\xca\xfe\xe4\xe9\xea\xe1\xf2 QR")], "1", "L", [("ECI", 9)],
-     b"\xca\xfe\xe4\xe9\xea\xe1\xf2 QR"),
-    ([("eci", 127), ("byte", b"a"), ("eci", 128), ("numeric", b"12")], "2", "M",
-     [("ECI", 127), ("ECI", 128)], b"a12"),
-    ([("eci", 16383), ("alphanumeric", b"A"), ("eci", 16384), ("eci", 999999)], "3", "Q",
-     [("ECI", 16383), ("ECI", 16384), ("ECI", 999999)], b"A"),
-    ([("fnc1_first", None), ("numeric", b"0109501101530003")], "1", "Q", [("FNC1",)],
-     b"0109501101530003"),
-    ([("fnc1_second", 37), ("kanji", b"\x93\x5f")], "10", "H", [("FNC1", 37)], b"\x93\x5f"),
-]
-
-
 def headers_are_read():
     """Headers are read as they were given, and a reading of bytes alone is refused"""
     found = []
-    for segments, version, level, headers, data in HEADED:
+    rows = listed("headers")
+    for segments, version, level, headers, data in rows:
         square = square_of(goqlanis.encode_segments(segments, level, version))
         bits, said = reading.read_headed(square)
         read = (bits.version, bits.level, said.headers, said.data)
         if read != (version, level, headers, data) or answered(square) != "NotSpelled":
             found.append(f"{segments}: {said}")
-    return found, f"{len(HEADED)} symbols"
+    return found, f"{len(rows)} symbols"
 
 
 def usual_symbols():

@@ -1,10 +1,20 @@
 """What is looked at in a square. Each look answers what is wrong, or an empty text."""
+import re
+from pathlib import Path
+
 import goqlanis
 import penalty
 import reading
 from forms import blocks, form
 
 MOST_WRONG_IN_FORMAT = 3
+
+
+def listed(name):
+    """The rows of a part of symbols.txt."""
+    text = Path(__file__).with_name("symbols.txt").read_text(encoding="utf-8")
+    part = re.search(rf"\$ {name}\n((?:[^#$\n].*\n)+)", re.sub(r"\n +", " ", text))[1]
+    return [eval(line) for line in part.splitlines()]
 
 
 def square_of(symbol):

@@ -1,7 +1,7 @@
 """Drawings with colours of parts: what their modules show, against the parts that segno names."""
 import re
-import struct
-import zlib
+
+import png
 
 OPTIONS = {"F": "finder", "A": "alignment", "T": "timing", "W": "format", "V": "version",
            ".": "data"}
@@ -32,22 +32,8 @@ def rgb(name):
 
 
 def png_cells(file, scale):
-    """The colours of the modules of a PNG file whose rows are not filtered; None where one has two."""
-    head, data, at = None, b"", 8
-    while at < len(file):
-        length, kind = struct.unpack(">I4s", file[at:at + 8])
-        body = file[at + 8:at + 8 + length]
-        head = struct.unpack(">IIBBBBB", body) if kind == b"IHDR" else head
-        data += body if kind == b"IDAT" else b""
-        at += 12 + length
-    across, down, depth, color = head[:4]
-    if (depth, color) != (8, 6):
-        return None
-    rows = zlib.decompress(data)
-    rows = [rows[y * (4 * across + 1):(y + 1) * (4 * across + 1)] for y in range(down)]
-    if any(row[0] for row in rows):
-        return None
-    dots = [[tuple(row[4 * x + 1:4 * x + 5]) for x in range(across)] for row in rows]
+    """The colours of the modules of a PNG file; None where one has two."""
+    dots = png.pixels_of(file)
     cells = [line[::scale] for line in dots[::scale]]
     whole = [[it for it in line for _ in range(scale)] for line in cells for _ in range(scale)]
     opaque = all(it[3] == 255 for line in cells for it in line)
@@ -122,6 +108,22 @@ def eps_cells(text, side, scale):
     return cells
 
 
+def pdf_cells(file, side):
+    """The same of a PDF file, whose unit is a module and whose rows are counted from above."""
+    cells = [[None] * side for _ in range(side)]
+    color, boxes = None, []
+    for word in file.split(b"stream\n")[1].decode().split("\n"):
+        if word.endswith(" rg"):
+            color = tuple(round(255 * float(it)) for it in word.split()[:3])
+        elif " re" in word:
+            boxes.append([int(it) for it in word.split()[:4]])
+        if word.endswith("f"):
+            for found in boxes:
+                fill(cells, found, color)
+            boxes = []
+    return cells
+
+
 def wanted(rows, letters, zone, is_inverted):
     """The colours of modules in a quiet zone: by their parts, and else dark or light."""
     light = rgb(DARK if is_inverted else LIGHT)
@@ -132,8 +134,8 @@ def wanted(rows, letters, zone, is_inverted):
 
 
 def are_drawn(run, path):
-    """Whether each module has the colour of its part in PNG, SVG and EPS, where `run` writes what a
-    command line does."""
+    """Whether each module has the colour of its part in PNG, SVG, EPS and PDF, where `run` writes
+    what a command line does."""
     for version, letters in parts_of(path).items():
         plain = ["-v", version, "-l", "L", "12"]
         bits = run([*plain, "-f", "pbm", "-s", "8", "-q", "0"]).split(b"\n", 2)[2]
@@ -149,5 +151,7 @@ def are_drawn(run, path):
             if svg_cells(run([*words, "-f", "svg"]).decode(), side) != colors:
                 return False
             if eps_cells(run([*words, "-f", "eps"]).decode(), side, 2) != colors:
+                return False
+            if pdf_cells(run([*words, "-f", "pdf"]), side) != colors:
                 return False
     return True

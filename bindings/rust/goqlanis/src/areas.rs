@@ -1,7 +1,6 @@
 //! Areas of symbols that may show anything, as a logo does.
 use crate::QrCode;
 use goqlanis_sys as sys;
-use std::fmt;
 
 /// A rectangle of modules of a symbol.
 #[derive(Clone, Copy, Debug, PartialEq, Eq, Hash)]
@@ -75,21 +74,13 @@ pub enum Excess {
     OutOfMemory,
 }
 
-impl fmt::Display for Excess {
-    fn fmt(&self, out: &mut fmt::Formatter<'_>) -> fmt::Result {
-        match self {
-            Excess::Block(block) => {
-                write!(out, "block {block}: {}", sys::goq_strerror(sys::GOQ_AREA_BLOCK))
-            }
-            Excess::Outside => out.write_str(sys::goq_strerror(sys::GOQ_NO_SUCH_AREA)),
-            Excess::Format => out.write_str(sys::goq_strerror(sys::GOQ_AREA_FORMAT)),
-            Excess::Nowhere => out.write_str(sys::goq_strerror(sys::GOQ_NO_AREA)),
-            Excess::OutOfMemory => out.write_str(sys::goq_strerror(sys::GOQ_OUT_OF_MEMORY)),
-        }
-    }
+says! { Excess:
+    Excess::Block(block) => "block {block}: {}", sys::goq_strerror(sys::GOQ_AREA_BLOCK);
+    Excess::Outside => "{}", sys::goq_strerror(sys::GOQ_NO_SUCH_AREA);
+    Excess::Format => "{}", sys::goq_strerror(sys::GOQ_AREA_FORMAT);
+    Excess::Nowhere => "{}", sys::goq_strerror(sys::GOQ_NO_AREA);
+    Excess::OutOfMemory => "{}", sys::goq_strerror(sys::GOQ_OUT_OF_MEMORY);
 }
-
-impl std::error::Error for Excess {}
 
 fn allowed(answer: u32, place: usize) -> Result<(), Excess> {
     match answer {

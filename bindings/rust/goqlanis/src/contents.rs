@@ -82,18 +82,12 @@ pub enum ContentError {
     OutOfMemory,
 }
 
-impl fmt::Display for ContentError {
-    fn fmt(&self, out: &mut fmt::Formatter<'_>) -> fmt::Result {
-        match self {
-            ContentError::Refused(field, cause) => write!(out, "{field}: {cause}"),
-            ContentError::Element(place, cause) => write!(out, "element {place}: {cause}"),
-            ContentError::DataTooLong => out.write_str("no symbol holds so long a text"),
-            ContentError::OutOfMemory => out.write_str("out of memory"),
-        }
-    }
+says! { ContentError:
+    ContentError::Refused(field, cause) => "{field}: {cause}";
+    ContentError::Element(place, cause) => "element {place}: {cause}";
+    ContentError::DataTooLong => "no symbol holds so long a text";
+    ContentError::OutOfMemory => "out of memory";
 }
-
-impl std::error::Error for ContentError {}
 
 /// What a value gives: its text, or why it has none.
 pub type ContentResult = Result<String, ContentError>;
@@ -164,28 +158,36 @@ pub(crate) fn element_error(answer: u32, place: usize) -> ContentError {
     refused(answer, |cause| ContentError::Element(place, cause))
 }
 
-/// How a network is secured.
-#[derive(Clone, Copy, Debug, PartialEq, Eq)]
-pub enum Security {
-    /// No password.
-    Open,
-    /// WEP.
-    Wep,
-    /// WPA, WPA2, or both with WPA3.
-    Wpa,
-    /// WPA3 alone.
-    Wpa3,
+// An enum of words, with the word of each that the library takes.
+macro_rules! words {
+    ($(#[$about:meta])* $name:ident: $($(#[$told:meta])* $variant:ident = $word:literal,)+) => {
+        $(#[$about])*
+        #[derive(Clone, Copy, Debug, PartialEq, Eq)]
+        pub enum $name {
+            $($(#[$told])* $variant,)+
+        }
+
+        impl $name {
+            fn word(self) -> &'static str {
+                match self {
+                    $($name::$variant => $word,)+
+                }
+            }
+        }
+    };
 }
 
-impl Security {
-    fn word(self) -> &'static str {
-        match self {
-            Security::Open => "open",
-            Security::Wep => "WEP",
-            Security::Wpa => "WPA",
-            Security::Wpa3 => "WPA3",
-        }
-    }
+words! {
+    /// How a network is secured.
+    Security:
+    /// No password.
+    Open = "open",
+    /// WEP.
+    Wep = "WEP",
+    /// WPA, WPA2, or both with WPA3.
+    Wpa = "WPA",
+    /// WPA3 alone.
+    Wpa3 = "WPA3",
 }
 
 /// A wireless network. An open network has an empty password.
@@ -208,189 +210,160 @@ impl Wifi<'_> {
     }
 }
 
-/// A contact, as MECARD. What is empty is left out.
-#[derive(Clone, Copy, Debug, Default, PartialEq, Eq)]
-pub struct Contact<'a> {
-    /// The family name.
-    pub family: &'a str,
-    /// The given name.
-    pub given: &'a str,
-    /// A telephone number.
-    pub phone: &'a str,
-    /// An e-mail address.
-    pub email: &'a str,
-    /// The address of a page.
-    pub url: &'a str,
-    /// As `1970-01-31` or `19700131`.
-    pub birthday: &'a str,
-    /// A note.
-    pub note: &'a str,
-    /// The street.
-    pub street: &'a str,
-    /// The city.
-    pub city: &'a str,
-    /// The region.
-    pub region: &'a str,
-    /// The postal code.
-    pub code: &'a str,
-    /// The country.
-    pub country: &'a str,
+// What stands in a field of a payload, as the library takes it.
+trait Said {
+    fn said(&self) -> String;
 }
 
-impl Contact<'_> {
-    /// The text, as MECARD.
-    pub fn mecard(&self) -> ContentResult {
-        text_of(
-            sys::GOQ_MECARD,
-            &[
-                ("family", self.family),
-                ("given", self.given),
-                ("phone", self.phone),
-                ("email", self.email),
-                ("url", self.url),
-                ("birthday", self.birthday),
-                ("note", self.note),
-                ("street", self.street),
-                ("city", self.city),
-                ("region", self.region),
-                ("code", self.code),
-                ("country", self.country),
-            ],
-        )
-    }
-}
-
-/// A contact, as vCard 3.0. What is empty is left out.
-#[derive(Clone, Copy, Debug, Default, PartialEq, Eq)]
-pub struct Card<'a> {
-    /// The full name.
-    pub name: &'a str,
-    /// The family name.
-    pub family: &'a str,
-    /// The given name.
-    pub given: &'a str,
-    /// The organisation.
-    pub organisation: &'a str,
-    /// A telephone number.
-    pub phone: &'a str,
-    /// An e-mail address.
-    pub email: &'a str,
-    /// The address of a page.
-    pub url: &'a str,
-    /// The street.
-    pub street: &'a str,
-    /// The city.
-    pub city: &'a str,
-    /// The region.
-    pub region: &'a str,
-    /// The postal code.
-    pub code: &'a str,
-    /// The country.
-    pub country: &'a str,
-    /// A note.
-    pub note: &'a str,
-    /// The title or function.
-    pub title: &'a str,
-    /// A day, as `1970-01-31`.
-    pub birthday: &'a str,
-    /// Telephone numbers beside `phone`.
-    pub mobile: &'a str,
-    /// The number at work.
-    pub work_phone: &'a str,
-    /// The number at home.
-    pub home_phone: &'a str,
-}
-
-impl Card<'_> {
-    /// The text, to be encoded by `QrCode::of_text`.
-    pub fn text(&self) -> ContentResult {
-        text_of(
-            sys::GOQ_VCARD,
-            &[
-                ("name", self.name),
-                ("family", self.family),
-                ("given", self.given),
-                ("organisation", self.organisation),
-                ("phone", self.phone),
-                ("email", self.email),
-                ("url", self.url),
-                ("street", self.street),
-                ("city", self.city),
-                ("region", self.region),
-                ("code", self.code),
-                ("country", self.country),
-                ("note", self.note),
-                ("title", self.title),
-                ("birthday", self.birthday),
-                ("mobile", self.mobile),
-                ("work_phone", self.work_phone),
-                ("home_phone", self.home_phone),
-            ],
-        )
+impl Said for &str {
+    fn said(&self) -> String {
+        self.to_string()
     }
 }
 
 // Hundredths, with a point before them.
-fn amount(cents: u64) -> String {
-    format!("{}.{:02}", cents / 100, cents % 100)
-}
-
-/// A SEPA credit transfer, of version 001 with a BIC and of 002 without.
-#[derive(Clone, Copy, Debug, Default, PartialEq, Eq)]
-pub struct Payment<'a> {
-    /// The payee, up to 70 characters.
-    pub name: &'a str,
-    /// The account number.
-    pub iban: &'a str,
-    /// The amount in cents of a euro.
-    pub cents: u64,
-    /// The code of the bank; with it the text is one of version 001.
-    pub bic: &'a str,
-    /// Up to four letters and digits.
-    pub purpose: &'a str,
-    /// A reference of ISO 11649, in place of a message.
-    pub reference: &'a str,
-    /// A message to the payee, up to 140 characters.
-    pub message: &'a str,
-    /// A note to the payer, up to 70 characters.
-    pub information: &'a str,
-}
-
-impl Payment<'_> {
-    /// The text, to be encoded by `QrCode::of_text`.
-    pub fn text(&self) -> ContentResult {
-        text_of(
-            sys::GOQ_PAYMENT,
-            &[
-                ("name", self.name),
-                ("iban", self.iban),
-                ("cents", &amount(self.cents)),
-                ("bic", self.bic),
-                ("purpose", self.purpose),
-                ("reference", self.reference),
-                ("message", self.message),
-                ("information", self.information),
-            ],
-        )
+impl Said for u64 {
+    fn said(&self) -> String {
+        format!("{}.{:02}", self / 100, self % 100)
     }
 }
 
-/// The currency of a bill.
-#[derive(Clone, Copy, Debug, PartialEq, Eq)]
-pub enum Currency {
-    /// CHF.
-    Franc,
-    /// EUR.
-    Euro,
+impl<T: Said> Said for Option<T> {
+    fn said(&self) -> String {
+        self.as_ref().map_or_else(String::new, T::said)
+    }
 }
 
-impl Currency {
-    fn word(self) -> &'static str {
-        match self {
-            Currency::Franc => "CHF",
-            Currency::Euro => "EUR",
+// A payload, whose fields are those of the library in its order, and the call that gives its text.
+macro_rules! payload {
+    (
+        $(#[$about:meta])*
+        $name:ident of $kind:ident { $($(#[$told:meta])* $field:ident: $type:ty,)+ }
+        $(#[$made:meta])*
+        fn $call:ident
+    ) => {
+        $(#[$about])*
+        #[derive(Clone, Copy, Debug, Default, PartialEq, Eq)]
+        pub struct $name<'a> {
+            $($(#[$told])* pub $field: $type,)+
         }
+
+        impl $name<'_> {
+            $(#[$made])*
+            pub fn $call(&self) -> ContentResult {
+                text_of(sys::$kind, &[$((stringify!($field), &self.$field.said())),+])
+            }
+        }
+    };
+}
+
+payload! {
+    /// A contact, as MECARD. What is empty is left out.
+    Contact of GOQ_MECARD {
+        /// The family name.
+        family: &'a str,
+        /// The given name.
+        given: &'a str,
+        /// A telephone number.
+        phone: &'a str,
+        /// An e-mail address.
+        email: &'a str,
+        /// The address of a page.
+        url: &'a str,
+        /// As `1970-01-31` or `19700131`.
+        birthday: &'a str,
+        /// A note.
+        note: &'a str,
+        /// The street.
+        street: &'a str,
+        /// The city.
+        city: &'a str,
+        /// The region.
+        region: &'a str,
+        /// The postal code.
+        code: &'a str,
+        /// The country.
+        country: &'a str,
     }
+    /// The text, as MECARD.
+    fn mecard
+}
+
+payload! {
+    /// A contact, as vCard 3.0. What is empty is left out.
+    Card of GOQ_VCARD {
+        /// The full name.
+        name: &'a str,
+        /// The family name.
+        family: &'a str,
+        /// The given name.
+        given: &'a str,
+        /// The organisation.
+        organisation: &'a str,
+        /// A telephone number.
+        phone: &'a str,
+        /// An e-mail address.
+        email: &'a str,
+        /// The address of a page.
+        url: &'a str,
+        /// The street.
+        street: &'a str,
+        /// The city.
+        city: &'a str,
+        /// The region.
+        region: &'a str,
+        /// The postal code.
+        code: &'a str,
+        /// The country.
+        country: &'a str,
+        /// A note.
+        note: &'a str,
+        /// The title or function.
+        title: &'a str,
+        /// A day, as `1970-01-31`.
+        birthday: &'a str,
+        /// Telephone numbers beside `phone`.
+        mobile: &'a str,
+        /// The number at work.
+        work_phone: &'a str,
+        /// The number at home.
+        home_phone: &'a str,
+    }
+    /// The text, to be encoded by `QrCode::of_text`.
+    fn text
+}
+
+payload! {
+    /// A SEPA credit transfer, of version 001 with a BIC and of 002 without.
+    Payment of GOQ_PAYMENT {
+        /// The payee, up to 70 characters.
+        name: &'a str,
+        /// The account number.
+        iban: &'a str,
+        /// The amount in cents of a euro.
+        cents: u64,
+        /// The code of the bank; with it the text is one of version 001.
+        bic: &'a str,
+        /// Up to four letters and digits.
+        purpose: &'a str,
+        /// A reference of ISO 11649, in place of a message.
+        reference: &'a str,
+        /// A message to the payee, up to 140 characters.
+        message: &'a str,
+        /// A note to the payer, up to 70 characters.
+        information: &'a str,
+    }
+    /// The text, to be encoded by `QrCode::of_text`.
+    fn text
+}
+
+words! {
+    /// The currency of a bill.
+    Currency:
+    /// CHF.
+    Franc = "CHF",
+    /// EUR.
+    Euro = "EUR",
 }
 
 /// A name with its address.
@@ -443,7 +416,7 @@ impl Bill<'_> {
                 ("creditor.code", creditor.code),
                 ("creditor.city", creditor.city),
                 ("creditor.country", creditor.country),
-                ("cents", &self.cents.map_or_else(String::new, amount)),
+                ("cents", &self.cents.said()),
                 ("currency", self.currency.word()),
                 ("reference", self.reference),
                 ("message", self.message),
@@ -458,22 +431,18 @@ impl Bill<'_> {
     }
 }
 
-/// A mail. What is empty is left out.
-#[derive(Clone, Copy, Debug, Default, PartialEq, Eq)]
-pub struct Mail<'a> {
-    /// The address of who gets it.
-    pub address: &'a str,
-    /// The subject.
-    pub subject: &'a str,
-    /// The text.
-    pub body: &'a str,
-}
-
-impl Mail<'_> {
-    /// The text, to be encoded by `QrCode::of_text`.
-    pub fn text(&self) -> ContentResult {
-        text_of(sys::GOQ_MAIL, &[("address", self.address), ("subject", self.subject), ("body", self.body)])
+payload! {
+    /// A mail. What is empty is left out.
+    Mail of GOQ_MAIL {
+        /// The address of who gets it.
+        address: &'a str,
+        /// The subject.
+        subject: &'a str,
+        /// The text.
+        body: &'a str,
     }
+    /// The text, to be encoded by `QrCode::of_text`.
+    fn text
 }
 
 /// A place on the earth, in millionths of a degree north of the equator and east of Greenwich.
@@ -531,43 +500,24 @@ pub enum Factor {
     Counter(u64),
 }
 
-/// The hash of one-time passwords.
-#[derive(Clone, Copy, Debug, PartialEq, Eq)]
-pub enum Algorithm {
+words! {
+    /// The hash of one-time passwords.
+    Algorithm:
     /// SHA-1, the usual one.
-    Sha1,
+    Sha1 = "SHA1",
     /// SHA-256.
-    Sha256,
+    Sha256 = "SHA256",
     /// SHA-512.
-    Sha512,
+    Sha512 = "SHA512",
 }
 
-impl Algorithm {
-    fn word(self) -> &'static str {
-        match self {
-            Algorithm::Sha1 => "SHA1",
-            Algorithm::Sha256 => "SHA256",
-            Algorithm::Sha512 => "SHA512",
-        }
-    }
-}
-
-/// How many digits a one-time password has.
-#[derive(Clone, Copy, Debug, PartialEq, Eq)]
-pub enum Digits {
+words! {
+    /// How many digits a one-time password has.
+    Digits:
     /// Six digits.
-    Six,
+    Six = "6",
     /// Eight digits.
-    Eight,
-}
-
-impl Digits {
-    fn word(self) -> &'static str {
-        match self {
-            Digits::Six => "6",
-            Digits::Eight => "8",
-        }
-    }
+    Eight = "8",
 }
 
 /// One-time passwords of an account.
@@ -684,114 +634,81 @@ impl Event<'_> {
     }
 }
 
-/// A payment by UPI, in rupees. What is empty is left out.
-///
-/// ```
-/// use goqlanis::contents::{Cause, ContentError, Upi};
-///
-/// let upi = Upi { payee: "nadeem@npci", name: "nadeem chinna", cents: Some(1000), note: "Pay to mystar store", reference: "4894398cndhcd23", category: "0000" };
-/// assert_eq!(upi.text()?, "upi://pay?pa=nadeem@npci&pn=nadeem%20chinna&mc=0000&tr=4894398cndhcd23&tn=Pay%20to%20mystar%20store&am=10.00&cu=INR");
-/// assert_eq!(Upi { payee: "nadeem", ..upi }.text(), Err(ContentError::Refused("payee", Cause::Character)));
-/// # Ok::<(), ContentError>(())
-/// ```
-#[derive(Clone, Copy, Debug, Default, PartialEq, Eq)]
-pub struct Upi<'a> {
-    /// An address as name@bank.
-    pub payee: &'a str,
-    /// The name of the payee.
-    pub name: &'a str,
-    /// The amount in paise; without one the payer says it.
-    pub cents: Option<u64>,
-    /// A note.
-    pub note: &'a str,
-    /// As the number of an order.
-    pub reference: &'a str,
-    /// The category of a merchant, four digits.
-    pub category: &'a str,
-}
-
-impl Upi<'_> {
-    /// The text, to be encoded by `QrCode::of_text`.
-    pub fn text(&self) -> ContentResult {
-        text_of(
-            sys::GOQ_UPI,
-            &[
-                ("payee", self.payee),
-                ("name", self.name),
-                ("cents", &self.cents.map_or_else(String::new, amount)),
-                ("note", self.note),
-                ("reference", self.reference),
-                ("category", self.category),
-            ],
-        )
+payload! {
+    /// A payment by UPI, in rupees. What is empty is left out.
+    ///
+    /// ```
+    /// use goqlanis::contents::{Cause, ContentError, Upi};
+    ///
+    /// let upi = Upi { payee: "nadeem@npci", name: "nadeem chinna", cents: Some(1000), note: "Pay to mystar store", reference: "4894398cndhcd23", category: "0000" };
+    /// assert_eq!(upi.text()?, "upi://pay?pa=nadeem@npci&pn=nadeem%20chinna&mc=0000&tr=4894398cndhcd23&tn=Pay%20to%20mystar%20store&am=10.00&cu=INR");
+    /// assert_eq!(Upi { payee: "nadeem", ..upi }.text(), Err(ContentError::Refused("payee", Cause::Character)));
+    /// # Ok::<(), ContentError>(())
+    /// ```
+    Upi of GOQ_UPI {
+        /// An address as name@bank.
+        payee: &'a str,
+        /// The name of the payee.
+        name: &'a str,
+        /// The amount in paise; without one the payer says it.
+        cents: Option<u64>,
+        /// A note.
+        note: &'a str,
+        /// As the number of an order.
+        reference: &'a str,
+        /// The category of a merchant, four digits.
+        category: &'a str,
     }
-}
-
-/// A static payment by Pix, in reais, of characters of ASCII.
-///
-/// ```
-/// use goqlanis::contents::{Cause, ContentError, Pix};
-///
-/// let pix = Pix { payee: "123e4567-e12b-12d1-a456-426655440000", name: "Fulano de Tal", city: "BRASILIA", ..Pix::default() };
-/// assert_eq!(pix.text()?, "00020126580014br.gov.bcb.pix0136123e4567-e12b-12d1-a456-4266554400005204000053039865802BR5913Fulano de Tal6008BRASILIA62070503***63041D3D");
-/// assert_eq!(Pix { city: "São Paulo", ..pix }.text(), Err(ContentError::Refused("city", Cause::Character)));
-/// # Ok::<(), ContentError>(())
-/// ```
-#[derive(Clone, Copy, Debug, Default, PartialEq, Eq)]
-pub struct Pix<'a> {
-    /// A key.
-    pub payee: &'a str,
-    /// The name of the payee, up to 25 bytes of ASCII.
-    pub name: &'a str,
-    /// The city, up to 15 bytes of ASCII.
-    pub city: &'a str,
-    /// The amount in centavos; without one the payer says it.
-    pub cents: Option<u64>,
-    /// Letters and digits (txid).
-    pub reference: &'a str,
-    /// With the key up to 73 bytes of ASCII.
-    pub description: &'a str,
-}
-
-impl Pix<'_> {
     /// The text, to be encoded by `QrCode::of_text`.
-    pub fn text(&self) -> ContentResult {
-        text_of(
-            sys::GOQ_PIX,
-            &[
-                ("payee", self.payee),
-                ("name", self.name),
-                ("city", self.city),
-                ("cents", &self.cents.map_or_else(String::new, amount)),
-                ("reference", self.reference),
-                ("description", self.description),
-            ],
-        )
+    fn text
+}
+
+payload! {
+    /// A static payment by Pix, in reais, of characters of ASCII.
+    ///
+    /// ```
+    /// use goqlanis::contents::{Cause, ContentError, Pix};
+    ///
+    /// let pix = Pix { payee: "123e4567-e12b-12d1-a456-426655440000", name: "Fulano de Tal", city: "BRASILIA", ..Pix::default() };
+    /// assert_eq!(pix.text()?, "00020126580014br.gov.bcb.pix0136123e4567-e12b-12d1-a456-4266554400005204000053039865802BR5913Fulano de Tal6008BRASILIA62070503***63041D3D");
+    /// assert_eq!(Pix { city: "São Paulo", ..pix }.text(), Err(ContentError::Refused("city", Cause::Character)));
+    /// # Ok::<(), ContentError>(())
+    /// ```
+    Pix of GOQ_PIX {
+        /// A key.
+        payee: &'a str,
+        /// The name of the payee, up to 25 bytes of ASCII.
+        name: &'a str,
+        /// The city, up to 15 bytes of ASCII.
+        city: &'a str,
+        /// The amount in centavos; without one the payer says it.
+        cents: Option<u64>,
+        /// Letters and digits (txid).
+        reference: &'a str,
+        /// With the key up to 73 bytes of ASCII.
+        description: &'a str,
     }
-}
-
-/// A payment by PromptPay, in baht.
-///
-/// ```
-/// use goqlanis::contents::{Cause, ContentError, PromptPay};
-///
-/// let phone = PromptPay { payee: "0000000000", cents: Some(422) };
-/// assert_eq!(phone.text()?, "00020101021229370016A000000677010111011300660000000005802TH530376454044.226304E469");
-/// assert_eq!(PromptPay { cents: Some(0), ..phone }.text(), Err(ContentError::Refused("cents", Cause::Range)));
-/// # Ok::<(), ContentError>(())
-/// ```
-#[derive(Clone, Copy, Debug, Default, PartialEq, Eq)]
-pub struct PromptPay<'a> {
-    /// The ten digits of a telephone number, the thirteen of a national or tax ID, or the fifteen of an electronic wallet.
-    pub payee: &'a str,
-    /// The amount in satang; without one the payer says it.
-    pub cents: Option<u64>,
-}
-
-impl PromptPay<'_> {
     /// The text, to be encoded by `QrCode::of_text`.
-    pub fn text(&self) -> ContentResult {
-        let amount = self.cents.map_or_else(String::new, amount);
-        text_of(sys::GOQ_PROMPTPAY, &[("payee", self.payee), ("cents", &amount)])
+    fn text
+}
+
+payload! {
+    /// A payment by PromptPay, in baht.
+    ///
+    /// ```
+    /// use goqlanis::contents::{Cause, ContentError, PromptPay};
+    ///
+    /// let phone = PromptPay { payee: "0000000000", cents: Some(422) };
+    /// assert_eq!(phone.text()?, "00020101021229370016A000000677010111011300660000000005802TH530376454044.226304E469");
+    /// assert_eq!(PromptPay { cents: Some(0), ..phone }.text(), Err(ContentError::Refused("cents", Cause::Range)));
+    /// # Ok::<(), ContentError>(())
+    /// ```
+    PromptPay of GOQ_PROMPTPAY {
+        /// The ten digits of a telephone number, the thirteen of a national or tax ID, or the fifteen of an electronic wallet.
+        payee: &'a str,
+        /// The amount in satang; without one the payer says it.
+        cents: Option<u64>,
     }
+    /// The text, to be encoded by `QrCode::of_text`.
+    fn text
 }

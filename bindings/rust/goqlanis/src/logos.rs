@@ -1,7 +1,6 @@
 //! Logos in areas of symbols.
 use crate::areas::{Excess, Rectangle, Wish};
 use crate::QrCode;
-use std::fmt;
 
 /// Where a logo stands.
 #[derive(Clone, Copy, Debug, PartialEq, Eq)]
@@ -32,18 +31,10 @@ pub enum LogoError {
     Area(Excess),
 }
 
-impl fmt::Display for LogoError {
-    fn fmt(&self, out: &mut fmt::Formatter<'_>) -> fmt::Result {
-        match self {
-            LogoError::NoSides => {
-                out.write_str("a logo is a PNG file, or SVG with a viewBox, or a width and a height")
-            }
-            LogoError::Area(excess) => excess.fmt(out),
-        }
-    }
+says! { LogoError:
+    LogoError::NoSides => "a logo is a PNG file, or SVG with a viewBox, or a width and a height";
+    LogoError::Area(excess) => "{excess}";
 }
-
-impl std::error::Error for LogoError {}
 
 impl From<Excess> for LogoError {
     fn from(excess: Excess) -> Self {

@@ -2,7 +2,6 @@
 use crate::logos::Logo;
 use crate::QrCode;
 use goqlanis_sys as sys;
-use std::fmt;
 
 mod sealed {
     pub trait Sealed {}
@@ -17,16 +16,10 @@ pub enum RenderError {
     OutOfMemory,
 }
 
-impl fmt::Display for RenderError {
-    fn fmt(&self, out: &mut fmt::Formatter<'_>) -> fmt::Result {
-        out.write_str(match self {
-            RenderError::TooLarge => "the picture would be too large: take a smaller module size",
-            RenderError::OutOfMemory => "out of memory",
-        })
-    }
+says! { RenderError:
+    RenderError::TooLarge => "the picture would be too large: take a smaller module size";
+    RenderError::OutOfMemory => "out of memory";
 }
-
-impl std::error::Error for RenderError {}
 
 /// What a picture is drawn in: one of the types of this module. A value of it stands for dark or for light modules.
 pub trait Pixel: Copy + sealed::Sealed {
@@ -170,6 +163,29 @@ fn accepted(answer: u32) -> Result<(), RenderError> {
     }
 }
 
+// How a type is drawn: what a picture is, the pixels of a module, black and white, and the picture.
+macro_rules! pixel {
+    (
+        $(#[$about:meta])*
+        $type:ty: $image:ty, $size:expr,
+        |$is_dark:ident| $color:expr,
+        |$renderer:ident| $picture:expr
+    ) => {
+        impl sealed::Sealed for $type {}
+        $(#[$about])*
+        impl Pixel for $type {
+            type Image = $image;
+            const SIZE: u32 = $size;
+            fn default_color($is_dark: bool) -> Self {
+                $color
+            }
+            fn picture($renderer: &Renderer<'_, Self>) -> Result<$image, RenderError> {
+                $picture
+            }
+        }
+    };
+}
+
 // A format whose values have no colours.
 macro_rules! file_format {
     ($about:literal, $module:ident::$type:ident, $image:ty, $size:expr, $number:ident, $drawn:ident) => {
@@ -179,16 +195,9 @@ macro_rules! file_format {
             #[derive(Clone, Copy, Debug, Default, PartialEq, Eq)]
             pub struct $type;
         }
-        impl sealed::Sealed for $module::$type {}
-        impl Pixel for $module::$type {
-            type Image = $image;
-            const SIZE: u32 = $size;
-            fn default_color(_is_dark: bool) -> Self {
-                $module::$type
-            }
-            fn picture(renderer: &Renderer<'_, Self>) -> Result<$image, RenderError> {
-                renderer.$drawn(sys::$number)
-            }
+        pixel! { $module::$type: $image, $size,
+            |_is_dark| $module::$type,
+            |renderer| renderer.$drawn(sys::$number)
         }
     };
 }
@@ -203,6 +212,16 @@ file_format!("Rows of pixels, a byte each: 0 for a dark one, 255 for a light one
 
 pub use grey::Luma;
 
+// Black or white.
+fn grey(is_dark: bool) -> u8 {
+    if is_dark { 0 } else { 255 }
+}
+
+// A colour as the library takes it: transparency, red, green and blue.
+fn word(parts: [u8; 4]) -> u32 {
+    u32::from_be_bytes(parts)
+}
+
 // A format of red, green and blue, from 0 to 255.
 macro_rules! colour_format {
     ($about:literal, $module:ident, $number:ident) => {
@@ -212,15 +231,10 @@ macro_rules! colour_format {
             #[derive(Clone, Copy, Debug, PartialEq, Eq)]
             pub struct Color(pub [u8; 3]);
         }
-        impl sealed::Sealed for $module::Color {}
-        impl Pixel for $module::Color {
-            type Image = Vec<u8>;
-            const SIZE: u32 = 8;
-            fn default_color(is_dark: bool) -> Self {
-                $module::Color([if is_dark { 0 } else { 255 }; 3])
-            }
-            fn picture(renderer: &Renderer<'_, Self>) -> Result<Vec<u8>, RenderError> {
-                let word = |$module::Color([red, green, blue])| u32::from_be_bytes([0, red, green, blue]);
+        pixel! { $module::Color: Vec<u8>, 8,
+            |is_dark| $module::Color([grey(is_dark); 3]),
+            |renderer| {
+                let word = |$module::Color([red, green, blue])| word([0, red, green, blue]);
                 renderer.drawn(sys::$number, word(renderer.dark), word(renderer.light))
             }
         }
@@ -245,14 +259,9 @@ macro_rules! svg_format {
             #[derive(Clone, Copy, Debug, PartialEq, Eq)]
             pub struct Color<'a>(pub &'a str);
         }
-        impl sealed::Sealed for $module::Color<'_> {}
-        impl Pixel for $module::Color<'_> {
-            type Image = String;
-            const SIZE: u32 = 8;
-            fn default_color(is_dark: bool) -> Self {
-                $module::Color(if is_dark { "#000" } else { "#fff" })
-            }
-            fn picture(renderer: &Renderer<'_, Self>) -> Result<String, RenderError> {
+        pixel! { $module::Color<'_>: String, 8,
+            |is_dark| $module::Color(if is_dark { "#000" } else { "#fff" }),
+            |renderer| {
                 let text = filled(&renderer.text(sys::$number)?, renderer.dark.0, renderer.light.0);
                 let (zone, unit) = (renderer.zone as usize, $unit(renderer.across as usize));
                 Ok(match renderer.logo {
@@ -293,19 +302,10 @@ pub mod eps {
     }
 }
 
-impl sealed::Sealed for eps::Color {}
-
-impl Pixel for eps::Color {
-    type Image = String;
-    const SIZE: u32 = 8;
-
-    fn default_color(is_dark: bool) -> Self {
-        let grey = if is_dark { 0 } else { 255 };
-        eps::Color { red: grey, green: grey, blue: grey }
-    }
-
-    fn picture(renderer: &Renderer<'_, Self>) -> Result<String, RenderError> {
-        let word = |it: eps::Color| u32::from_be_bytes([0, it.red, it.green, it.blue]);
+pixel! { eps::Color: String, 8,
+    |is_dark| eps::Color { red: grey(is_dark), green: grey(is_dark), blue: grey(is_dark) },
+    |renderer| {
+        let word = |it: eps::Color| word([0, it.red, it.green, it.blue]);
         let bytes = renderer.drawn(sys::GOQ_EPS, word(renderer.dark), word(renderer.light))?;
         Ok(String::from_utf8(bytes).expect("the library writes UTF-8"))
     }
@@ -318,19 +318,10 @@ pub mod png {
     pub struct Color(pub [u8; 4]);
 }
 
-impl sealed::Sealed for png::Color {}
-
-impl Pixel for png::Color {
-    type Image = Vec<u8>;
-    const SIZE: u32 = 8;
-
-    fn default_color(is_dark: bool) -> Self {
-        let grey = if is_dark { 0 } else { 255 };
-        png::Color([grey, grey, grey, 255])
-    }
-
-    fn picture(renderer: &Renderer<'_, Self>) -> Result<Vec<u8>, RenderError> {
-        let word = |png::Color([red, green, blue, opacity])| u32::from_be_bytes([255 - opacity, red, green, blue]);
+pixel! { png::Color: Vec<u8>, 8,
+    |is_dark| png::Color([grey(is_dark), grey(is_dark), grey(is_dark), 255]),
+    |renderer| {
+        let word = |png::Color([red, green, blue, opacity])| word([255 - opacity, red, green, blue]);
         renderer.drawn(sys::GOQ_PNG, word(renderer.dark), word(renderer.light))
     }
 }
@@ -357,17 +348,9 @@ pub mod unicode {
 
 use unicode::Dense1x2::{Dark, Light};
 
-impl sealed::Sealed for unicode::Dense1x2 {}
-
-impl Pixel for unicode::Dense1x2 {
-    type Image = String;
-    const SIZE: u32 = 1;
-
-    fn default_color(is_dark: bool) -> Self {
-        if is_dark { Dark } else { Light }
-    }
-
-    fn picture(renderer: &Renderer<'_, Self>) -> Result<String, RenderError> {
+pixel! { unicode::Dense1x2: String, 1,
+    |is_dark| if is_dark { Dark } else { Light },
+    |renderer| {
         match (renderer.dark, renderer.light) {
             (Dark, Light) => renderer.text(sys::GOQ_HALF_BLOCKS),
             (Light, Dark) => renderer.text(sys::GOQ_LIGHT_HALF_BLOCKS),
@@ -381,18 +364,11 @@ impl Pixel for unicode::Dense1x2 {
     }
 }
 
-impl sealed::Sealed for char {}
-
-/// A character a pixel, and a newline between two rows.
-impl Pixel for char {
-    type Image = String;
-    const SIZE: u32 = 1;
-
-    fn default_color(is_dark: bool) -> Self {
-        if is_dark { '\u{2588}' } else { ' ' }
-    }
-
-    fn picture(renderer: &Renderer<'_, Self>) -> Result<String, RenderError> {
+pixel! {
+    /// A character a pixel, and a newline between two rows.
+    char: String, 1,
+    |is_dark| if is_dark { '\u{2588}' } else { ' ' },
+    |renderer| {
         let pixels = Renderer { across: 1, ..*renderer }.plain(sys::GOQ_GREY)?;
         let wide = |grey: &u8| std::iter::repeat(if *grey == 0 { renderer.dark } else { renderer.light }).take(renderer.across as usize);
         let line = |row: &[u8]| row.iter().flat_map(wide).collect::<String>();

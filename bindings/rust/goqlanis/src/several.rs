@@ -2,7 +2,6 @@
 use crate::reading::unread;
 use crate::{accepted, Color, EcLevel, QrCode, QrError, QrResult, Unread, Version};
 use goqlanis_sys as sys;
-use std::fmt;
 
 /// What is asked of symbols between which data is parted.
 #[derive(Clone, Copy, Debug)]
@@ -93,21 +92,15 @@ pub enum Unjoined {
     OutOfMemory,
 }
 
-impl fmt::Display for Unjoined {
-    fn fmt(&self, out: &mut fmt::Formatter<'_>) -> fmt::Result {
-        match self {
-            Unjoined::Square(place, why) => write!(out, "square {place}: {why}"),
-            Unjoined::NotSeveral(place) => write!(out, "square {place} is none of several symbols"),
-            Unjoined::Stranger(place) => write!(out, "square {place} is a part of other data"),
-            Unjoined::Missing(place) => write!(out, "part {place} is missing"),
-            Unjoined::Twice(place) => write!(out, "part {place} is there twice"),
-            Unjoined::Parity => out.write_str("the parts are not those of the data that they name"),
-            Unjoined::OutOfMemory => out.write_str("out of memory"),
-        }
-    }
+says! { Unjoined:
+    Unjoined::Square(place, why) => "square {place}: {why}";
+    Unjoined::NotSeveral(place) => "square {place} is none of several symbols";
+    Unjoined::Stranger(place) => "square {place} is a part of other data";
+    Unjoined::Missing(place) => "part {place} is missing";
+    Unjoined::Twice(place) => "part {place} is there twice";
+    Unjoined::Parity => "the parts are not those of the data that they name";
+    Unjoined::OutOfMemory => "out of memory";
 }
-
-impl std::error::Error for Unjoined {}
 
 /// The data of several symbols, whose squares come in any order, each as `read` takes it.
 pub fn join<S: AsRef<[Color]>>(squares: &[S]) -> Result<Vec<u8>, Unjoined> {

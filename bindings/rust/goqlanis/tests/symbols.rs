@@ -2,7 +2,8 @@ use goqlanis::render::{eps, pbm, pgm, pic, png, svg, svg_path, unicode, Luma, Re
 use goqlanis::several::{encode_several, join, Several, Unjoined};
 use goqlanis::areas::{Excess, Rectangle};
 use goqlanis::logos::{LogoError, LogoOptions};
-use goqlanis::{read, read_any, read_picture, read_text, Color, EcLevel, Options, Part, Position};
+use goqlanis::checking::{Rank, WrongModules};
+use goqlanis::{check, check_square, read, read_any, read_picture, read_text, Color, EcLevel, Options, Part, Position};
 use goqlanis::{QrCode, QrError, Segment, Unread};
 use goqlanis::{Version, Writing};
 
@@ -196,10 +197,54 @@ fn codes_of_pictures() {
     assert_eq!(data, [&b"left"[..], b"right", b"below"]);
     assert!(codes.iter().all(|code| code.position == Position(0) && code.reading.wrong == 0));
     assert_eq!(codes[1].parts, [Part::Byte(5)]);
+    assert!(check(&file).unwrap().iter().all(|it| it.is_standard && it.wrong_by_block == [0]));
     assert_eq!(read_picture(b"hello").unwrap_err(), Unread::NotPicture);
     assert_eq!(read_picture(b"P1 2 2 0 0 0").unwrap_err(), Unread::BrokenPicture);
     assert_eq!(read_picture(b"P1 2 2 0 0 0 0").unwrap_err(), Unread::NoSquare);
     assert_eq!(read_picture(&vec![0; (1 << 26) + 1]).unwrap_err(), Unread::LargePicture);
+}
+
+// A square of 21 rows of modules as numbers, the first module highest of 24 bits.
+fn square_of(rows: &[u32; 21]) -> Vec<Color> {
+    let dark = |i: usize| rows[i / 21] >> (23 - i % 21) & 1 == 1;
+    (0..441).map(|i| if dark(i) { Color::Dark } else { Color::Light }).collect()
+}
+
+// Squares of zint and segno from evidence/program/symbols, which says what is wrong with them.
+const TURNED: [u32; 21] = [
+    0x7E63F8, 0x82AA08, 0xBA62E8, 0xBA2AE8, 0xBA9AE8, 0x827208, 0xFE8BF8, 0x000000, 0x2A6890, 0x0D7570,
+    0xEBB760, 0x7C3D98, 0x4E3730, 0x006338, 0xFE0888, 0x826310, 0xBA8AD0, 0xBA5490, 0xBAB688, 0x821D98,
+    0xFE9660,
+];
+const JOINED: [u32; 21] = [
+    0xFE4BF8, 0x829208, 0xBA42E8, 0xBA92E8, 0xBA3AE8, 0x82EA08, 0xFEABF8, 0x003800, 0xFBCD50, 0x60A918,
+    0xBF74E8, 0x3021A0, 0x57D4B0, 0x00DF20, 0xFEEB38, 0x825F40, 0xBA8920, 0xBA8940, 0xBAD580, 0x82A070,
+    0xFE9580,
+];
+
+#[test]
+fn checks() {
+    let found = check_square(&square_of(&TURNED)).unwrap();
+    assert_eq!((found.version, found.ec_level, found.mask), (Version::Normal(1), EcLevel::M, 0));
+    assert_eq!((found.wrong_by_block.as_slice(), found.allowed_by_block), (&[2][..], 4));
+    assert_eq!((found.unused_correction, found.grade, found.is_standard), (50, 'B', false));
+    let wanted = WrongModules { finder: 1, timing: 1, format: 2, ..WrongModules::default() };
+    assert_eq!((found.wrong_modules, found.data.unwrap().bits), (wanted, Some((57, 57))));
+    assert!(found.to_string().starts_with(
+        "version 1, level M, mask 0\nwrong codewords by block: 2; 4 may be wrong in each\n\
+         unused error correction: 0.50, grade B\nwrong modules: finder 1, alignment 0, timing 1, \
+         format 2, version 0, remainder 0\nsegments: 57 bits, 0 more than the fewest\n\
+         wrong bits: terminator 0, padding 0\nsegments whose character set is guessed: 0\nmasks of "
+    ));
+    let code = QrCode::new("Größe").unwrap();
+    let found = check(code.render::<unicode::Dense1x2>().build().as_bytes()).unwrap();
+    assert!(found.len() == 1 && found[0].is_standard && found[0].masks_here == Rank::default());
+    assert!(found[0].to_string().contains("guessed: 1, as UTF-8\n"));
+    let joined = check_square(&square_of(&JOINED)).unwrap();
+    assert_eq!((joined.data, joined.is_standard), (None, false));
+    assert!(joined.to_string().contains("\nsegments: none, since the data bits are no segments and an end\n"));
+    assert_eq!(check(b"hello").unwrap_err(), Unread::NotPicture);
+    assert_eq!(check_square(&[Color::Dark; 441]).unwrap_err(), Unread::NoFormat);
 }
 
 #[test]

@@ -1,0 +1,53 @@
+"""How scripts ask other encoders for symbols: Debian 12's python3-segno (1.4.1), python3-qrcodegen
+(1.8.0), zint (2.11.1) and qrencode (4.1.1). A part of data is ("numeric", bytes), ("eci", number) .."""
+import subprocess
+import tempfile
+
+import qrcodegen
+from questions import MODES
+from segno import consts
+from segno import encoder as segno_encoder
+
+LEVELS = "LMQH"
+Code, Segment = qrcodegen.QrCode, qrcodegen.QrSegment
+GEN_LEVELS = dict(zip(LEVELS, (Code.Ecc.LOW, Code.Ecc.MEDIUM, Code.Ecc.QUARTILE, Code.Ecc.HIGH)))
+SEGNO_LEVELS = dict(zip(LEVELS, (consts.ERROR_LEVEL_L, consts.ERROR_LEVEL_M, consts.ERROR_LEVEL_Q,
+                                 consts.ERROR_LEVEL_H)))
+SEGNO_MODES = dict(zip(MODES, (consts.MODE_NUMERIC, consts.MODE_ALPHANUMERIC, consts.MODE_BYTE,
+                               consts.MODE_KANJI)))
+
+
+def gen_segment(mode, value):
+    """A part as a segment of qrcodegen."""
+    if mode == "eci":
+        return Segment.make_eci(value)
+    if mode == "numeric":
+        return Segment.make_numeric(value.decode())
+    if mode == "alphanumeric":
+        return Segment.make_alphanumeric(value.decode())
+    if mode == "byte":
+        return Segment.make_bytes(value)
+    # this port of qrcodegen has no call for pairs: their bits are segno's
+    found = segno_encoder.make_segment(value, consts.MODE_KANJI)
+    return Segment(Segment.Mode.KANJI, found.char_count, list(found.bits))
+
+
+def with_file(data, command):
+    """What a command writes that is given a file of data."""
+    with tempfile.NamedTemporaryFile() as file:
+        file.write(data)
+        file.flush()
+        return subprocess.run(command(file.name), capture_output=True, check=True).stdout.decode()
+
+
+def zint_rows(text):
+    """The rows of # and . of what zint dumps."""
+    lines = [line.replace(" ", "") for line in text.split("\n") if line]
+    return [f"{int(line, 16):0{4 * len(line)}b}"[:len(lines)].replace("1", "#").replace("0", ".")
+            for line in lines]
+
+
+def qrencode_rows(command, data):
+    """The rows of # and . of what a command of qrencode writes of data as ASCII."""
+    text = subprocess.run(command, input=data, capture_output=True, check=True).stdout.decode()
+    return [line[::2] for line in text.replace(" ", ".").split("\n") if line]

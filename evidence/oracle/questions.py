@@ -1,0 +1,38 @@
+"""What the questions of evidence/oracle/answers ask: contents that look random, and sums of squares."""
+import zlib
+
+MODES = ("numeric", "alphanumeric", "byte", "kanji")
+ALPHABET = b"0123456789ABCDEFGHIJKLMNOPQRSTUVWXYZ $%*+-./:"
+
+
+def pair(number):
+    """A pair of Shift JIS bytes."""
+    first, second = number % 43, number // 43
+    first = 0x81 + first if first < 31 else 0xE0 + first - 31
+    second %= 127 if first == 0xEB else 188
+    return bytes([first, 0x40 + second if second < 63 else 0x41 + second])
+
+
+def content(mode, count):
+    """So many characters of a mode, which look random."""
+    state, found = count, bytearray()
+    for _ in range(count):
+        state = (state * 1103515245 + 12345) % 2**31
+        number = state >> 16
+        found += {
+            "numeric": b"%d" % (number % 10),
+            "alphanumeric": ALPHABET[number % 45:number % 45 + 1],
+            "byte": bytes([number % 256]),
+            "kanji": pair(number),
+        }[mode]
+    return bytes(found)
+
+
+def rows_of(matrix):
+    """Rows of modules as texts of # and ."""
+    return ["".join("#" if module else "." for module in row) for row in matrix]
+
+
+def checksum(rows):
+    """The sum of such rows, as lines."""
+    return f"{zlib.crc32(chr(10).join(rows).encode()):08x}"

@@ -1,0 +1,189 @@
+"""What runs the program goqlanis: the cases, the files of its room, and how it is started there."""
+import contextlib
+import os
+import pty
+import re
+import shlex
+import subprocess
+import tempfile
+from pathlib import Path
+from typing import NamedTuple
+
+import png  # noqa: F401 (files)
+
+HERE = Path(__file__).resolve().parent
+TOP = HERE.parents[1]
+PROGRAM = f"{TOP}/crates/goqlanis/out/goqlanis"
+
+
+def rows_of(dump):
+    """Rows of modules of their digits to the base 16."""
+    rows = [[int(it) for digit in row for it in f"{int(digit, 16):04b}"] for row in dump.split()]
+    return [it[:len(rows)] for it in rows]
+
+
+def file_of(rows, zone, scale):
+    """A PBM file of bits of rows of modules, 1 for dark."""
+    side = (len(rows) + 2 * zone) * scale
+    row = [0] * (len(rows) + 2 * zone)
+    wide = [row] * zone + [[0] * zone + it + [0] * zone for it in rows] + [row] * zone
+    lines = ["".join(str(module) * scale for module in it).ljust((side + 7) // 8 * 8, "0")
+             for it in wide]
+    data = b"".join(int(it, 2).to_bytes(len(it) // 8, "big") * scale for it in lines)
+    return b"P4\n%d %d\n" % (side, side) + data
+
+
+def page(*codes):
+    """A PBM file of figures: a page with symbols, each at a column, a row and a scale, below a line
+    that looks like text. Of one whose name ends in ! the lower right quarter is dark."""
+    ink = [[int(4 <= y < 12 and 9 * x * x % 7 < y % 5) for x in range(200)] for y in range(180)]
+    for name, left, top, scale in codes:
+        rows = SYMBOLS[name.strip("!")]
+        for y in range(len(rows) * scale):
+            for x in range(len(rows) * scale):
+                spoilt = name.endswith("!") and min(x, y) >= len(rows) // 2 * scale
+                ink[top + y][left + x] = int(spoilt or rows[y // scale][x // scale])
+    return b"P1\n200 180\n" + "\n".join("".join(map(str, row)) for row in ink).encode()
+
+
+# A logo whose pixels all differ, and of which some are not opaque.
+COLOURS = [[(60 * x, 90 * y, 255 - 60 * x, 255 - 85 * (x + y) % 256) for x in range(4)]
+           for y in range(3)]
+
+
+def table(name):
+    """The rows of a table, each a name and a text."""
+    text = re.sub(r"\n  +", " ", (HERE / name).read_text(encoding="utf-8"))
+    return [it.split(": ", 1) for it in text.splitlines() if it and it[0] != "#"]
+
+
+def blocks():
+    """The half blocks that other programs print, which evidence/program/blocks holds by name."""
+    text = (HERE / "blocks").read_text(encoding="utf-8").replace("\\e", "\x1b")
+    return {name: shown.encode() for name, shown in
+            re.findall(r"(?m)^\$ ([^:\n]*).*\n((?:(?!\$ ).*\n)*)", text)}
+
+
+# The rows of symbols, by what the cases call them.
+SYMBOLS = {name.replace("^", "\x1d"): rows_of(dump) for name, dump in table("symbols")}
+FILES = {**{name: file_of(rows, 0, 1) for name, rows in SYMBOLS.items() if name.endswith(".pbm")},
+         **{name: eval(held) for name, held in table("files")}, **blocks()}
+
+
+class Case(NamedTuple):
+    """A command line, or a script of a shell, its standard input, and what is looked at: marks with
+    their texts."""
+
+    words: str
+    is_script: bool
+    given: bytes
+    looks: list
+    piped: str = ""
+
+
+def cases():
+    """The cases of the table."""
+    found = []
+    for line in (HERE / "cases").read_text(encoding="utf-8").splitlines():
+        mark, rest = line[:1], line[2:] if line[1:2] == " " else line[1:]
+        if mark in ("$", "&"):
+            found.append(Case(rest, mark == "&", b"", []))
+        elif mark == "@":
+            found[-1] = found[-1]._replace(piped=rest)
+        elif mark == "<":
+            found[-1] = found[-1]._replace(given=rest.encode().decode("unicode_escape").encode())
+        elif mark and mark != "#":
+            found[-1].looks.append((mark, rest))
+    return found
+
+
+def squares():
+    """The rows of the symbols of other encoders, with what each holds."""
+    folder = TOP / "evidence" / "others" / "symbols"
+    lines = [it.split() for it in (folder / "squares").read_text().splitlines() if it[:1].isdigit()]
+    held_there = (folder / "readings").read_text().splitlines()
+    for (side, digits), words in zip(lines, held_there, strict=True):
+        bits = [int(it) for digit in digits for it in f"{int(digit, 16):04b}"]
+        yield [bits[int(side) * y:int(side) * (y + 1)] for y in range(int(side))], words
+
+
+def empty(place=None):
+    """A folder for a run."""
+    return tempfile.TemporaryDirectory(prefix="program-", dir=place)
+
+
+def put(folder, name, data):
+    """Writes a file."""
+    Path(folder, name).write_bytes(data)
+
+
+@contextlib.contextmanager
+def room():
+    """A folder with the files, a link and a folder in it."""
+    with empty() as folder:
+        for name, data in FILES.items():
+            put(folder, name, data)
+        os.chmod(f"{folder}/old.svg", 0o640)
+        os.symlink("old.svg", f"{folder}/link.svg")
+        os.mkdir(f"{folder}/folder")
+        yield folder
+
+
+def piped(words, given=b"", **more):
+    """Runs a command to its end."""
+    return subprocess.run(words, input=given, capture_output=True, timeout=60, check=False, **more)
+
+
+def run(program, words, folder, given=b"", **more):
+    """Runs the program in a folder, under its own name, which its texts show."""
+    env = {"PATH": "/usr/bin:/bin", "LANG": "C.UTF-8", **more.pop("env", {})}
+    return piped(["goqlanis", *words], given, executable=program, cwd=folder, env=env, **more)
+
+
+def by_shell(program, script, folder, given=b""):
+    """Runs a script of a shell in a folder, in which `goqlanis` is the program."""
+    with empty() as beside:
+        os.symlink(program, f"{beside}/goqlanis")
+        env = {"PATH": f"{beside}:/usr/bin:/bin", "LANG": "C.UTF-8"}
+        return piped(["sh", "-c", script], given, cwd=folder, env=env)
+
+
+def written(program, words):
+    """What a command line writes to standard output, in a room of its own."""
+    with room() as folder:
+        return run(program, shlex.split(words), folder).stdout
+
+
+def figures(program, given):
+    """A picture of data as a PBM file of figures, one a module, without a quiet zone."""
+    words = ["-l", "L", "-f", "pbm", "-s", "1", "-q", "0", "--micro"]
+    side, bits = run(program, words, "/", given).stdout[3:].split(b"\n", 1)
+    side = int(side.split()[0])
+    rows = (f"{int.from_bytes(bits[at:at + (side + 7) // 8], 'big'):0{(side + 7) // 8 * 8}b}"[:side]
+            for at in range(0, len(bits), (side + 7) // 8))
+    return f"P1 {side} {side}\n{''.join(rows)}".encode()
+
+
+def held(folder, name):
+    """What a file holds, or None."""
+    path = Path(folder, name)
+    return path.read_bytes() if path.exists() else None
+
+
+def in_terminal(program, words, given=b"", **env):
+    """What the program shows in a terminal where something is typed, and its exit status."""
+    shown = bytearray()
+    child, terminal = pty.fork()
+    if child == 0:
+        os.execve(program, [program, *words], {"PATH": "/usr/bin:/bin", **env})
+    os.write(terminal, given)
+    while True:
+        try:
+            part = os.read(terminal, 65536)
+        except OSError:
+            break
+        if not part:
+            break
+        shown += part
+    os.close(terminal)
+    return bytes(shown).replace(b"\r\n", b"\n"), os.waitstatus_to_exitcode(os.waitpid(child, 0)[1])

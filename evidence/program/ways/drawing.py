@@ -1,0 +1,144 @@
+"""Ways to look at what goqlanis draws: parts in colours, labels, covered squares and logos."""
+import re
+import shlex
+
+import labels
+import parts
+import png
+from room import COLOURS, SYMBOLS, TOP, empty, file_of, put, run, written
+
+
+def parts_have_their_colours(program):
+    """In PNG, SVG, EPS and PDF: those that segno says each module is of."""
+    return parts.are_drawn(lambda words: written(program, shlex.join(words)),
+                           f"{TOP}/evidence/others/parts/types")
+
+
+def labels_show_the_dots(program):
+    """A second reader of what label printers take: where a picture stands, and each of its dots."""
+    for words in ("01234567", "-l H -s 3 https://example.org", "-v 40 -s 5 A", "-q 1 -s 5 A",
+                  "-s 150 A", "-s 1 -q 0 --invert A"):
+        dots = written(program, f"-f pbm {words}")
+        across, count = map(int, dots.split(b"\n", 2)[1].split())
+        rows = labels.rows_of(dots.split(b"\n", 2)[2], (across + 7) // 8, count)
+        for kind, carried_out in (("zpl", labels.zpl), ("tspl", labels.tspl)):
+            for option, place in (("", (0, 0)), ("--at 50,3", (50, 3))):
+                if carried_out(written(program, f"-f {kind} {option} {words}")) != (place, rows):
+                    return False
+    return True
+
+
+def labels_are_those_of_zint(program):
+    """Elements have the symbols of zint, and these are read as their element strings."""
+    found = [(name.split(" "), rows) for name, rows in SYMBOLS.items() if name[0].isdigit()]
+    for (level, elements, string), rows in found:
+        words = ["gs1", elements, "-l", "LMQH"[int(level) - 1], "-f", "pbm", "-s", "1", "-q", "0"]
+        drawn = run(program, words, "/").stdout
+        read = run(program, ["read"], "/", file_of(rows, 4, 2)).stdout
+        if drawn != file_of(rows, 0, 1) or read != string.encode():
+            return False
+    long = run(program, ["gs1", "(10)abcdefghijklmnopqrst" * 200, "-l", "H"], "/")
+    is_said = long.stderr == b"goqlanis: no version holds the elements at level H\n"
+    return len(found) == 6 and long.returncode == 1 and is_said
+
+
+def covered_squares_are_those_that_others_read(program):
+    """The largest squares that zxing and zbar were shown are light and as large; nothing else."""
+    found = (TOP / "evidence" / "others" / "areas" / "found").read_text()
+    lines = [line.split() for line in found.splitlines()]
+    for version, level, size, _, _ in lines:
+        words = ["-v", version, "-l", level, "-f", "pgm", "-s", "1", "-q", "0", "GOQLANIS"]
+        side, size = 17 + 4 * int(version), int(size)
+        inside = range((side - size) // 2, (side + size) // 2)
+        plain = run(program, words, "/").stdout
+        light = bytearray(plain)
+        for y in inside:
+            at = len(plain) - side * side + side * y
+            light[at + inside.start:at + inside.stop] = b"\xff" * size
+        drawn = run(program, ["--logo-area", "--logo-size", str(size), *words], "/")
+        more = run(program, ["--logo-area", "--logo-size", str(size + 2), *words], "/")
+        if size and drawn.stdout != light or more.returncode != 1:
+            return False
+    return len(lines) == 40
+
+
+def _greys(pgm):
+    """The pixels of a grey map, as opaque ones of red, green and blue."""
+    side = int(pgm.split()[1])
+    grey = pgm[-side * side:]
+    return [[(it, it, it, 255) for it in grey[side * y:side * (y + 1)]] for y in range(side)]
+
+
+def a_logo_in_png_is_drawn_in_its_area_alone(program):
+    """Each of its pixels shows what lies at its middle, over white; outside they are as before. The
+    area has 9 by 5 modules of 37: the logo, 4 by 3, has 53 by 40 pixels there."""
+    words = ["-v", "5", "-l", "H", "--logo-size", "9", "GOQLANIS"]
+    rows = _greys(run(program, [*words[:4], words[-1], "-f", "pgm"], "/").stdout)
+    for row in rows[160:200]:
+        row[144:216] = [(255,) * 4] * 72
+    for y in range(40):
+        for x in range(53):
+            *levels, opacity = COLOURS[(2 * y + 1) * 3 // 80][(2 * x + 1) * 4 // 106]
+            shade = [int(0.5 + (it * opacity + 255 * (255 - opacity)) / 255) for it in levels]
+            rows[160 + y][153 + x] = (*shade, 255)
+    with empty() as folder:
+        put(folder, "logo.png", png.of_pixels(COLOURS))
+        more = ["--logo", "logo.png", "--logo-margin", "0", "-f", "png"]
+        drawn = run(program, [*words, *more], folder).stdout
+        far = run(program, [*words, *more[:2], "--logo-margin", "1", "-f", "png"], folder).stdout
+    is_read = run(program, ["read"], "/", drawn).stdout == b"GOQLANIS"
+    # With a margin of a module 24 pixels are left of the height.
+    coloured = [y for y, row in enumerate(png.pixels_of(far))
+                if any(len({*it[:3]}) > 1 for it in row)]
+    return png.pixels_of(drawn) == rows and is_read and coloured[0] >= 168 and coloured[-1] < 192
+
+
+def the_cross_of_a_bill(program):
+    """In PNG: 7 of 46 parts of the side, of which a pixel shows what lies at its middle: a white
+    frame, and in black a cross by the bars that the style guide for bills has. In SVG, EPS and PDF
+    its square."""
+    words = ["bill", "--iban", "CH5800791123000889012", "--name", "a", "--code", "2501", "--city",
+             "Biel", "--country", "CH"]
+    plain = run(program, [*words, "-f", "pgm"], "/")
+    rows = _greys(plain.stdout)
+    side = len(rows) - 64
+    size = round(7 * side / 46)
+    size += (side - size) % 2
+    start, area = (len(rows) - size) // 2, 8 * (-(-7 * side // 8 // 46) | 1)
+    around = range((len(rows) - area) // 2, (len(rows) + area) // 2)
+    units = [(2 * it + 1) * 252 / size / 2 for it in range(size)]
+    for y in around:
+        for x in around:
+            rows[y][x] = (255, 255, 255, 255)
+    for y, v in enumerate(units):
+        for x, u in enumerate(units):
+            bars = 105 < u < 147 and 56 < v < 196 or 56 < u < 196 and 105 < v < 147
+            if 18 < u < 234 and 18 < v < 234 and not bars:
+                rows[start + y][start + x] = (0, 0, 0, 255)
+    drawn = run(program, [*words, "-f", "png"], "/")
+    warned = b"this format lacks the Swiss cross" in plain.stderr and not drawn.stderr
+    shapes = all(_is_in_the_middle(run(program, [*words, "-f", kind], "/"), pattern, side // 8)
+                 for kind, pattern in CROSSES.items())
+    return png.pixels_of(drawn.stdout) == rows and warned and shapes
+
+
+# How many modules a unit is in each format, or of how many units a module is; where in units the
+# square of the cross begins; and how many of them are a 252nd of its side.
+CROSSES = {
+    "svg": rb"scale\(1\) scale\((?P<unit>\S+)\) translate\((?P<left>\d+) (?P=left)\) "
+           rb"scale\((?P<part>\d+)\)",
+    "eps": rb"gsave 8 (?P<unit>\d+) div dup scale (?P<left>\d+) dup translate (?P<part>\d+) dup "
+           rb"scale\n1 setgray 0 0 252 252 rectfill",
+    "pdf": rb"\nq (?P<unit>\S+) 0 0 (?P=unit) 0 0 cm (?P<part>\d+) 0 0 (?P=part) (?P<left>\d+) "
+           rb"(?P=left) cm\n1 g 0 0 252 252 re f"}
+
+
+def _is_in_the_middle(ran, pattern, side):
+    """A square of 7 mm, where the code has 46 mm, in the middle, with a quiet zone of 4 modules."""
+    found = re.search(pattern, ran.stdout)
+    if not found or ran.stderr:
+        return False
+    unit, left, part = (float(found[it]) for it in ("unit", "left", "part"))
+    unit = min(unit, 1 / unit)
+    begins, is_wide = 4 + side / 2 - 3.5 * side / 46, 7 * side / 46
+    return abs(unit * left - begins) < 1e-6 and abs(unit * 252 * part - is_wide) < 1e-6

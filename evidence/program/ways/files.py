@@ -1,0 +1,121 @@
+"""Ways to have goqlanis write files: by lists of access, over files of others and in folders of
+others."""
+import os
+import re
+import struct
+
+from room import FILES, empty, held, room, run
+
+NOBODY = 65534
+
+
+def _access_list(entries):
+    """A list of access (ACL), as Linux stores it: kinds, permissions and users."""
+    rows = [struct.pack("<HHI", kind, rights, user) for kind, rights, user in entries]
+    return struct.pack("<I", 2) + b"".join(rows)
+
+
+# The owner, another user, the group, the mask and others.
+FOR_A_USER = _access_list(((1, 6, 0xffffffff), (2, 4, 1001), (4, 0, 0xffffffff),
+                           (16, 4, 0xffffffff), (32, 0, 0xffffffff)))
+
+
+def lists_of_access_give_nobody_more(program):
+    """One of a file shows as rights of the group, which had none; one of a folder says what new
+    files have, whatever the umask. (Where the file system has them.)"""
+    with room() as folder:
+        try:
+            os.setxattr(f"{folder}/old.svg", "system.posix_acl_access", FOR_A_USER)
+        except OSError:
+            return True
+        was = os.stat(f"{folder}/old.svg").st_mode & 0o777
+        ran = [run(program, ["-o", "old.svg", "1"], folder)]
+        os.setxattr(folder, "system.posix_acl_default", FOR_A_USER)
+        ran.append(run(program, ["-o", "new.svg", "1"], folder, umask=0))
+        with open(f"{folder}/other.svg", "wb"):
+            found = [os.stat(f"{folder}/{it}.svg").st_mode & 0o777
+                     for it in ("old", "new", "other")]
+        new = os.getxattr(f"{folder}/new.svg", "system.posix_acl_access")
+        return (not any(it.returncode for it in ran) and was == 0o640
+                and found == [0o600, 0o640, 0o640] and new == FOR_A_USER)
+
+
+# How a program runs as another user than root.
+AS_NOBODY = {"user": NOBODY, "group": NOBODY, "extra_groups": []}
+
+
+def owners_are_not_shut_out(program):
+    """Root keeps the owner and the group of a file. Another user, who cannot, takes its place only
+    where its owner can still read it. (Only root can try it.)"""
+    if os.getuid() != 0:
+        return True
+    with room() as folder:
+        path = f"{folder}/old.svg"
+        os.chmod(path, 0o600)
+        os.chown(path, NOBODY, 1001)
+        by_root = run(program, ["-o", "old.svg", "1"], folder)
+        found = os.stat(path)
+        is_kept = (found.st_uid, found.st_gid, found.st_mode & 0o777) == (NOBODY, 1001, 0o600)
+        os.chown(path, 0, 0)
+        os.chmod(folder, 0o777)
+        was = held(folder, "old.svg")
+        refused = run(program, ["-o", "old.svg", "22"], folder, **AS_NOBODY)
+        said = (b"goqlanis: cannot write old.svg: it belongs to another user, who could not read "
+                b"the new one: remove it first\n")
+        is_refused = (refused.returncode, refused.stderr) == (1, said)
+        is_left = held(folder, "old.svg") == was and len(os.listdir(folder)) == len(FILES) + 2
+        os.chmod(path, 0o664)
+        taken = run(program, ["-o", "old.svg", "22"], folder, **AS_NOBODY)
+        found = os.stat(path)
+        is_taken = (taken.returncode, found.st_uid, found.st_mode & 0o777) == (0, NOBODY, 0o644)
+        return by_root.returncode == 0 and is_kept and is_refused and is_left and is_taken
+
+
+def files_of_others_in_a_folder_for_everybody(program):
+    """As in /tmp: links, pipes and files of another user are refused; one's own links and those of
+    the folder's owner are followed. (Only root can try it.)"""
+    if os.getuid() != 0:
+        return True
+    with empty() as folder:
+        os.chmod(folder, 0o755)
+        os.mkdir(f"{folder}/b")
+        answers = []
+        for number, (owner, link, mode) in enumerate((
+                (1001, NOBODY, 0o1777), (1001, 0, 0o1777), (NOBODY, NOBODY, 0o1777),
+                (1001, NOBODY, 0o777), (1001, NOBODY, 0o1775))):
+            path = f"{folder}/b/{number}.svg"
+            os.symlink(f"{folder}/{number}.svg", path)
+            os.lchown(path, link, link)
+            os.chown(f"{folder}/b", owner, owner)
+            os.chmod(f"{folder}/b", mode)
+            ran = run(program, ["-o", f"b/{number}.svg", "1"], folder)
+            answers.append((ran.returncode, os.path.exists(f"{folder}/{number}.svg"), ran.stderr))
+        os.mkfifo(f"{folder}/b/pipe.svg")
+        with open(f"{folder}/b/file.svg", "wb"):
+            os.chmod(f"{folder}/b", 0o1777)
+        for name in ("pipe", "file"):
+            os.chown(f"{folder}/b/{name}.svg", NOBODY, NOBODY)
+            ran = run(program, ["-o", f"b/{name}.svg", "1"], folder)
+            answers.append((ran.returncode, os.path.getsize(f"{folder}/b/{name}.svg"), ran.stderr))
+        said = [b"goqlanis: cannot write b/%s.svg: it is another user's, in a folder for "
+                b"everybody: remove it, or take another name\n" % it
+                for it in (b"0", b"pipe", b"file")]
+        return answers == [(1, False, said[0]), *[(0, True, b"")] * 4,
+                           (1, 0, said[1]), (1, 0, said[2])]
+
+
+def a_folder_that_takes_no_file_is_named(program):
+    """As where a file may be written, and the folder that it stands in may not."""
+    with room() as folder:
+        os.chmod(f"{folder}/old.svg", 0o666)
+        os.chmod(folder, 0o555)
+        as_nobody = AS_NOBODY if os.getuid() == 0 else {}
+        ran = [run(program, ["-o", it, "1"], folder, **as_nobody)
+               for it in ("old.svg", "a.svg", f"{folder}/old.svg")]
+        os.chmod(folder, 0o755)
+        wanted = [rb"goqlanis: cannot write %s: no file can be made in its folder %s: [^\n]+\n"
+                  % (re.escape(one), re.escape(two)) for one, two in (
+                      (b"old.svg", b"./"), (b"a.svg", b"./"),
+                      (f"{folder}/old.svg".encode(), f"{folder}/".encode()))]
+        is_said = all(re.fullmatch(it, one.stderr) for it, one in zip(wanted, ran))
+        return is_said and held(folder, "old.svg") == b"old"

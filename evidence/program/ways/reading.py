@@ -1,0 +1,127 @@
+"""Ways to have goqlanis read what others drew, and pictures of each form, position and size."""
+import json
+import random
+import re
+
+import checked
+import png
+from room import FILES, SYMBOLS, figures, file_of, run, squares
+
+EXCHANGED = ", dark and light exchanged"
+NOT_HEADERS = ("segment: ", "goqlanis: warning: ")
+POSITIONS = (
+    ("upright", lambda rows: rows),
+    ("turned by a quarter against the clock", lambda rows: [list(it) for it in zip(*rows)][::-1]),
+    ("upside down", lambda rows: [it[::-1] for it in rows[::-1]]),
+    ("turned by a quarter with the clock", lambda rows: [list(it) for it in zip(*rows[::-1])]),
+    ("left and right exchanged", lambda rows: [it[::-1] for it in rows]),
+    ("top and bottom exchanged", lambda rows: rows[::-1]),
+    ("columns and rows exchanged", lambda rows: [list(it) for it in zip(*rows)]),
+    ("columns and rows exchanged, from the other corner",
+     lambda rows: [list(it)[::-1] for it in zip(*rows)][::-1]),
+)
+
+
+def checks_are_those_of_the_judge(program):
+    """Of every fifth of these symbols, with no, two and six modules turned, where they are read."""
+    chance = random.Random(1)
+    for number, (rows, _) in enumerate(squares()):
+        if number % 5 == 0:
+            for count in (0, 2, 6):
+                for _ in range(count):
+                    rows[chance.randrange(len(rows))][chance.randrange(len(rows))] ^= 1
+                try:
+                    said = checked.checked(bytes(it for row in rows for it in row))
+                except checked.Uncorrected:
+                    continue
+                ran = run(program, ["check", "--json"], "/", file_of(rows, 4, 1))
+                if (ran.returncode, json.loads(ran.stdout)) != (1 - said["standard"], [said]):
+                    return False
+    return True
+
+
+def _headers_said(headers):
+    """What `read --verbose` says of headers, which are in the words of evidence/others/symbols."""
+    words = ", ".join(headers)
+    sets, other = {"ECI 0": "IBM437", "ECI 26": "UTF-8"}, "a character set without a known name"
+    words = re.sub(r"ECI \d+", lambda it: f"{it[0]}, {sets.get(it[0], other)}", words)
+    words = re.sub(r"(symbol \d+ of \d+), parity", r"\1; all data has parity", words)
+    words = re.sub(r"FNC1 (\w+)", r"FNC1 in second position, application \1", words)
+    words = re.sub(r"FNC1$", "FNC1 in first position, elements of GS1", words)
+    return [f"header: {words}"] if words else []
+
+
+def _read(program, picture):
+    """What a picture says, in hexadecimal digits, and what is said of it, but for its segments."""
+    ran = run(program, ["read", "--verbose"], "/", picture)
+    lines = ran.stderr.decode().splitlines()
+    return ran.stdout.hex(), [it for it in lines if not it.startswith(NOT_HEADERS)]
+
+
+def symbols_of_other_encoders_are_read(program):
+    """Each by a file of its own scale and quiet zone; every third without a header is turned."""
+    for number, (rows, words) in enumerate(squares()):
+        (symbol, mask, *headers), data = words.split(": ")[0].split(", "), words.split(": ")[1]
+        kind, version, level = symbol.split()
+        rows = [list(it) for it in zip(*rows[::-1])] if number % 3 == 0 and not headers else rows
+        read, lines = _read(program, file_of(rows, number % 5, 1 + number % 4))
+        named = f"version {'M' * (kind == 'Micro')}{version}, level {level}, {mask}"
+        wanted = [named, "wrong codewords: 0", *_headers_said(headers)]
+        if read != data or lines[:1] + lines[3:] != wanted:
+            return False
+    return number > 100
+
+
+def large_pictures_are_read(program):
+    """Of the most digits: a grey map of 32 MB, as many bits, figures, a text of half blocks."""
+    digits, words = FILES["digits"], ["-l", "L", "-q", "80", "-f"]
+    forms = (["pgm", "-s", "17"], ["pbm", "-s", "17"], ["half-blocks"])
+    pictures = [run(program, [*words, *form], "/", digits).stdout for form in forms]
+    pictures.append(figures(program, digits))
+    is_large = len(pictures[0]) > 32 * 2**20 - 10**6
+    return is_large and all(run(program, ["read"], "/", it).stdout == digits for it in pictures)
+
+
+def headers_are_read_in_all_positions(program):
+    """Symbols of other encoders with headers, in eight positions, each with the colours as they
+    are, with those of the modules exchanged, and with those of the whole picture."""
+    with_headers = [it for it in squares() if it[1].split(": ")[0].count(",") > 1]
+    for rows, words in with_headers[::3]:
+        (_, _, *headers), data = words.split(": ")[0].split(", "), words.split(": ")[1]
+        for position, turned in POSITIONS:
+            plain = turned(rows)
+            other = [[1 - module for module in it] for it in plain]
+            *head, body = file_of(plain, 4, 8).split(b"\n", 2)
+            negative = b"\n".join([*head, bytes(it ^ 255 for it in body)])
+            for picture, shades in ((file_of(plain, 4, 8), ""), (negative, EXCHANGED),
+                                    (file_of(other, 4, 8), EXCHANGED)):
+                wanted = [f"position: {position}{shades}", "wrong codewords: 0"]
+                read, lines = _read(program, picture)
+                if read != data or lines[2:] != wanted + _headers_said(headers):
+                    return False
+    return len(with_headers[::3]) > 3
+
+
+def png_files_of_every_kind_are_read(program):
+    """A symbol of zint in PNG files of every type, depth and filter; and files that are damaged."""
+    (name, rows), *_ = ((it.split(" "), rows) for it, rows in SYMBOLS.items() if it[0].isdigit())
+    for color, depth in png.KINDS:
+        if run(program, ["read"], "/", png.file_of(rows, color, depth)).stdout != name[2].encode():
+            return False
+    whole = png.file_of(rows, 0, 1)
+    large = png.chunk(b"IHDR", bytes([0, 1, 0, 0] * 2 + [1, 0, 0, 0, 0]))
+    flipped = whole.replace(b"a code", b"a mode")
+    for given, said in ((whole[:-20], b"cut off or damaged"), (flipped, b"cut off or damaged"),
+                        (png.file_of(rows, 0, 1, 1), b"interlaced"), (b"\xff\xd8\xff\xe0", b"JPEG"),
+                        (whole[:8] + large + whole[33:], b"65536 by 65536 pixels")):
+        ran = run(program, ["read"], "/", given)
+        if ran.returncode != 1 or ran.stdout or said not in ran.stderr:
+            return False
+    return True
+
+
+def a_percent_sign_is_a_separator_behind_fnc1_alone(program):
+    """Whatever other headers there are."""
+    rows = {name[6:].encode(): it for name, it in SYMBOLS.items() if name.startswith("bytes ")}
+    read = [run(program, ["read"], "/", file_of(it, 4, 2)).stdout for it in rows.values()]
+    return len(read) == 4 and read == [*rows]

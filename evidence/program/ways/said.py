@@ -1,0 +1,161 @@
+"""Ways to look at what goqlanis says of itself: help, manual, completions, names."""
+import os
+import re
+import shlex
+import shutil
+
+from room import HERE, TOP, by_shell, cases, empty, piped, put, run, written
+
+PAGES = HERE / "pages"
+
+
+def one_version_is_named(program):
+    """By the program, by ./install, which reads the program's, and by the packages."""
+    packages = ("python/goqlanis/__init__.py", "rust/goqlanis/Cargo.toml",
+                "rust/goqlanis-sys/Cargo.toml")
+    named = set()
+    for name in packages:
+        text = (TOP / "bindings" / name).read_text(encoding="utf-8")
+        named |= set(re.findall(r'^(?:__)?version(?:__)? = "(.*)"', text, re.MULTILINE))
+    return {written(program, "--version").decode()} == {f"goqlanis {it}\n" for it in named}
+
+
+def examples_of_the_help_run(program):
+    """A shell runs each, in a room with the files that it names."""
+    with empty() as folder:
+        put(folder, "ticket.txt", b"seat 12\n")
+        put(folder, "seats.txt", b"1\n2\n")
+        put(folder, "ticket.pbm", written(program, "-f pbm 'seat 12'"))
+        shown = run(program, ["--help"], folder).stdout.decode()
+        found = re.findall(r"^  (goqlanis .*)$", shown, re.MULTILINE)
+        ran = [by_shell(program, it, folder) for it in found]
+        made = {"ticket.png", "seat-000001.svg", "seat-000002.svg", "label.png"}
+        is_well = all(it.returncode == 0 and not it.stderr for it in ran)
+        return len(ran) == 8 and is_well and made < set(os.listdir(folder))
+
+
+def _tasks(program):
+    """The commands that the manual has."""
+    manual = written(program, "--manual").decode()
+    return re.findall(r"^\.SS goqlanis (\S+)$", manual, re.MULTILINE)
+
+
+def every_option_has_a_case(program):
+    """The table has a command line of each subcommand with each option that its help names; options
+    of drawing may have one with another subcommand."""
+    tasks = ["", *_tasks(program)]
+    given = {task: set() for task in tasks}
+    lines = [it.piped if it.is_script else f"{it.words}\n{it.piped}" for it in cases()]
+    for words in map(shlex.split, filter(None, "\n".join(lines).split("\n"))):
+        given[words[0] if words[0] in tasks else ""] |= {word.split("=")[0] for word in words}
+    drawn = set()
+    for task in tasks:
+        shown = written(program, f"{task} --help").decode()
+        options = re.findall(r"^ +(?:(-\w), )?(--[\w-]+)", shown, re.MULTILINE)
+        for option in options:
+            if option[1] not in drawn and not given[task] & {*option} - {""}:
+                return False
+        drawn = drawn or {long for _, long in options}
+    return len(tasks) == 20
+
+
+def help_has_lines_of_80_characters(program):
+    shown = [written(program, f"{it} --help") for it in ("", *_tasks(program))]
+    return all(it and max(map(len, it.splitlines())) <= 80 for it in shown)
+
+
+def _pages(program):
+    """What the program says of itself, by the file that stores it: all help, the manual page, and
+    the completions of each shell."""
+    asked = ["--help", *(f"{it} --help" for it in _tasks(program))]
+    shown = [f"$ goqlanis {it}\n".encode() + written(program, it) for it in asked]
+    shells = {it: written(program, f"--completions {it}") for it in ("bash", "zsh", "fish")}
+    return {"help": b"\n".join(shown), "manual": written(program, "--manual"), **shells}
+
+
+def pages_are_those_that_are_stored(program):
+    """So that no change of them goes unseen: `--write` stores them anew."""
+    others = [name for name, it in _pages(program).items() if (PAGES / name).read_bytes() != it]
+    print(*(f"program: it is not so of evidence/program/pages/{it}\n" for it in others), end="")
+    return not others
+
+
+def _store_pages(program):
+    for name, text in _pages(program).items():
+        put(PAGES, name, text)
+
+
+def shells_complete(program):
+    """bash and fish complete a name, a word, and nothing after a number, and each shell that is
+    there reads its completions."""
+    asked = """. /dev/stdin; for words in '--lev' '--format p' '-l' '--scale 1' 'wi' 'wifi --s' \
+        'read --v' 'read -v' 'bill --currency E' 'epc --le'; do
+        COMP_WORDS=(goqlanis $words); COMP_CWORD=$((${#COMP_WORDS[@]} - 1))
+        COMPREPLY=(); _goqlanis; echo "${COMPREPLY[@]}"; done"""
+    bash = piped(["bash", "-c", asked], written(program, "--completions bash"))
+    options = b"--ssid --security --symbol-version --scale --size --svg-title --svg-desc --svg-id "
+    options += b"--svg-class"
+    wanted = [b"--level", b"png pic pbm pgm pdf ppm", b"", b"", b"wifi", options, b"--verbose", b"",
+              b"EUR", b""]
+    if bash.stderr or bash.stdout.split(b"\n")[:-1] != wanted:
+        return False
+    shells = filter(shutil.which, ("zsh", "fish"))
+    return _are_quoted(program) and all(_reads_completions(program, it) for it in shells)
+
+
+def _are_quoted(program):
+    """In the completions of zsh and fish each line with the help of an option closes its quotes,
+    also where these shells are not there to read it."""
+    found = 0
+    for shell, ends in (("zsh", "\\;"), ("fish", "")):
+        for line in written(program, f"--completions {shell}").decode().splitlines():
+            if " -d '" in line or line.startswith("      "):
+                try:
+                    found += len(shlex.split(line.rstrip(f"{ends} "))) > 0
+                except ValueError:
+                    return False
+    return found > 100
+
+
+def _reads_completions(program, shell):
+    """A shell reads its completions, and fish completes by them what bash does."""
+    given = written(program, f"--completions {shell}")
+    read = piped([shell, "-n", "/dev/stdin"], given)
+    if shell != "fish" or read.returncode or read.stderr:
+        return not read.returncode and not read.stderr
+    asked = """source -
+        for words in '--lev' 'wi' 'wifi --ss' 'read --v' 'bill --currency E' 'epc --le'
+        complete -C "goqlanis $words" | cut -f 1; end"""
+    fish = piped([shell, "-c", asked], given)
+    return fish.stdout == b"--level\nwifi\n--ssid\n--verbose\nEUR\n" and not fish.stderr
+
+
+def man_shows_the_manual(program):
+    """Without a warning, where man is there."""
+    if not shutil.which("man"):
+        return True
+    with empty() as folder:
+        put(folder, "goqlanis.1", written(program, "--manual"))
+        env = {"PATH": "/usr/bin:/bin", "LC_ALL": "C.UTF-8", "MANWIDTH": "140"}
+        ran = piped(["man", "--warnings", "-l", "goqlanis.1"], cwd=folder, env=env)
+        shown = ran.stdout.decode()
+        wanted = ("FORMAT: half-blocks, terminal", 'goqlanis "https://example.org"')
+        return (ran.returncode, ran.stderr) == (0, b"") and all(it in shown for it in wanted)
+
+
+def the_symbol_of_the_gallery(program):
+    shown = (TOP / "docs" / "drawing" / "half-blocks.txt").read_bytes()
+    return written(program, "01234567") == shown + b"\n"
+
+
+def python_has_the_same_colours(program):
+    """The names of CSS in the package for Python are those of the program, and each is drawn."""
+    python = (TOP / "bindings/python/goqlanis/colours.txt").read_text(encoding="utf-8")
+    rattle = (TOP / "crates/goqlanis_core/src/colours.rt").read_text(encoding="utf-8")
+    named = dict(re.findall(r"\b([a-z]+)=([0-9a-f]{6})\b", python))
+    held_there = dict(re.findall(r'\("([a-z]+)", 0x([0-9a-f]{6})\)', rattle))
+    drawn = [run(program, ["-f", "eps", "--light", it, "1"], "/").stdout for it in named]
+    inks = [b"\n%d 255 div %d 255 div %d 255 div setrgbcolor\n" % tuple(bytes.fromhex(it))
+            for it in named.values()]
+    rows = [ink in eps for ink, eps in zip(inks, drawn)]
+    return len(named) == 148 and named == held_there and all(rows)

@@ -1,0 +1,195 @@
+"""Ways to run goqlanis in terminals, into pipes and with memory refused; and to run qrencode."""
+import os
+import re
+import resource
+import signal
+import subprocess
+import sys
+import tempfile
+import unicodedata
+
+from room import (FILES, PROGRAM, TOP, empty, figures, held, in_terminal, piped, put, room, run,
+                  written)
+
+
+def colours_on_a_terminal_alone(program):
+    plain = written(program, "01234567")
+    ok = in_terminal(program, ["01234567"]) == (written(program, "-f terminal 01234567"), 0)
+    without = in_terminal(program, ["01234567"], NO_COLOR="1")
+    return ok and without == (plain, 0) and b"\x1b" not in plain
+
+
+def no_bytes_to_a_terminal(program):
+    """In none of their formats, unless it is asked for."""
+    said = (b"goqlanis: this format is not for a terminal: add --output FILE, or --output - to "
+            b"write it there anyway\n")
+    for kind, head in (("pgm", b"P5\n"), ("pbm", b"P4\n"), ("png", b"\x89PNG\r\n")):
+        asked, status = in_terminal(program, ["-f", kind, "-o", "-", "1"])
+        refused = in_terminal(program, ["-f", kind, "1"])
+        if refused != (said, 1) or status or not asked.startswith(head):
+            return False
+    return True
+
+
+def a_terminal_is_asked_for_what_is_wanted(program):
+    """Before the program waits for it: text, lines and a picture. Ctrl-D ends each."""
+    for words, what in (([], b"the text"), (["--lines"], b"the lines"), (["read"], b"a picture"),
+                        (["several"], b"the text"), (["join", "-"], b"a picture")):
+        shown, _ = in_terminal(program, words, given=b"\x04")
+        if b"goqlanis: " + what + b", and Ctrl-D at its end:\n" not in shown:
+            return False
+    return True
+
+
+def a_closed_pipe_ends_a_run_quietly(program):
+    """With --lines too, which then reads no more of them."""
+    reader, writer = os.pipe()
+    os.close(reader)
+    more = {"input": b"1\n2\n3\n", "stdout": writer, "stderr": subprocess.PIPE, "timeout": 60}
+    ran = [subprocess.run([program, it], check=False, **more) for it in ("1", "--lines", "--help")]
+    os.close(writer)
+    return all((it.returncode, it.stderr) == (1, b"") for it in ran)
+
+
+def lines_are_drawn_as_they_come(program):
+    """The first one before the second one is there."""
+    pipes = {"stdin": subprocess.PIPE, "stdout": subprocess.PIPE}
+    with subprocess.Popen([program, "--lines"], **pipes) as ran:
+        wanted = [written(program, it) for it in ("one", "two")]
+        drawn = []
+        for line, drawing in zip((b"one\n", b"two\r\n"), wanted):
+            ran.stdin.write(line)
+            ran.stdin.flush()
+            drawn.append(ran.stdout.read(len(drawing)))
+        ran.stdin.close()
+        return drawn == wanted and ran.stdout.read() == b"" and ran.wait(timeout=60) == 0
+
+
+def a_line_says_how_many_lines_are_done(program):
+    """On a terminal that the drawings do not go to, and not on one that takes no control sequences;
+    a refused line takes its place."""
+    with room() as folder:
+        words = ["--lines", "-i", f"{folder}/lines", "-o", f"{folder}/a.svg"]
+        refusal = (b"goqlanis: line 2: 3,000 bytes at level M: at most 2,331 fit, more of digits "
+                   b"or capitals; goqlanis split splits them over several codes\n")
+        shown, status = in_terminal(program, words)
+        dumb = in_terminal(program, words, TERM="dumb")
+        drawn = in_terminal(program, ["--lines", "-i", f"{folder}/kept"])[0]
+        made = sorted(it for it in os.listdir(folder) if it.startswith("a-"))
+        wanted = b"\r1 lines done\r\x1b[K" + refusal + b"\r3 lines done\r\x1b[K"
+        is_shown = (shown, status, made) == (wanted, 1, ["a-000001.svg", "a-000003.svg"])
+        return is_shown and dumb == (refusal, 1) and b" lines" not in drawn
+
+
+def _unseen():
+    """All characters of format and control characters, by the tables of Python, and separators of
+    lines; without line breaks and tabs."""
+    kinds = ("Cc", "Cf", "Zl", "Zp")
+    found = [chr(it) for it in range(sys.maxunicode) if unicodedata.category(chr(it)) in kinds]
+    return [it for it in found if it not in "\t\n"]
+
+
+def strangers_turn_nothing_round_on_a_terminal(program):
+    """No character that hides or moves others is shown as it is, by `read`, `join` or a message."""
+    text = "".join(_unseen()).replace("\0", "")
+    with empty() as folder:
+        put(folder, "data", text.encode())
+        run(program, ["-i", "data", "-o", "a.pbm"], folder)
+        raw = run(program, ["join", "a.pbm"], folder).stdout
+        shown = [in_terminal(program, [it, f"{folder}/a.pbm"]) for it in ("read", "join")]
+    said = run(program, ["-i", "a" + "\u202e".join(text[-9:])], "/").stderr.decode()
+    is_plain = all(it.isascii() for it in (*(one.decode() for one, _ in shown), said))
+    is_shown = all(b"\\u{202e}" in one and status == 0 for one, status in shown)
+    return len(text) > 200 and raw == text.encode() and is_plain and is_shown
+
+
+def strangers_send_no_control_characters_to_a_terminal(program):
+    """Neither in messages nor as what is read, which a pipe gets as it is."""
+    name, shown = b"a\x1b]0;b\x07\xc2\x9bc\nd", rb"a\u{1b}]0;b\u{7}\u{9b}c\nd"
+    said = [piped([program, *it]).stderr for it in (
+        [b"-i", name], [b"-o", name, b"1"], [b"read", name], [b"--" + name], [b"-l", name, b"1"],
+        [b"wifi", b"--ssid", b"a", b"--security", name])]
+    if not all(shown in it for it in said[:3]) or re.search(rb"[\x1b\x9b]", b"".join(said)):
+        return False
+    data = name + b"\t\r\xff\xc3\xa9"
+    with empty() as folder:
+        put(folder, "data", data)
+        drawn = run(program, ["-i", "data", "-f", "pbm", "-o", "a.pbm"], folder)
+        raw = run(program, ["read", "a.pbm"], folder).stdout
+        seen = [in_terminal(program, [it, f"{folder}/a.pbm"]) for it in ("read", "join")]
+        asked = [in_terminal(program, [it, "-o", "-", f"{folder}/a.pbm"])[0]
+                 for it in ("read", "join")]
+    wanted = shown.replace(rb"\nd", b"\nd") + b"\t" + rb"\r\xff" + b"\xc3\xa9"
+    is_raw = drawn.returncode == 0 and raw == data and asked == [data] * 2
+    return is_raw and seen == [(wanted, 0)] * 2
+
+
+def _at_most_100_bytes():
+    """Lets a program write no larger file."""
+    signal.signal(signal.SIGXFSZ, signal.SIG_IGN)
+    resource.setrlimit(resource.RLIMIT_FSIZE, (100, 100))
+
+
+def _qrencode(program, text, **more):
+    """Runs the program qrencode, as the compiler of this one made it."""
+    made = f"{TOP}/crates/qrencode/out/qrencode" + program.removeprefix(PROGRAM)
+    return subprocess.run(["qrencode", text], executable=made, stderr=subprocess.PIPE, timeout=60,
+                          check=False, **more)
+
+
+def qrencode_draws_the_longest_text(program):
+    ran = _qrencode(program, "a" * 2331, stdout=subprocess.PIPE)
+    return (ran.returncode, ran.stdout.count(b"\n"), ran.stderr) == (0, 184, b"")
+
+
+def qrencode_reports_a_refused_write(program):
+    """To a full device; and into a file of at most 100 bytes, of which all are written. Three
+    thousand digits are a symbol, though as many bytes are not: the write alone fails."""
+
+    with open("/dev/full", "wb") as full, tempfile.TemporaryFile() as short:
+        ran = [_qrencode(program, it, stdout=full) for it in ("1", "7" * 3000)]
+        ran.append(_qrencode(program, "1", stdout=short, preexec_fn=_at_most_100_bytes))
+        said = {(it.returncode, it.stderr) for it in ran}
+        is_said = said == {(1, b"qrencode: cannot write\n")}
+        return is_said and os.fstat(short.fileno()).st_size == 100
+
+
+REFUSED = ("1", "-o old.svg --trim", "-f png --eci 1", "-s 0", "--manual", "read -v noise.pbm",
+           "check --json three.pbm", "check run.pbm", "gs1 --application 37 1")
+# Words that draw a picture, of which reading it is refused memory.
+READ = ("-f pbm -s 2 --micro 1", "-f pgm -s 2 --micro 1", "-f png -s 2 --micro 1", "--micro 1")
+
+
+def _with_a_request_refused(program, library, words, at, given=b"01234567\n"):
+    """What a run answers and says whose at-th request for memory is refused, what its room then
+    holds, and whether a request was refused. No block may be left."""
+    with room() as folder:
+        env = {"LD_PRELOAD": library, "REFUSE": str(at)}
+        ran = run(program, words, folder, given, env=env)
+        counts = re.compile(r"(.*)requests \d+ refused (\d+) left 0\n", re.DOTALL)
+        said, refused = counts.fullmatch(ran.stderr.decode()).groups()
+        answer = (ran.returncode, ran.stdout, sorted(os.listdir(folder)), held(folder, "old.svg"))
+        return answer, said, refused != "0"
+
+
+def refused_memory_is_reported_in_a_line(program):
+    """Each request of some runs is refused in turn: a run reports it and writes nothing, or answers
+    as with ample memory."""
+    with room() as folder:
+        nothing = (1, b"", sorted(os.listdir(folder)), FILES["old.svg"])
+        library = f"{folder}/refuse.so"
+        words = ["cc", "-O2", "-shared", "-fPIC", "-o", library, f"{TOP}/evidence/memory/refuse.c"]
+        subprocess.run(words, check=True)
+        line = re.compile(r"(goqlanis|error): [^\n]*out of memory\n", re.IGNORECASE)
+        runs = [(words.split(), b"01234567\n") for words in REFUSED]
+        runs += [(["read"], written(program, words)) for words in READ]
+        for words, given in [*runs, (["read"], figures(program, b"1"))]:
+            asked, at, is_refused = (program, library, words), 1, True
+            whole = _with_a_request_refused(*asked, 0, given)[:2]
+            while is_refused:
+                *answer, is_refused = _with_a_request_refused(*asked, at, given)
+                is_reported = answer[0] == nothing and line.fullmatch(answer[1])
+                if not is_reported and tuple(answer) != whole:
+                    return False
+                at += 1
+    return True
