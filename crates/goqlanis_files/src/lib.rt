@@ -2,6 +2,7 @@
 #![tactic(auto)]
 
 pub mod failure;
+pub mod fields;
 pub mod files;
 pub mod progress;
 pub mod streams;

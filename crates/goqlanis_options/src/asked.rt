@@ -10,6 +10,7 @@ use clap::parser::ValueSource;
 use goqlanis_core::formats::{FORMATS, format_named, format_of_ending};
 use goqlanis_core::{Choice, Format, Request};
 use goqlanis_files::failure::{Failure, usage};
+use goqlanis_files::fields::Style;
 use goqlanis_files::streams::has_colours;
 use qrcode::bits::Manner;
 use qrcode::types::{EcLevel, Version};
@@ -32,13 +33,6 @@ pub enum Target<'a> {
     /// Standard output, whatever it is.
     StandardOutput,
     File(&'a str),
-}
-
-/// How what was drawn is reported on standard error.
-#[derive(Clone, Copy)]
-pub enum Reporting {
-    Lines,
-    Json,
 }
 
 /// What is asked for.
@@ -65,7 +59,8 @@ pub struct Asked<'a> {
     pub dots: Option<u16>,
     /// What is asked of the middle of a code, where something is.
     pub logo: Option<AskedLogo<'a>>,
-    pub reporting: Option<Reporting>,
+    /// How what was drawn is reported on standard error, where it is.
+    pub reporting: Option<Style>,
 }
 
 /// What is asked for by the options that are given, in these colours. What is doubtful is said on
@@ -243,11 +238,11 @@ fn version_of(
     }
 }
 
-fn reporting_of(given: &ArgMatches<'_>) -> Option<Reporting> {
+fn reporting_of(given: &ArgMatches<'_>) -> Option<Style> {
     if given.get_flag("json") {
-        Some(Reporting::Json)
+        Some(Style::Json)
     } else if given.get_flag("verbose") {
-        Some(Reporting::Lines)
+        Some(Style::Lines)
     } else {
         None
     }

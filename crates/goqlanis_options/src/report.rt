@@ -1,27 +1,11 @@
 //! What was made, on standard error: `--verbose` and `--json`.
 
-use crate::asked::{Asked, Reporting};
+use crate::asked::Asked;
 use crate::warnings::{Decimal, hundredths_of, warn_of_modules, warn_of_size};
-use goqlanis_core::{Drawing, VersionName, dots, quiet_zone, scale};
-use qrcode::types::EcLevel;
-use std::alloc::{AllocError, Global};
-
-// What is reported of a code.
-#[derive(Clone, Copy)]
-struct Report {
-    version: VersionName,
-    level: EcLevel,
-    mask: usize,
-    // The modules of a side, those of the quiet zone at each side, and the pixels of a module.
-    modules: u32,
-    zone: u32,
-    scale: u32,
-    // The pixels of a side, and those of a printed inch where they are known.
-    side: u32,
-    dots: Option<u32>,
-    // Whether pixels are parts of a length.
-    is_length: bool,
-}
+use goqlanis_core::{Drawing, dots, quiet_zone, scale};
+use goqlanis_files::fields::Fields;
+use qrcode_check::masks::place_of;
+use std::alloc::AllocError;
 
 /// Says on standard error what was made, where that is asked for, and warns of a size that differs
 /// from the one that is asked for.
@@ -30,86 +14,32 @@ pub fn show_report(
     asked: &Asked<'_>,
     drawing: &Drawing,
 ) -> Result<(), AllocError> {
-    let report = report_of(asked, drawing);
-    let zone = report.zone.saturating_mul(2);
-    warn_of_size(rt, asked, report.modules.saturating_add(zone));
-    warn_of_modules(rt, asked, report.scale, report.dots);
-    let text = match asked.reporting {
-        None => return Ok(()),
-        Some(Reporting::Lines) => lines(rt.alloc(), &report)?,
-        Some(Reporting::Json) => json(rt.alloc(), &report)?,
-    };
-    let _ = eprint!(rt; "{text}");
-    Ok(())
-}
-
-fn report_of(asked: &Asked<'_>, drawing: &Drawing) -> Report {
     let (request, code) = (&asked.request, &drawing.code);
-    let version = code.version();
-    let own = if version.is_micro() {
-        code.mask().micro_number()
-    } else {
-        code.mask().number()
+    let (zone, scale) = (quiet_zone(request, code), scale(request, code).max(1));
+    let dots = dots(request, code).or(asked.dots.map(u32::from));
+    // A side with its quiet zone, in modules and in pixels.
+    let modules = (code.width() as u32).saturating_add(zone.saturating_mul(2));
+    let side = modules.saturating_mul(scale);
+    warn_of_size(rt, asked, modules);
+    warn_of_modules(rt, asked, scale, dots);
+    let Some(style) = asked.reporting else {
+        return Ok(());
     };
-    let (modules, zone) = (code.width() as u32, quiet_zone(request, code));
-    let scale = scale(request, code).max(1);
-    Report {
-        version: VersionName(version),
-        level: code.error_correction_level(),
-        mask: request.mask.unwrap_or(own),
-        modules,
-        zone,
-        scale,
-        side: modules
-            .saturating_add(zone.saturating_mul(2))
-            .saturating_mul(scale),
-        dots: dots(request, code).or(asked.dots.map(u32::from)),
-        is_length: request.length.is_some(),
+    let mut fields = Fields::new(rt.alloc(), style);
+    let mask = request
+        .mask
+        .unwrap_or(place_of(code.version(), code.mask()));
+    fields.push_symbol(code.version(), code.error_correction_level(), mask)?;
+    fields.push("modules", &code.width())?;
+    fields.push("quiet_zone", &zone)?;
+    if request.length.is_none() {
+        fields.push("scale", &scale)?;
+        fields.push("pixels", &side)?;
     }
-}
-
-// A report in lines.
-fn lines(alloc: Global, report: &Report) -> Result<String, AllocError> {
-    let (version, level, mask) = (report.version, report.level, report.mask);
-    let (modules, zone, scale, side) = (report.modules, report.zone, report.scale, report.side);
-    let mut text = format!(in alloc; "version {version}, level {level:?}, mask {mask}\n")?;
-    let length = Decimal(hundredths_of(side, report.dots.unwrap_or(0)));
-    write!(text, "modules: {modules} by {modules}; ")?;
-    if report.is_length {
-        write!(text, "quiet zone: {zone}\nsize: {length} by {length} mm\n")?;
-        return Ok(text);
+    if let Some(dots) = dots {
+        fields.push("millimetres", &Decimal(hundredths_of(side, dots)))?;
     }
-    write!(
-        text,
-        "pixels of a module: {scale}; quiet zone: {zone}\nsize: {side} by {side} pixels"
-    )?;
-    if let Some(dots) = report.dots {
-        write!(text, ", {length} mm at {dots} per inch")?;
-    }
-    text.push_str("\n")?;
-    Ok(text)
-}
-
-// A report as a line of JSON.
-fn json(alloc: Global, report: &Report) -> Result<String, AllocError> {
-    let (version, level, mask) = (report.version, report.level, report.mask);
-    let mut text = format!(in alloc;
-        "{{\"version\": \"{version}\", \"level\": \"{level:?}\", \"mask\": {mask}"
-    )?;
-    let numbers = [
-        ("modules", report.modules),
-        ("quiet_zone", report.zone),
-        ("scale", report.scale),
-        ("pixels", report.side),
-    ];
-    let known = if report.is_length { 2 } else { 4 };
-    for (name, number) in numbers.iter().take(known) {
-        write!(text, ", \"{name}\": {number}")?;
-    }
-    if let Some(dots) = report.dots {
-        let side = Decimal(hundredths_of(report.side, dots));
-        write!(text, ", \"millimetres\": {side}")?;
-    }
-    text.push_str("}\n")?;
-    Ok(text)
+    let text = fields.finish()?;
+    let _ = eprintln!(rt; "{text}");
+    Ok(())
 }

@@ -1,10 +1,10 @@
 //! `goqlanis read`: the codes of a picture, read back.
 
-use crate::listing::listed;
-use crate::readings::{described, other_set};
+use crate::readings::{other_set, told_of};
 use clap::ArgMatches;
 use goqlanis_core::{Codes, Scan, Unread, read_codes};
 use goqlanis_files::failure::Failure;
+use goqlanis_files::fields::{Style, listed};
 use goqlanis_files::streams::{MOST_PICTURE, read_file, read_standard_input, write_data};
 use std::alloc::{AllocError, Global};
 use std::process::ExitCode;
@@ -14,28 +14,38 @@ pub(crate) fn read(rt: &HostRuntime, given: &ArgMatches<'_>) -> Result<ExitCode,
     let codes = codes_of(rt, given.get_str("PICTURE").unwrap_or("-"))?;
     let scans = codes.scans.as_slice();
     if given.get_flag("verbose") {
-        for scan in scans {
-            let text = described(rt.alloc(), scan)?;
-            let _ = eprint!(rt; "{text}");
-        }
+        let text = told(rt.alloc(), Style::Lines, scans)?;
+        let _ = eprint!(rt; "{text}");
     }
     for scan in scans {
         warn_of_set(rt, scan);
     }
     let output = given.get_str("output");
-    if given.get_flag("json") {
-        write_data(rt, output, listed(rt.alloc(), scans)?.as_bytes())
-    } else {
-        write_all(rt, output, scans)
+    match (style_of(given), scans) {
+        (Style::Json, _) => {
+            write_data(rt, output, told(rt.alloc(), Style::Json, scans)?.as_bytes())
+        }
+        (_, [only]) => write_data(rt, output, &only.any.reading.data),
+        _ => write_data(rt, output, &lines_of(rt.alloc(), scans)?),
     }
 }
 
-// Writes the data of codes: as it is where there is one, and otherwise each in a line.
-fn write_all(rt: &HostRuntime, output: Option<&str>, scans: &[Scan]) -> Result<ExitCode, Failure> {
-    match scans {
-        [only] => write_data(rt, output, &only.any.reading.data),
-        scans => write_data(rt, output, &lines_of(rt.alloc(), scans)?),
+/// How what is told of codes is written.
+pub(crate) fn style_of(given: &ArgMatches<'_>) -> Style {
+    if given.get_flag("json") {
+        Style::Json
+    } else {
+        Style::Lines
     }
+}
+
+// What was read of codes.
+fn told(alloc: Global, style: Style, scans: &[Scan]) -> Result<String, AllocError> {
+    let mut told = Vec::new(alloc);
+    for scan in scans {
+        told.push(told_of(alloc, style, scan)?)?;
+    }
+    listed(alloc, style, &told)
 }
 
 // The data of codes, a line feed behind each.
@@ -51,15 +61,26 @@ fn lines_of(alloc: Global, scans: &[Scan]) -> Result<Vec<u8>, AllocError> {
 /// What is read of a picture, which a file holds, or standard input where its name is -. It warns of
 /// codes that are not read.
 pub(crate) fn codes_of(rt: &HostRuntime, path: &str) -> Result<Codes, Failure> {
-    let alloc = rt.alloc();
     let (name, bytes) = picture_of(rt, path)?;
-    match read_codes(alloc, &bytes) {
+    match read_codes(rt.alloc(), &bytes) {
         Ok(codes) => {
             warn_of_missed(rt, &codes);
             Ok(codes)
         }
-        Err(Unread::OutOfMemory) => Err(Failure::OutOfMemory),
-        Err(error) => { Err(Failure::Refused(format!(in alloc; "cannot read {name}: {error}")?)) }
+        Err(error) => unread_picture(rt.alloc(), "read", name, error),
+    }
+}
+
+/// Why a picture of a name is not read, or not checked.
+pub(crate) fn unread_picture<T>(
+    alloc: Global,
+    what: &str,
+    name: &str,
+    error: Unread,
+) -> Result<T, Failure> {
+    match error {
+        Unread::OutOfMemory => Err(Failure::OutOfMemory),
+        error => Err(Failure::Refused(format!(in alloc; "cannot {what} {name}: {error}")?)),
     }
 }
 

@@ -1,9 +1,12 @@
-//! What was read, in lines.
+//! What was read, in lines or as JSON.
 
 use crate::segments::mode_name;
-use goqlanis_core::{Scan, VersionName};
+use goqlanis_core::Scan;
+use goqlanis_files::fields::{Fields, Style};
+use goqlanis_files::streams::is_unseen;
+use qrcode_check::masks::place_of;
 use qrcode_reader::spell::{Header, Part};
-use qrcode_reader::{Position, Reading, WrongCodeword};
+use qrcode_reader::{Position, Reading};
 use std::alloc::{AllocError, Global};
 use std::fmt;
 
@@ -54,98 +57,108 @@ pub(crate) fn other_set(parts: &[Part]) -> Option<CharacterSet> {
     None
 }
 
-/// What was read, in lines.
-pub(crate) fn described(alloc: Global, scan: &Scan) -> Result<String, AllocError> {
-    let mut text = String::new(alloc);
-    push_symbol(&mut text, &scan.any.reading)?;
-    push_square(&mut text, scan)?;
-    push_wrong(&mut text, &scan.any.reading.wrong)?;
-    for part in &scan.parts {
-        push_part(&mut text, *part)?;
+/// What was read of a code, and in JSON its data.
+pub(crate) fn told_of(alloc: Global, style: Style, scan: &Scan) -> Result<String, AllocError> {
+    let (square, reading) = (&scan.square, &scan.any.reading);
+    let mut fields = Fields::new(alloc, style);
+    fields.push_symbol(
+        reading.version,
+        reading.ec_level,
+        place_of(reading.version, reading.mask),
+    )?;
+    fields.push("modules", &square.count)?;
+    fields.push("quiet_zone", &square.zone)?;
+    fields.push("scale", &square.scale)?;
+    fields.push_word("position", &position_text(scan.any.position))?;
+    fields.push("inverted", &(scan.is_inverted != scan.any.is_inverted))?;
+    push_wrong(&mut fields, alloc, reading)?;
+    push_parts(&mut fields, alloc, style, &scan.parts)?;
+    if matches!(style, Style::Json) {
+        push_data(&mut fields, alloc, &reading.data)?;
     }
-    Ok(text)
+    fields.finish()
 }
 
-// What a symbol is, in a line.
-fn push_symbol(text: &mut String, reading: &Reading) -> Result<(), AllocError> {
-    let (version, level) = (VersionName(reading.version), reading.ec_level);
-    let mask = mask_of(reading);
-    write!(text, "version {version}, level {level:?}, mask {mask}\n")
-}
-
-/// The number of a mask.
-pub(crate) fn mask_of(reading: &Reading) -> usize {
-    if reading.version.is_micro() {
-        reading.mask.micro_number()
-    } else {
-        reading.mask.number()
+// How a symbol stands in its picture.
+fn position_text(position: Position) -> &'static str {
+    match position {
+        Position::Upright => "upright",
+        Position::TurnedLeft => "turned by a quarter against the clock",
+        Position::UpsideDown => "upside down",
+        Position::TurnedRight => "turned by a quarter with the clock",
+        Position::Mirrored => "left and right exchanged",
+        Position::Flipped => "top and bottom exchanged",
+        Position::Transposed => "columns and rows exchanged",
+        Position::Antitransposed => "columns and rows exchanged, from the other corner",
     }
 }
 
-// The square of modules, and how it stands in its picture, in two lines.
-fn push_square(text: &mut String, scan: &Scan) -> Result<(), AllocError> {
-    let (count, zone, scale) = (scan.square.count, scan.square.zone, scan.square.scale);
-    let place = position_text(scan.any.position);
-    let shades = if has_light_on_dark(scan) {
-        ", dark and light exchanged"
-    } else {
-        ""
-    };
-    write!(
-        text,
-        "modules: {count} by {count}; pixels of a module: {scale}; quiet zone: {zone}
-position: {place}{shades}\n"
-    )
+// Wrong codewords, each by its block and its place there.
+fn push_wrong(fields: &mut Fields, alloc: Global, reading: &Reading) -> Result<(), AllocError> {
+    let mut places = Vec::new(alloc);
+    for wrong in &reading.wrong {
+        places.push(format!(in alloc; "[{}, {}]", wrong.block, wrong.place)?)?;
+    }
+    fields.push_list("wrong_codewords", &places)
 }
 
-/// Whether dark modules are light in the picture.
-pub(crate) fn has_light_on_dark(scan: &Scan) -> bool {
-    scan.is_inverted != scan.any.is_inverted
+// Headers and segments.
+fn push_parts(
+    fields: &mut Fields,
+    alloc: Global,
+    style: Style,
+    parts: &[Part],
+) -> Result<(), AllocError> {
+    let mut texts = Vec::new(alloc);
+    for part in parts {
+        texts.push(part_text(alloc, style, *part)?)?;
+    }
+    fields.push_list("parts", &texts)
 }
 
-// A header or a segment, in a line.
-fn push_part(text: &mut String, part: Part) -> Result<(), AllocError> {
+// A header or a segment.
+fn part_text(alloc: Global, style: Style, part: Part) -> Result<String, AllocError> {
+    let mut fields = Fields::of_item(alloc, style);
     match part {
-        Part::Front(header) => push_header(text, header),
         Part::Bytes(mode, count) => {
-            let mode = mode_name(mode);
-            write!(text, "segment: {mode}, bytes: {count}\n")
+            fields.push_word("mode", &mode_name(mode))?;
+            fields.push("bytes", &count)?;
         }
+        Part::Front(header) => push_header(&mut fields, header)?,
     }
+    fields.finish()
 }
 
-// What a header says, in a line.
-fn push_header(text: &mut String, header: Header) -> Result<(), AllocError> {
+// What a header says.
+fn push_header(fields: &mut Fields, header: Header) -> Result<(), AllocError> {
     match header {
         Header::Eci(number) => {
-            let set = CharacterSet(number);
-            write!(text, "header: {set}\n")
+            fields.push("eci", &number)?;
+            if let Some(name) = CharacterSet(number).name() {
+                fields.push_word("name", &name)?;
+            }
         }
-        Header::Fnc1First => text.push_str("header: FNC1 in first position, elements of GS1\n"),
+        Header::Fnc1First => fields.push_word("fnc1", &"first")?,
         Header::Fnc1Second(indicator) => {
-            let application = Application(indicator);
-            write!(
-                text,
-                "header: FNC1 in second position, application {application}\n"
-            )
+            fields.push_word("fnc1", &"second")?;
+            fields.push_word("application", &Application(indicator))?;
         }
         Header::StructuredAppend {
             place,
             last,
             parity,
         } => {
-            let (number, count) = (place.saturating_add(1), last.saturating_add(1));
-            write!(
-                text,
-                "header: symbol {number} of {count}; all data has parity {parity}\n"
-            )
+            fields.push("symbol", &place.saturating_add(1))?;
+            fields.push("of", &last.saturating_add(1))?;
+            fields.push("parity", &parity)?;
         }
     }
+    Ok(())
 }
 
-/// The indicator of an application: two digits, or a letter, which stands as its code and 100.
+// The indicator of an application: two digits, or a letter, which stands as its code and 100.
 #[derive(Clone, Copy)]
-pub(crate) struct Application(pub(crate) u8);
+struct Application(u8);
 
 impl fmt::Display for Application {
     fn fmt<W: fmt::Write>(&self, f: &mut fmt::Formatter<W>) -> fmt::Result {
@@ -159,29 +172,29 @@ impl fmt::Display for Application {
     }
 }
 
-/// How a symbol stands in its picture.
-pub(crate) fn position_text(position: Position) -> &'static str {
-    match position {
-        Position::Upright => "upright",
-        Position::TurnedLeft => "turned by a quarter against the clock",
-        Position::UpsideDown => "upside down",
-        Position::TurnedRight => "turned by a quarter with the clock",
-        Position::Mirrored => "left and right exchanged",
-        Position::Flipped => "top and bottom exchanged",
-        Position::Transposed => "columns and rows exchanged",
-        Position::Antitransposed => "columns and rows exchanged, from the other corner",
+// The data: as a text where it is one, and its bytes to the base 16.
+fn push_data(fields: &mut Fields, alloc: Global, data: &[u8]) -> Result<(), AllocError> {
+    if let Ok(known) = std::str::from_utf8(data) {
+        let mut text = String::new(alloc);
+        for character in known.chars() {
+            push_escaped(&mut text, character)?;
+        }
+        fields.push_word("text", &text)?;
     }
+    fields.push_word("hex", &hex::encode(alloc, data)?)
 }
 
-// How many codewords are wrong, and which.
-fn push_wrong(text: &mut String, wrong: &[WrongCodeword]) -> Result<(), AllocError> {
-    let count = wrong.len();
-    write!(text, "wrong codewords: {count}")?;
-    let mut sign = ", by block and place from 0: ";
-    for each in wrong {
-        let (block, place) = (each.block, each.place);
-        write!(text, "{sign}{block}.{place}")?;
-        sign = ", ";
+// A character in a string of JSON. What a terminal would not show is its number there, as in C.
+fn push_escaped(text: &mut String, character: char) -> Result<(), AllocError> {
+    match character {
+        '"' => text.push_str("\\\""),
+        '\\' => text.push_str("\\\\"),
+        _ if is_unseen(character) => {
+            for unit in character.encode_utf16(&mut [0; 2]) {
+                write!(text, "\\u{unit:04x}")?;
+            }
+            Ok(())
+        }
+        _ => text.push(character),
     }
-    text.push_str("\n")
 }
