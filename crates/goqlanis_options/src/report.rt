@@ -4,15 +4,17 @@ use crate::asked::Asked;
 use crate::warnings::{Decimal, hundredths_of, warn_of_modules, warn_of_size};
 use goqlanis_core::{Drawing, dots, quiet_zone, scale};
 use goqlanis_files::fields::Fields;
+use qrcode_area::areas::Rectangle;
 use qrcode_check::masks::place_of;
 use std::alloc::AllocError;
 
-/// Says on standard error what was made, where that is asked for, and warns of a size that differs
-/// from the one that is asked for.
+/// Says on standard error what was made, where that is asked for, with the area in its middle, and
+/// warns of a size that differs from the one that is asked for.
 pub fn show_report(
     rt: &HostRuntime,
     asked: &Asked<'_>,
     drawing: &Drawing,
+    area: Option<Rectangle>,
 ) -> Result<(), AllocError> {
     let (request, code) = (&asked.request, &drawing.code);
     let (zone, scale) = (quiet_zone(request, code), scale(request, code).max(1));
@@ -39,7 +41,20 @@ pub fn show_report(
     if let Some(dots) = dots {
         fields.push("millimetres", &Decimal(hundredths_of(side, dots)))?;
     }
+    if let Some(area) = area {
+        push_area(&mut fields, area)?;
+    }
     let text = fields.finish()?;
     let _ = eprintln!(rt; "{text}");
     Ok(())
+}
+
+// The modules that are left to what stands in the middle.
+fn push_area(fields: &mut Fields, area: Rectangle) -> Result<(), AllocError> {
+    fields.open("area")?;
+    fields.push("width", &area.width)?;
+    fields.push("height", &area.height)?;
+    fields.push("column", &area.left)?;
+    fields.push("row", &area.top)?;
+    fields.close()
 }

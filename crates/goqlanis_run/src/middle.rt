@@ -67,12 +67,15 @@ pub(crate) fn with_file<'a>(asked: Asked<'a>, file: &'a [u8]) -> Asked<'a> {
     Asked { logo, ..asked }
 }
 
+/// An area of a code, and the code drawn with what stands there.
+pub(crate) type Covered = (Rectangle, Vec<u8>);
+
 /// A code drawn with what is asked of its middle, where something is.
 pub(crate) fn redrawn(
     alloc: Global,
     asked: &Asked<'_>,
     code: &QrCode,
-) -> Result<Option<Vec<u8>>, Failure> {
+) -> Result<Option<Covered>, Failure> {
     let Some(logo) = &asked.logo else {
         return Ok(None);
     };
@@ -84,7 +87,7 @@ pub(crate) fn redrawn(
             "a PNG file has colours of parts or a picture in the middle; add --format svg for both",
         );
     }
-    let bytes = match (logo.middle, request.format) {
+    let covered = match (logo.middle, request.format) {
         (Middle::Logo(path, file), Format::Png) => {
             pixels_drawn(alloc, request, code, logo, &pixels_of(alloc, path, file)?)
         }
@@ -97,7 +100,7 @@ pub(crate) fn redrawn(
             drawn(alloc, request, code, area, "")
         }
     };
-    Ok(Some(bytes?))
+    Ok(Some(covered?))
 }
 
 // A code drawn with pixels in its middle.
@@ -107,7 +110,7 @@ fn pixels_drawn(
     code: &QrCode,
     asked: &AskedLogo<'_>,
     logo: &Raster,
-) -> Result<Vec<u8>, Failure> {
+) -> Result<Covered, Failure> {
     let sides = (logo.across as u32, logo.down as u32);
     let area = area_of(alloc, code, wish_of(asked, sides, code))?;
     let place = place_of(alloc, request, code, area, asked.margin)?;
@@ -126,7 +129,7 @@ fn cross_drawn(
     request: &Request<'_>,
     code: &QrCode,
     asked: &AskedLogo<'_>,
-) -> Result<Vec<u8>, Failure> {
+) -> Result<Covered, Failure> {
     let area = area_of(alloc, code, wish_of(asked, (1, 1), code))?;
     let place = place_of(alloc, request, code, area, 0)?;
     let element = match request.format {
@@ -147,7 +150,7 @@ fn cross_in_pixels(
     code: &QrCode,
     area: Rectangle,
     place: Place,
-) -> Result<Vec<u8>, Failure>
+) -> Result<Covered, Failure>
     requires { HasPixels place }
 {
     let pixels = cross_pixels(alloc)?;
@@ -167,7 +170,7 @@ fn inset_drawn(
     code: &QrCode,
     area: Rectangle,
     inset: &Inset<'_>,
-) -> Result<Vec<u8>, Failure> {
+) -> Result<Covered, Failure> {
     let side = code.width() as u64 + 2 * quiet_zone(request, code) as u64;
     if side * scale(request, code) as u64 > GREATEST_SIDE as u64 {
         return Err(Failure::Refused(format!(in alloc;
@@ -176,7 +179,7 @@ fn inset_drawn(
         )?));
     }
     match pasted(alloc, request, code, area, inset) {
-        Ok(bytes) => Ok(bytes),
+        Ok(bytes) => Ok((area, bytes)),
         Err(_) => Err(Failure::OutOfMemory),
     }
 }
@@ -188,7 +191,7 @@ fn element_drawn(
     code: &QrCode,
     asked: &AskedLogo<'_>,
     logo: &Logo,
-) -> Result<Vec<u8>, Failure> {
+) -> Result<Covered, Failure> {
     let area = area_of(alloc, code, wish_of(asked, (logo.across, logo.down), code))?;
     let place = place_of(alloc, request, code, area, asked.margin)?;
     let element = element_in(alloc, place, logo.rest.as_str())?;
@@ -202,9 +205,9 @@ fn drawn(
     code: &QrCode,
     area: Rectangle,
     element: &str,
-) -> Result<Vec<u8>, Failure> {
+) -> Result<Covered, Failure> {
     match with_logo(alloc, request, code, area, element) {
-        Ok(bytes) => Ok(bytes),
+        Ok(bytes) => Ok((area, bytes)),
         Err(_) => Err(Failure::OutOfMemory),
     }
 }
