@@ -154,7 +154,7 @@ def qrencode_reports_a_refused_write(program):
         return is_said and os.fstat(short.fileno()).st_size == 100
 
 
-REFUSED = ("1", "-o old.svg --trim", "-f png --eci 1", "-s 0", "--manual", "read -v noise.pbm",
+REFUSED = ("1", "-o old.svg --trim", "-f png --eci 1", "-s 0", "--manual", "read -v blank.pbm",
            "check --json three.pbm", "check run.pbm", "gs1 --application 37 1")
 # Words that draw a picture, of which reading it is refused memory.
 READ = ("-f pbm -s 2 --micro 1", "-f pgm -s 2 --micro 1", "-f png -s 2 --micro 1", "--micro 1")
