@@ -1,7 +1,7 @@
 //! What is said of words that `clap` refuses, where there is more to say, and its help within lines
 //! of 80 characters.
 
-use crate::nearest::Nearest;
+use crate::nearest::nearest;
 use crate::options::{ADVICE, TASKS, Task, task_named};
 use clap::error::Error;
 use std::alloc::{AllocError, Global};
@@ -73,11 +73,11 @@ fn command_help(
     if word.starts_with('-') {
         return later_command(alloc, words);
     }
-    let mut nearest = Nearest::to(word);
-    for task in TASKS {
-        nearest.consider(alloc, task.word)?;
-    }
-    match nearest.name() {
+    let names = TASKS
+        .iter()
+        .map(|task| task.word)
+        .collect::<Vec<&str>>(alloc)?;
+    match nearest(alloc, word, &names)? {
         Some(name) => Ok(Some(format!(in alloc;
             "{word}: no such command; did you mean goqlanis {name}?"
         )?)),

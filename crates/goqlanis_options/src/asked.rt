@@ -3,6 +3,7 @@
 use crate::colours::{Inks, check_colours};
 use crate::frames::{frame_of, place_of};
 use crate::logos::{AskedLogo, logo_of};
+use crate::options::Task;
 use crate::sizes::{Sizes, has_dots, sizes_of};
 use crate::warnings::warn;
 use clap::ArgMatches;
@@ -68,23 +69,19 @@ pub struct Asked<'a> {
     pub reporting: Option<Reporting>,
 }
 
-/// What is asked for by the options that are given, in these colours. What is doubtful is said on
-/// standard error.
+/// What is asked for by the options that are given. What is doubtful is said on standard error.
 pub fn asked_for<'a>(
     rt: &HostRuntime,
+    task: &Task,
     given: &ArgMatches<'a>,
-    inks: Inks<'a>,
 ) -> Result<Asked<'a>, Failure> {
     let alloc = rt.alloc();
-    if let Some(text) = conflict(given) {
-        return usage(alloc, text);
-    }
+    check_conflicts(alloc, given)?;
     let target = target_of(given);
     let format = format(alloc, given.get_str("format"), target, has_colours(rt))?;
     let sizes = sizes_of(alloc, given, format)?;
-    let request = request_of(alloc, given, format, &sizes, inks)?;
     let asked = Asked {
-        request,
+        request: request_of(alloc, task, given, format, &sizes)?,
         hundredths: sizes.hundredths,
         dots: sizes.dots,
         logo: logo_of(alloc, given, format)?,
@@ -117,46 +114,39 @@ pub fn check_one_behind_another(alloc: Global, asked: &Asked<'_>) -> Result<(), 
     }
 }
 
-// Options that do not go together, and what is said of them.
+// Options that do not go together with others, and what helps.
 #[rattlefmt::skip]
-static CONFLICTS: &[(&str, &str, &str)] = &[
-    ("segment", "TEXT", "--segment gives the data: leave out TEXT and --input"),
-    ("segment", "input", "--segment gives the data: leave out TEXT and --input"),
-    ("TEXT", "input", "TEXT and --input do not go together: use one of them"),
-    ("bytes", "eci", "--bytes and --eci do not go together: use one of them"),
-    ("symbol-version", "min-version",
-        "--symbol-version and --min-version do not go together: use one of them"),
-    ("scale", "size", "--scale and --size do not go together: use one of them"),
-    ("scale", "module", "--scale and --module do not go together: use one of them"),
-    ("size", "module", "--size and --module do not go together: use one of them"),
-    ("no-size", "size", "--no-size and --size do not go together: use one of them"),
-    ("no-size", "module", "--no-size and --module do not go together: use one of them"),
-    ("no-size", "scale", "--no-size and --scale do not go together: use one of them"),
-    ("segment", "trim", "--segment and --trim do not go together: use one of them"),
-    ("segment", "lines", "--segment and --lines do not go together: use one of them"),
-    ("segment", "bytes", "--segment and --bytes do not go together: use one of them"),
-    ("segment", "eci", "--segment and --eci do not go together: use one of them"),
-    ("segment", "boost", "--segment and --boost do not go together: use one of them"),
-    ("symbol-version", "max-version",
-        "--symbol-version and --max-version do not go together: use one of them"),
-    ("symbol-version", "micro",
-        "--symbol-version and --micro do not go together: M1 to M4 are Micro QR"),
-    ("symbol-version", "boost",
-        "--symbol-version and --boost do not go together: use --min-version instead"),
-    ("min-version", "micro", "--min-version and --micro do not go together: --micro is --min-version M1"),
+static CONFLICTS: &[(&str, &[&str], &str)] = &[
+    ("--segment", &["TEXT", "--input"], "--segment gives the data"),
+    ("--segment", &["--trim", "--lines", "--bytes", "--eci", "--boost"], "use one of them"),
+    ("TEXT", &["--input"], "use one of them"),
+    ("--bytes", &["--eci"], "use one of them"),
+    ("--symbol-version", &["--min-version", "--max-version"], "use one of them"),
+    ("--symbol-version", &["--micro"], "M1 to M4 are Micro QR"),
+    ("--symbol-version", &["--boost"], "use --min-version instead"),
+    ("--min-version", &["--micro"], "--micro is --min-version M1"),
+    ("--scale", &["--size", "--module", "--no-size"], "use one of them"),
+    ("--size", &["--module", "--no-size"], "use one of them"),
+    ("--module", &["--no-size"], "use one of them"),
 ];
 
-// What is said of options that do not go together.
-fn conflict(given: &ArgMatches<'_>) -> Option<&'static str> {
-    let (_, _, text) = CONFLICTS.iter().find(|(one, other, _)| is_given(given, one)
-        && is_given(given, other))?;
-    Some(*text)
+// Refuses options that do not go together.
+fn check_conflicts(alloc: Global, given: &ArgMatches<'_>) -> Result<(), Failure> {
+    for (one, others, help) in CONFLICTS {
+        let other = others.iter().find(|other| is_given(given, other));
+        if let Some(other) = other.filter(|_| is_given(given, one)) {
+            return Err(Failure::Usage(format!(in alloc;
+                "{one} and {other} do not go together: {help}"
+            )?));
+        }
+    }
+    Ok(())
 }
 
 // Whether the command line has an option, or the word beside options. (A flag that it lacks has a
 // default.)
 fn is_given(given: &ArgMatches<'_>, name: &str) -> bool {
-    given.value_source(name) == Some(ValueSource::CommandLine)
+    given.value_source(name.trim_start_matches('-')) == Some(ValueSource::CommandLine)
 }
 
 fn source_of<'a>(given: &ArgMatches<'a>) -> Source<'a> {
@@ -255,11 +245,12 @@ fn reporting_of(given: &ArgMatches<'_>) -> Option<Reporting> {
 
 fn request_of<'a>(
     alloc: Global,
+    task: &Task,
     given: &ArgMatches<'a>,
     format: Format,
     sizes: &Sizes,
-    inks: Inks<'a>,
 ) -> Result<Request<'a>, Failure> {
+    let inks = Inks::of(alloc, given)?;
     if let Some(text) = unsuitable_option(given, format) {
         return usage(alloc, text);
     }
@@ -267,7 +258,7 @@ fn request_of<'a>(
     Ok(Request {
         manner: Manner::Text,
         choice: choice_of(alloc, given)?,
-        level: level(alloc, given.get_str("level"))?,
+        level: level_of(task, given),
         mask: given.get_one::<u8>("mask").map(usize::from),
         format,
         zone: given.get_one::<u8>("quiet-zone"),
@@ -300,26 +291,22 @@ fn unsuitable_option(given: &ArgMatches<'_>, format: Format) -> Option<&'static 
     }
 }
 
-// The level of a name; M where none is named.
-fn level(alloc: Global, name: Option<&str>) -> Result<EcLevel, Failure> {
-    let found = match name {
-        Some(name) => LEVELS
-            .iter()
-            .find(|(known, _)| known.eq_ignore_ascii_case(name)),
-        None => return Ok(EcLevel::M),
-    };
-    match found {
-        Some((_, level)) => Ok(*level),
-        None => usage(alloc, "--level: there are L, M, Q and H"),
+// The level that is asked for. Where none is, it is M, and with a logo H, which leaves room for a
+// larger one, unless the format of a payload says the level.
+fn level_of(task: &Task, given: &ArgMatches<'_>) -> EcLevel {
+    match given.get_str("level") {
+        Some("L" | "l") => EcLevel::L,
+        Some("Q" | "q") => EcLevel::Q,
+        Some("H" | "h") => EcLevel::H,
+        None if !task.has_its_level() && has_middle(given) => EcLevel::H,
+        _ => EcLevel::M,
     }
 }
 
-static LEVELS: &[(&str, EcLevel)] = &[
-    ("L", EcLevel::L),
-    ("M", EcLevel::M),
-    ("Q", EcLevel::Q),
-    ("H", EcLevel::H),
-];
+// Whether something is asked of the middle.
+fn has_middle(given: &ArgMatches<'_>) -> bool {
+    given.contains_id("logo") || given.get_flag("logo-area")
+}
 
 // The version of a name: 1 to 40, or M1 to M4.
 fn version(name: &str) -> Option<Version> {
@@ -338,11 +325,8 @@ fn format(
     target: Target<'_>,
     has_colours: bool,
 ) -> Result<Format, Failure> {
-    if let Some(name) = name {
-        return match format_named(name) {
-            Some(format) => Ok(format),
-            None => usage(alloc, "--format: --help lists the formats"),
-        };
+    if let Some(format) = name.and_then(format_named) {
+        return Ok(format);
     }
     match target {
         Target::Terminal if has_colours => Ok(Format::Terminal),

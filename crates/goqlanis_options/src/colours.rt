@@ -1,6 +1,6 @@
 //! Colours of the command line.
 
-use crate::nearest::Nearest;
+use crate::nearest::nearest;
 use crate::options::PART_COLOURS;
 use clap::ArgMatches;
 use goqlanis_core::colours::{Colour, NAMES, colour_named};
@@ -8,29 +8,6 @@ use goqlanis_core::{Format, Ink, Part, PartInk};
 use goqlanis_files::failure::{Failure, usage};
 use qrcode::types::Color;
 use std::alloc::{AllocError, Global};
-
-/// The colours of dark and of light modules, and those of parts.
-#[derive(Drop)]
-pub struct Colours {
-    dark: Paint,
-    light: Paint,
-    parts: Vec<PartPaint>,
-}
-
-// A colour, and how SVG writes it.
-#[derive(Drop)]
-struct Paint {
-    colour: Colour,
-    name: String,
-}
-
-// The colour of modules of a part.
-#[derive(Drop)]
-struct PartPaint {
-    part: Part,
-    tone: Color,
-    paint: Paint,
-}
 
 /// How modules are drawn.
 #[derive(Clone, Copy)]
@@ -40,66 +17,31 @@ pub struct Inks<'a> {
     pub parts: &'a [PartInk<'a>],
 }
 
-impl Colours {
-    /// The colours that the command line gives, black and white where it gives none.
-    pub fn of(alloc: Global, given: &ArgMatches<'_>) -> Result<Colours, Failure> {
-        Ok(Colours {
-            dark: paint_of(alloc, "dark", given.get_str("dark").unwrap_or("#000"))?,
-            light: paint_of(alloc, "light", given.get_str("light").unwrap_or("#fff"))?,
-            parts: part_paints(alloc, given)?,
+impl<'a> Inks<'a> {
+    /// The colours that the command line gives, black and white where it gives none. Those of parts,
+    /// at most twelve, stand in a list that is not freed.
+    pub fn of(alloc: Global, given: &ArgMatches<'a>) -> Result<Inks<'a>, Failure> {
+        Ok(Inks {
+            dark: ink_of(alloc, "dark", given.get_str("dark").unwrap_or("#000"))?,
+            light: ink_of(alloc, "light", given.get_str("light").unwrap_or("#fff"))?,
+            parts: part_inks(alloc, given)?.leak(),
         })
-    }
-
-    /// How parts are drawn that have colours of their own.
-    pub fn part_inks(&self, alloc: Global) -> Result<Vec<PartInk<'_>>, AllocError> {
-        let mut inks = Vec::with_capacity(alloc, self.parts.len())?;
-        for part in &self.parts {
-            inks.push(PartInk {
-                part: part.part,
-                tone: part.tone,
-                ink: part.paint.ink(),
-            })?;
-        }
-        Ok(inks)
-    }
-
-    /// How modules are drawn.
-    pub fn inks<'a>(&'a self, parts: &'a [PartInk<'a>]) -> Inks<'a> {
-        Inks {
-            dark: self.dark.ink(),
-            light: self.light.ink(),
-            parts,
-        }
-    }
-}
-
-impl Paint {
-    // How it is drawn.
-    fn ink(&self) -> Ink<'_> {
-        let colour = self.colour;
-        Ink {
-            name: self.name.as_str(),
-            red: colour.red,
-            green: colour.green,
-            blue: colour.blue,
-            opacity: colour.opacity,
-        }
     }
 }
 
 // The colours of parts that the command line gives: what is dark is light where both are exchanged.
-fn part_paints(alloc: Global, given: &ArgMatches<'_>) -> Result<Vec<PartPaint>, Failure> {
-    let mut paints = Vec::new(alloc);
+fn part_inks<'a>(alloc: Global, given: &ArgMatches<'a>) -> Result<Vec<PartInk<'a>>, Failure> {
+    let mut inks = Vec::new(alloc);
     for colour in PART_COLOURS {
         if let Some(text) = given.get_str(colour.entry.long) {
-            paints.push(PartPaint {
+            inks.push(PartInk {
                 part: colour.part,
                 tone: shown_tone(given, colour.tone),
-                paint: paint_of(alloc, colour.entry.long, text)?,
+                ink: ink_of(alloc, colour.entry.long, text)?,
             })?;
         }
     }
-    Ok(paints)
+    Ok(inks)
 }
 
 // The modules that are drawn dark or light.
@@ -112,34 +54,36 @@ fn shown_tone(given: &ArgMatches<'_>, tone: Color) -> Color {
 }
 
 // The colour that the text of an option names.
-fn paint_of(alloc: Global, option: &str, text: &str) -> Result<Paint, Failure> {
+fn ink_of<'a>(alloc: Global, option: &str, text: &'a str) -> Result<Ink<'a>, Failure> {
     match colour_named(text) {
-        Some(colour) => Ok(Paint {
-            colour,
+        Some(colour) => Ok(Ink {
             name: svg_name(alloc, text, colour)?,
+            red: colour.red,
+            green: colour.green,
+            blue: colour.blue,
+            opacity: colour.opacity,
         }),
         None => Err(Failure::Usage(unknown_colour(alloc, option, text)?)),
     }
 }
 
-// How SVG writes the colour of a text: as it is, but digits behind #, and none for no colour.
-fn svg_name(alloc: Global, text: &str, colour: Colour) -> Result<String, AllocError> {
+// How SVG writes the colour of a text: as it is, but digits behind #, in a text that is not freed,
+// and none for no colour.
+fn svg_name<'a>(alloc: Global, text: &'a str, colour: Colour) -> Result<&'a str, AllocError> {
     if colour.opacity == 0 {
-        String::from_str(alloc, "none")
-    } else if text.bytes().all(|byte| byte.is_ascii_hexdigit()) {
-        format!(in alloc; "#{text}")
-    } else {
-        String::from_str(alloc, text)
+        return Ok("none");
     }
+    if !text.bytes().all(|byte| byte.is_ascii_hexdigit()) {
+        return Ok(text);
+    }
+    let digits: &'a [u8] = format!(in alloc; "#{text}")?.into_bytes().leak();
+    Ok(str::from_utf8(digits).unwrap_or(text))
 }
 
 // What is said of a text that names no colour.
 fn unknown_colour(alloc: Global, option: &str, text: &str) -> Result<String, AllocError> {
-    let mut nearest = Nearest::to(text);
-    for (name, _) in NAMES {
-        nearest.consider(alloc, name)?;
-    }
-    match nearest.name() {
+    let names = NAMES.iter().map(|row| row.0).collect::<Vec<&str>>(alloc)?;
+    match nearest(alloc, text, &names)? {
         Some(name) => format!(in alloc; "--{option} {text}: no such colour; did you mean {name}?"),
         None => format!(in alloc;
             "--{option} {text}: no such colour; use a CSS name such as navy, or #rgb, #rrggbb or \

@@ -21,19 +21,19 @@ pub fn place_of(
             "--at: only labels have a place for the code; add --format zpl or tspl",
         );
     }
-    match text.split_once(',') {
-        Some((x, y)) => match (x.parse::<u16>(), y.parse::<u16>()) {
-            (Ok(x), Ok(y)) if x.max(y) <= 32_000 => Ok((u32::from(x), u32::from(y))),
-            _ => no_place(alloc, text),
-        },
-        None => no_place(alloc, text),
+    match dots_of(text) {
+        Some(place) => Ok(place),
+        None => Err(Failure::Usage(format!(in alloc;
+            "--at {text}: use dots from the left and from the top, each 0 to 32,000, e.g. 50,30"
+        )?)),
     }
 }
 
-fn no_place(alloc: Global, text: &str) -> Result<(u32, u32), Failure> {
-    Err(Failure::Usage(format!(in alloc;
-        "--at {text}: use dots from the left and from the top, each 0 to 32,000, e.g. 50,30"
-    )?))
+// Two numbers of dots.
+fn dots_of(text: &str) -> Option<(u32, u32)> {
+    let (x, y) = text.split_once(',')?;
+    let (x, y) = (x.parse::<u32>().ok()?, y.parse::<u32>().ok()?);
+    (x.max(y) <= 32_000).then_some((x, y))
 }
 
 /// What the command line says at the element of SVG; in PDF its title.

@@ -41,18 +41,17 @@ pub fn sizes_of(alloc: Global, given: &ArgMatches<'_>, format: Format) -> Result
         Format::Eps | Format::Pdf => Some(dpi.unwrap_or(72)),
         _ => dpi,
     };
-    let side = match text {
-        Some(text) => Some(side(alloc, text, dots)?),
-        None => None,
-    };
+    let side = text.map(|text| side(alloc, text, dots)).transpose()?;
     let scale = match module {
         Some(text) => scale_of(alloc, text, dots)?,
         None => given.get_one::<u16>("scale").unwrap_or(format.pixels()),
     };
     let zone = given.get_one::<u8>("quiet-zone").unwrap_or(4);
     let most = greatest_side(given, format);
-    check_scale(alloc, scale, zone, most)?;
-    check_side(alloc, side, most)?;
+    // Of the largest code.
+    let modules = 177 + 2 * zone as u32;
+    check_pixels(alloc, "scale", scale, most / modules, most)?;
+    check_pixels(alloc, "size", side.unwrap_or(0), most, most)?;
     Ok(Sizes {
         scale,
         side,
@@ -99,17 +98,7 @@ fn exact(
 
 /// Whether the pixels of a format may be so many to an inch.
 pub fn has_dots(format: Format) -> bool {
-    !matches!(
-        format,
-        Format::HalfBlocks
-            | Format::LightHalfBlocks
-            | Format::Terminal
-            | Format::Chars
-            | Format::Ascii
-            | Format::Svg
-            | Format::SvgPath
-            | Format::Pic
-    )
+    format.pixels() > 1 && !matches!(format, Format::Svg | Format::SvgPath)
 }
 
 // The most pixels along a side.
@@ -120,25 +109,20 @@ fn greatest_side(given: &ArgMatches<'_>, format: Format) -> u32 {
     }
 }
 
-// Refuses a scale by which the largest code has more pixels along a side than there may be.
-fn check_scale(alloc: Global, scale: u16, zone: u8, pixels: u32) -> Result<(), Failure> {
-    let most = pixels / (177 + 2 * zone as u32);
-    if scale as u32 <= most {
+// Refuses more pixels than an option may give, where a side has at most so many.
+fn check_pixels(
+    alloc: Global,
+    option: &str,
+    pixels: u16,
+    most: u32,
+    side: u32,
+) -> Result<(), Failure> {
+    if pixels as u32 <= most {
         return Ok(());
     }
     Err(Failure::Usage(format!(in alloc;
-        "--scale {scale}: this format has at most {pixels} pixels a side; use at most {most}"
+        "--{option} {pixels}: this format has at most {side} pixels a side; use at most {most}"
     )?))
-}
-
-// Refuses a side of more pixels than there may be.
-fn check_side(alloc: Global, side: Option<u16>, most: u32) -> Result<(), Failure> {
-    match side {
-        Some(pixels) if pixels as u32 > most => Err(Failure::Usage(format!(in alloc;
-            "--size {pixels}: this format has at most {most} pixels a side"
-        )?)),
-        _ => Ok(()),
-    }
 }
 
 // The parts of an inch in which lengths are counted: whole numbers of them are a micrometre, a
@@ -161,14 +145,9 @@ fn parts_of(text: &str) -> Option<u64> {
 
 // The pixels of a side that a text says: a number of them, or a length.
 fn side(alloc: Global, text: &str, dots: Option<u16>) -> Result<u16, Failure> {
-    let pixels = match (parts_of(text), dots) {
-        (Some(length), Some(dots)) => pixels_along(alloc, text, length, dots)?,
-        (Some(_), None) => {
-            return Err(Failure::Usage(format!(in alloc;
-                "--size {text}: lengths need --dpi, e.g. --dpi 300 of a PNG, or --format svg, eps or pdf"
-            )?));
-        }
-        (None, _) => text.parse::<u16>().unwrap_or(0),
+    let pixels = match dots_along(alloc, "size", text, dots)? {
+        Some(parts) => pixels_in(alloc, "size", text, parts / INCH)?,
+        None => text.parse::<u16>().unwrap_or(0),
     };
     if pixels > 0 {
         return Ok(pixels);
@@ -178,43 +157,42 @@ fn side(alloc: Global, text: &str, dots: Option<u16>) -> Result<u16, Failure> {
     )?))
 }
 
-// The whole pixels along parts of an inch.
-fn pixels_along(alloc: Global, text: &str, length: u64, dots: u16) -> Result<u16, Failure> {
-    let pixels = length.saturating_mul(dots as u64) / INCH;
-    match u16::try_from(pixels) {
-        Ok(pixels) => Ok(pixels),
-        Err(_) => {
-            Err(Failure::Usage(format!(in alloc;
-                "--size {text}: more than 65,535 pixels at {dots} per inch; use a lower --dpi"
-            )?))
+// The pixels of a module of a length, to the nearest.
+fn scale_of(alloc: Global, text: &str, dots: Option<u16>) -> Result<u16, Failure> {
+    let why = match dots_along(alloc, "module", text, dots)? {
+        Some(parts) if parts >= INCH => {
+            return pixels_in(alloc, "module", text, parts.saturating_add(INCH / 2) / INCH);
         }
+        Some(_) => "less than a dot; use a longer one, or a higher --dpi",
+        None => "use a length with --dpi, e.g. 0.5mm",
+    };
+    Err(Failure::Usage(format!(in alloc; "--module {text}: {why}")?))
+}
+
+// The dots along the length that a text says, of which an inch has so many, in parts: as many as an
+// inch has make a dot. Nothing where it says no length.
+fn dots_along(
+    alloc: Global,
+    option: &str,
+    text: &str,
+    dots: Option<u16>,
+) -> Result<Option<u64>, Failure> {
+    match (parts_of(text), dots) {
+        (None, _) => Ok(None),
+        (Some(length), Some(dots)) => Ok(Some(length.saturating_mul(dots as u64))),
+        (Some(_), None) => Err(Failure::Usage(format!(in alloc;
+            "--{option} {text}: lengths need --dpi, e.g. --dpi 300 of a PNG, or --format svg, eps \
+            or pdf"
+        )?)),
     }
 }
 
-// The pixels of a module of a length, to the nearest.
-fn scale_of(alloc: Global, text: &str, dots: Option<u16>) -> Result<u16, Failure> {
-    let Some(length) = parts_of(text) else {
-        return Err(Failure::Usage(format!(in alloc;
-            "--module {text}: use a length with --dpi, e.g. 0.5mm"
-        )?));
-    };
-    let Some(dots) = dots else {
-        return Err(Failure::Usage(format!(in alloc;
-            "--module {text}: lengths need --dpi, e.g. --dpi 300 of a PNG, or --format svg, eps or pdf"
-        )?));
-    };
-    let parts = length.saturating_mul(dots as u64);
-    if parts < INCH {
-        return Err(Failure::Usage(format!(in alloc;
-            "--module {text}: less than a dot at {dots} per inch; use a longer one, or a higher --dpi"
-        )?));
-    }
-    match u16::try_from(parts.saturating_add(INCH / 2) / INCH) {
-        Ok(scale) => Ok(scale),
-        Err(_) => {
-            Err(Failure::Usage(format!(in alloc;
-                "--module {text}: more than 65,535 pixels at {dots} per inch; use a lower --dpi"
-            )?))
-        }
+// So many pixels, where there are not too many.
+fn pixels_in(alloc: Global, option: &str, text: &str, pixels: u64) -> Result<u16, Failure> {
+    match u16::try_from(pixels) {
+        Ok(pixels) => Ok(pixels),
+        Err(_) => Err(Failure::Usage(format!(in alloc;
+            "--{option} {text}: more than 65,535 pixels; use a lower --dpi"
+        )?)),
     }
 }

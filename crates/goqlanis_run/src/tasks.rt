@@ -11,19 +11,17 @@ use crate::reading::read;
 use crate::several::{MOST_IN_SEVERAL, draw_several, join_pictures};
 use clap::ArgMatches;
 use clap::error::{Error, ErrorKind};
-use goqlanis_core::Request;
 use goqlanis_files::failure::{Failure, refused, status, usage};
 use goqlanis_files::streams::{Escaped, MOST_DATA, print, read_file, read_standard_input};
 use goqlanis_options::advice::{advice, wrapped_help};
 use goqlanis_options::asked::{Asked, Source, asked_for};
-use goqlanis_options::colours::{Colours, Inks};
 use goqlanis_options::command::{command_of, end_of_help};
 use goqlanis_options::completions::{completions_of, shell_named};
 use goqlanis_options::manual::manual_page;
 use goqlanis_options::options::{DRAWING, Purpose, Task, task_named};
 use goqlanis_options::warnings::warn_of_password;
 use qrcode::QrCode;
-use qrcode::types::{EcLevel, QrError};
+use qrcode::types::QrError;
 use qrcode_contents::bill;
 use qrcode_payloads::kinds::Kind;
 use std::alloc::{AllocError, Global};
@@ -50,22 +48,9 @@ fn run_words(rt: &HostRuntime) -> Result<ExitCode, Failure> {
         Ok(given) => given,
         Err(error) => return refuse(rt, task, &words, &error),
     };
-    let colours = Colours::of(rt.alloc(), &given)?;
-    let done = perform_in(rt, task, &given, &colours);
+    let done = perform(rt, task, &given);
     drop(given);
     done
-}
-
-// Does a task in colours. Those of parts, at most twelve, stand in a list that is not freed, for as
-// long as their names.
-fn perform_in<'a>(
-    rt: &HostRuntime,
-    task: &Task,
-    given: &ArgMatches<'a>,
-    colours: &'a Colours,
-) -> Result<ExitCode, Failure> {
-    let parts = colours.part_inks(rt.alloc())?.leak();
-    perform(rt, task, given, colours.inks(parts))
 }
 
 // The task of the command line. The first word after the program's name may be a command, which
@@ -75,22 +60,13 @@ fn take_command(alloc: Global, words: &mut Vec<String>) -> Result<&'static Task,
         words.remove(1);
         words.push(String::from_str(alloc, "--help")?)?;
     }
-    match named_task(words) {
+    match words.get(1).and_then(|word| task_named(word.as_str())) {
         Some(task) if words.len() > 1 => {
             words.remove(1);
-            let word = task.word;
-            words[0] = format!(in alloc; "goqlanis {word}")?;
+            words[0] = format!(in alloc; "goqlanis {}", task.word)?;
             Ok(task)
         }
         _ => Ok(&DRAWING),
-    }
-}
-
-// The task of the command that words begin with, where they do.
-fn named_task(words: &[String]) -> Option<&'static Task> {
-    match words.get(1) {
-        Some(word) => task_named(word.as_str()),
-        None => None,
     }
 }
 
@@ -106,23 +82,18 @@ fn all_words(rt: &HostRuntime) -> Result<Vec<String>, Failure> {
     }
 }
 
-// Says what is wrong with words that `clap` refuses, or writes its text.
+// Says what is wrong with words that `clap` refuses, or writes its text, as of `--help`.
 fn refuse(
     rt: &HostRuntime,
     task: &Task,
     words: &[String],
     error: &Error,
 ) -> Result<ExitCode, Failure> {
-    match advice(rt.alloc(), task, words, error)? {
-        Some(why) => Err(Failure::Usage(why)),
-        None => exit_status(rt, error),
-    }
-}
-
-// The exit status of words that `clap` refuses, or answers by a text itself, as `--help`.
-fn exit_status(rt: &HostRuntime, error: &Error) -> Result<ExitCode, Failure> {
     if error.kind() == ErrorKind::OutOfMemory {
         return Err(Failure::OutOfMemory);
+    }
+    if let Some(why) = advice(rt.alloc(), task, words, error)? {
+        return Err(Failure::Usage(why));
     }
     let text = format!(in rt.alloc(); "{error}")?;
     if !error.use_stderr() {
@@ -137,51 +108,26 @@ fn exit_status(rt: &HostRuntime, error: &Error) -> Result<ExitCode, Failure> {
 }
 
 // Does a task with the options that are given.
-fn perform<'a>(
-    rt: &HostRuntime,
-    task: &Task,
-    given: &ArgMatches<'a>,
-    inks: Inks<'a>,
-) -> Result<ExitCode, Failure> {
+fn perform(rt: &HostRuntime, task: &Task, given: &ArgMatches<'_>) -> Result<ExitCode, Failure> {
     match task.purpose {
         Purpose::Read => read(rt, given),
         Purpose::Check => check(rt, given),
         Purpose::Join => join_pictures(rt, given),
         Purpose::Draw => match text_about(rt.alloc(), given)? {
             Some(text) => print(rt, text.as_bytes()),
-            None => make(rt, task.purpose, given, inks),
+            None => make(rt, task, given),
         },
-        purpose => make(rt, purpose, given, inks),
+        _ => make(rt, task, given),
     }
-}
-
-// What is asked for, at level H where a logo is to stand in the middle and neither a level is named
-// nor the format of a payload says one: there is room for a larger logo.
-fn with_level<'a>(asked: Asked<'a>, purpose: Purpose, given: &ArgMatches<'a>) -> Asked<'a> {
-    let has_its_level = matches!(purpose, Purpose::Content(Kind::Payment | Kind::Bill));
-    if asked.logo.is_none() || has_its_level || given.contains_id("level") {
-        return asked;
-    }
-    let request = Request {
-        level: EcLevel::H,
-        ..asked.request
-    };
-    Asked { request, ..asked }
 }
 
 // Makes codes.
-fn make<'a>(
-    rt: &HostRuntime,
-    purpose: Purpose,
-    given: &ArgMatches<'a>,
-    inks: Inks<'a>,
-) -> Result<ExitCode, Failure> {
-    let asked = asked_for(rt, given, inks)?;
-    let asked = with_level(asked, purpose, given);
+fn make(rt: &HostRuntime, task: &Task, given: &ArgMatches<'_>) -> Result<ExitCode, Failure> {
+    let asked = asked_for(rt, task, given)?;
     let file = logo_file(rt, &asked)?;
     let asked = with_file(asked, &file);
-    match purpose {
-        Purpose::Several => { draw_several(rt, given, &asked, &data(rt, &asked, MOST_IN_SEVERAL)?) }
+    match task.purpose {
+        Purpose::Several => draw_several(rt, given, &asked, &data(rt, &asked, MOST_IN_SEVERAL)?),
         Purpose::Content(kind) => draw_content(rt, kind, given, &asked),
         Purpose::Elements => draw_gs1(rt, given, &asked),
         _ => draw_asked(rt, given, &asked),
@@ -224,32 +170,34 @@ fn draw_content(
     given: &ArgMatches<'_>,
     asked: &Asked<'_>,
 ) -> Result<ExitCode, Failure> {
-    let alloc = rt.alloc();
-    let text = payload_of(alloc, kind, given)?;
+    let text = payload_of(rt.alloc(), kind, given)?;
     if matches!(kind, Kind::Bill) {
-        check_bill(alloc, text.as_str())?;
-        if asked.logo.is_some() {
-            return usage(
-                alloc,
-                "--logo, --logo-area: a bill has the Swiss cross in its middle",
-            );
-        }
+        return draw_bill(rt, asked, text.as_str());
     }
     if matches!(kind, Kind::Wifi) {
         warn_of_password(rt, given);
     }
-    if !matches!(kind, Kind::Bill) {
+    draw_one(rt, asked, text.as_bytes())
+}
+
+// Draws the text of a bill, with the Swiss cross where the format has one.
+fn draw_bill(rt: &HostRuntime, asked: &Asked<'_>, text: &str) -> Result<ExitCode, Failure> {
+    check_bill(rt.alloc(), text)?;
+    if asked.logo.is_some() {
+        return usage(
+            rt.alloc(),
+            "--logo, --logo-area: a bill has the Swiss cross in its middle",
+        );
+    }
+    if !has_cross(asked.request.format) {
+        let _ = eprintln!(rt;
+            "goqlanis: warning: this format lacks the Swiss cross of a bill; png, svg, eps and pdf have \
+            it"
+        );
         return draw_one(rt, asked, text.as_bytes());
     }
-    if has_cross(asked.request.format) {
-        let logo = Some(SWISS_CROSS);
-        return draw_one(rt, &Asked { logo, ..*asked }, text.as_bytes());
-    }
-    let _ = eprintln!(rt;
-        "goqlanis: warning: this format lacks the Swiss cross of a bill; png, svg, eps and pdf have \
-        it"
-    );
-    draw_one(rt, asked, text.as_bytes())
+    let logo = Some(SWISS_CROSS);
+    draw_one(rt, &Asked { logo, ..*asked }, text.as_bytes())
 }
 
 // The bytes that a symbol of a bill's level and largest version always holds.

@@ -7,14 +7,14 @@ use qrcode_contents::fields::errors::Field;
 use qrcode_payloads::kinds::{Kind, fields_of};
 use std::alloc::{AllocError, Global};
 
-// A row of a payload: its command, its kind, and what help says of it.
-macro_rules! payload {
-    ($word:literal, $kind:expr, $about:literal) => {
+// A row of the table: its command, what is done, what help says of it, and its own options.
+macro_rules! task {
+    ($word:literal, $purpose:expr, $about:literal $(, $option:expr)*) => {
         Task {
             word: $word,
             about: $about,
-            purpose: Purpose::Content($kind),
-            options: &[],
+            purpose: $purpose,
+            options: &[$($option),*],
         }
     };
 }
@@ -22,69 +22,38 @@ macro_rules! payload {
 /// What commands ask for.
 #[rattlefmt::skip]
 pub static TASKS: &[Task] = &[
-    Task {
-        word: "read",
-        about: "Decode the QR codes of a picture",
-        purpose: Purpose::Read,
-        options: &[
-            entry!("output", 'o', Path, "Write the data to FILE, atomically; - is standard output"),
-            entry!("verbose", 'v', Nothing,
-                "Report version, level, mask, position, corrected errors, headers and segments on \
-                standard error"),
-            entry!("json", Nothing,
-                "Write the data and this report as a JSON list instead"),
-        ],
-    },
-    Task {
-        word: "check",
-        about: "Report where the QR codes in a picture depart from the standard",
-        purpose: Purpose::Check,
-        options: &[
-            entry!("json", Nothing, "Write a JSON list instead of text"),
-        ],
-    },
-    Task {
-        word: "split",
-        about: "Split data over up to 16 codes (structured append)",
-        purpose: Purpose::Several,
-        options: &[
-            entry!("count", Number("N", 1, 16),
-                "Number of codes, 1 to 16, in the smallest version that fits [default: as few as fit]"),
-            entry!("max-version", Text("VERSION"), "Largest version to use, 1 to 40 [default: 40]"),
-        ],
-    },
-    Task {
-        word: "join",
-        about: "Decode the codes of a split and join their data",
-        purpose: Purpose::Join,
-        options: &[
-            entry!("output", 'o', Path, "Write the data to FILE, atomically; - is standard output"),
-        ],
-    },
-    payload!("wifi", Kind::Wifi, "Wi-Fi network"),
-    payload!("mecard", Kind::Mecard, "Contact (MECARD)"),
-    payload!("vcard", Kind::Vcard, "Contact (vCard 3.0)"),
-    payload!("epc", Kind::Payment, "SEPA credit transfer (EPC QR code)"),
-    payload!("bill", Kind::Bill, "Swiss QR-bill, with its cross in SVG, PNG, EPS and PDF"),
-    payload!("upi", Kind::Upi, "Payment by UPI (India)"),
-    payload!("pix", Kind::Pix, "Static payment by Pix (Brazil)"),
-    payload!("promptpay", Kind::Promptpay, "Payment by PromptPay (Thailand)"),
-    payload!("email", Kind::Mail, "E-mail"),
-    payload!("geo", Kind::Geo, "Location"),
-    payload!("tel", Kind::Tel, "Phone call"),
-    payload!("sms", Kind::Sms, "Text message"),
-    payload!("otp", Kind::Otp, "One-time password for authenticator apps"),
-    payload!("event", Kind::Event, "Calendar event"),
-    Task {
-        word: "gs1",
-        about: "GS1 element string",
-        purpose: Purpose::Elements,
-        options: &[
-            entry!("application", Text("INDICATOR"),
-                "Application indicator (FNC1 in second position): two digits or a letter, \
-                assigned by AIM"),
-        ],
-    },
+    task!("read", Purpose::Read, "Decode the QR codes of a picture",
+        entry!("output", 'o', Path, "Write the data to FILE, atomically; - is standard output"),
+        entry!("verbose", 'v', Nothing,
+            "Report version, level, mask, position, corrected errors, headers and segments on \
+            standard error"),
+        entry!("json", Nothing, "Write the data and this report as a JSON list instead")),
+    task!("check", Purpose::Check, "Report where the QR codes in a picture depart from the standard",
+        entry!("json", Nothing, "Write a JSON list instead of text")),
+    task!("split", Purpose::Several, "Split data over up to 16 codes (structured append)",
+        entry!("count", Number("N", 1, 16),
+            "Number of codes, 1 to 16, in the smallest version that fits [default: as few as fit]"),
+        entry!("max-version", Text("VERSION"), "Largest version to use, 1 to 40 [default: 40]")),
+    task!("join", Purpose::Join, "Decode the codes of a split and join their data",
+        entry!("output", 'o', Path, "Write the data to FILE, atomically; - is standard output")),
+    task!("wifi", Purpose::Content(Kind::Wifi), "Wi-Fi network"),
+    task!("mecard", Purpose::Content(Kind::Mecard), "Contact (MECARD)"),
+    task!("vcard", Purpose::Content(Kind::Vcard), "Contact (vCard 3.0)"),
+    task!("epc", Purpose::Content(Kind::Payment), "SEPA credit transfer (EPC QR code)"),
+    task!("bill", Purpose::Content(Kind::Bill), "Swiss QR-bill, with its cross in SVG, PNG, EPS and PDF"),
+    task!("upi", Purpose::Content(Kind::Upi), "Payment by UPI (India)"),
+    task!("pix", Purpose::Content(Kind::Pix), "Static payment by Pix (Brazil)"),
+    task!("promptpay", Purpose::Content(Kind::Promptpay), "Payment by PromptPay (Thailand)"),
+    task!("email", Purpose::Content(Kind::Mail), "E-mail"),
+    task!("geo", Purpose::Content(Kind::Geo), "Location"),
+    task!("tel", Purpose::Content(Kind::Tel), "Phone call"),
+    task!("sms", Purpose::Content(Kind::Sms), "Text message"),
+    task!("otp", Purpose::Content(Kind::Otp), "One-time password for authenticator apps"),
+    task!("event", Purpose::Content(Kind::Event), "Calendar event"),
+    task!("gs1", Purpose::Elements, "GS1 element string",
+        entry!("application", Text("INDICATOR"),
+            "Application indicator (FNC1 in second position): two digits or a letter, assigned by \
+            AIM")),
 ];
 
 /// The options of a kind of payload, in the order of its fields, unless memory runs out.
