@@ -45,9 +45,9 @@ struct Folder {
     _open: Option<File>,
 }
 
-// The folder of a path.
-fn opened(rt: &HostRuntime, path: &str) -> Result<Folder, AllocError> {
-    let name = String::from_str(rt.alloc(), folder_of(path))?;
+// A folder of a name.
+fn opened(rt: &HostRuntime, name: &str) -> Result<Folder, AllocError> {
+    let name = String::from_str(rt.alloc(), name)?;
     let place = if name.is_empty() { "." } else { name.as_str() };
     let open = File::open(rt, place).ok();
     let way = match &open {
@@ -75,8 +75,8 @@ pub fn write_whole(rt: &HostRuntime, path: &str, bytes: &[u8]) -> Result<(), Unw
         if is_open_file(place.as_str()) {
             return write_straight(rt, place.as_str(), true, bytes);
         }
-        let folder = opened(rt, place.as_str())?;
-        let name = name_of(place.as_str());
+        let (folder, name) = parts_of(place.as_str());
+        let folder = opened(rt, folder)?;
         let inside = format!(in rt.alloc(); "{}{name}", folder.way.as_str())?;
         let found = match fs::symlink_metadata(rt, inside.as_str()) {
             Ok(found) => found,
@@ -145,20 +145,11 @@ fn is_strange(rt: &HostRuntime, folder: &str, found: &Metadata) -> io::Result<bo
     Ok(found.uid() != fs::metadata(rt, "/proc/self")?.uid())
 }
 
-// The folder of a path, with the slash behind it; nothing where the path has none.
-fn folder_of(path: &str) -> &str {
-    match path.rsplit_once('/') {
-        Some((folder, _)) => path.get(..folder.len().saturating_add(1)).unwrap_or(""),
-        None => "",
-    }
-}
-
-// The name of a path in its folder.
-fn name_of(path: &str) -> &str {
-    match path.rsplit_once('/') {
-        Some((_, name)) => name,
-        None => path,
-    }
+// The folder of a path, with the slash behind it, and the name there; no folder where the path has
+// none.
+fn parts_of(path: &str) -> (&str, &str) {
+    let end = path.rfind('/').map_or(0, |place| place.saturating_add(1));
+    (path.get(..end).unwrap_or(""), path.get(end..).unwrap_or(""))
 }
 
 // Writes what is no regular file, or after what is in a file that is open already. A regular file

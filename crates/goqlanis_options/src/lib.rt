@@ -10,7 +10,6 @@ pub mod frames;
 pub mod logos;
 pub mod manual;
 pub mod nearest;
-pub mod numbers;
 pub mod options;
 pub mod report;
 pub mod sizes;

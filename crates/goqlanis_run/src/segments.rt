@@ -2,7 +2,7 @@
 
 use goqlanis_core::Segment;
 use goqlanis_files::failure::Failure;
-use goqlanis_options::numbers::two_digits;
+use hex::FromHexError;
 use qrcode::types::Mode;
 use std::alloc::{AllocError, Global};
 
@@ -17,17 +17,23 @@ impl Piece {
     // The segment of a word MODE:TEXT, of which the text of Kanji is Shift JIS in digits to the
     // base 16; or of eci:NUMBER, the number of a character set.
     fn read(alloc: Global, word: &str) -> Result<Piece, Failure> {
-        match word.split_once(':') {
-            Some((name, number)) if name.eq_ignore_ascii_case("eci") => {
-                character_set(alloc, word, number)
-            }
-            Some((name, text)) => match mode_named(name) {
-                Some(Mode::Kanji) => pairs(alloc, word, text),
-                Some(mode) => Ok(Piece::Data(mode, Vec::from_slice(alloc, text.as_bytes())?)),
-                None => no_segment(alloc, word),
+        let (name, text) = word.split_once(':').unwrap_or(("", ""));
+        let why = match mode_named(name) {
+            Some(Mode::Kanji) => match hex::decode(alloc, text) {
+                Ok(bytes) => return Ok(Piece::Data(Mode::Kanji, bytes)),
+                Err(FromHexError::OutOfMemory) => return Err(Failure::OutOfMemory),
+                Err(_) => "the data of kanji is Shift JIS in hex, e.g. 935f",
             },
-            None => no_segment(alloc, word),
-        }
+            Some(mode) => return Ok(Piece::Data(mode, Vec::from_slice(alloc, text.as_bytes())?)),
+            None if name.eq_ignore_ascii_case("eci") => match text.parse::<u32>() {
+                Ok(number) if number <= 999_999 => return Ok(Piece::CharacterSet(number)),
+                _ => "an ECI number is 0 to 999999, e.g. 26 for UTF-8",
+            },
+            None => {
+                "use MODE:DATA with the mode numeric, alphanumeric, byte or kanji, or eci:NUMBER"
+            }
+        };
+        Err(Failure::Usage(format!(in alloc; "--segment {word}: {why}")?))
     }
 
     // The segment.
@@ -61,35 +67,6 @@ pub(crate) fn is_empty(segment: &Segment<'_>) -> bool {
     }
 }
 
-// The number of a character set.
-fn character_set(alloc: Global, word: &str, number: &str) -> Result<Piece, Failure> {
-    match number.parse::<u32>() {
-        Ok(number) if number <= 999_999 => Ok(Piece::CharacterSet(number)),
-        _ => Err(Failure::Usage(format!(in alloc;
-            "--segment {word}: an ECI number is 0 to 999999, e.g. 26 for UTF-8"
-        )?)),
-    }
-}
-
-// Pairs of Shift JIS, of their digits.
-fn pairs(alloc: Global, word: &str, digits: &str) -> Result<Piece, Failure> {
-    let mut bytes = Vec::new(alloc);
-    if push_digits(&mut bytes, digits.as_bytes())? {
-        return Ok(Piece::Data(Mode::Kanji, bytes));
-    }
-    Err(Failure::Usage(format!(in alloc;
-        "--segment {word}: the data of kanji is Shift JIS in hex, e.g. 935f"
-    )?))
-}
-
-// A word that is no segment.
-fn no_segment(alloc: Global, word: &str) -> Result<Piece, Failure> {
-    Err(Failure::Usage(format!(in alloc;
-        "--segment {word}: use MODE:DATA with the mode numeric, alphanumeric, byte or kanji, or \
-        eci:NUMBER"
-    )?))
-}
-
 // Names of modes.
 static MODES: &[(&str, Mode)] = &[
     ("numeric", Mode::Numeric),
@@ -112,19 +89,6 @@ fn mode_named(name: &str) -> Option<Mode> {
         .iter()
         .find(|(known, _)| known.eq_ignore_ascii_case(name))?;
     Some(*mode)
-}
-
-// Appends the bytes of pairs of digits to the base 16, and says whether they are such.
-fn push_digits(bytes: &mut Vec<u8>, digits: &[u8]) -> Result<bool, AllocError> {
-    let mut rest = digits;
-    while let [high, low, more @ ..] = rest {
-        let Some(byte) = two_digits(*high, *low) else {
-            return Ok(false);
-        };
-        bytes.push(byte)?;
-        rest = more;
-    }
-    Ok(rest.is_empty())
 }
 
 /// Why a mode does not write a text.

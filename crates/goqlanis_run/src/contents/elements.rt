@@ -9,7 +9,7 @@ use goqlanis_files::failure::Failure;
 use qrcode_gs1::checks::cause_of;
 use qrcode_gs1::elements::Element;
 use qrcode_gs1::errors::Cause;
-use qrcode_gs1::table::{Rule, rule_of};
+use qrcode_gs1::table::rule_of;
 use std::alloc::{AllocError, Global};
 
 /// Elements: of each its identifier and its value.
@@ -82,9 +82,13 @@ impl Elements {
         };
         let number = index.saturating_add(1);
         let mut text = format!(in alloc; "element {number}, ({identifier}): ")?;
-        match rule_of(identifier.as_bytes()) {
-            Some(rule) => push_cause(&mut text, &rule, identifier.as_str(), value.as_str(), cause)?,
-            None => text.push_str(
+        match (cause, rule_of(identifier.as_bytes())) {
+            (Cause::Length, Some(rule)) => push_length(&mut text, rule.1, value.len())?,
+            (Cause::Character, Some(rule)) => push_character(&mut text, rule.2, value.as_str())?,
+            (Cause::CheckDigit, Some(rule)) => {
+                push_digit(&mut text, identifier.as_str(), value.as_str(), rule.3)?;
+            }
+            _ => text.push_str(
                 "no such identifier is known; \
                 identifiers have two to four digits, as 01, 414 and 3103",
             )?,
@@ -173,22 +177,6 @@ fn not_closed(alloc: Global) -> Failure {
     wrong(alloc, "ELEMENTS", what, "; write ( in a value as \\(")
 }
 
-// Appends what is wrong with a value, and what would help.
-fn push_cause(
-    text: &mut String,
-    rule: &Rule,
-    identifier: &str,
-    value: &str,
-    cause: Cause,
-) -> Result<(), AllocError> {
-    match cause {
-        Cause::UnknownIdentifier => Ok(()),
-        Cause::Length => push_length(text, rule.1, value.len()),
-        Cause::Character => push_character(text, rule.2, value),
-        Cause::CheckDigit => push_digit(text, identifier, value, rule.3),
-    }
-}
-
 // Appends how many characters a value has, and the least and the most that it may have.
 fn push_length(
     text: &mut String,
@@ -220,23 +208,19 @@ fn push_digit(
 // Appends the first character of a value that may not stand there, of which so many are digits.
 fn push_character(text: &mut String, digits: usize, value: &str) -> Result<(), AllocError> {
     for (index, character) in value.chars().enumerate() {
-        if let Some(what) = wrong_with(character, index < digits) {
-            let place = index.saturating_add(1);
-            return write!(text, "{character} at place {place} is {what}");
+        let place = index.saturating_add(1);
+        if index < digits && !character.is_ascii_digit() {
+            return write!(text, "{character} at place {place} is no digit");
+        }
+        if !is_known(character) {
+            return write!(
+                text,
+                "{character} at place {place} is not one of the digits, letters and \
+                !\"%&'()*+,-./:;<=>?_"
+            );
         }
     }
     Ok(())
-}
-
-// What is wrong with a character that may be a digit alone, or any of GS1.
-fn wrong_with(character: char, is_digit: bool) -> Option<&'static str> {
-    if is_digit && !character.is_ascii_digit() {
-        Some("no digit")
-    } else if !is_known(character) {
-        Some("not one of the digits, letters and !\"%&'()*+,-./:;<=>?_")
-    } else {
-        None
-    }
 }
 
 // Whether a character is one of the 82 of GS1.
