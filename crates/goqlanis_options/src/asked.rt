@@ -56,8 +56,10 @@ pub struct Asked<'a> {
     pub trims: bool,
     /// Whether each line is data of its own.
     pub is_by_line: bool,
-    /// What stands between the fields of a line, of which names of files are made.
+    /// What stands between the fields of a line.
     pub delimiter: &'a str,
+    /// The field of a line that is its data, counted from 1, where it is not all of the line.
+    pub field: Option<usize>,
     /// Whether data that is empty is drawn.
     pub allows_empty: bool,
     /// The side that is asked for in hundredths of millimetres, where it is.
@@ -92,10 +94,13 @@ pub fn asked_for<'a>(
         trims: given.get_flag("trim"),
         is_by_line: given.get_flag("lines"),
         delimiter: given.get_str("delimiter").unwrap_or(","),
+        field: given.get_one::<u16>("field").map(usize::from),
         allows_empty: given.get_flag("allow-empty"),
     };
     if asked.is_by_line {
         check_one_behind_another(alloc, &asked)?;
+    } else if asked.field.is_some() {
+        return usage(alloc, "--field: it is a field of a line; add --lines");
     }
     warn(rt, &asked);
     Ok(asked)

@@ -1,13 +1,14 @@
 //! A symbol of each line.
 
 use crate::drawing::draw_one;
-use crate::names::{Item, Names, check_names};
+use crate::names::{Item, check_names, field_of, take_name};
 use goqlanis_core::Grouped;
-use goqlanis_files::failure::Failure;
+use goqlanis_files::failure::{Failure, refused};
 use goqlanis_files::progress::Progress;
 use goqlanis_files::streams::{ask, shown, unread};
 use goqlanis_options::asked::{Asked, Source, Target};
 use std::alloc::Global;
+use std::collections::BTreeSet;
 use std::fs;
 use std::io::{BufRead, BufReader, IsTerminal, Read};
 use std::process::ExitCode;
@@ -61,13 +62,13 @@ fn draw_each<R: BufRead>(
     progress: Progress,
 ) -> Result<ExitCode, Failure> {
     let mut code = ExitCode::SUCCESS;
-    let mut names = Names::new(rt.alloc());
+    let mut taken = BTreeSet::new(rt.alloc());
     let mut line = Vec::new(rt.alloc());
     for number in 1..usize::MAX {
         if !next_line(rt.alloc(), name, from, &mut line, number)? {
             return Ok(code);
         }
-        match draw_line(rt, asked, &mut names, without_ending(&line), number) {
+        match draw_line(rt, asked, &mut taken, without_ending(&line), number) {
             Ok(_) => progress.show(rt, number),
             Err(Failure::Refused(why)) => {
                 progress.clear(rt);
@@ -85,12 +86,13 @@ fn draw_each<R: BufRead>(
 fn draw_line(
     rt: &HostRuntime,
     asked: &Asked<'_>,
-    names: &mut Names,
+    taken: &mut BTreeSet<String>,
     line: &[u8],
     number: usize,
 ) -> Result<ExitCode, Failure> {
+    let data = data_in(rt.alloc(), asked, line)?;
     let Target::File(path) = asked.target else {
-        return draw_one(rt, asked, line);
+        return draw_one(rt, asked, data);
     };
     let text = String::from_utf8_lossy(rt.alloc(), line)?;
     let item = Item {
@@ -98,9 +100,20 @@ fn draw_line(
         text: text.as_str(),
         delimiter: asked.delimiter,
     };
-    let name = names.take(rt.alloc(), path, item)?;
+    let name = take_name(rt.alloc(), taken, path, item)?;
     let target = Target::File(name.as_str());
-    draw_one(rt, &Asked { target, ..*asked }, line)
+    draw_one(rt, &Asked { target, ..*asked }, data)
+}
+
+// The field of a line that is asked for, or all of it.
+fn data_in<'a>(alloc: Global, asked: &Asked<'_>, line: &'a [u8]) -> Result<&'a [u8], Failure> {
+    let Some(number) = asked.field else {
+        return Ok(line);
+    };
+    match str::from_utf8(line) {
+        Ok(text) => Ok(field_of(alloc, text, asked.delimiter, number)?.as_bytes()),
+        Err(_) => refused(alloc, "it is not UTF-8: leave out --field"),
+    }
 }
 
 // Reads a line with its ending, in place of another one. At the end there is none.

@@ -56,34 +56,20 @@ pub(crate) fn check_names(rt: &HostRuntime, asked: &Asked<'_>) -> Result<(), Fai
     }
 }
 
-/// The names of files that were made of texts, so that no two are the same.
-#[derive(Drop)]
-pub(crate) struct Names {
-    taken: BTreeSet<String>,
-}
-
-impl Names {
-    pub(crate) fn new(alloc: Global) -> Names {
-        Names {
-            taken: BTreeSet::new(alloc),
-        }
+/// The file of an item, unless an earlier one has it whose text it was made of.
+pub(crate) fn take_name(
+    alloc: Global,
+    taken: &mut BTreeSet<String>,
+    path: &str,
+    item: Item<'_>,
+) -> Result<String, Failure> {
+    let name = name_of(alloc, path, item)?;
+    if !has_text(path) || taken.insert(String::from_str(alloc, name.as_str())?)? {
+        return Ok(name);
     }
-
-    /// The file of an item.
-    pub(crate) fn take(
-        &mut self,
-        alloc: Global,
-        path: &str,
-        item: Item<'_>,
-    ) -> Result<String, Failure> {
-        let name = name_of(alloc, path, item)?;
-        if !has_text(path) || self.taken.insert(String::from_str(alloc, name.as_str())?)? {
-            return Ok(name);
-        }
-        Err(Failure::Refused(format!(in alloc;
-            "{name} is the file of an earlier line; {{}} in --output is the number of the line"
-        )?))
-    }
+    Err(Failure::Refused(format!(in alloc;
+        "{name} is the file of an earlier line; {{}} in --output is the number of the line"
+    )?))
 }
 
 /// The file of an item: a path with the item in its places, or with its number before its file
@@ -145,38 +131,33 @@ fn place_of(piece: &str) -> Option<(Place, &str)> {
 // Writes what stands in the place that a piece of a path begins with, and the rest of the piece; or,
 // if there is none, the piece after its bracket.
 fn push_piece(name: &mut String, piece: &str, item: Item<'_>) -> Result<(), Failure> {
-    match place_of(piece) {
-        Some((place, rest)) => {
-            push_place(name, place, item)?;
-            name.push_str(rest)?;
-        }
-        None => write!(name, "{{{piece}")?,
-    }
-    Ok(())
-}
-
-// Writes what stands in a place.
-fn push_place(name: &mut String, place: Place, item: Item<'_>) -> Result<(), Failure> {
+    let Some((place, rest)) = place_of(piece) else {
+        return Ok(write!(name, "{{{piece}")?);
+    };
     match place {
-        Place::Number => {
-            let number = item.number;
-            write!(name, "{number}")?;
-        }
+        Place::Number => write!(name, "{}", item.number)?,
         Place::Text => push_clean(name, item.text)?,
         Place::Field(number) => {
-            let index = number.saturating_sub(1);
-            match item.text.split(item.delimiter).nth(index) {
-                Some(field) => push_clean(name, field)?,
-                None => {
-                    return Err(Failure::Refused(format!(in *name.allocator();
-                        "it has no field {number} for its file name; --delimiter says what \
-                        separates fields"
-                    )?));
-                }
-            }
+            let field = field_of(*name.allocator(), item.text, item.delimiter, number)?;
+            push_clean(name, field)?;
         }
     }
-    Ok(())
+    Ok(name.push_str(rest)?)
+}
+
+/// The field of a line, counted from 1, of those that a text separates.
+pub(crate) fn field_of<'a>(
+    alloc: Global,
+    line: &'a str,
+    delimiter: &str,
+    number: usize,
+) -> Result<&'a str, Failure> {
+    match line.split(delimiter).nth(number.saturating_sub(1)) {
+        Some(field) => Ok(field),
+        None => Err(Failure::Refused(format!(in alloc;
+            "it has no field {number}; --delimiter says what separates fields"
+        )?)),
+    }
 }
 
 // Writes a text, in which what a file name cannot have on some system is a _, and so is a point that
