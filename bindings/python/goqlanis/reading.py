@@ -88,6 +88,10 @@ class Part(NamedTuple):
     length: Optional[int] = None
 
 
+# The ECI numbers of UTF-8 and of what is part of it: ASCII (27, 170). 899 says that there is no text.
+_UTF8 = (26, 27, 170, 899)
+
+
 class Code(NamedTuple):
     """A code that a picture shows: as an AnyReading, and its headers and segments in order. After
     FNC1 its data has a separator (byte 29) between elements.
@@ -109,12 +113,18 @@ class Code(NamedTuple):
 
     @property
     def text(self) -> Optional[str]:
-        """The data where it is UTF-8, or None.
+        """The data where it is UTF-8, or None. Under an ECI header for another character set it is
+        None.
 
-        >>> from goqlanis import encode
+        >>> from goqlanis import encode, encode_segments
         >>> read(encode("Größe: 5 m²").png())[0].text
         'Größe: 5 m²'
+        >>> latin = encode_segments([("eci", 3), ("byte", "Â±".encode("latin-1"))])
+        >>> read(latin.png())[0].text, read(latin.png())[0].data.decode("latin-1")
+        (None, 'Â±')
         """
+        if any(part.kind == "eci" and part.number not in _UTF8 for part in self.parts):
+            return None
         try:
             return self.data.decode()
         except UnicodeDecodeError:

@@ -101,7 +101,7 @@ first_plain w s p i v l k bytes parts wrong none f = record {
   read = plain_reading (seen w p i s) v l k bytes parts wrong none f.read;
   number = f.number;
   position = f.position;
-  first = λ n below others r. f.first n below others (map part_of r.spelled.pieces) (parts_of_bytes (seen w (tried n).0 (tried n).1 s) others r);
+  first = λ n tried_n below others r. f.first n tried_n below others (map part_of r.spelled.pieces) (parts_of_bytes (seen w (tried n).0 (tried n).1 s) others r);
 }
 
 -- where there is no header, the bytes are handed on as they are

@@ -1,5 +1,6 @@
 pub mod Copies
 pub mod Corrections
+mod PatternKinds
 pub mod Interleaved
 pub mod PartsRead
 pub mod Positioned

@@ -1,22 +1,54 @@
 -- Squares in other positions.
-use Rattle.std.proofs.Common.{◌≡◌, ◌≢◌, ◌+◌, ◌*◌, ◌/◌, ◌%◌, ◌<◌, ℕ, Bool, true, false, List, length, get_or, refl, sym, ap, subst, ◌∙◌, arith, IsTrue}
+use Rattle.std.proofs.Common.{◌≡◌, ◌≢◌, ◌+◌, ◌*◌, ◌/◌, ◌%◌, ◌<◌, ◌≤◌, ℕ, Bool, true, false, List, length, get_or, refl, sym, ap, subst, ◌∙◌, arith, IsTrue, if◌then◌else◌, inl, inr}
+use Rattle.std.proofs.lemmas.Bool.{cases_order, cond_both}
 use Rattle.std.proofs.lemmas.List.FromFn.{fill_by_all, length-map-range_with_len}
 use Rattle.std.proofs.lemmas.Nat.{div-add-mod'}
 use Rattle.qrcode_types.specs.Versions.{is_valid, side}
 use Rattle.qrcode_types.specs.declared.types.Version.{Version}
+use Rattle.qrcode_types.specs.declared.types.EcLevel.{EcLevel}
 use Rattle.qrcode_types.specs.declared.types.Color.{Color}
 use Rattle.qrcode_types.specs.declared.types.Color.TheVariants.{Light, Dark}
+use Rattle.qrcode_symbol.specs.Reading.{ReadsBits}
 use Rattle.qrcode.specs.Reading.{Reads}
-use Rattle.qrcode.proofs.Sides.{valid_of}
-use Rattle.qrcode_reader.specs.Positions.{seen, seen_at, seen_color, tried, IsUnreadIn, IsPartlessIn}
+use Rattle.qrcode.proofs.Sides.{valid_of, same_version, same_root}
+use Rattle.qrcode_reader.specs.Figures.{has_finders}
+use Rattle.qrcode_reader.specs.Positions.{seen, seen_at, seen_color, tried, turn, IsUnreadIn, IsPartlessIn}
 use Rattle.qrcode_reader.specs.Readings.{ReadsParts}
 use Rattle.qrcode_reader.specs.declared.spell.parts.Part.{Part}
 use Rattle.qrcode_reader.specs.declared.positions.Position.{Position}
 use Rattle.qrcode_reader.specs.declared.positions.Position.TheVariants.{Upright, TurnedLeft, UpsideDown, TurnedRight, Mirrored, Flipped, Transposed, Antitransposed}
 
-length-seen : (w : ℕ) (p : Position) (is_inverted : Bool) (s : List Color) → length (seen w p is_inverted s) ≡ w * w
+-- a square in another position has as many modules
+pub length-seen : (w : ℕ) (p : Position) (is_inverted : Bool) (s : List Color) → length (seen w p is_inverted s) ≡ w * w
 unfolding seen
 length-seen w p is_inverted s = length-map-range_with_len (seen_at w p is_inverted s) 0 (w * w)
+
+-- what is read in a square in another position is of the version of that side
+pub version_seen : (u v : Version) (l : EcLevel) (bits : List Bool) (p : Position) (is_inverted : Bool) (s : List Color) → IsTrue (is_valid u) → ReadsBits (seen (side u) p is_inverted s) v l bits → v ≡ u
+version_seen u v l bits p is_inverted s valid q =
+    same_version v u (valid_of v l q.exists) valid (same_root (side v) (side u) (sym q.square ∙ length-seen (side u) p is_inverted s))
+
+-- a turn names its position
+turn_number : (has : Bool) (n at : ℕ) → n < 16 → (if has then n else n + 16) ≡ at → at % 16 ≡ n
+turn_number true n at below e = omega (arith, below, e)
+turn_number false n at below e = omega (arith, below, e)
+
+-- the positions whose turns come before one more turn: those before, and the one whose turn it is
+pub turns_more : (v : Version) (w : ℕ) (s : List Color) (P : ℕ → Type 0) (at : ℕ) → ((n : ℕ) → n < 16 → turn v w s n < at → P n)
+    → (turn v w s (at % 16) ≡ at → P (at % 16)) → (n : ℕ) → n < 16 → turn v w s n < at + 1 → P n
+turns_more v w s P at before here n below less = elim (cases_order (turn v w s n) at) [
+  | inl e ↦ let m = turn_number (has_finders v (seen w (tried n).0 (tried n).1 s)) n at below e in subst P m (here (subst (λ k. turn v w s k ≡ at) (sym m) e))
+  | inr o ↦ elim o [ inl l ↦ before n below l | inr g ↦ absurd (omega (arith, less, g)) ]
+]
+
+-- what the first of the positions gives, once its turn has come
+pub first_turn_more : (v : Version) (w : ℕ) (s : List Color) (P : Type 0) (at : ℕ) → (turn v w s 0 < at → P) → (turn v w s (at % 16) ≡ at → at % 16 ≡ 0 → P) → turn v w s 0 < at + 1 → P
+first_turn_more v w s P at before here less =
+    turns_more v w s (λ n. n ≡ 0 → P) at (λ n below sooner zero. before (subst (λ k. turn v w s k < at) zero sooner)) here 0 (omega arith) less refl
+
+-- each turn is below 32
+pub turn_below : (v : Version) (w : ℕ) (s : List Color) (n most : ℕ) → n < 16 → 32 ≤ most → turn v w s n < most
+turn_below v w s n most below enough = cond_both (has_finders v (seen w (tried n).0 (tried n).1 s)) n (n + 16) (λ k. k < most) (λ e. omega (arith, below, enough)) (λ e. omega (arith, below, enough))
 
 -- modules of no version are read in no position
 pub unread_of_no_version : (s : List Color) → ((v : Version) → IsTrue (is_valid v) → length s ≢ side v * side v) → (w : ℕ) → w * w ≡ length s → (p : Position) (is_inverted : Bool) (bytes : List ℕ)

@@ -1,4 +1,5 @@
 pub mod Corrected
+pub mod Figures
 pub mod Formats
 pub mod Parts
 pub mod Positions

@@ -7,6 +7,7 @@ use Rattle.qrcode_types.specs.declared.types.Version.{Version}
 use Rattle.qrcode_types.specs.declared.types.EcLevel.{EcLevel}
 use Rattle.qrcode_layout.specs.declared.masks.MaskPattern.{MaskPattern}
 use Rattle.qrcode.specs.Reading.{Reads}
+use Rattle.qrcode_reader.specs.Figures.{has_finders}
 use Rattle.qrcode_reader.specs.Readings.{IsReading, IsPartsReading, ReadsParts}
 use Rattle.qrcode_reader.specs.declared.spell.parts.Part.{Part}
 use Rattle.qrcode_reader.specs.declared.correction.WrongCodeword.{WrongCodeword}
@@ -35,9 +36,13 @@ seen_at w p is_inverted s i = let at = standing p w (i % w) (i / w) in seen_colo
 unfoldable pub seen : ℕ → Position → Bool → List Color → List Color
 seen w p is_inverted s = map (seen_at w p is_inverted s) (range_with_len 0 (w * w))
 
--- the positions in the order in which they are tried: first with the colours as they are, and then exchanged
+-- the positions in the order of their names: first with the colours as they are, and then exchanged
 abbrev pub tried : ℕ → Position × Bool
 tried n = (slice_index_or (Upright ∷ TurnedLeft ∷ UpsideDown ∷ TurnedRight ∷ Mirrored ∷ Flipped ∷ Transposed ∷ Antitransposed ∷ []) (n % 8) Upright, nat_le 8 n)
+
+-- the turn of the n-th of these positions: those in which a square of side w has the finder patterns of version v come before the others
+abbrev pub turn : Version → ℕ → List Color → ℕ → ℕ
+turn v w s n = if has_finders v (seen w (tried n).0 (tried n).1 s) then n else n + 16
 
 abbrev pub IsUnreadIn : ℕ → List Color → ℕ → Type 0  -- nothing is read in the n-th of these positions
 IsUnreadIn w s n = (bytes : List ℕ) → ¬ Reads (seen w (tried n).0 (tried n).1 s) bytes
@@ -47,7 +52,7 @@ pub record IsFirstReading (w : ℕ) (s : List Color) (p : Position) (is_inverted
   pub read : IsReading (seen w p is_inverted s) v l k bytes wrong
   pub number : ℕ
   pub position : tried number ≡ (p, is_inverted)
-  pub first : (n : ℕ) → n < number → IsUnreadIn w s n
+  pub first : (n : ℕ) → n < 16 → turn v w s n < turn v w s number → IsUnreadIn w s n
 
 -- no headers and segments are read in the n-th of these positions
 abbrev pub IsPartlessIn : ℕ → List Color → ℕ → Type 0
@@ -58,4 +63,4 @@ pub record IsFirstPartsReading (w : ℕ) (s : List Color) (p : Position) (is_inv
   pub read : IsPartsReading (seen w p is_inverted s) v l k bytes parts wrong
   pub number : ℕ
   pub position : tried number ≡ (p, is_inverted)
-  pub first : (n : ℕ) → n < number → IsPartlessIn w s n
+  pub first : (n : ℕ) → n < 16 → turn v w s n < turn v w s number → IsPartlessIn w s n

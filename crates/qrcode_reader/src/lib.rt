@@ -6,6 +6,7 @@ mod bits;
 pub mod blocks;
 pub mod correct;
 mod correction;
+pub mod figures;
 pub mod formats;
 pub mod laws;
 mod parts;

@@ -1,19 +1,21 @@
 //! Squares that stand in another position, or with the colours exchanged.
 
-ghost use Rattle.std.specs.Prelude.{◌≡◌, ◌*◌, ◌<◌, ◌≤◌, ◌⊎◌, ℕ, Bool, List, length, IsTrue, IfOk, IfErr, IfSome, IfNone};
+ghost use Rattle.std.specs.Prelude.{◌≡◌, ◌≢◌, ◌*◌, ◌%◌, ◌<◌, ◌≤◌, ◌⊎◌, ℕ, Bool, List, length, IsTrue, IfOk, IfErr, IfSome, IfNone};
+ghost use Rattle.qrcode_types.specs.Versions.{is_valid, side};
 ghost use Rattle.qrcode.specs.Reading.{Reads};
-ghost use Rattle.qrcode_reader.specs.Positions.{standing, seen, seen_color, tried, IsFirstReading, IsFirstPartsReading};
+ghost use Rattle.qrcode_reader.specs.Positions.{standing, seen, seen_color, tried, turn, IsFirstReading, IsFirstPartsReading};
 ghost use Rattle.qrcode_reader.specs.Readings.{ReadsParts, IsPartsCause};
 ghost use Rattle.qrcode_reader.specs.declared.spell.parts.Part.{Part};
 ghost use Rattle.qrcode_reader.specs.declared.positions.Position.{Position};
 ghost use Rattle.qrcode_reader.specs.declared.refusals.Unread.TheVariants.{OutOfMemory};
 
+use crate::figures::has_finders;
 use crate::parts::{PartsReading, read_parts};
 use crate::reading::{Reading, read};
 use crate::refusals::Unread;
 use crate::sizes::version_of;
 use crate::walk::side;
-use qrcode_types::types::Color;
+use qrcode_types::types::{Color, Version};
 use std::alloc::{AllocError, Global};
 
 /// How a symbol stands in a square of modules.
@@ -110,7 +112,7 @@ pub fn seen(
     Ok(colors)
 }
 
-// The position that is tried so late, and whether colours are exchanged.
+// The positions in the order of their names, first with the colours as they are and then exchanged.
 fn tried(number: usize) -> (Position, bool)
     requires { number < 16 }
     ensures { result ≡ tried number }
@@ -128,6 +130,46 @@ fn tried(number: usize) -> (Position, bool)
     (positions[number % 8], 8 <= number)
 }
 
+// A square as it stands in a position.
+#[derive(Drop)]
+struct View {
+    position: Position,
+    is_inverted: bool,
+    modules: Vec<Color>,
+}
+
+// The square in the position whose turn it is: first come those in which it has finder patterns, and
+// then the others. `None` where none has this turn.
+fn view_at(
+    alloc: Global,
+    version: Version,
+    modules: &[Color],
+    at: usize,
+) -> Result<Option<View>, AllocError>
+    requires valid { IsTrue (is_valid version) }
+    requires square { length modules.now ≡ side version * side version }
+    requires turn { at < 32 }
+    ensures position { IfOk result (λ found. IfSome found (λ view.
+        tried (at % 16) ≡ (view.position, view.is_inverted))) }
+    ensures seen { IfOk result (λ found. IfSome found (λ view.
+        view.modules.items ≡ seen (side version) view.position view.is_inverted modules.now)) }
+    ensures turn { IfOk result (λ found. IfSome found (λ view.
+        turn version (side version) modules.now (at % 16) ≡ at)) }
+    ensures none { IfOk result (λ found.
+        IfNone found (turn version (side version) modules.now (at % 16) ≢ at)) }
+{
+    let (position, is_inverted) = tried(at % 16);
+    let colors = seen(alloc, side(version), position, is_inverted, modules)?;
+    if has_finders(version, &colors) != (at < 16) {
+        return Ok(None);
+    }
+    Ok(Some(View {
+        position,
+        is_inverted,
+        modules: colors,
+    }))
+}
+
 // Whether memory was refused.
 fn is_memory(error: Unread) -> bool
     ensures { error ≡ OutOfMemory → IsTrue result }
@@ -136,9 +178,10 @@ fn is_memory(error: Unread) -> bool
 }
 
 /// Reads a square whose symbol may be turned or mirrored, and its colours exchanged: in the first of
-/// the positions, in the order in which `Position` names them, in which there is something to read,
-/// first with the colours as they are and then with the colours exchanged. `None`: it is read in none
-/// of them.
+/// the positions in which there is something to read. First come those in which the finder patterns
+/// and their separators are where the symbol has them, but for sixteen modules, and then the others;
+/// of both, first those with the colours as they are and then those with the colours exchanged, in
+/// the order in which `Position` names them. `None`: it is read in none of them.
 ///
 /// It fails only where memory runs out.
 pub fn read_any(alloc: Global, modules: &[Color]) -> Result<Option<AnyReading>, AllocError>
@@ -156,20 +199,20 @@ pub fn read_any(alloc: Global, modules: &[Color]) -> Result<Option<AnyReading>, 
     let Some(version) = version_of(modules.len()) else {
         return Ok(None);
     };
-    for number in 0..16 {
-        let (position, is_inverted) = tried(number);
-        let colors = seen(alloc, side(version), position, is_inverted, modules)?;
-        match read(alloc, &colors) {
-            Ok(reading) => {
-                return Ok(Some(AnyReading {
-                    position,
-                    is_inverted,
-                    reading,
-                }));
-            }
-            Err(error) => {
-                if is_memory(error) {
-                    return Err(AllocError);
+    for at in 0..32 {
+        if let Some(view) = view_at(alloc, version, modules, at)? {
+            match read(alloc, &view.modules) {
+                Ok(reading) => {
+                    return Ok(Some(AnyReading {
+                        position: view.position,
+                        is_inverted: view.is_inverted,
+                        reading,
+                    }));
+                }
+                Err(error) => {
+                    if is_memory(error) {
+                        return Err(AllocError);
+                    }
                 }
             }
         }
@@ -192,53 +235,30 @@ pub fn read_any_parts(alloc: Global, modules: &[Color]) -> Result<AnyPartsReadin
         → (position : Position) (is_inverted : Bool) (bytes : List ℕ) (parts : List Part)
         → ¬ ReadsParts (seen side position is_inverted modules.now) bytes parts))) }
 {
-    match read_parts(alloc, modules) {
-        Ok(reading) => Ok(AnyPartsReading {
-            position: Position::Upright,
-            is_inverted: false,
-            reading,
-        }),
-        Err(error) => match parts_in_positions(alloc, modules)? {
-            Some(any) => Ok(any),
-            None => Err(error),
-        },
-    }
-}
-
-// The same, or `None` where there is no such position. It fails only where memory is refused.
-fn parts_in_positions(
-    alloc: Global,
-    modules: &[Color],
-) -> Result<Option<AnyPartsReading>, AllocError>
-    ensures value { IfOk result (λ found. IfSome found (λ any. (side : ℕ)
-        → side * side ≡ length modules.now → IsFirstPartsReading side modules.now
-        any.position any.is_inverted any.reading.version any.reading.ec_level any.reading.mask
-        any.reading.parts.bytes.items any.reading.parts.parts.items any.reading.wrong.items)) }
-    ensures none { IfOk result (λ found. IfNone found ((side : ℕ)
-        → side * side ≡ length modules.now
-        → (position : Position) (is_inverted : Bool) (bytes : List ℕ) (parts : List Part)
-        → ¬ ReadsParts (seen side position is_inverted modules.now) bytes parts)) }
-{
     let Some(version) = version_of(modules.len()) else {
-        return Ok(None);
+        return Err(Unread::NoSuchSide);
     };
-    for number in 0..16 {
-        let (position, is_inverted) = tried(number);
-        let colors = seen(alloc, side(version), position, is_inverted, modules)?;
-        match read_parts(alloc, &colors) {
-            Ok(reading) => {
-                return Ok(Some(AnyPartsReading {
-                    position,
-                    is_inverted,
-                    reading,
-                }));
-            }
-            Err(error) => {
-                if is_memory(error) {
-                    return Err(AllocError);
+    let mut why = Unread::NoSuchSide;
+    for at in 0..32 {
+        if let Some(view) = view_at(alloc, version, modules, at)? {
+            match read_parts(alloc, &view.modules) {
+                Ok(reading) => {
+                    return Ok(AnyPartsReading {
+                        position: view.position,
+                        is_inverted: view.is_inverted,
+                        reading,
+                    });
+                }
+                Err(error) => {
+                    if is_memory(error) {
+                        return Err(Unread::OutOfMemory);
+                    }
+                    if at % 16 == 0 {
+                        why = error;
+                    }
                 }
             }
         }
     }
-    Ok(None)
+    Err(why)
 }

@@ -6,7 +6,7 @@ use Rattle.qrcode_layout.specs.Figures.{alignment, is_centre_inside, is_corner_c
 use Rattle.qrcode_layout.proofs.Agreements.{all_at}
 use Rattle.qrcode_layout.proofs.FigurePlaces.{alignment_fits}
 use Rattle.qrcode_symbol.proofs.Patterned.{column_more}
-use Rattle.qrcode_check.specs.Modules.{wrong_in}
+use Rattle.qrcode_reader.specs.Figures.{wrong_in}
 use Rattle.qrcode_check.proofs.Figures.{few_centres}
 use Rattle.qrcode_check.proofs.modules.wrong_in_alignment_row.Goals as goal
 use Rattle.qrcode_check.proofs.modules.wrong_in_alignment_row.Goals.{then-not-is_corner_centre, else-not-is_corner_centre}

@@ -2,7 +2,7 @@ use Rattle.std.proofs.Common.{◌≡◌, ◌≤◌, ◌*◌, map, take, not}
 use Rattle.std.specs.List.{filter, sum_by}
 use Rattle.qrcode_types.specs.Versions.{side}
 use Rattle.qrcode_layout.specs.Figures.{alignment, centres, is_corner_centre}
-use Rattle.qrcode_check.specs.Modules.{wrong_in}
+use Rattle.qrcode_reader.specs.Figures.{wrong_in}
 use Rattle.qrcode_check.proofs.modules.wrong_in_alignment_row.Given as goal
 
 abbrev pub invariant-loop-a : goal.invariant-loop-a

@@ -3,7 +3,7 @@ use Rattle.std.specs.List.{flat_map, sum_by}
 use Rattle.qrcode_types.specs.Versions.{side}
 use Rattle.qrcode_layout.specs.Figures.{alignment_row, is_centre_inside}
 use Rattle.qrcode_layout.proofs.Agreements.{all_at}
-use Rattle.qrcode_check.specs.Modules.{wrong_in}
+use Rattle.qrcode_reader.specs.Figures.{wrong_in}
 use Rattle.qrcode_check.proofs.Figures.{sum_row, few_centres}
 use Rattle.qrcode_check.proofs.modules.wrong_in_alignments.Goals as goal
 

@@ -1,7 +1,7 @@
 use Rattle.std.proofs.Common.{◌≡◌, ◌≤◌, ◌*◌, take}
 use Rattle.std.specs.List.{flat_map, sum_by}
 use Rattle.qrcode_layout.specs.Figures.{alignment_row, centres}
-use Rattle.qrcode_check.specs.Modules.{wrong_in}
+use Rattle.qrcode_reader.specs.Figures.{wrong_in}
 use Rattle.qrcode_check.proofs.modules.wrong_in_alignments.Given as goal
 
 abbrev pub invariant-loop-b : goal.invariant-loop-b

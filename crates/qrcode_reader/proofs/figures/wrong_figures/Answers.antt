@@ -1,7 +1,7 @@
 use Rattle.std.proofs.Common.{sym, ap, ◌∙◌}
-use Rattle.qrcode_check.specs.Modules.{wrong_of}
-use Rattle.qrcode_check.proofs.Figures.{normal_kinds}
-use Rattle.qrcode_check.proofs.modules.wrong_figures.Goals as goal
+use Rattle.qrcode_reader.specs.Figures.{wrong_of}
+use Rattle.qrcode_reader.proofs.PatternKinds.{normal_kinds}
+use Rattle.qrcode_reader.proofs.figures.wrong_figures.Goals as goal
 
 pub returns-clause-finder : goal.returns-clause-finder
 returns-clause-finder c =

@@ -2,7 +2,7 @@ use Rattle.std.proofs.Common.{◌≡◌, ℕ, ◌+◌, ◌*◌, ◌<◌, rules, 
 use Rattle.std.proofs.lemmas.Nat.{mul-add-lt}
 use Rattle.qrcode_types.specs.Versions.{side}
 use Rattle.qrcode_layout.proofs.FigurePlaces.{fits_across, fits_down}
-use Rattle.qrcode_check.proofs.modules.wrong_at.Goals as goal
+use Rattle.qrcode_reader.proofs.figures.wrong_at.Goals as goal
 
 pub bounds-modules-y : goal.bounds-modules-y
 bounds-modules-y c =
