@@ -1,17 +1,17 @@
 -- Texts of SEPA credit transfers, line by line.
 use Rattle.std.specs.Prelude.{ℕ, nat_lt, ◌==◌, ◌&&◌, ◌||◌, not, Bool, true, false, List, [], ◌∷◌, ◌++◌, length, take, Option, Some, None, codes, if◌then◌else◌}
 use Rattle.std.specs.Str.{bytes_eq, chars}
-use Rattle.std.specs.List.{list_all, starts_with}
+use Rattle.std.specs.List.{list_all, list_any, starts_with}
 use Rattle.std.specs.Option.{option_map, option_and_then}
 use Rattle.qrcode_contents.specs.declared.fields.errors.ContentError.{ContentError}
 use Rattle.qrcode_contents.specs.declared.fields.errors.Field.TheVariants.{Bic, Name, Iban, Amount, Purpose, Reference, Message, Information, Whole}
-use Rattle.qrcode_contents.specs.declared.fields.errors.Cause.TheVariants.{Empty, TooLong, TooShort, Character, CheckDigits, Range, Unused}
+use Rattle.qrcode_contents.specs.declared.fields.errors.Cause.TheVariants.{Empty, TooLong, TooShort, Character, CheckDigits, ControlCharacter, Range, Unused}
 use Rattle.qrcode_contents.specs.Accounts.{has_form, is_checked}
 use Rattle.qrcode_contents.specs.declared.payment.PaymentVersion.{PaymentVersion}
 use Rattle.qrcode_contents.specs.declared.payment.PaymentVersion.TheVariants.{One, Two}
 use Rattle.qrcode_contents.specs.declared.payment.Payment.{Payment}
 use Rattle.qrcode_contents.specs.fields.Amounts.{amount_text, read_amount}
-use Rattle.qrcode_contents.specs.fields.Characters.{is_capital_or_digit, control_refusal}
+use Rattle.qrcode_contents.specs.fields.Characters.{is_capital_or_digit, is_unicode_break, control_refusal}
 use Rattle.qrcode_contents.specs.fields.Entries.{is_empty, is_filled, behind}
 use Rattle.qrcode_contents.specs.fields.Lines.{lines_text, read_lines, line_at}
 use Rattle.qrcode_contents.specs.fields.Refusals.{refused_if, first_refusal}
@@ -61,6 +61,14 @@ unfoldable pub control_checks : Transfer → Option ContentError  -- line breaks
 control_checks t = control_refusal (
     (Bic, t.bic) ∷ (Name, t.name) ∷ (Iban, t.iban) ∷ (Purpose, t.purpose) ∷ (Reference, t.reference)
     ∷ (Message, t.message) ∷ (Information, t.information) ∷ [])
+
+-- line breaks of Unicode, by which a reader may end a line; the other fields have only ASCII
+unfoldable pub break_checks : Transfer → Option ContentError
+break_checks t = first_refusal (
+    refused_if (list_any is_unicode_break (chars t.name)) Name ControlCharacter
+    ∷ refused_if (list_any is_unicode_break (chars t.message)) Message ControlCharacter
+    ∷ refused_if (list_any is_unicode_break (chars t.information)) Information ControlCharacter
+    ∷ [])
 
 unfoldable pub bank_checks : Transfer → Option ContentError  -- what is no BIC, and where it lacks
 bank_checks t = first_refusal (
@@ -123,7 +131,7 @@ payment_text t = lines_text (payment_lines t)
 
 unfoldable pub field_checks : Transfer → Option ContentError  -- what the fields refuse
 field_checks t =
-    first_refusal (control_checks t ∷ bank_checks t ∷ account_checks t ∷ name_checks t ∷ message_checks t ∷ [])
+    first_refusal (control_checks t ∷ break_checks t ∷ bank_checks t ∷ account_checks t ∷ name_checks t ∷ message_checks t ∷ [])
 
 -- what the text cannot say: what the fields refuse, and a text of more than 331 bytes
 abbrev pub payment_refusal : Transfer → Option ContentError

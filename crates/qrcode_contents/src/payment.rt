@@ -6,14 +6,14 @@ ghost use Rattle.qrcode_contents.specs.declared.fields.errors.Field.TheVariants.
 ghost use Rattle.qrcode_contents.specs.declared.fields.errors.Cause.TheVariants.{TooLong};
 ghost use Rattle.qrcode_contents.specs.fields.Lines.{later_text};
 ghost use Rattle.qrcode_contents.specs.fields.Refusals.{Answers, checked};
-ghost use Rattle.qrcode_contents.specs.Payment.{payment_fields, control_checks, needs_bic, bank_checks, account_checks, name_checks, message_checks, field_checks, payment_refusal, payment_text, later_count, later_lines, read_payment, version_for, version_name, is_bic, is_reference};
+ghost use Rattle.qrcode_contents.specs.Payment.{payment_fields, control_checks, break_checks, needs_bic, bank_checks, account_checks, name_checks, message_checks, field_checks, payment_refusal, payment_text, later_count, later_lines, read_payment, version_for, version_name, is_bic, is_reference};
 
 use crate::accounts::{self, has_form, is_checked};
 use crate::fields::amounts::push_amount;
 use crate::fields::characters::{are_capitals_or_digits, character_count};
 use crate::fields::errors::{Cause, ContentError, ContentResult, Field};
 use crate::fields::lines::push_lines;
-use crate::fields::refusals::{controls, refuse_first, too_long, too_short};
+use crate::fields::refusals::{controls, refuse_first, too_long, too_short, unicode_breaks};
 use qrcode_types::types::{EcLevel, Version};
 use std::alloc::Global;
 
@@ -133,6 +133,18 @@ impl Payment<'_> {
         ])
     }
 
+    // Refuses line breaks of Unicode in what may have more than ASCII.
+    #[tactic(auto, unfolding(crate::specs::Payment::break_checks))]
+    fn check_breaks(&self) -> ContentResult<()>
+        ensures { result ≡ checked (break_checks (payment_fields self.now)) }
+    {
+        refuse_first(&[
+            unicode_breaks(Field::Name, self.name),
+            unicode_breaks(Field::Message, self.message),
+            unicode_breaks(Field::Information, self.information),
+        ])
+    }
+
     // Refuses what is no BIC, and where it lacks.
     #[tactic(auto, unfolding(crate::specs::Payment::bank_checks))]
     fn check_bank(&self) -> ContentResult<()>
@@ -206,6 +218,7 @@ impl Payment<'_> {
         ensures { result ≡ checked (field_checks (payment_fields self.now)) }
     {
         self.check_controls()?;
+        self.check_breaks()?;
         self.check_bank()?;
         self.check_account()?;
         self.check_name()?;

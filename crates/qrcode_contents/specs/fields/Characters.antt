@@ -27,6 +27,9 @@ is_control b = nat_lt b 32 || b == 127
 abbrev pub is_stray : ℕ → Bool  -- a control character that is neither a tab nor a line feed
 is_stray b = is_control b && not (b == 9) && not (b == 10)
 
+abbrev pub is_unicode_break : ℕ → Bool  -- a character that ends a line, and is none of ASCII: NEL, LS or PS
+is_unicode_break c = c == 133 || c == 8232 || c == 8233
+
 abbrev pub control_refusal : List (Field × List ℕ) → Option ContentError  -- the first field with a control character
 control_refusal fields =
     first_refusal (map (λ field. refused_if (list_any is_control field.1) field.0 ControlCharacter) fields)

@@ -3,7 +3,7 @@
 ghost use Rattle.std.specs.Prelude.{◌≡◌, ◌==◌, length, count_by};
 ghost use Rattle.std.specs.List.{list_all, list_any};
 ghost use Rattle.std.specs.Str.{chars};
-ghost use Rattle.qrcode_contents.specs.fields.Characters.{is_base32, is_capital, is_capital_or_digit, is_control, is_dialled, is_digit, is_stray};
+ghost use Rattle.qrcode_contents.specs.fields.Characters.{is_base32, is_capital, is_capital_or_digit, is_control, is_dialled, is_digit, is_stray, is_unicode_break};
 
 /// Whether all bytes are letters A to Z.
 pub fn are_capitals(bytes: &[u8]) -> bool
@@ -69,6 +69,20 @@ pub fn has_stray(text: &str) -> bool
 {
     let bytes = text.as_bytes();
     bytes.iter().any(|byte| (*byte < 32 || *byte == 127) && *byte != b'\t' && *byte != b'\n')
+}
+
+// Whether a character ends a line, and is none of ASCII: NEL, LS or PS.
+fn is_unicode_break(character: char) -> bool
+    ensures { result ≡ is_unicode_break character }
+{
+    matches!(character, '\u{85}' | '\u{2028}' | '\u{2029}')
+}
+
+/// Whether a text has such a character.
+pub fn has_unicode_break(text: &str) -> bool
+    ensures { result ≡ list_any is_unicode_break (chars text.now) }
+{
+    text.chars().any(|character| is_unicode_break(character))
 }
 
 /// How many characters the text has.

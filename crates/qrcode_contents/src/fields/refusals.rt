@@ -4,10 +4,10 @@ ghost use Rattle.std.specs.Prelude.{◌≡◌, length, map, nat_lt};
 ghost use Rattle.std.specs.List.{list_any};
 ghost use Rattle.std.specs.Str.{chars};
 ghost use Rattle.qrcode_contents.specs.declared.fields.errors.Cause.TheVariants.{ControlCharacter, TooLong, TooShort};
-ghost use Rattle.qrcode_contents.specs.fields.Characters.{is_control, is_stray};
+ghost use Rattle.qrcode_contents.specs.fields.Characters.{is_control, is_stray, is_unicode_break};
 ghost use Rattle.qrcode_contents.specs.fields.Refusals.{checked, first_refusal, refused_if};
 
-use crate::fields::characters::{character_count, has_control, has_stray};
+use crate::fields::characters::{character_count, has_control, has_stray, has_unicode_break};
 use crate::fields::errors::{Cause, ContentError, ContentResult, Field};
 
 /// A check: whether a field is refused, which one, and for what cause.
@@ -25,6 +25,13 @@ pub fn stray(field: Field, text: &str) -> Check
     ensures { result ≡ (list_any is_stray text.now, field, ControlCharacter) }
 {
     (has_stray(text), field, Cause::ControlCharacter)
+}
+
+/// Refuses a field with a character that ends a line, and is none of ASCII.
+pub fn unicode_breaks(field: Field, text: &str) -> Check
+    ensures { result ≡ (list_any is_unicode_break (chars text.now), field, ControlCharacter) }
+{
+    (has_unicode_break(text), field, Cause::ControlCharacter)
 }
 
 /// Refuses a field of fewer characters than this.
