@@ -1,3 +1,4 @@
+pub mod Amounts
 pub mod Given
 pub mod Kinds
 pub mod Numbers

@@ -1,5 +1,5 @@
 -- The values of the formats, of the texts that are given for fields.
-use Rattle.std.specs.Prelude.{ℕ, ℤ, nat_lt, ◌-◌, ◌^◌, Bool, false, List, length, is_some, codes, Option, Some, None, Result, Ok, Err, if◌then◌else◌}
+use Rattle.std.specs.Prelude.{ℕ, ℤ, nat_lt, ◌==◌, ◌-◌, ◌^◌, Bool, false, List, length, slice_index, is_some, codes, Option, Some, None, Result, Ok, Err, if◌then◌else◌}
 use Rattle.qrcode_contents.specs.Bill.{Addressee, Invoice}
 use Rattle.qrcode_contents.specs.Card.{Contact}
 use Rattle.qrcode_contents.specs.Contact.{Person}
@@ -34,6 +34,7 @@ use Rattle.qrcode_contents.specs.declared.wifi.Security.TheVariants.{Open, Wpa}
 use Rattle.std.specs.List.{list_all}
 use Rattle.qrcode_contents.specs.fields.Characters.{is_digit}
 use Rattle.qrcode_contents.specs.fields.Entries.{is_empty}
+use Rattle.qrcode_payloads.specs.Amounts.{plain_amount}
 use Rattle.qrcode_payloads.specs.Given.{said, with_value}
 use Rattle.qrcode_payloads.specs.Numbers.{scaled_value, degrees_of, unsigned}
 use Rattle.qrcode_payloads.specs.Plain.{plain, phone_number}
@@ -55,8 +56,12 @@ time_cause text = if is_empty text then Empty else Character
 abbrev pub degrees_cause : List ℕ → Cause  -- why a text says no degrees
 degrees_cause text = number_cause (unsigned text)
 
-abbrev pub amount_in : List ℕ → Result ℕ ContentError  -- an amount, in hundredths
-amount_in text = said (scaled_value 2 text) Amount (number_cause text)
+abbrev pub ends_with_point : List ℕ → Bool  -- the last byte is a point
+ends_with_point text = slice_index text (length text - 1) == 46
+
+abbrev pub amount_in : List ℕ → Result ℕ ContentError  -- an amount, in hundredths, with no point at its end
+amount_in text =
+    if ends_with_point text then Err (Refused Amount Character) else said (scaled_value 2 text) Amount (number_cause text)
 
 abbrev pub open_amount_in : List ℕ → Result (Option ℕ) ContentError  -- an amount, or none
 open_amount_in text = if is_empty text then Ok None else with_value (amount_in text) (λ cents. Ok (Some cents))
@@ -130,7 +135,7 @@ contact_in g = with_value (birthday_in (plain between.Time (g Birthday))) (λ bi
 }))
 
 abbrev pub transfer_in : (Field → List ℕ) → Result Transfer ContentError  -- a payment
-transfer_in g = with_value (amount_in (plain between.Amount (g Amount))) (λ cents. Ok (record {
+transfer_in g = with_value (amount_in (plain_amount (g Amount))) (λ cents. Ok (record {
   version = version_for (plain between.Spaces (g Bic));
   bic = plain between.Spaces (g Bic);
   name = g Name;
@@ -163,7 +168,7 @@ debtor_in g = record {
 }
 
 abbrev pub invoice_in : (Field → List ℕ) → Result Invoice ContentError  -- a bill
-invoice_in g = with_value (open_amount_in (plain between.Amount (g Amount))) (λ cents. with_value (currency_in (g Currency)) (λ currency. Ok (record {
+invoice_in g = with_value (open_amount_in (plain_amount (g Amount))) (λ cents. with_value (currency_in (g Currency)) (λ currency. Ok (record {
   iban = plain between.Spaces (g Iban);
   creditor = creditor_in g;
   cents = cents;
@@ -234,7 +239,7 @@ happening_in g = with_value (span_in (plain_time (g Begin)) (plain_time (g End))
 })))
 
 abbrev pub request_in : (Field → List ℕ) → Result Request ContentError  -- a payment by UPI
-request_in g = with_value (open_amount_in (plain between.Amount (g Amount))) (λ cents. Ok (record {
+request_in g = with_value (open_amount_in (plain_amount (g Amount))) (λ cents. Ok (record {
   payee = g Payee;
   name = g Name;
   category = g Category;
@@ -244,7 +249,7 @@ request_in g = with_value (open_amount_in (plain between.Amount (g Amount))) (λ
 }))
 
 abbrev pub charge_in : (Field → List ℕ) → Result Charge ContentError  -- a payment by Pix
-charge_in g = with_value (open_amount_in (plain between.Amount (g Amount))) (λ cents. Ok (record {
+charge_in g = with_value (open_amount_in (plain_amount (g Amount))) (λ cents. Ok (record {
   key = g Payee;
   name = g Name;
   city = g City;
@@ -254,7 +259,7 @@ charge_in g = with_value (open_amount_in (plain between.Amount (g Amount))) (λ 
 }))
 
 abbrev pub claim_in : (Field → List ℕ) → Result Claim ContentError  -- a payment by PromptPay
-claim_in g = with_value (open_amount_in (plain between.Amount (g Amount))) (λ cents. Ok (record {
+claim_in g = with_value (open_amount_in (plain_amount (g Amount))) (λ cents. Ok (record {
   payee = plain between.Person (g Payee);
   cents = cents;
 }))

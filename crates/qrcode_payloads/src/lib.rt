@@ -2,6 +2,7 @@
 //! the fields.
 #![tactic(auto)]
 
+mod amounts;
 pub mod given;
 pub mod kinds;
 pub mod numbers;

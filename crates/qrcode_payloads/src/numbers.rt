@@ -40,8 +40,8 @@ pub(crate) fn unsigned(text: &str) -> (bool, &str)
     }
 }
 
-// What stands before the first point and behind it; all and nothing where there is none.
-fn parts(text: &str) -> (&str, &str)
+/// What stands before the first point and behind it; all and nothing where there is none.
+pub(crate) fn parts(text: &str) -> (&str, &str)
     ensures whole { result.0.now ≡ before_first is_point text.now }
     ensures part { result.1.now ≡ after_first is_point text.now }
 {

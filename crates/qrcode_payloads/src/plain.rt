@@ -13,8 +13,10 @@ pub(crate) enum Between {
     Spaces,
     /// Spaces and slashes, in telephone numbers.
     Phone,
-    /// Spaces and apostrophes, in amounts.
+    /// Nothing, in amounts as they are written.
     Amount,
+    /// Spaces and apostrophes, between the groups of an amount.
+    Groups,
     /// Nothing, in degrees: 1 30 may be minutes.
     Degrees,
     /// Spaces, hyphens, and equals signs at the end, in secrets.
@@ -33,12 +35,12 @@ impl Between {
         ensures { result ≡ is_between self character }
     {
         match (self, character) {
-            (Between::Time, '-' | ':') => true,
-            (Between::Clock, ':') => true,
-            (Between::Time | Between::Clock | Between::Degrees, _) => false,
+            (Between::Amount | Between::Degrees, _) => false,
+            (Between::Groups, _) => matches!(character, ' ' | '\''),
+            (Between::Time, _) => matches!(character, '-' | ':'),
+            (Between::Clock, _) => character == ':',
             (_, ' ' | '\u{a0}' | '\u{202f}') => true,
             (Between::Phone, '/') => true,
-            (Between::Amount, '\'' | '\u{2019}') => true,
             (Between::Secret, '-' | '=') => true,
             (Between::Person, '-') => true,
             _ => false,
@@ -46,12 +48,15 @@ impl Between {
     }
 
     // A character of a value as formats have it: a capital, a point where a comma stands in a
-    // number, and a T where a space stands between day and time.
+    // number, a plain space or apostrophe in an amount, and a T where a space stands between day
+    // and time.
     fn as_written(self, character: char) -> char
         ensures { result ≡ as_written self character }
     {
         match (self, character) {
             (Between::Amount | Between::Degrees, ',') => '.',
+            (Between::Amount, '\u{a0}' | '\u{202f}') => ' ',
+            (Between::Amount, '\u{2019}') => '\'',
             (Between::Time | Between::Clock, ' ') => 'T',
             _ => character.to_ascii_uppercase(),
         }

@@ -12,6 +12,7 @@ ghost use Rattle.qrcode_payloads.specs.Values.{creditor_in, debtor_in};
 ghost use Rattle.qrcode_payloads.specs.Texts.{is_long, long_refusal, content_refusal, payload_refusal, payload_text, sms_text, IsReadAs, IsReadAsSms};
 ghost use Rattle.qrcode_payloads.specs.declared.kinds.Kind.TheVariants.{Wifi, Mecard, Vcard, Payment, Bill, Mail, Geo, Tel, Sms, Otp, Event, Upi, Pix, Promptpay};
 
+use crate::amounts::plain_amount;
 use crate::given::Given;
 use crate::kinds::{Kind, fields_of};
 use crate::plain::{Between, phone_number, plain};
@@ -47,7 +48,7 @@ fn payment_text<G: Given>(alloc: Global, given: &G) -> ContentResult<String>
     ensures reads { Answers (payload_refusal Payment (G.fields given.now)) result (IsReadAs Payment (G.fields given.now)) }
     ensures value { IfOk result (λ text. string_bytes text ≡ payload_text Payment (G.fields given.now)) }
 {
-    let amount = plain(alloc, given.text(Field::Amount), Between::Amount)?;
+    let amount = plain_amount(alloc, given.text(Field::Amount))?;
     let iban = plain(alloc, given.text(Field::Iban), Between::Spaces)?;
     let bic = plain(alloc, given.text(Field::Bic), Between::Spaces)?;
     let purpose = plain(alloc, given.text(Field::Purpose), Between::Spaces)?;
@@ -172,7 +173,7 @@ fn bill_text<G: Given>(alloc: Global, given: &G) -> ContentResult<String>
     ensures reads { Answers (payload_refusal Bill (G.fields given.now)) result (IsReadAs Bill (G.fields given.now)) }
     ensures value { IfOk result (λ text. string_bytes text ≡ payload_text Bill (G.fields given.now)) }
 {
-    let amount = plain(alloc, given.text(Field::Amount), Between::Amount)?;
+    let amount = plain_amount(alloc, given.text(Field::Amount))?;
     let iban = plain(alloc, given.text(Field::Iban), Between::Spaces)?;
     let country = plain(alloc, given.text(Field::Country), Between::Spaces)?;
     let other = plain(alloc, given.text(Field::DebtorCountry), Between::Spaces)?;
@@ -283,7 +284,7 @@ fn upi_text<G: Given>(alloc: Global, given: &G) -> ContentResult<String>
     ensures reads { Answers (payload_refusal Upi (G.fields given.now)) result (IsReadAs Upi (G.fields given.now)) }
     ensures value { IfOk result (λ text. string_bytes text ≡ payload_text Upi (G.fields given.now)) }
 {
-    let amount = plain(alloc, given.text(Field::Amount), Between::Amount)?;
+    let amount = plain_amount(alloc, given.text(Field::Amount))?;
     let cents = values::open_amount(amount.as_str())?;
     let payment = upi::Upi {
         payee: given.text(Field::Payee),
@@ -301,7 +302,7 @@ fn pix_text<G: Given>(alloc: Global, given: &G) -> ContentResult<String>
     ensures reads { Answers (payload_refusal Pix (G.fields given.now)) result (IsReadAs Pix (G.fields given.now)) }
     ensures value { IfOk result (λ text. string_bytes text ≡ payload_text Pix (G.fields given.now)) }
 {
-    let amount = plain(alloc, given.text(Field::Amount), Between::Amount)?;
+    let amount = plain_amount(alloc, given.text(Field::Amount))?;
     let cents = values::open_amount(amount.as_str())?;
     let payment = merchant::Pix {
         key: given.text(Field::Payee),
@@ -320,7 +321,7 @@ fn promptpay_text<G: Given>(alloc: Global, given: &G) -> ContentResult<String>
     ensures value { IfOk result (λ text. string_bytes text ≡ payload_text Promptpay (G.fields given.now)) }
 {
     let payee = plain(alloc, given.text(Field::Payee), Between::Person)?;
-    let amount = plain(alloc, given.text(Field::Amount), Between::Amount)?;
+    let amount = plain_amount(alloc, given.text(Field::Amount))?;
     let cents = values::open_amount(amount.as_str())?;
     let payment = merchant::PromptPay {
         payee: payee.as_str(),

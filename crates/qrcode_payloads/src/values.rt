@@ -30,10 +30,13 @@ fn number_cause(text: &str) -> Cause
     }
 }
 
-/// An amount, in hundredths.
+/// An amount, in hundredths, with no point at its end.
 pub(crate) fn amount(text: &str) -> ContentResult<u64>
     ensures value { result ≡ amount_in text.now }
 {
+    if text.ends_with('.') {
+        return Err(ContentError::Refused(Field::Amount, Cause::Character));
+    }
     match decimal(text, 2) {
         Some(cents) => Ok(cents),
         None => Err(ContentError::Refused(Field::Amount, number_cause(text))),

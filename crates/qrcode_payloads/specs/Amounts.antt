@@ -1,0 +1,49 @@
+-- Amounts as people write them: digits, perhaps in groups of three, and perhaps a point with more of them behind it.
+use Rattle.std.specs.Prelude.{◌≡◌, ℕ, ◌%◌, ◌==◌, ◌&&◌, ◌||◌, Bool, true, false, List, [], ◌∷◌, length, take, drop, codes, if◌then◌else◌, refl}
+use Rattle.std.specs.List.{after_first, before_first, list_all}
+use Rattle.qrcode_contents.specs.fields.Characters.{is_digit}
+use Rattle.qrcode_contents.specs.fields.Entries.{is_filled}
+use Rattle.qrcode_payloads.specs.Numbers.{is_point}
+use Rattle.qrcode_payloads.specs.Plain.{plain}
+use Rattle.qrcode_payloads.specs.declared.plain.Between.TheVariants as between
+
+abbrev pub are_groups : ℕ → List ℕ → Bool  -- groups of three digits, with a separator before each
+are_groups separator [] = true
+are_groups separator (a ∷ []) = false
+are_groups separator (a ∷ b ∷ []) = false
+are_groups separator (a ∷ b ∷ c ∷ []) = false
+are_groups separator (a ∷ b ∷ c ∷ d ∷ more) = (a == separator && is_digit b && is_digit c && is_digit d) && are_groups separator more
+
+-- one to three digits, and groups behind them
+abbrev pub is_grouped : ℕ → List ℕ → Bool
+is_grouped separator text =
+    is_filled (take (length text % 4) text) && list_all is_digit (take (length text % 4) text) && are_groups separator (drop (length text % 4) text)
+
+-- digits alone, or in groups, between which spaces or apostrophes stand
+abbrev pub is_whole : List ℕ → Bool
+is_whole text = list_all is_digit text || is_grouped 32 text || is_grouped 39 text
+
+abbrev pub is_amount : List ℕ → Bool  -- digits before the point, perhaps in groups, and digits alone behind it
+is_amount text = is_whole (before_first is_point text) && list_all is_digit (after_first is_point text)
+
+-- an amount without what stands between its groups; another text with it, so that it is no number
+abbrev pub ungrouped : List ℕ → List ℕ
+ungrouped text = if is_amount text then plain between.Groups text else text
+
+abbrev pub plain_amount : List ℕ → List ℕ  -- an amount as formats have it
+plain_amount text = ungrouped (plain between.Amount text)
+
+grouped_row : is_amount (codes "12'345.6") ≡ true
+grouped_row = refl
+
+pair_row : is_amount (codes "12 34") ≡ false
+pair_row = refl
+
+twice_row : is_amount (codes "1''234") ≡ false
+twice_row = refl
+
+mixed_row : is_amount (codes "1'234 567") ≡ false
+mixed_row = refl
+
+behind_row : is_amount (codes "1.234 5") ≡ false
+behind_row = refl
