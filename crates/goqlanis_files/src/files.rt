@@ -72,9 +72,6 @@ fn opened(rt: &HostRuntime, name: &str) -> Result<Folder, AllocError> {
 pub fn write_whole(rt: &HostRuntime, path: &str, bytes: &[u8]) -> Result<(), Unwritten> {
     let mut place = String::from_str(rt.alloc(), path)?;
     for _ in 0..LINKS {
-        if is_open_file(place.as_str()) {
-            return write_straight(rt, place.as_str(), true, bytes);
-        }
         let (folder, name) = parts_of(place.as_str());
         let folder = opened(rt, folder)?;
         let inside = format!(in rt.alloc(); "{}{name}", folder.way.as_str())?;
@@ -85,6 +82,9 @@ pub fn write_whole(rt: &HostRuntime, path: &str, bytes: &[u8]) -> Result<(), Unw
             }
             Err(error) => return Err(Unwritten::File(error)),
         };
+        if is_open_file(rt, name, &found) {
+            return write_straight(rt, inside.as_str(), true, bytes);
+        }
         if is_strange(rt, folder.way.as_str(), &found)? {
             return Err(Unwritten::Strange);
         }
@@ -100,30 +100,34 @@ pub fn write_whole(rt: &HostRuntime, path: &str, bytes: &[u8]) -> Result<(), Unw
     write_straight(rt, place.as_str(), false, bytes)
 }
 
-// Whether a path names a file that is open in this process or another one, as /dev/stdout does: by
-// its number, in /dev/fd or in the fd of a process.
-fn is_open_file(path: &str) -> bool {
-    let number = match path.strip_prefix("/dev/fd/") {
-        Some(number) => number,
-        None => match path
-            .strip_prefix("/proc/")
-            .and_then(|rest| rest.split_once("/fd/"))
-        {
-            Some((process, number)) if !process.contains('/') => number,
-            _ => return false,
-        },
-    };
-    !number.is_empty() && number.bytes().all(|byte| byte.is_ascii_digit())
+// Whether what was found under a name is a file that is open in this process or another one, as
+// /dev/stdout is: of the links of /proc only these are named by a number.
+fn is_open_file(rt: &HostRuntime, name: &str, found: &Metadata) -> bool {
+    found.is_symlink()
+        && !name.is_empty()
+        && name.bytes().all(|byte| byte.is_ascii_digit())
+        && fs::metadata(rt, "/proc/self").is_ok_and(|proc| proc.dev() == found.dev())
+}
+
+// Whether a path names a file that is open already, itself or through links.
+fn leads_to_open_file(rt: &HostRuntime, path: &str) -> Result<bool, Unwritten> {
+    let mut place = String::from_str(rt.alloc(), path)?;
+    for _ in 0..LINKS {
+        let (folder, name) = parts_of(place.as_str());
+        let found = fs::symlink_metadata(rt, place.as_str())?;
+        if !found.is_symlink() || is_open_file(rt, name, &found) {
+            return Ok(found.is_symlink());
+        }
+        place = followed(rt, place.as_str(), folder)?;
+    }
+    Ok(false)
 }
 
 /// Whether a path names no file of its own: a folder, a pipe, a device, or what is open already, as
 /// /dev/stdout.
 pub fn is_stream(rt: &HostRuntime, path: &str) -> bool {
-    let is_open = match fs::read_link(rt, path) {
-        Ok(named) => is_open_file(named.as_path().as_str()),
-        Err(_) => is_open_file(path),
-    };
-    is_open || fs::metadata(rt, path).is_ok_and(|found| !found.is_file())
+    leads_to_open_file(rt, path).unwrap_or(false)
+        || fs::metadata(rt, path).is_ok_and(|found| !found.is_file())
 }
 
 // What a link names that stands in a folder.
