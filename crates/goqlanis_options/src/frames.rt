@@ -76,10 +76,21 @@ fn text_of<'a>(
         return Ok("");
     };
     check_format(alloc, format, option)?;
-    if text.is_empty() || text.bytes().any(|byte| byte < b' ') {
+    if text.is_empty() || text.contains('\n') {
         return Err(Failure::Usage(format!(in alloc; "--{option}: give it a text of one line")?));
     }
+    if let Some(character) = text.chars().find(|character| is_foreign(*character)) {
+        let code = character as u32;
+        return Err(Failure::Usage(format!(in alloc;
+            "--{option}: it has U+{code:04X}, which cannot stand there; leave it out"
+        )?));
+    }
     Ok(text)
+}
+
+// Whether no text of XML in one line has a character.
+fn is_foreign(character: char) -> bool {
+    character < ' ' || matches!(character, '\u{fffe}' | '\u{ffff}')
 }
 
 // Refuses an option that only SVG or only PDF has in another format.
