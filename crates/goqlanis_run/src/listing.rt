@@ -1,6 +1,8 @@
 //! What was read, as JSON.
 
-use crate::readings::{Application, CharacterSet, has_light_on_dark, mask_of, position_text};
+use crate::readings::{
+    Application, CharacterSet, has_light_on_dark, is_in_utf8, mask_of, position_text,
+};
 use crate::segments::mode_name;
 use goqlanis_core::{Scan, VersionName};
 use goqlanis_files::streams::is_unseen;
@@ -38,7 +40,10 @@ fn push_scan(text: &mut String, scan: &Scan) -> Result<(), AllocError> {
     text.push_str("], \"parts\": [")?;
     push_parts(text, &scan.parts)?;
     text.push_str("], ")?;
-    push_data(text, &reading.data)?;
+    if is_in_utf8(&scan.parts) {
+        push_text(text, &reading.data)?;
+    }
+    push_bytes(text, &reading.data)?;
     text.push_str("}")
 }
 
@@ -105,8 +110,8 @@ fn push_set(text: &mut String, set: CharacterSet) -> Result<(), AllocError> {
     }
 }
 
-// The data: as a text where it is one, and its bytes to the base 16.
-fn push_data(text: &mut String, data: &[u8]) -> Result<(), AllocError> {
+// The data as a text, where it is one.
+fn push_text(text: &mut String, data: &[u8]) -> Result<(), AllocError> {
     if let Ok(known) = std::str::from_utf8(data) {
         text.push_str("\"text\": \"")?;
         for character in known.chars() {
@@ -114,6 +119,11 @@ fn push_data(text: &mut String, data: &[u8]) -> Result<(), AllocError> {
         }
         text.push_str("\", ")?;
     }
+    Ok(())
+}
+
+// The bytes of the data, to the base 16.
+fn push_bytes(text: &mut String, data: &[u8]) -> Result<(), AllocError> {
     text.push_str("\"hex\": \"")?;
     for byte in data {
         let byte = *byte;

@@ -2,6 +2,7 @@
 
 use crate::segments::mode_name;
 use goqlanis_core::{Scan, VersionName};
+use qrcode::types::Mode;
 use qrcode_reader::spell::{Header, Part};
 use qrcode_reader::{Position, Reading, WrongCodeword};
 use std::alloc::{AllocError, Global};
@@ -52,6 +53,15 @@ pub(crate) fn other_set(parts: &[Part]) -> Option<CharacterSet> {
         }
     }
     None
+}
+
+/// Whether data is UTF-8 by headers and modes: they name no other character set, and nothing is Kanji.
+pub(crate) fn is_in_utf8(parts: &[Part]) -> bool {
+    parts.iter().all(|part| match *part {
+        Part::Front(Header::Eci(number)) => matches!(number, 26 | 27 | 170),
+        Part::Bytes(mode, _) => mode != Mode::Kanji,
+        _ => true,
+    })
 }
 
 /// What was read, in lines.
