@@ -101,10 +101,15 @@ pub fn has_dots(format: Format) -> bool {
     format.pixels() > 1 && !matches!(format, Format::Svg | Format::SvgPath)
 }
 
+// The most pixels along a side of pictures that are not compressed, and stand in memory whole: PPM
+// has then 0.8 GB.
+const GREATEST_WHOLE: u32 = 16_384;
+
 // The most pixels along a side.
 fn greatest_side(given: &ArgMatches<'_>, format: Format) -> u32 {
-    match part_colour(given) {
-        Some(_) if format == Format::Png => GREATEST_PAINTED,
+    match format {
+        Format::Png if part_colour(given).is_some() => GREATEST_PAINTED,
+        Format::Pbm | Format::Pgm | Format::Ppm => GREATEST_WHOLE,
         _ => format.greatest_side(),
     }
 }
