@@ -16,13 +16,37 @@ pub enum Size {
     Percent(u32),
 }
 
+/// The red, green, blue and opacity of the pixels of a logo, row by row.
+#[derive(Drop)]
+pub struct Raster {
+    pub pixels: Vec<[u8; 4]>,
+    pub across: u16,
+    pub down: u16,
+}
+
+/// A logo in SVG: an `svg` element without its place.
+#[derive(Drop)]
+pub struct Element {
+    /// How wide and how high it is, in proportion.
+    pub across: u32,
+    pub down: u32,
+    /// What follows the place of its element: the box of its units, and an image of the file.
+    pub rest: String,
+}
+
+/// A logo as its file is drawn: as pixels in PNG, and as an element in SVG.
+#[derive(Drop)]
+pub enum Logo {
+    Pixels(Raster),
+    Element(Element),
+}
+
 /// What stands in the middle of a code.
 #[derive(Clone, Copy)]
 pub enum Middle<'a> {
     /// Nothing: light modules.
     Light,
-    /// A logo, by the path of its file and what stands there.
-    Logo(&'a str, &'a [u8]),
+    Logo(&'a Logo),
     /// The Swiss cross of a bill.
     Cross,
 }
@@ -30,6 +54,9 @@ pub enum Middle<'a> {
 /// What is asked of the middle of a code.
 #[derive(Clone, Copy)]
 pub struct AskedLogo<'a> {
+    /// The path of the logo's file, where there is one.
+    pub path: Option<&'a str>,
+    /// What stands there: light modules until the file is read.
     pub middle: Middle<'a>,
     pub size: Size,
     /// Whether the area leaves alignment patterns alone.
@@ -38,14 +65,15 @@ pub struct AskedLogo<'a> {
     pub margin: u8,
 }
 
-/// What the command line asks of the middle of a code, where it asks for something; a logo without
-/// what stands in its file.
+/// What the command line asks of the middle of a code, where it asks for something, before a logo
+/// is read.
 pub fn logo_of<'a>(
     alloc: Global,
     given: &ArgMatches<'a>,
     format: Format,
 ) -> Result<Option<AskedLogo<'a>>, Failure> {
-    let middle = match given.get_str("logo") {
+    let path = given.get_str("logo");
+    match path {
         Some(_) if !takes_logo(format) => {
             return usage(
                 alloc,
@@ -53,12 +81,12 @@ pub fn logo_of<'a>(
                 and put the logo there yourself",
             );
         }
-        Some(path) => Middle::Logo(path, b""),
-        None if given.get_flag("logo-area") => Middle::Light,
-        None => return without_logo(alloc, given),
-    };
+        None if !given.get_flag("logo-area") => return without_logo(alloc, given),
+        _ => {}
+    }
     Ok(Some(AskedLogo {
-        middle,
+        path,
+        middle: Middle::Light,
         size: size_of(alloc, given.get_str("logo-size"))?,
         keeps_alignment: given.get_flag("keep-alignment"),
         margin: given.get_one::<u8>("logo-margin").unwrap_or(1),

@@ -4,16 +4,9 @@ ghost use Rattle.std.specs.Prelude.{◌+◌, ◌<◌, length};
 
 use base64::engine::general_purpose::STANDARD;
 use goqlanis_files::failure::Failure;
+use goqlanis_options::logos::{Element, Raster};
 use qrcode_png::{Unread, read};
 use std::alloc::{AllocError, Global};
-
-/// The red, green, blue and opacity of the pixels of a logo, row by row.
-#[derive(Drop)]
-pub(crate) struct Raster {
-    pub(crate) pixels: Vec<[u8; 4]>,
-    pub(crate) across: u16,
-    pub(crate) down: u16,
-}
 
 /// The pixels of a logo in a PNG file of a path, in which these bytes stand.
 pub(crate) fn pixels_of(alloc: Global, path: &str, file: &[u8]) -> Result<Raster, Failure> {
@@ -34,9 +27,9 @@ pub(crate) fn pixels_of(alloc: Global, path: &str, file: &[u8]) -> Result<Raster
 }
 
 /// The logo of the file of a path, in which these bytes stand, as an element of SVG.
-pub(crate) fn logo_of(alloc: Global, path: &str, file: &[u8]) -> Result<Logo, Failure> {
-    let why = match logo_in(alloc, file) {
-        Ok(logo) => return Ok(logo),
+pub(crate) fn element_of(alloc: Global, path: &str, file: &[u8]) -> Result<Element, Failure> {
+    let why = match element_in(alloc, file) {
+        Ok(element) => return Ok(element),
         Err(LogoFault::OutOfMemory) => return Err(Failure::OutOfMemory),
         Err(LogoFault::Unknown) => "it is neither a PNG file nor SVG in UTF-8",
         Err(LogoFault::Scripts) => "it has scripts or entities; save it as plain SVG",
@@ -46,16 +39,6 @@ pub(crate) fn logo_of(alloc: Global, path: &str, file: &[u8]) -> Result<Logo, Fa
             "its svg element needs xmlns=\"http://www.w3.org/2000/svg\", as every SVG file has",
     };
     Err(Failure::Refused(format!(in alloc; "--logo {path}: {why}")?))
-}
-
-/// A logo: an `svg` element without its place.
-#[derive(Drop)]
-pub(crate) struct Logo {
-    /// How wide and how high it is, in proportion.
-    pub(crate) across: u32,
-    pub(crate) down: u32,
-    /// What follows the place of its element: the box of its units, and an image of the file.
-    pub(crate) rest: String,
 }
 
 // Why a file is no logo.
@@ -79,7 +62,7 @@ impl From<AllocError> for LogoFault {
 }
 
 // The logo of an SVG or PNG file.
-fn logo_in(alloc: Global, file: &[u8]) -> Result<Logo, LogoFault> {
+fn element_in(alloc: Global, file: &[u8]) -> Result<Element, LogoFault> {
     if let Ok(text) = str::from_utf8(file) {
         let (across, down) = svg_sides(text)?;
         return Ok(image(alloc, across, down, "svg+xml", file)?);
@@ -107,14 +90,14 @@ fn image(
     down: u32,
     kind: &str,
     file: &[u8],
-) -> Result<Logo, AllocError> {
+) -> Result<Element, AllocError> {
     let data = STANDARD.encode(alloc, file)?;
     let rest = format!(in alloc;
         " viewBox=\"0 0 {across} {down}\"><image width=\"{across}\" height=\"{down}\" \
         xmlns:xlink=\"http://www.w3.org/1999/xlink\" \
         xlink:href=\"data:image/{kind};base64,{data}\"/></svg>"
     )?;
-    Ok(Logo { across, down, rest })
+    Ok(Element { across, down, rest })
 }
 
 // What the root element of an SVG text says of its size, while its attributes are read.

@@ -3,7 +3,7 @@
 ghost use Rattle.std.specs.Prelude.{IfOk};
 ghost use Rattle.goqlanis_core.specs.Places.{HasPixels};
 
-use crate::logos::{Logo, Raster, logo_of, pixels_of};
+use crate::logos::{element_of, pixels_of};
 use goqlanis_core::areas::{LogoError, LogoSize, LogoWish, logo_area, roomier};
 use goqlanis_core::overlays::{
     CROSS_UNITS, Inside, cross_pixels, cross_size, cross_width, with_logo,
@@ -14,7 +14,7 @@ use goqlanis_core::{Format, Request, VersionName, quiet_zone, scale};
 use goqlanis_files::failure::{Failure, usage};
 use goqlanis_files::streams::read_file;
 use goqlanis_options::asked::Asked;
-use goqlanis_options::logos::{AskedLogo, Middle, Size};
+use goqlanis_options::logos::{AskedLogo, Element, Logo, Middle, Raster, Size};
 use qrcode::QrCode;
 use qrcode_area::areas::Rectangle;
 use qrcode_area::excess::Excess;
@@ -26,6 +26,7 @@ const MOST_LOGO: usize = 1_048_576;
 
 /// The Swiss cross in the middle of a bill.
 pub(crate) const SWISS_CROSS: AskedLogo<'static> = AskedLogo {
+    path: None,
     middle: Middle::Cross,
     size: Size::Largest,
     keeps_alignment: false,
@@ -40,28 +41,26 @@ pub(crate) fn has_cross(format: Format) -> bool {
     )
 }
 
-/// What stands in the file of the logo that is asked for; nothing where none is.
-pub(crate) fn logo_file(rt: &HostRuntime, asked: &Asked<'_>) -> Result<Vec<u8>, Failure> {
-    match asked.logo {
-        Some(
-            AskedLogo {
-                middle: Middle::Logo(path, _),
-                ..
-            },
-        ) => read_file(rt, path, MOST_LOGO),
-        _ => Ok(Vec::new(rt.alloc())),
-    }
+/// The logo that is asked for, read once for all codes; none where none is.
+pub(crate) fn read_logo(rt: &HostRuntime, asked: &Asked<'_>) -> Result<Option<Logo>, Failure> {
+    let Some(path) = asked.logo.and_then(|logo| logo.path) else {
+        return Ok(None);
+    };
+    let file = read_file(rt, path, MOST_LOGO)?;
+    let logo = if asked.request.format == Format::Png {
+        Logo::Pixels(pixels_of(rt.alloc(), path, &file)?)
+    } else {
+        Logo::Element(element_of(rt.alloc(), path, &file)?)
+    };
+    Ok(Some(logo))
 }
 
-/// What is asked for, with what stands in the file of the logo.
-pub(crate) fn with_file<'a>(asked: Asked<'a>, file: &'a [u8]) -> Asked<'a> {
-    let Some(logo) = asked.logo else {
+/// What is asked for, with the logo that was read.
+pub(crate) fn with_read<'a>(asked: Asked<'a>, read: &'a Option<Logo>) -> Asked<'a> {
+    let (Some(logo), Some(read)) = (asked.logo, read) else {
         return asked;
     };
-    let middle = match logo.middle {
-        Middle::Logo(path, _) => Middle::Logo(path, file),
-        other => other,
-    };
+    let middle = Middle::Logo(read);
     let logo = Some(AskedLogo { middle, ..logo });
     Asked { logo, ..asked }
 }
@@ -83,25 +82,18 @@ pub(crate) fn redrawn(
             "a PNG file has colours of parts or a picture in the middle; add --format svg for both",
         );
     }
-    let bytes = match (logo.middle, request.format) {
-        (Middle::Logo(path, file), Format::Png) => {
-            pixels_drawn(alloc, request, code, logo, &pixels_of(alloc, path, file)?)
-        }
-        (Middle::Logo(path, file), _) => {
-            let found = logo_of(alloc, path, file)?;
-            let inside = Inside::Element(logo.margin, found.rest.as_str());
-            let area = area_of(alloc, code, wish_of(logo, (found.across, found.down), code))?;
-            drawn(alloc, request, code, area, inside)
-        }
-        (Middle::Cross, format) => {
+    let bytes = match logo.middle {
+        Middle::Logo(Logo::Pixels(raster)) => pixels_drawn(alloc, request, code, logo, raster),
+        Middle::Logo(Logo::Element(element)) => element_drawn(alloc, request, code, logo, element),
+        Middle::Cross => {
             let area = area_of(alloc, code, wish_of(logo, (1, 1), code))?;
-            if format == Format::Png {
+            if request.format == Format::Png {
                 cross_in_pixels(alloc, request, code, area)
             } else {
                 drawn(alloc, request, code, area, Inside::Cross)
             }
         }
-        (Middle::Light, _) => {
+        Middle::Light => {
             let area = area_of(alloc, code, wish_of(logo, (1, 1), code))?;
             drawn(alloc, request, code, area, Inside::Nothing)
         }
@@ -127,6 +119,19 @@ fn pixels_drawn(
         place: place.fitted(logo.across, logo.down),
     };
     inset_drawn(alloc, request, code, area, &inset)
+}
+
+// A code drawn with an element of SVG in its middle.
+fn element_drawn(
+    alloc: Global,
+    request: &Request<'_>,
+    code: &QrCode,
+    asked: &AskedLogo<'_>,
+    logo: &Element,
+) -> Result<Vec<u8>, Failure> {
+    let area = area_of(alloc, code, wish_of(asked, (logo.across, logo.down), code))?;
+    let inside = Inside::Element(asked.margin, logo.rest.as_str());
+    drawn(alloc, request, code, area, inside)
 }
 
 // A code drawn with the Swiss cross in the middle of its area, as a PNG file.

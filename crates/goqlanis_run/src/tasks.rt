@@ -6,7 +6,7 @@ use crate::drawing::{
     application_drawing, draw_one, elements_drawing, segments_drawing, write_drawing,
 };
 use crate::lines::draw_lines;
-use crate::middle::{SWISS_CROSS, has_cross, logo_file, with_file};
+use crate::middle::{SWISS_CROSS, has_cross, read_logo, with_read};
 use crate::reading::read;
 use crate::several::{MOST_IN_SEVERAL, draw_several, join_pictures};
 use clap::ArgMatches;
@@ -124,8 +124,8 @@ fn perform(rt: &HostRuntime, task: &Task, given: &ArgMatches<'_>) -> Result<Exit
 // Makes codes.
 fn make(rt: &HostRuntime, task: &Task, given: &ArgMatches<'_>) -> Result<ExitCode, Failure> {
     let asked = asked_for(rt, task, given)?;
-    let file = logo_file(rt, &asked)?;
-    let asked = with_file(asked, &file);
+    let logo = read_logo(rt, &asked)?;
+    let asked = with_read(asked, &logo);
     match task.purpose {
         Purpose::Several => draw_several(rt, given, &asked, &data(rt, &asked, MOST_IN_SEVERAL)?),
         Purpose::Content(kind) => draw_content(rt, kind, given, &asked),
