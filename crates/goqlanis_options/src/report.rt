@@ -4,6 +4,7 @@ use crate::asked::{Asked, Reporting};
 use crate::warnings::{Decimal, hundredths_of, warn_of_label, warn_of_modules, warn_of_size};
 use goqlanis_core::{Drawing, VersionName, dots, quiet_zone, scale};
 use qrcode::types::EcLevel;
+use qrcode_area::areas::Rectangle;
 use std::alloc::{AllocError, Global};
 
 // What is reported of a code.
@@ -21,16 +22,19 @@ struct Report {
     dots: Option<u32>,
     // Whether pixels are parts of a length.
     is_length: bool,
+    // The modules that are left to what stands in the middle.
+    area: Option<Rectangle>,
 }
 
-/// Says on standard error what was made, where that is asked for, and warns of a size that differs
-/// from the one that is asked for, and of one that printers may refuse.
+/// Says on standard error what was made, where that is asked for, with the area in its middle, and
+/// warns of a size that differs from the one that is asked for, and of one that printers may refuse.
 pub fn show_report(
     rt: &HostRuntime,
     asked: &Asked<'_>,
     drawing: &Drawing,
+    area: Option<Rectangle>,
 ) -> Result<(), AllocError> {
-    let report = report_of(asked, drawing);
+    let report = report_of(asked, drawing, area);
     let zone = report.zone.saturating_mul(2);
     let modules = report.modules.saturating_add(zone);
     warn_of_size(rt, asked, modules);
@@ -45,7 +49,7 @@ pub fn show_report(
     Ok(())
 }
 
-fn report_of(asked: &Asked<'_>, drawing: &Drawing) -> Report {
+fn report_of(asked: &Asked<'_>, drawing: &Drawing, area: Option<Rectangle>) -> Report {
     let (request, code) = (&asked.request, &drawing.code);
     let version = code.version();
     let own = if version.is_micro() {
@@ -67,19 +71,32 @@ fn report_of(asked: &Asked<'_>, drawing: &Drawing) -> Report {
             .saturating_mul(scale),
         dots: dots(request, code).or(asked.dots.map(u32::from)),
         is_length: request.length.is_some(),
+        area,
     }
 }
 
 // A report in lines.
 fn lines(alloc: Global, report: &Report) -> Result<String, AllocError> {
     let (version, level, mask) = (report.version, report.level, report.mask);
-    let (modules, zone, scale, side) = (report.modules, report.zone, report.scale, report.side);
     let mut text = format!(in alloc; "version {version}, level {level:?}, mask {mask}\n")?;
+    push_sizes(&mut text, report)?;
+    if let Some(area) = report.area {
+        let (width, height, left, top) = (area.width, area.height, area.left, area.top);
+        write!(
+            text,
+            "area: {width} by {height} modules, from column {left} and row {top}\n"
+        )?;
+    }
+    Ok(text)
+}
+
+// The sizes of a report, in two lines.
+fn push_sizes(text: &mut String, report: &Report) -> Result<(), AllocError> {
+    let (modules, zone, scale, side) = (report.modules, report.zone, report.scale, report.side);
     let length = Decimal(hundredths_of(side, report.dots.unwrap_or(0)));
     write!(text, "modules: {modules} by {modules}; ")?;
     if report.is_length {
-        write!(text, "quiet zone: {zone}\nsize: {length} by {length} mm\n")?;
-        return Ok(text);
+        return write!(text, "quiet zone: {zone}\nsize: {length} by {length} mm\n");
     }
     write!(
         text,
@@ -88,8 +105,7 @@ fn lines(alloc: Global, report: &Report) -> Result<String, AllocError> {
     if let Some(dots) = report.dots {
         write!(text, ", {length} mm at {dots} per inch")?;
     }
-    text.push_str("\n")?;
-    Ok(text)
+    text.push_str("\n")
 }
 
 // A report as a line of JSON.
@@ -111,6 +127,14 @@ fn json(alloc: Global, report: &Report) -> Result<String, AllocError> {
     if let Some(dots) = report.dots {
         let side = Decimal(hundredths_of(report.side, dots));
         write!(text, ", \"millimetres\": {side}")?;
+    }
+    if let Some(area) = report.area {
+        let (width, height, left, top) = (area.width, area.height, area.left, area.top);
+        write!(
+            text,
+            ", \"area\": {{\"width\": {width}, \"height\": {height}, \"column\": {left}, \
+            \"row\": {top}}}"
+        )?;
     }
     text.push_str("}\n")?;
     Ok(text)

@@ -153,12 +153,12 @@ pub(crate) fn write_drawing(
     drawing: &Drawing,
 ) -> Result<ExitCode, Failure> {
     check_size(rt.alloc(), &asked.request, drawing)?;
-    show_report(rt, asked, drawing)?;
-    let with_logo = redrawn(rt.alloc(), asked, &drawing.code)?;
-    let bytes = match &with_logo {
-        Some(bytes) => bytes.as_slice(),
-        None => drawing.bytes.as_slice(),
+    let covered = redrawn(rt.alloc(), asked, &drawing.code)?;
+    let (area, bytes) = match &covered {
+        Some((area, bytes)) => (Some(*area), bytes.as_slice()),
+        None => (None, drawing.bytes.as_slice()),
     };
+    show_report(rt, asked, drawing, area)?;
     match asked.target {
         Target::File(path) => write_file(rt, path, bytes),
         Target::Terminal if !asked.request.format.is_text() && rt.stdout().is_terminal() => {

@@ -65,12 +65,15 @@ pub(crate) fn with_read<'a>(asked: Asked<'a>, read: &'a Option<Logo>) -> Asked<'
     Asked { logo, ..asked }
 }
 
+/// An area of a code, and the code drawn with what stands there.
+pub(crate) type Covered = (Rectangle, Vec<u8>);
+
 /// A code drawn with what is asked of its middle, where something is.
 pub(crate) fn redrawn(
     alloc: Global,
     asked: &Asked<'_>,
     code: &QrCode,
-) -> Result<Option<Vec<u8>>, Failure> {
+) -> Result<Option<Covered>, Failure> {
     let Some(logo) = &asked.logo else {
         return Ok(None);
     };
@@ -82,7 +85,7 @@ pub(crate) fn redrawn(
             "a PNG file has colours of parts or a picture in the middle; add --format svg for both",
         );
     }
-    let bytes = match logo.middle {
+    let covered = match logo.middle {
         Middle::Logo(Logo::Pixels(raster)) => pixels_drawn(alloc, request, code, logo, raster),
         Middle::Logo(Logo::Element(element)) => element_drawn(alloc, request, code, logo, element),
         Middle::Cross => {
@@ -98,7 +101,7 @@ pub(crate) fn redrawn(
             drawn(alloc, request, code, area, Inside::Nothing)
         }
     };
-    Ok(Some(bytes?))
+    Ok(Some(covered?))
 }
 
 // A code drawn with pixels in its middle.
@@ -108,7 +111,7 @@ fn pixels_drawn(
     code: &QrCode,
     asked: &AskedLogo<'_>,
     logo: &Raster,
-) -> Result<Vec<u8>, Failure> {
+) -> Result<Covered, Failure> {
     let sides = (logo.across as u32, logo.down as u32);
     let area = area_of(alloc, code, wish_of(asked, sides, code))?;
     let place = place_of(alloc, request, code, area, asked.margin)?;
@@ -128,7 +131,7 @@ fn element_drawn(
     code: &QrCode,
     asked: &AskedLogo<'_>,
     logo: &Element,
-) -> Result<Vec<u8>, Failure> {
+) -> Result<Covered, Failure> {
     let area = area_of(alloc, code, wish_of(asked, (logo.across, logo.down), code))?;
     let inside = Inside::Element(asked.margin, logo.rest.as_str());
     drawn(alloc, request, code, area, inside)
@@ -140,7 +143,7 @@ fn cross_in_pixels(
     request: &Request<'_>,
     code: &QrCode,
     area: Rectangle,
-) -> Result<Vec<u8>, Failure> {
+) -> Result<Covered, Failure> {
     let place = place_of(alloc, request, code, area, 0)?;
     let pixels = cross_pixels(alloc)?;
     let inset = Inset {
@@ -159,7 +162,7 @@ fn inset_drawn(
     code: &QrCode,
     area: Rectangle,
     inset: &Inset<'_>,
-) -> Result<Vec<u8>, Failure> {
+) -> Result<Covered, Failure> {
     let side = code.width() as u64 + 2 * quiet_zone(request, code) as u64;
     if side * scale(request, code) as u64 > GREATEST_SIDE as u64 {
         return Err(Failure::Refused(format!(in alloc;
@@ -168,7 +171,7 @@ fn inset_drawn(
         )?));
     }
     match pasted(alloc, request, code, area, inset) {
-        Ok(bytes) => Ok(bytes),
+        Ok(bytes) => Ok((area, bytes)),
         Err(_) => Err(Failure::OutOfMemory),
     }
 }
@@ -180,9 +183,9 @@ fn drawn(
     code: &QrCode,
     area: Rectangle,
     inside: Inside<'_>,
-) -> Result<Vec<u8>, Failure> {
+) -> Result<Covered, Failure> {
     match with_logo(alloc, request, code, area, inside) {
-        Ok(Some(bytes)) => Ok(bytes),
+        Ok(Some(bytes)) => Ok((area, bytes)),
         Ok(None) => Err(no_room(alloc, area)?),
         Err(_) => Err(Failure::OutOfMemory),
     }
