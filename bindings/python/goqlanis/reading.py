@@ -88,8 +88,8 @@ class Part(NamedTuple):
     length: Optional[int] = None
 
 
-# The ECI numbers of UTF-8 and of what is part of it: ASCII (27, 170). 899 says that there is no text.
-_UTF8 = (26, 27, 170, 899)
+# The ECI numbers of UTF-8, and of ASCII, which is part of it.
+_UTF8 = (26, 27, 170)
 
 
 class Code(NamedTuple):
@@ -113,8 +113,8 @@ class Code(NamedTuple):
 
     @property
     def text(self) -> Optional[str]:
-        """The data where it is UTF-8, or None. Under an ECI header for another character set it is
-        None.
+        """The data where it is UTF-8, or None. Under an ECI header of another character set, and
+        where something is Kanji, it is None.
 
         >>> from goqlanis import encode, encode_segments
         >>> read(encode("Größe: 5 m²").png())[0].text
@@ -123,8 +123,9 @@ class Code(NamedTuple):
         >>> read(latin.png())[0].text, read(latin.png())[0].data.decode("latin-1")
         (None, 'Â±')
         """
-        if any(part.kind == "eci" and part.number not in _UTF8 for part in self.parts):
-            return None
+        for part in self.parts:
+            if part.kind == "kanji" or (part.kind == "eci" and part.number not in _UTF8):
+                return None
         try:
             return self.data.decode()
         except UnicodeDecodeError:
