@@ -97,16 +97,20 @@ abbrev pub size_text : Size → ℕ → ℕ → List ℕ
 size_text Free w h = []
 size_text s w h = codes " width=\"" ++ (side_text s w ++ (codes "\" height=\"" ++ (side_text s h ++ codes "\"")))
 
--- its box in cells, which fills its sides
-abbrev pub box_text : ℕ → ℕ → List ℕ
-box_text columns rows =
-    codes " viewBox=\"0 0 " ++ (decimal columns ++ (codes " " ++ (decimal rows ++ codes "\" preserveAspectRatio=\"none\" shape-rendering=\"crispEdges\">")))
+-- what follows the numbers of its box: it fills its sides, if it says them, and else keeps its shape
+abbrev pub box_end : Size → List ℕ
+box_end Free = codes "\" shape-rendering=\"crispEdges\">"
+box_end s = codes "\" preserveAspectRatio=\"none\" shape-rendering=\"crispEdges\">"
+
+-- its box in cells
+abbrev pub box_text : Size → ℕ → ℕ → List ℕ
+box_text s columns rows = codes " viewBox=\"0 0 " ++ (decimal columns ++ (codes " " ++ (decimal rows ++ box_end s)))
 
 -- the head of the element, and what is said of it
 abbrev pub frame_text : Frame → ℕ → ℕ → ℕ → ℕ → List ℕ
 frame_text f w h columns rows =
     codes "<svg xmlns=\"http://www.w3.org/2000/svg\" version=\"1.1\""
-    ++ (between (codes " id=\"") f.id (codes "\"") ++ (between (codes " class=\"") f.class (codes "\"") ++ (size_text f.size w h ++ (box_text columns rows
+    ++ (between (codes " id=\"") f.id (codes "\"") ++ (between (codes " class=\"") f.class (codes "\"") ++ (size_text f.size w h ++ (box_text f.size columns rows
     ++ (between (codes "<title>") f.title (codes "</title>") ++ between (codes "<desc>") f.description (codes "</desc>"))))))
 
 -- a frame of no texts, as large as its pixels

@@ -6,7 +6,7 @@ ghost use Rattle.qrcode_types.specs.declared.types.QrError.TheVariants.{OutOfMem
 ghost use Rattle.qrcode_types.specs.Colors.{select_of};
 ghost use Rattle.qrcode_render.specs.Grid.{all_columns, all_rows, pixels_of};
 ghost use Rattle.qrcode_render.specs.Setting.{fits, picture_of};
-ghost use Rattle.qrcode_render.specs.Paths.{attribute, between, box_text, frame_of, frame_text, path_ground, plain, side_text, size_text, xml_head, IsPathOf};
+ghost use Rattle.qrcode_render.specs.Paths.{attribute, between, box_end, box_text, frame_of, frame_text, path_ground, plain, side_text, size_text, xml_head, IsPathOf};
 
 use crate::grid::Grid;
 use crate::ink::Script;
@@ -114,7 +114,7 @@ impl<'a> Finish<PathElement<'a>> for WithoutHead {
 pub enum Size {
     /// As many pixels of the page as the picture has.
     Pixels,
-    /// It does not say: it fills what it stands in.
+    /// It does not say: it is as large as what it stands in holds, and keeps its shape.
     Free,
     /// In millimetres, where so many pixels, at least 1, are an inch.
     Dots(u32),
@@ -207,7 +207,7 @@ fn push_frame(text: &mut String, frame: &Frame<'_>, grid: &Grid) -> QrResult<()>
     push_between(text, " id=\"", frame.id, "\"")?;
     push_between(text, " class=\"", frame.class, "\"")?;
     push_size(text, frame.size, width, height)?;
-    push_box(text, columns, rows)?;
+    push_box(text, frame.size, columns, rows)?;
     push_between(text, "<title>", frame.title, "</title>")?;
     push_between(text, "<desc>", frame.description, "</desc>")?;
     Ok(())
@@ -262,18 +262,26 @@ fn push_side(text: &mut String, size: Size, pixels: u32) -> QrResult<()>
     Ok(())
 }
 
-// Appends the box of the element in cells.
-fn push_box(text: &mut String, columns: usize, rows: usize) -> QrResult<()>
+// Appends the box of the element in cells. It fills the sides that the element says, and without
+// them keeps its shape.
+fn push_box(text: &mut String, size: Size, columns: usize, rows: usize) -> QrResult<()>
     ensures appends { OnOk result (string_bytes text.new
-        ≡ string_bytes text.old ++ box_text columns rows) }
+        ≡ string_bytes text.old ++ box_text size columns rows) }
     ensures memory { IsOkUnless result OutOfMemory }
 {
-    write!(
-        text,
-        " viewBox=\"0 0 {columns} {rows}\" preserveAspectRatio=\"none\" \
-         shape-rendering=\"crispEdges\">"
-    )?;
+    let end = box_end(size);
+    write!(text, " viewBox=\"0 0 {columns} {rows}{end}")?;
     Ok(())
+}
+
+// What follows the numbers of the box.
+fn box_end(size: Size) -> &'static str
+    ensures { result.now ≡ box_end size }
+{
+    match size {
+        Size::Free => "\" shape-rendering=\"crispEdges\">",
+        _ => "\" preserveAspectRatio=\"none\" shape-rendering=\"crispEdges\">",
+    }
 }
 
 // Appends the light ground, up to its colour.

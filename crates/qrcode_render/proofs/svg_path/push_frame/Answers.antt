@@ -25,8 +25,8 @@ returns-clause-appends c =
     let begun = c.in_ok-push_between.ensures.appends ∙ ap (λ t. t ++ id) c.in_ok-push_str.ensures.bytes in
     let classed = c.in_ok-push_between-2.ensures.appends ∙ ap (λ t. t ++ class) begun in
     let sized = c.in_ok-push_size.ensures.appends ∙ ap₂ (λ t s. t ++ s) classed (ap₂ size pixels.across pixels.down) in
-    let boxed = c.in_ok-push_box.ensures.appends ∙ ap₂ (λ t s. t ++ s) sized (ap₂ box_text sides.columns sides.rows) in
+    let boxed = c.in_ok-push_box.ensures.appends ∙ ap₂ (λ t s. t ++ s) sized (ap₂ (box_text frame.size) sides.columns sides.rows) in
     let titled = c.in_ok-push_between-3.ensures.appends ∙ ap (λ t. t ++ title) boxed in
     c.in_ok-push_between-4.ensures.appends
     ∙ ap (λ t. t ++ description) titled
-    ∙ nested (string_bytes c.args.text.now) head id class (size w h) (box_text (all_columns grid) (all_rows grid)) title description
+    ∙ nested (string_bytes c.args.text.now) head id class (size w h) (box_text frame.size (all_columns grid) (all_rows grid)) title description
