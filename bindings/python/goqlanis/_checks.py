@@ -13,7 +13,7 @@ OTHERS = {"error": "level='H'", "error_correction": "level='H'", "boost_error": 
           "mask_pattern": "mask=3", "encoding": "data.encode(..)", "symbol_count": "count=3",
           "mode": "encode_segments", "unit": "size='30mm'", "box_size": "scale=8",
           "fill_color": "dark='navy'", "back_color": "light='white'", "color": "dark='navy'",
-          "background": "light='white'", "omitsize": "svg_inline", "xmldecl": "svg_inline"}
+          "background": "light='white'", "omitsize": "CSS: svg {width: 100%}", "xmldecl": "svg_inline"}
 LEVELS = "LMQH"
 BINARY = (bytes, bytearray, memoryview)
 

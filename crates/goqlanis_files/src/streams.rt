@@ -57,13 +57,14 @@ pub fn write_data(
     }
 }
 
-// Writes data to a terminal.
+// Writes data to a terminal, in lines of its own.
 fn show(rt: &HostRuntime, data: &[u8]) -> Result<ExitCode, Failure> {
     let shown = Escaped {
         bytes: data,
         has_lines: true,
     };
-    let text = format!(in rt.alloc(); "{shown}")?;
+    let end = if data.ends_with(b"\n") { "" } else { "\n" };
+    let text = format!(in rt.alloc(); "{shown}{end}")?;
     print(rt, text.as_bytes())
 }
 

@@ -17,7 +17,7 @@ pub fn advice(
     let text = format!(in alloc; "{error}")?;
     let text = text.as_str();
     if let Some(value) = between(text, "invalid value '", "' for") {
-        return known_help(alloc, task, value);
+        return value_help(alloc, task, text, value);
     }
     let Some(word) = between(text, "unexpected argument '", "' found") else {
         return Ok(None);
@@ -32,6 +32,24 @@ pub fn advice(
         return Ok(None);
     }
     Ok(Some(other_help(alloc, task, words, word)?))
+}
+
+// What to write instead of the value of an option, by the text of an error.
+fn value_help(
+    alloc: Global,
+    task: &Task,
+    text: &str,
+    value: &str,
+) -> Result<Option<String>, AllocError> {
+    if let Some(help) = known_help(alloc, task, value)? {
+        return Ok(Some(help));
+    }
+    match between(text, "for '", " <") {
+        Some(option) if text.contains("invalid digit") => Ok(Some(format!(in alloc;
+            "{option} {value}: it takes a whole number"
+        )?)),
+        _ => Ok(None),
+    }
 }
 
 // What stands between two texts in another one.
@@ -81,7 +99,7 @@ fn command_help(
         Some(name) => Ok(Some(format!(in alloc;
             "{word}: no such command; did you mean goqlanis {name}?"
         )?)),
-        None => Ok(None),
+        None => known_help(alloc, task, word),
     }
 }
 
@@ -114,11 +132,12 @@ fn other_help(
         _ if words.iter().any(|word| word.as_str() == "--version") => format!(in alloc;
             "{word}: --version is the program's; for the code's version, use -v"
         ),
+        Some(operand) if operand.name == "TEXT" => format!(in alloc;
+            "{word}: only one TEXT; put quotes around one with spaces, e.g. \"hello world\""
+        ),
         Some(operand) => {
             let name = operand.name;
-            format!(in alloc;
-                "{word}: only one {name}; put quotes around one with spaces, e.g. \"hello world\""
-            )
+            format!(in alloc; "{word}: only one {name} at a time")
         }
         None => format!(in alloc; "{word}: goqlanis {name} takes only options; --help lists them"),
     }

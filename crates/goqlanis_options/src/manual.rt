@@ -23,7 +23,7 @@ The commands from wifi on make payloads; most options above work with them too.
 ";
 
 static END: &str = ".SH EXIT STATUS
-0: success. 1: something was refused. 2: the command line is wrong.
+0: success. 1: something was refused, or a code that is checked departs from the standard. 2: the command line is wrong.
 .SH EXAMPLES
 .nf
 ";

@@ -63,6 +63,8 @@ fn lines(alloc: Global, checks: &[Check]) -> Result<String, AllocError> {
 
 // What is said of a code.
 fn push_check(text: &mut String, check: &Check) -> Result<(), AllocError> {
+    let verdict = if check.is_standard() { "yes" } else { "no" };
+    write!(text, "meets the standard: {verdict}\n")?;
     push_symbol(text, check)?;
     push_modules(text, check.modules)?;
     match &check.content {

@@ -53,7 +53,11 @@ pub(crate) fn check_empty(alloc: Global, asked: &Asked<'_>, bytes: &[u8]) -> Res
     }
     refused(
         alloc,
-        "the input is empty, e.g. of a variable that is not set; --allow-empty accepts it",
+        if asked.is_by_line {
+            "it is empty; --allow-empty accepts it"
+        } else {
+            "the input is empty, e.g. of a variable that is not set; --allow-empty accepts it"
+        },
     )
 }
 

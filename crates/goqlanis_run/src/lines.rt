@@ -68,7 +68,7 @@ fn draw_each<R: BufRead>(
         if !next_line(rt.alloc(), name, from, &mut line, number)? {
             return Ok(code);
         }
-        match draw_line(rt, asked, &mut taken, without_ending(&line), number) {
+        match draw_line(rt, asked, &mut taken, text_of(&line, number), number) {
             Ok(_) => progress.show(rt, number),
             Err(Failure::Refused(why)) => {
                 progress.clear(rt);
@@ -90,7 +90,8 @@ fn draw_line(
     line: &[u8],
     number: usize,
 ) -> Result<ExitCode, Failure> {
-    let data = data_in(rt.alloc(), asked, line)?;
+    let field = field_in(rt.alloc(), asked, line)?;
+    let data = field.as_ref().map_or(line, |field| field.as_bytes());
     let Target::File(path) = asked.target else {
         return draw_one(rt, asked, data);
     };
@@ -105,13 +106,13 @@ fn draw_line(
     draw_one(rt, &Asked { target, ..*asked }, data)
 }
 
-// The field of a line that is asked for, or all of it.
-fn data_in<'a>(alloc: Global, asked: &Asked<'_>, line: &'a [u8]) -> Result<&'a [u8], Failure> {
+// The field of a line that is asked for, if one is.
+fn field_in(alloc: Global, asked: &Asked<'_>, line: &[u8]) -> Result<Option<String>, Failure> {
     let Some(number) = asked.field else {
-        return Ok(line);
+        return Ok(None);
     };
     match str::from_utf8(line) {
-        Ok(text) => Ok(field_of(alloc, text, asked.delimiter, number)?.as_bytes()),
+        Ok(text) => Ok(Some(field_of(alloc, text, asked.delimiter, number)?)),
         Err(_) => refused(alloc, "it is not UTF-8: leave out --field"),
     }
 }
@@ -140,6 +141,14 @@ fn next_line<R: BufRead>(
             )?))
         }
         Err(error) => unread(alloc, name, &error),
+    }
+}
+
+// A line without its ending; the first one without the mark that spreadsheets put before UTF-8.
+fn text_of(line: &[u8], number: usize) -> &[u8] {
+    match without_ending(line) {
+        [0xef, 0xbb, 0xbf, text @ ..] if number == 1 => text,
+        text => text,
     }
 }
 

@@ -51,9 +51,22 @@ pub(crate) fn check_names(rt: &HostRuntime, asked: &Asked<'_>) -> Result<(), Fai
             rt.alloc(),
             "--output: {text} and {1} are for --lines; {} is the number",
         )
+    } else if let Some(word) = unknown_word(path) {
+        Err(Failure::Usage(format!(in rt.alloc();
+            "--output: {{{word}}} is unknown; {{}} is the number, {{text}} the line, {{1}} its first \
+            field"
+        )?))
     } else {
         Ok(())
     }
+}
+
+// The first word in brackets that names no place.
+fn unknown_word(path: &str) -> Option<&str> {
+    path.split('{').skip(1).find_map(|piece| {
+        let (word, _) = piece.split_once('}')?;
+        place_of(piece).is_none().then_some(word)
+    })
 }
 
 /// The file of an item, unless an earlier one has it whose text it was made of.
@@ -139,25 +152,62 @@ fn push_piece(name: &mut String, piece: &str, item: Item<'_>) -> Result<(), Fail
         Place::Text => push_clean(name, item.text)?,
         Place::Field(number) => {
             let field = field_of(*name.allocator(), item.text, item.delimiter, number)?;
-            push_clean(name, field)?;
+            push_clean(name, field.as_str())?;
         }
     }
     Ok(name.push_str(rest)?)
 }
 
-/// The field of a line, counted from 1, of those that a text separates.
-pub(crate) fn field_of<'a>(
+/// The field of a line, counted from 1, of those that a text separates. In quotation marks a field
+/// may have that text, and two quotation marks for one.
+pub(crate) fn field_of(
     alloc: Global,
-    line: &'a str,
+    line: &str,
     delimiter: &str,
     number: usize,
-) -> Result<&'a str, Failure> {
-    match line.split(delimiter).nth(number.saturating_sub(1)) {
-        Some(field) => Ok(field),
-        None => Err(Failure::Refused(format!(in alloc;
-            "it has no field {number}; --delimiter says what separates fields"
-        )?)),
+) -> Result<String, Failure> {
+    let mut field = String::new(alloc);
+    let (mut place, mut is_open) = (0usize, false);
+    for piece in line.split(delimiter) {
+        if is_open {
+            field.push_str(delimiter)?;
+        } else {
+            field.clear();
+            place = place.saturating_add(1);
+        }
+        field.push_str(piece)?;
+        is_open = field.starts_with('"') && has_odd_quotes(field.as_str());
+        if place == number && !is_open {
+            return Ok(unquoted(alloc, field.as_str())?);
+        }
     }
+    if is_open {
+        return refused(alloc, "a field has no quotation mark at its end");
+    }
+    Err(Failure::Refused(format!(in alloc;
+        "it has no field {number}; --delimiter says what separates fields"
+    )?))
+}
+
+// Whether the quotation marks of a text are an odd number.
+fn has_odd_quotes(text: &str) -> bool {
+    text.bytes().filter(|byte| *byte == b'"').count() % 2 == 1
+}
+
+// A field without the quotation marks about it, in which two stand for one.
+fn unquoted(alloc: Global, field: &str) -> Result<String, AllocError> {
+    let inner = field
+        .strip_prefix('"')
+        .and_then(|rest| rest.strip_suffix('"'));
+    let Some(inner) = inner else {
+        return String::from_str(alloc, field);
+    };
+    let mut text = String::new(alloc);
+    for (at, part) in inner.split("\"\"").enumerate() {
+        text.push_str(if at == 0 { "" } else { "\"" })?;
+        text.push_str(part)?;
+    }
+    Ok(text)
 }
 
 // Writes a text, in which what a file name cannot have on some system is a _, and so is a point that

@@ -50,7 +50,7 @@ pub static ONE_CODE: &[Entry] = &[
         hex) or eci:NUMBER; repeat as needed"),
     entry!("lines", Nothing,
         "Make one code per line, in numbered files; --output may contain {} (line number), \
-        {text} (the line), {1} (its first field)"),
+        {text} (the line), {1}, {2} .. (its fields)"),
     entry!("field", Number("N", 1, 65535), "With --lines: encode only field N of each line"),
     entry!("delimiter", Text("TEXT"),
         "Separator of the fields in a line [default: ,]"),
