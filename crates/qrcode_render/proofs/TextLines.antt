@@ -1,5 +1,5 @@
 -- Lines of a text: that they are UTF-8, and that they are what stands before the last newline.
-use Rattle.std.proofs.Common.{◌≡◌, ℕ, zero, suc, ◌+◌, ◌-◌, ◌<◌, List, [], ◌∷◌, ◌++◌, Bool, true, false, length, length-append, take, map, refl, ap, ◌∙◌, sym, subst, arith}
+use Rattle.std.proofs.Common.{◌≡◌, ℕ, zero, suc, ◌+◌, ◌-◌, ◌<◌, List, [], ◌∷◌, ◌++◌, Bool, true, false, length, length-append, take, map, ap, ◌∙◌, sym, subst, arith}
 use Rattle.std.proofs.Common.{rules}
 use Rattle.std.specs.List.{flat_map, join_with_byte, range_with_len}
 use Rattle.std.specs.Str.{IsUtf8}
@@ -29,11 +29,6 @@ lines-IsUtf8 f (suc n) all =
     let before = join_with_byte 10 (map f (range_with_len 0 n)) in
     let is = ap (λ k. join_with_byte 10 (map f (range_with_len 0 k))) next ∙ joined_more f n in
     subst IsUtf8 (sym is) (IsUtf8-append (before ++ line_start n) (f n) (IsUtf8-append before (line_start n) (lines-IsUtf8 f n all) (line_start-IsUtf8 n)) (all n))
-
--- lines of which each ends with a newline, and one more
-pub with_last : (f : ℕ → List ℕ) (n : ℕ) → flat_map (λ y. f y ++ (10 ∷ [])) (range_with_len 0 n) ++ f n ≡ join_with_byte 10 (map f (range_with_len 0 (n + 1)))
-with_last f zero = refl
-with_last f (suc n) = ap (λ t. t ++ f (suc n)) (sym (joined-ended f n)) ∙ sym (joined_more f (suc n))
 
 -- lines of which each ends with a newline, without the last newline
 pub without_end : (f : ℕ → List ℕ) (n : ℕ) (raw : List ℕ) (k : ℕ) → k ≡ length raw → 0 < n → raw ≡ flat_map (λ y. f y ++ (10 ∷ [])) (range_with_len 0 n) → take (k - 1) raw ≡ join_with_byte 10 (map f (range_with_len 0 n))
