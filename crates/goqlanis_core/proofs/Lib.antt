@@ -8,6 +8,7 @@ mod Partition
 mod Pieces
 mod Plain
 mod Read
+mod Roomier
 mod Sampled
 mod Seen
 mod Segmented

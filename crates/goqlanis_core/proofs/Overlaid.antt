@@ -1,5 +1,5 @@
 -- Areas and what stands in them.
-use Rattle.std.proofs.Common.{◌≡◌, ℕ, zero, suc, refl, List, ◌++◌, Bool, false, IsTrue, IfOk, Result, Ok, Err, is_ok, true≢false, arith, sym, subst, ap, ◌∙◌}
+use Rattle.std.proofs.Common.{◌≡◌, ℕ, zero, suc, refl, List, ◌++◌, Bool, arith, sym, subst, ap, ◌∙◌}
 use Rattle.std.specs.Prelude.{codes, Option, None, Some}
 use Rattle.std.specs.Option.{option_or}
 use Rattle.std.proofs.lemmas.List.{append_assoc}
@@ -25,11 +25,6 @@ fits_plainly v l w area may patterns = record {
   leaves = record { blocks = λ b below. omega (arith, may.blocks b below); format = may.format };
   patterns = patterns;
 }
-
--- what is known of a value that is there
-pub of_ok : {A E : Type 0} (P : A → Type 0) (r : Result A E) (b : Bool) → b ≡ is_ok r → IfOk r P → IsTrue b → (x : A) × P x
-of_ok P (Ok x) b e h t = (x, h)
-of_ok P (Err x) b e h t = absurd (true≢false (sym t ∙ e))
 
 tail_behind : (front tail bytes : List ℕ) → bytes ≡ front ++ tail → HasTail tail bytes
 tail_behind front tail bytes e = (front, e)

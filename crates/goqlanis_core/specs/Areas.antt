@@ -1,8 +1,9 @@
 -- The area of a logo, and why there is none.
-use Rattle.std.specs.Prelude.{◌≡◌, ◌⊎◌, ◌/◌, ◌<◌, min, ℕ, Option, Some, None}
-use Rattle.qrcode_types.specs.Versions.{side, ec_length}
+use Rattle.std.specs.Prelude.{◌≡◌, ◌⊎◌, ◌/◌, ◌<◌, ◌≤◌, min, nat_abs, pos, ℕ, Option, Some, None, IsTrue}
+use Rattle.qrcode_types.specs.Versions.{side, ec_length, has_level, level_number}
 use Rattle.qrcode_types.specs.declared.types.EcLevel.{EcLevel}
 use Rattle.qrcode_types.specs.declared.types.Version.{Version}
+use Rattle.qrcode_types.specs.declared.types.Version.TheVariants.{Normal, Micro}
 use Rattle.qrcode_area.specs.Rectangles.{in_proportion, centred, only, Fits, IsLargest, LeavesPatterns, NoneLarger}
 use Rattle.qrcode_area.specs.Refusals.{IsExcess}
 use Rattle.qrcode_area.specs.declared.areas.Rectangle.{Rectangle}
@@ -27,11 +28,17 @@ middle v w size = centred v (wish_for w 0) size
 abbrev pub half_wish : Version → EcLevel → LogoWish → Wish  -- half of the codewords that each block may lose are left
 half_wish v l w = wish_for w (ec_length v l / 4)
 
--- the area: the largest in the middle that leaves half of what each block may lose; or the one with so many modules along its
--- longer side, which may show anything and leaves the patterns alone
+-- the area with so many modules along its longer side: it lies in the middle, may show anything and leaves the patterns alone
+pub record IsSized (v : Version) (l : EcLevel) (w : LogoWish) (size : ℕ) (r : Rectangle) : Type 0 where
+  pub at_least : 1 ≤ size
+  pub inside : size ≤ side v
+  pub middle : r ≡ middle v w size
+  pub fits : Fits v l (wish_for w 0) (only r)
+
+-- the area: the largest in the middle that leaves half of what each block may lose; or the one with so many modules
 abbrev pub IsAreaOf : Version → EcLevel → LogoWish → Option ℕ → Rectangle → Type 0
 IsAreaOf v l w None r = IsLargest v l (half_wish v l w) r
-IsAreaOf v l w (Some size) r = (r ≡ middle v w size) × Fits v l (wish_for w 0) (only r)
+IsAreaOf v l w (Some size) r = IsSized v l w size r
 
 -- why there is none with so many modules
 abbrev pub IsRefusedAt : Version → EcLevel → LogoWish → ℕ → LogoError → Type 0
@@ -45,5 +52,36 @@ abbrev pub IsRefusedOf : Version → EcLevel → LogoWish → Option ℕ → Log
 IsRefusedOf v l w None e = (e ≡ NoRoom) × NoneLarger v l (half_wish v l w) 0
 IsRefusedOf v l w (Some size) e = IsRefusedAt v l w size e
 
+-- there are symbols of the version and level, and they have such an area
 abbrev pub HasArea : Version → EcLevel → LogoWish → Type 0
-HasArea v l w = (r : Rectangle) × IsAreaOf v l w (size_in v w.size) r
+HasArea v l w = IsTrue (has_level v l) × ((r : Rectangle) × IsAreaOf v l w (size_in v w.size) r)
+
+-- the version has no such area at a higher level whose number is below this one
+abbrev pub NoHigher : Version → EcLevel → LogoWish → ℕ → Type 0
+NoHigher v l w n = (h : EcLevel) → level_number l < level_number h → level_number h < n → ¬ HasArea v h w
+
+-- the lowest higher level at which the version has such an area
+pub record IsLowest (v : Version) (l : EcLevel) (w : LogoWish) (h : EcLevel) : Type 0 where
+  pub higher : level_number l < level_number h
+  pub area : HasArea v h w
+  pub none_lower : NoHigher v l w (level_number h)
+
+abbrev pub number_of : Version → ℕ  -- the number of a version of Normal; 0 for Micro
+number_of (Normal n) = nat_abs n
+number_of (Micro n) = 0
+
+-- no larger version of Normal whose number is below this one has such an area at the level
+abbrev pub NoLarger : Version → EcLevel → LogoWish → ℕ → Type 0
+NoLarger v l w n = (larger : ℕ) → number_of v < larger → larger < n → ¬ HasArea (Normal (pos larger)) l w
+
+-- the smallest larger version of Normal that has such an area at the level
+pub record IsSmallest (v : Version) (l : EcLevel) (w : LogoWish) (u : Version) : Type 0 where
+  pub number : ℕ
+  pub normal : u ≡ Normal (pos number)
+  pub larger : number_of v < number
+  pub area : HasArea u l w
+  pub none_smaller : NoLarger v l w number
+
+-- the version at the lowest higher level that has such an area; where none has, the smallest larger version at the level
+abbrev pub IsRoomier : Version → EcLevel → LogoWish → Version × EcLevel → Type 0
+IsRoomier v l w found = ((found.0 ≡ v) × IsLowest v l w found.1) ⊎ ((found.1 ≡ l) × (IsSmallest v l w found.0 × NoHigher v l w 4))

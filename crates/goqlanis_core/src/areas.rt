@@ -1,8 +1,8 @@
 //! The area of a logo.
 
-ghost use Rattle.std.specs.Prelude.{◌≡◌, ◌⊎◌, IsTrue, IfOk, IfErr, IfSome};
-ghost use Rattle.qrcode_types.specs.Versions.{has_level, is_valid};
-ghost use Rattle.goqlanis_core.specs.Areas.{wish_for, size_in, HasArea, IsAreaOf, IsRefusedOf};
+ghost use Rattle.std.specs.Prelude.{◌≡◌, ◌⊎◌, ◌↔◌, ◌^◌, ◌<◌, IsTrue, IfOk, IfErr, IfSome, IfNone};
+ghost use Rattle.qrcode_types.specs.Versions.{has_level, is_valid, level_number};
+ghost use Rattle.goqlanis_core.specs.Areas.{wish_for, size_in, number_of, HasArea, IsAreaOf, IsRefusedOf, IsLowest, IsRoomier, IsSmallest, NoHigher, NoLarger};
 ghost use Rattle.goqlanis_core.specs.declared.areas.LogoError.TheVariants.{OutOfMemory as NoMemory};
 
 use qrcode::types::{EcLevel, Version};
@@ -14,7 +14,7 @@ use qrcode_area::rectangles::{
 use qrcode_area::reserve::reserve_in;
 use qrcode_reader::walk::side;
 use qrcode_types::tables::Blocks;
-use std::alloc::Global;
+use std::alloc::{AllocError, Global};
 
 /// How large the area of a logo is.
 #[derive(Clone, Copy)]
@@ -150,56 +150,108 @@ fn sized_area(
     }
 }
 
-/// A version and level that have such an area, where one near those that are given has: the version at
-/// a higher level, or else a larger version of Normal at the level.
+/// The first version and level that have such an area: the version at the lowest higher level, or
+/// else the smallest larger version of Normal at the level.
+///
+/// `AllocError`: memory was refused.
 pub fn roomier(
     alloc: Global,
     version: Version,
     ec_level: EcLevel,
     wish: LogoWish,
-) -> Option<(Version, EcLevel)>
-    ensures { IfSome result (λ found. HasArea found.0 found.1 wish) }
+) -> Result<Option<(Version, EcLevel)>, AllocError>
+    ensures some { IfOk result (λ found. IfSome found (IsRoomier version ec_level wish)) }
+    ensures none { IfOk result (λ found. IfNone found
+        (NoHigher version ec_level wish 4 × NoLarger version ec_level wish 41)) }
 {
-    for level in [EcLevel::M, EcLevel::Q, EcLevel::H] {
-        if level > ec_level && has_area(alloc, version, level, wish) {
-            return Some((version, level));
-        }
+    if let Some(level) = higher_level(alloc, version, ec_level, wish)? {
+        return Ok(Some((version, level)));
     }
-    larger_version(alloc, version, ec_level, wish)
+    match larger_version(alloc, version, ec_level, wish)? {
+        Some(larger) => Ok(Some((larger, ec_level))),
+        None => Ok(None),
+    }
 }
 
-// A larger version of Normal that has such an area at a level.
+// The lowest higher level at which a version has such an area.
+fn higher_level(
+    alloc: Global,
+    version: Version,
+    ec_level: EcLevel,
+    wish: LogoWish,
+) -> Result<Option<EcLevel>, AllocError>
+    ensures some { IfOk result (λ found. IfSome found (IsLowest version ec_level wish)) }
+    ensures none { IfOk result (λ found. IfNone found (NoHigher version ec_level wish 4)) }
+{
+    let first = ec_level.number() + 1;
+    for number in first..4 {
+        let level = level_of(number);
+        if has_area(alloc, version, level, wish)? {
+            return Ok(Some(level));
+        }
+    }
+    Ok(None)
+}
+
+// The level with a number.
+fn level_of(number: usize) -> EcLevel
+    requires { number < 4 }
+    ensures { level_number result ≡ number }
+{
+    match number {
+        0 => EcLevel::L,
+        1 => EcLevel::M,
+        2 => EcLevel::Q,
+        _ => EcLevel::H,
+    }
+}
+
+// The smallest larger version of Normal that has such an area at a level.
 fn larger_version(
     alloc: Global,
     version: Version,
     ec_level: EcLevel,
     wish: LogoWish,
-) -> Option<(Version, EcLevel)>
-    ensures { IfSome result (λ found. HasArea found.0 found.1 wish) }
+) -> Result<Option<Version>, AllocError>
+    ensures some { IfOk result (λ found. IfSome found (IsSmallest version ec_level wish)) }
+    ensures none { IfOk result (λ found. IfNone found (NoLarger version ec_level wish 41)) }
 {
-    for number in 1..41 {
-        let larger = Version::Normal(number);
-        if number > number_of(version) && has_area(alloc, larger, ec_level, wish) {
-            return Some((larger, ec_level));
+    let first = number_of(version) + 1;
+    for number in first..41 {
+        let larger = Version::Normal(number as i16);
+        if has_area(alloc, larger, ec_level, wish)? {
+            return Ok(Some(larger));
         }
     }
-    None
+    Ok(None)
 }
 
 // The number of a version of Normal; 0 for Micro.
-fn number_of(version: Version) -> i16 {
+fn number_of(version: Version) -> usize
+    ensures value { result ≡ number_of version }
+    ensures at_most { result < 2 ^ 16 }
+{
     match version {
-        Version::Normal(number) => number,
+        Version::Normal(number) => number.unsigned_abs() as usize,
         Version::Micro(_) => 0,
     }
 }
 
-// Whether a version and level are known to have such an area.
-fn has_area(alloc: Global, version: Version, ec_level: EcLevel, wish: LogoWish) -> bool
-    ensures { IsTrue result → HasArea version ec_level wish }
+// Whether there are symbols of a version and level, and they have such an area.
+fn has_area(
+    alloc: Global,
+    version: Version,
+    ec_level: EcLevel,
+    wish: LogoWish,
+) -> Result<bool, AllocError>
+    ensures { IfOk result (λ has. IsTrue has ↔ HasArea version ec_level wish) }
 {
-    match Blocks::of(version, ec_level) {
-        Some(_) => logo_area(alloc, version, ec_level, wish).is_ok(),
-        None => false,
+    if !version.has_level(ec_level) {
+        return Ok(false);
+    }
+    match logo_area(alloc, version, ec_level, wish) {
+        Ok(_) => Ok(true),
+        Err(LogoError::OutOfMemory) => Err(AllocError),
+        Err(_) => Ok(false),
     }
 }

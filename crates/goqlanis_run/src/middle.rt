@@ -275,7 +275,7 @@ fn refusal_text(
         ),
         _ => format!(in alloc; "version {name} at level {level:?} has no room for a logo"),
     }?;
-    if let Some((version, level)) = roomier(alloc, version, level, wish) {
+    if let Some((version, level)) = roomier(alloc, version, level, wish)? {
         let name = VersionName(version);
         write!(text, "; version {name} at level {level:?} has room for it")?;
     }

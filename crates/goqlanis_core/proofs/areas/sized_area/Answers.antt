@@ -1,4 +1,4 @@
-use Rattle.std.proofs.Common.{◌≡◌, ℕ, Bool, subst, ap, ◌∙◌}
+use Rattle.std.proofs.Common.{◌≡◌, ℕ, Bool, arith, subst, ap, ◌∙◌}
 use Rattle.qrcode_area.specs.Areas.{covers}
 use Rattle.qrcode_area.specs.Rectangles.{centred, only, Fits}
 use Rattle.qrcode_area.specs.Reserves.{IsItsExcess}
@@ -15,7 +15,10 @@ returns-in-Ok-clause-area c =
     let area = covers c.of-area.result in
     let is : area ≡ only c.centred.result = ap covers c.of-area.ensures in
     let may = subst (IsItsExcess v l area) c.in-None.is (c.excess.ensures v l area c.in-Ok.ensures) in
-    let patterns = c.leaves_patterns.ensures.0 c.if-not-leaves_patterns.false in (
-      c.centred.ensures ∙ ap (λ (wish : Wish). centred v wish c.args.size) c.wish_for.ensures,
-      subst (λ (a : ℕ → ℕ → Bool). Fits v l (wish_for w 0) a) is (fits_plainly v l w area may patterns),
-    )
+    let patterns = c.leaves_patterns.ensures.0 c.if-not-leaves_patterns.false in
+    record {
+      at_least = omega arith;
+      inside = omega arith;
+      middle = c.centred.ensures ∙ ap (λ (wish : Wish). centred v wish c.args.size) c.wish_for.ensures;
+      fits = subst (λ (a : ℕ → ℕ → Bool). Fits v l (wish_for w 0) a) is (fits_plainly v l w area may patterns);
+    }
