@@ -16,7 +16,7 @@ use Rattle.goqlanis_core.specs.declared.formats.Format.{Format}
 use Rattle.goqlanis_core.specs.declared.formats.Format.TheVariants.{Eps, Pdf}
 use Rattle.goqlanis_core.specs.declared.overlays.Inside.{Inside}
 use Rattle.goqlanis_core.specs.declared.overlays.Inside.TheVariants.{Nothing, Cross, Element}
-use Rattle.goqlanis_core.specs.Places.{place_in}
+use Rattle.goqlanis_core.specs.Places.{place_in, HasRoom}
 use Rattle.goqlanis_core.specs.declared.places.Place.{Place}
 use Rattle.goqlanis_core.specs.declared.request.Request.{Request}
 
@@ -52,6 +52,11 @@ abbrev pub element_for : Request → Version → Rectangle → Inside → List �
 element_for r v area Nothing = []
 element_for r v area Cross = cross_for r v
 element_for r v area (Element margin rest) = svg_element (place_in r v area margin) rest.now
+
+abbrev pub LacksRoom : Version → Rectangle → Inside → Type 0  -- it is an element that has no room
+LacksRoom v area Nothing = ⊥
+LacksRoom v area Cross = ⊥
+LacksRoom v area (Element margin rest) = ¬ HasRoom v area margin
 
 -- bytes show a symbol with the modules of a rectangle light, and what stands there over all that is drawn
 abbrev pub IsShownWith : Request → Code → Rectangle → Inside → List ℕ → Type 0

@@ -1,5 +1,6 @@
 -- Places in a drawing.
 use Rattle.std.specs.Prelude.{ℕ, ◌+◌, ◌-◌, ◌*◌, ◌/◌, ◌%◌, ◌<◌, ◌≤◌, ◌^◌, ◌&&◌, nat_le, nat_lt, max, min, Bool}
+use Rattle.qrcode_types.specs.Versions.{side}
 use Rattle.qrcode_types.specs.declared.types.Version.{Version}
 use Rattle.qrcode_area.specs.declared.areas.Rectangle.{Rectangle}
 use Rattle.goqlanis_core.specs.Drawings.{unit_for, zone_for}
@@ -15,6 +16,13 @@ pub record HasPixels (p : Place) : Type 0 where
 
 abbrev pub is_in_place : Place → ℕ → ℕ → Bool  -- it has the pixel in column x and row y
 is_in_place p x y = nat_le p.left x && nat_lt x (p.left + p.width) && nat_le p.top y && nat_lt y (p.top + p.height)
+
+-- a rectangle of modules lies in the symbol, and a margin at each side leaves some of them
+pub record HasRoom (v : Version) (area : Rectangle) (margin : ℕ) : Type 0 where
+  pub right : area.left + area.width ≤ side v
+  pub bottom : area.top + area.height ≤ side v
+  pub across : 2 * margin < area.width
+  pub down : 2 * margin < area.height
 
 -- the units of a rectangle of modules less a margin at each side
 abbrev pub place_in : Request → Version → Rectangle → ℕ → Place

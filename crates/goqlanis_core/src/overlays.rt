@@ -1,11 +1,11 @@
 //! What stands in the area of a drawing: a logo, or the Swiss cross.
 
-ghost use Rattle.std.specs.Prelude.{◌≡◌, ◌⊎◌, length, map, ◌*◌, if◌then◌else◌, string_bytes, IfOk, IfErr, IfSome};
+ghost use Rattle.std.specs.Prelude.{◌≡◌, ◌⊎◌, length, map, ◌*◌, if◌then◌else◌, string_bytes, IfOk, IfErr, IfNone, IfSome};
 ghost use Rattle.qrcode_types.specs.declared.types.QrError.TheVariants.{InvalidVersion, OutOfMemory};
 ghost use Rattle.std.specs.List.{range_with_len};
 ghost use Rattle.qrcode_png.specs.Image.{grey_shade, rgba};
 ghost use Rattle.goqlanis_core.specs.Masks.{LacksMask};
-ghost use Rattle.goqlanis_core.specs.Overlays.{AreBeside, IsShownWith, cross_for, cross_shade, cross_text, element_for, is_black_unit, is_in_bar, lies_between, svg_element};
+ghost use Rattle.goqlanis_core.specs.Overlays.{AreBeside, IsShownWith, LacksRoom, cross_for, cross_shade, cross_text, element_for, is_black_unit, is_in_bar, lies_between, svg_element};
 
 use crate::drawing::{modules_drawn, quiet_zone, scale, unit};
 use crate::formats::Format;
@@ -146,8 +146,8 @@ pub enum Inside<'a> {
 }
 
 /// A symbol with the modules of a rectangle light, drawn as a request asks for, and what stands there,
-/// over all that is drawn. `None`: its margin leaves no module, or the rectangle is not inside the
-/// symbol.
+/// over all that is drawn. `None`: it is an element, and its margin leaves no module, or the
+/// rectangle is not inside the symbol.
 ///
 /// `InvalidVersion`: its version has no mask of the number. `OutOfMemory`: memory was refused.
 pub fn with_logo(
@@ -159,6 +159,8 @@ pub fn with_logo(
 ) -> QrResult<Option<Vec<u8>>>
     ensures shown { IfOk result (λ drawn. IfSome drawn (λ bytes.
         IsShownWith request.now code.now area inside.entry bytes.items)) }
+    ensures none { IfOk result (λ drawn. IfNone drawn
+        (LacksRoom code.now.version area inside.entry)) }
     ensures causes { IfErr result (λ e. (e ≡ OutOfMemory)
         ⊎ ((e ≡ InvalidVersion) × LacksMask request.now.mask code.now.version)) }
 {
@@ -178,8 +180,10 @@ fn element(
     area: Rectangle,
     inside: Inside<'_>,
 ) -> Result<Option<String>, AllocError>
-    ensures { IfOk result (λ found. IfSome found (λ text. string_bytes text
+    ensures some { IfOk result (λ found. IfSome found (λ text. string_bytes text
         ≡ element_for request.now code.now.version area inside.entry)) }
+    ensures none { IfOk result (λ found. IfNone found
+        (LacksRoom code.now.version area inside.entry)) }
 {
     match inside {
         Inside::Nothing => Ok(Some(String::new(alloc))),

@@ -1,7 +1,7 @@
 //! Places in a drawing.
 
-ghost use Rattle.std.specs.Prelude.{◌≡◌, ◌+◌, ◌<◌, ◌≤◌, IsTrue, IfSome};
-ghost use Rattle.goqlanis_core.specs.Places.{fitted, is_in_place, place_in, square, HasPixels};
+ghost use Rattle.std.specs.Prelude.{◌≡◌, ◌↔◌, ◌+◌, ◌<◌, ◌≤◌, IsTrue, IfNone, IfSome};
+ghost use Rattle.goqlanis_core.specs.Places.{fitted, is_in_place, place_in, square, HasPixels, HasRoom};
 
 use crate::drawing::{quiet_zone, unit};
 use crate::request::Request;
@@ -22,6 +22,7 @@ pub struct Place {
 pub fn place_in(request: &Request<'_>, code: &QrCode, area: Rectangle, margin: u8) -> Option<Place>
     ensures value { IfSome result (λ place.
         place ≡ place_in request.now code.now.version area margin) }
+    ensures none { IfNone result (¬ HasRoom code.now.version area margin) }
     ensures pixels { IfSome result HasPixels }
 {
     let (side, both) = (code.width(), 2 * margin as usize);
@@ -42,7 +43,7 @@ pub fn place_in(request: &Request<'_>, code: &QrCode, area: Rectangle, margin: u
 
 // Whether so many modules from one on lie below a bound.
 fn is_within(side: usize, start: usize, count: usize) -> bool
-    ensures { IsTrue result → start + count ≤ side }
+    ensures { IsTrue result ↔ (start + count ≤ side) }
 {
     count <= side && start <= side - count
 }

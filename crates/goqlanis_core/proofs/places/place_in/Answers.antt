@@ -1,4 +1,4 @@
-use Rattle.std.proofs.Common.{◌≡◌, ◌+◌, ◌-◌, ◌*◌, ◌≤◌, arith, refl}
+use Rattle.std.proofs.Common.{◌+◌, ◌-◌, ◌*◌, ◌≤◌, arith, refl}
 use Rattle.std.proofs.Math.Nat.{one-le-mul}
 use Rattle.goqlanis_core.proofs.Placed.{few_pixels}
 use Rattle.goqlanis_core.proofs.places.place_in.Goals as goal
@@ -9,8 +9,8 @@ returns-clause-pixels c =
     let margin = c.args.margin in
     let zone = c.quiet_zone-zone.result in
     let pixels = c.unit-unit.result in
-    let across : area.left + area.width ≤ c.width-side.result = c.if-not-is_within.ensures refl in
-    let down : area.top + area.height ≤ c.width-side.result = c.if-not-is_within-2.ensures refl in
+    let across : area.left + area.width ≤ c.width-side.result = c.if-not-is_within.ensures.0 refl in
+    let down : area.top + area.height ≤ c.width-side.result = c.if-not-is_within-2.ensures.0 refl in
     let some : 1 ≤ pixels = c.unit-unit.ensures.at_least in
     let few : pixels ≤ 65535 = c.unit-unit.ensures.at_most in
     let side = c.width-side.ensures.at_most in
