@@ -1,5 +1,5 @@
 -- What stands in the area of a drawing.
-use Rattle.std.specs.Prelude.{ℕ, ◌+◌, ◌*◌, ◌/◌, ◌%◌, ◌&&◌, not, nat_le, nat_lt, Bool, List, [], ◌++◌, codes, decimal, if◌then◌else◌}
+use Rattle.std.specs.Prelude.{◌≡◌, ℕ, ◌+◌, ◌*◌, ◌/◌, ◌%◌, ◌<◌, ◌≤◌, ◌&&◌, not, nat_le, nat_lt, Bool, List, [], ◌++◌, codes, decimal, if◌then◌else◌}
 use Rattle.qrcode_types.specs.Versions.{side}
 use Rattle.qrcode_types.specs.declared.types.Color.{Color}
 use Rattle.qrcode_types.specs.declared.types.Version.{Version}
@@ -24,6 +24,17 @@ use Rattle.goqlanis_core.specs.declared.request.Request.{Request}
 abbrev pub AreBeside : Request → Code → Rectangle → List Color → Type 0
 AreBeside r code area light =
     (s : List Color) × (AreUnder r.mask code s × (AgreesOutside code.version (only area) s light × IsLightInside code.version (only area) light))
+
+-- the modules along the side of the area of the Swiss cross of a bill: the least odd number that is not below 7 of 46 parts of the symbol's side
+pub record IsCrossSize (side size : ℕ) : Type 0 where
+  pub odd : size % 2 ≡ 1
+  pub at_least : 7 * side ≤ 46 * size
+  pub least : (n : ℕ) → n % 2 ≡ 1 → 7 * side ≤ 46 * n → size ≤ n
+
+-- its pixels: 7 of 46 parts of those of the symbol's side, to the nearest, and halves up
+pub record IsCrossWidth (side width : ℕ) : Type 0 where
+  pub at_most : 46 * width ≤ 7 * side + 23
+  pub at_least : 7 * side < 46 * width + 23
 
 -- an `svg` element in a place, of what follows its place and size
 abbrev pub svg_element : Place → List ℕ → List ℕ

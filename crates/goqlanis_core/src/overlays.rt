@@ -1,11 +1,13 @@
 //! What stands in the area of a drawing: a logo, or the Swiss cross.
 
-ghost use Rattle.std.specs.Prelude.{◌≡◌, ◌⊎◌, length, map, ◌*◌, if◌then◌else◌, string_bytes, IfOk, IfErr, IfNone, IfSome};
+ghost use Rattle.std.specs.Prelude.{◌≡◌, ◌⊎◌, ◌<◌, ◌*◌, ◌^◌, max, length, map, if◌then◌else◌, string_bytes, IfOk, IfErr, IfNone, IfSome};
+ghost use Rattle.qrcode_types.specs.Versions.{side};
 ghost use Rattle.qrcode_types.specs.declared.types.QrError.TheVariants.{InvalidVersion, OutOfMemory};
 ghost use Rattle.std.specs.List.{range_with_len};
 ghost use Rattle.qrcode_png.specs.Image.{grey_shade, rgba};
+ghost use Rattle.goqlanis_core.specs.Drawings.{scale_for};
 ghost use Rattle.goqlanis_core.specs.Masks.{LacksMask};
-ghost use Rattle.goqlanis_core.specs.Overlays.{AreBeside, IsShownWith, LacksRoom, cross_for, cross_shade, cross_text, element_for, is_black_unit, is_in_bar, lies_between, svg_element};
+ghost use Rattle.goqlanis_core.specs.Overlays.{AreBeside, IsCrossSize, IsCrossWidth, IsShownWith, LacksRoom, cross_for, cross_shade, cross_text, element_for, is_black_unit, is_in_bar, lies_between, svg_element};
 
 use crate::drawing::{modules_drawn, quiet_zone, scale, unit};
 use crate::formats::Format;
@@ -19,13 +21,20 @@ use qrcode_area::covered::lightened;
 use std::alloc::{AllocError, Global};
 
 /// The modules along the side of the area of the Swiss cross of a bill, in a symbol with so many
-/// along its side: it is 7 mm of 46 mm wide.
-pub fn cross_size(side: usize) -> usize {
-    side.saturating_mul(7).div_ceil(46) | 1
+/// along its side: it is 7 mm of 46 mm wide (Swiss Implementation Guidelines QR-bill), and has the
+/// least odd number of modules that is not less.
+pub fn cross_size(side: usize) -> usize
+    ensures { side < 2 ^ 32 → IsCrossSize side result }
+{
+    let modules = side.saturating_mul(7).div_ceil(46);
+    modules + 1 - modules % 2
 }
 
 /// The pixels along the side of the Swiss cross of a bill, to the nearest.
-pub fn cross_width(request: &Request<'_>, code: &QrCode) -> u32 {
+pub fn cross_width(request: &Request<'_>, code: &QrCode) -> u32
+    ensures { IsCrossWidth (side code.now.version * max (scale_for request.now code.now.version) 1)
+        result }
+{
     let pixels = code.width() as u64 * scale(request, code).max(1) as u64;
     ((7 * pixels + 23) / 46) as u32
 }
