@@ -1,12 +1,11 @@
 -- Checks of a picture's codes.
-use Rattle.std.proofs.Common.{◌≡◌, ◌∙◌, ◌*◌, ◌++◌, ◌∷◌, [], ℕ, List, All, length, sym, ap, subst, inl, inr, arith}
+use Rattle.std.proofs.Common.{◌∙◌, ◌*◌, ◌++◌, ◌∷◌, [], ℕ, List, All, sym, ap, subst, inl, inr, arith}
 use Rattle.std.specs.List.{AllZip}
 use Rattle.std.proofs.lemmas.List.Elements.{All-cons, All-drop, All-nil, All-weaker}
 use Rattle.qrcode_check.specs.declared.checking.Check.{Check}
-use Rattle.goqlanis_core.specs.Checked.{HasSquare, IsCheckOf, IsCheckOfScan, IsSquareCheckOf, IsUncheckedPicture, IsUncheckedSquare, unspelled}
-use Rattle.goqlanis_core.specs.Scans.{IsScanOf, IsUnreadPicture}
+use Rattle.goqlanis_core.specs.Checked.{AreChecksOf, HasSquare, IsCheckOf, IsCheckOfScan}
+use Rattle.goqlanis_core.specs.Scans.{IsScanOf}
 use Rattle.goqlanis_core.specs.declared.scanning.Scan.{Scan}
-use Rattle.goqlanis_core.specs.declared.scanning.Unread.{Unread}
 use Rattle.goqlanis_core.proofs.Sampled.{sampled_length}
 
 -- one pair more
@@ -30,17 +29,16 @@ pub have_squares : (bytes : List ℕ) (scans : List Scan) → All (IsScanOf byte
 have_squares bytes scans all = All-weaker (IsScanOf bytes) HasSquare (has_square bytes) scans all
 
 -- what is said of codes that are read is said of those of the picture
-pub all_checks : (bytes : List ℕ) (scans : List Scan) (checks : List Check) → AllZip IsCheckOfScan scans checks → All (IsScanOf bytes) scans → All (IsCheckOf bytes) checks
+all_checks : (bytes : List ℕ) (scans : List Scan) (checks : List Check) → AllZip IsCheckOfScan scans checks → All (IsScanOf bytes) scans → All (IsCheckOf bytes) checks
 all_checks bytes [] [] are all = All-nil (IsCheckOf bytes)
 all_checks bytes [] (c ∷ checks) are all = absurd are
 all_checks bytes (s ∷ scans) [] are all = absurd are
 all_checks bytes (s ∷ scans) (c ∷ checks) are all =
     All-cons (IsCheckOf bytes) c checks (inl (s, (all 0 s (omega arith), are.0))) (all_checks bytes scans checks are.1 (All-drop (IsScanOf bytes) 1 (s ∷ scans) all))
 
--- the only one
-pub only_check : (bytes : List ℕ) (check : Check) (checks : List Check) → checks ≡ check ∷ [] → IsSquareCheckOf bytes check → All (IsCheckOf bytes) checks
-only_check bytes check checks same is = subst (All (IsCheckOf bytes)) (sym same) (All-cons (IsCheckOf bytes) check [] (inr is) (All-nil (IsCheckOf bytes)))
-
--- its bits are no headers and segments, and it is not read as bits
-pub no_bits : (bytes : List ℕ) (count : ℕ) (e : Unread) → IsUnreadPicture bytes (unspelled count) → IsUncheckedSquare bytes e → IsUncheckedPicture bytes e
-no_bits bytes count e unread cause = inr ((count, unread), cause)
+-- the same in either case
+pub said_of : (bytes : List ℕ) (scans : List Scan) (checks : List Check) → AreChecksOf bytes scans checks → All (IsCheckOf bytes) checks
+said_of bytes scans checks are = elim are [
+  | inl read ↦ all_checks bytes scans checks read.said read.read
+  | inr square ↦ subst (All (IsCheckOf bytes)) (sym square.only) (All-cons (IsCheckOf bytes) square.check [] (inr square.said) (All-nil (IsCheckOf bytes)))
+]

@@ -1,20 +1,23 @@
 -- What checks of a picture's codes say.
-use Rattle.std.specs.Prelude.{◌≡◌, ◌≢◌, ◌⊎◌, ◌*◌, ℕ, List, length, if◌then◌else◌}
+use Rattle.std.specs.Prelude.{◌≡◌, ◌≢◌, ◌⊎◌, ◌*◌, ℕ, List, [], ◌∷◌, All, length, if◌then◌else◌}
+use Rattle.std.specs.List.{AllZip}
 use Rattle.qrcode_types.specs.declared.types.Color.{Color}
 use Rattle.qrcode_render.specs.Bitmap.{Bitmap}
 use Rattle.qrcode_reader.specs.Positions.{seen}
-use Rattle.qrcode_reader.specs.scan.Squares.{IsSquareIn, inverted, has_dark_edge}
-use Rattle.qrcode_reader.specs.Readings.{IsBitCause}
+use Rattle.qrcode_reader.specs.scan.Squares.{inverted, has_dark_edge}
 use Rattle.qrcode_reader.specs.declared.refusals.Unread as reading
 use Rattle.qrcode_check.specs.Checks.{IsCheck}
 use Rattle.qrcode_check.specs.declared.checking.Check.{Check}
-use Rattle.goqlanis_core.specs.Scans.{IsLeastSquareIn, IsPictureOf, IsScanOf, IsUnreadIn, IsUnreadPicture, IsUnseen}
+use Rattle.goqlanis_core.specs.Scans.{IsLeastSquareIn, IsPictureOf, IsScanOf, IsUnreadPicture}
 use Rattle.goqlanis_core.specs.declared.scanning.Scan.{Scan}
 use Rattle.goqlanis_core.specs.declared.scanning.Unread.{Unread}
-use Rattle.goqlanis_core.specs.declared.scanning.Unread.TheVariants.{Unscanned, Png, Jpeg, NoSquare, NoSymbol, OutOfMemory}
+use Rattle.goqlanis_core.specs.declared.scanning.Unread.TheVariants.{NoSymbol}
 
 abbrev pub HasSquare : Scan → Type 0  -- a code has the modules of its square
 HasSquare scan = scan.square.count * scan.square.count ≡ length scan.square.modules.items
+
+abbrev pub unspelled : ℕ → Unread  -- the bits of a square of so many modules a side are no headers and segments
+unspelled count = NoSymbol count reading.TheVariants.NotSpelled
 
 -- what is said of a code that is read: of its modules, in the position in which they are read
 abbrev pub IsCheckOfScan : Scan → Check → Type 0
@@ -26,7 +29,7 @@ pub record IsSquareCheck (b : Bitmap) (check : Check) : Type 0 where
   pub zone : ℕ
   pub scale : ℕ
   pub modules : List Color
-  pub square : IsSquareIn b count zone scale modules
+  pub square : IsLeastSquareIn b count zone scale modules
   pub said : IsCheck modules check
 
 -- the same of the pixels of a picture, with dark and light exchanged where their first row is dark
@@ -39,32 +42,23 @@ pub record IsSquareCheckOf (bytes : List ℕ) (check : Check) : Type 0 where
 abbrev pub IsCheckOf : List ℕ → Check → Type 0
 IsCheckOf bytes check = ((scan : Scan) × (IsScanOf bytes scan × IsCheckOfScan scan check)) ⊎ IsSquareCheckOf bytes check
 
--- the square in a margin of pixels has so many modules a side; this is why it is not read as bits
-pub record HasNoBits (b : Bitmap) (count : ℕ) (e : reading.Unread) : Type 0 where
-  pub zone : ℕ
-  pub scale : ℕ
-  pub modules : List Color
-  pub square : IsLeastSquareIn b count zone scale modules
-  pub cause : IsBitCause modules e
+-- what is said of the codes of a picture: of each of those that are read, in their order
+pub record AreScanChecks (bytes : List ℕ) (scans : List Scan) (checks : List Check) : Type 0 where
+  pub read : All (IsScanOf bytes) scans
+  pub said : AllZip IsCheckOfScan scans checks
 
-abbrev pub IsUncheckedIn : Bitmap → Unread → Type 0  -- why pixels have no such square that is read as bits
-IsUncheckedIn b (Unscanned e) = ⊥
-IsUncheckedIn b (Png e) = ⊥
-IsUncheckedIn b Jpeg = ⊥
-IsUncheckedIn b NoSquare = IsUnreadIn b NoSquare
-IsUncheckedIn b (NoSymbol count e) = HasNoBits b count e
-IsUncheckedIn b OutOfMemory = Unit
+-- or none is read, since the bits of the square in a margin are no headers and segments; and what is said of that square
+pub record IsOnlyCheck (bytes : List ℕ) (scans : List Scan) (checks : List Check) : Type 0 where
+  pub count : ℕ
+  pub unread : IsUnreadPicture bytes (unspelled count)
+  pub none : scans ≡ []
+  pub check : Check
+  pub only : checks ≡ check ∷ []
+  pub said : IsSquareCheckOf bytes check
 
--- the same of the bytes of a picture
-abbrev pub IsUncheckedSquare : List ℕ → Unread → Type 0
-IsUncheckedSquare bytes e =
-    IsUnseen bytes e ⊎ ((pixels : Bitmap) × (IsPictureOf bytes pixels × IsUncheckedIn (if has_dark_edge pixels then inverted pixels else pixels) e))
+abbrev pub AreChecksOf : List ℕ → List Scan → List Check → Type 0
+AreChecksOf bytes scans checks = AreScanChecks bytes scans checks ⊎ IsOnlyCheck bytes scans checks
 
-abbrev pub unspelled : ℕ → Unread  -- the bits of a square of so many modules a side are no headers and segments
-unspelled count = NoSymbol count reading.TheVariants.NotSpelled
-
--- why nothing is said of a picture: it is not read, for another cause than this one; or for this one, and the square is not read as bits
+-- why nothing is said of a picture: it is not read, for another cause than this one
 abbrev pub IsUncheckedPicture : List ℕ → Unread → Type 0
-IsUncheckedPicture bytes e =
-    (IsUnreadPicture bytes e × ((count : ℕ) → e ≢ unspelled count))
-    ⊎ (((count : ℕ) × IsUnreadPicture bytes (unspelled count)) × IsUncheckedSquare bytes e)
+IsUncheckedPicture bytes e = IsUnreadPicture bytes e × ((count : ℕ) → e ≢ unspelled count)

@@ -3,11 +3,11 @@
 ghost use Rattle.std.specs.Prelude.{◌≡◌, ◌≤◌, ◌++◌, ◌∷◌, [], All, length, IfErr, IfOk, OnOk};
 ghost use Rattle.std.specs.List.{AllZip};
 ghost use Rattle.qrcode_reader.specs.scan.Squares.{inverted};
-ghost use Rattle.goqlanis_core.specs.Checked.{HasSquare, IsCheckOfScan, IsCheckOf, IsSquareCheck, IsSquareCheckOf, IsUncheckedIn, IsUncheckedPicture, IsUncheckedSquare};
+ghost use Rattle.goqlanis_core.specs.Checked.{AreChecksOf, HasSquare, IsCheckOf, IsCheckOfScan, IsSquareCheck, IsSquareCheckOf, IsUncheckedPicture};
 ghost use Rattle.goqlanis_core.specs.Codes.{IsMissedOf};
 
 use crate::codes::{Codes, read_codes};
-use crate::scanning::{Scan, Unread, no_symbol, pixels_in};
+use crate::scanning::{Scan, Unread, pixels_in};
 use qrcode_check::{Check, check_seen, check_square};
 use qrcode_reader::scan::{Pixels, square_of};
 use std::alloc::{AllocError, Global};
@@ -15,20 +15,21 @@ use std::alloc::{AllocError, Global};
 /// The codes of a picture, checked.
 #[derive(Drop)]
 pub struct Checks {
-    /// What is said of each, in the order of `read_codes`.
+    /// What is said of each of the codes that are read, in their order; or of that square alone.
     pub checks: Vec<Check>,
     /// The codes that are read, and those that seem to be there and are not. There are none where
     /// all that the picture shows is a square in a margin that is read as bits alone.
     pub codes: Codes,
 }
 
-/// Checks the codes of a picture: those that are read, or the square in a margin where it is read
-/// as bits, and these are no headers and segments.
+/// Checks the codes of a picture: those that are read; or where none is, since the bits of the
+/// square in a margin are no headers and segments, that square.
 ///
 /// The errors are those of `read_codes`, except for bits that are no headers and segments.
-#[tactic(auto, using(crate::proofs::Checked::have_squares, crate::proofs::Checked::all_checks, crate::proofs::Checked::only_check, crate::proofs::Checked::no_bits))]
 pub fn check_codes(alloc: Global, bytes: &[u8]) -> Result<Checks, Unread>
     ensures value { IfOk result (λ found. All (IsCheckOf bytes.now) found.checks.items) }
+    ensures each { IfOk result (λ found.
+        AreChecksOf bytes.now found.codes.scans.items found.checks.items) }
     ensures some { IfOk result (λ found. 1 ≤ length found.checks.items) }
     ensures missed { IfOk result (λ found. All (IsMissedOf bytes.now) found.codes.missed.items) }
     ensures causes { IfErr result (IsUncheckedPicture bytes.now) }
@@ -36,10 +37,7 @@ pub fn check_codes(alloc: Global, bytes: &[u8]) -> Result<Checks, Unread>
     match read_codes(alloc, bytes) {
         Ok(codes) => Ok(checked(alloc, codes)?),
         Err(Unread::NoSymbol(_, qrcode_reader::Unread::NotSpelled)) => {
-            match unspelled(alloc, bytes) {
-                Ok(check) => Ok(only(alloc, check)?),
-                Err(cause) => Err(cause),
-            }
+            Ok(only(alloc, unspelled(alloc, bytes)?)?)
         }
         Err(cause) => Err(cause),
     }
@@ -48,6 +46,7 @@ pub fn check_codes(alloc: Global, bytes: &[u8]) -> Result<Checks, Unread>
 // One check.
 fn only(alloc: Global, check: Check) -> Result<Checks, AllocError>
     ensures checks { IfOk result (λ found. found.checks.items ≡ check ∷ []) }
+    ensures scans { IfOk result (λ found. found.codes.scans.items ≡ []) }
     ensures missed { IfOk result (λ found. found.codes.missed.items ≡ []) }
 {
     let mut checks = Vec::new(alloc);
@@ -95,14 +94,14 @@ fn check_scan(alloc: Global, scan: &Scan) -> Result<Check, AllocError>
     }
 }
 
-// Checks the square in a margin of a picture as bits.
-fn unspelled(alloc: Global, bytes: &[u8]) -> Result<Check, Unread>
-    ensures value { IfOk result (IsSquareCheckOf bytes.now) }
-    ensures causes { IfErr result (IsUncheckedSquare bytes.now) }
+// Checks the square in a margin of a picture as bits. It has been read as bits that are no headers
+// and segments, so that memory alone may be refused.
+fn unspelled(alloc: Global, bytes: &[u8]) -> Result<Check, AllocError>
+    ensures { IfOk result (IsSquareCheckOf bytes.now) }
 {
     let pixels = match pixels_in(alloc, bytes) {
         Ok(pixels) => pixels,
-        Err(cause) => return Err(cause),
+        Err(_) => return Err(AllocError),
     };
     if pixels.has_dark_edge() {
         unspelled_inverted(alloc, &pixels)
@@ -112,24 +111,22 @@ fn unspelled(alloc: Global, bytes: &[u8]) -> Result<Check, Unread>
 }
 
 // The same of pixels with dark and light exchanged.
-fn unspelled_inverted(alloc: Global, pixels: &Pixels) -> Result<Check, Unread>
-    ensures value { IfOk result (IsSquareCheck (inverted pixels.now)) }
-    ensures causes { IfErr result (IsUncheckedIn (inverted pixels.now)) }
+fn unspelled_inverted(alloc: Global, pixels: &Pixels) -> Result<Check, AllocError>
+    ensures { IfOk result (IsSquareCheck (inverted pixels.now)) }
 {
     let pixels = pixels.inverted(alloc)?;
     unspelled_in(alloc, &pixels)
 }
 
 // The same of pixels.
-fn unspelled_in(alloc: Global, pixels: &Pixels) -> Result<Check, Unread>
-    ensures value { IfOk result (IsSquareCheck pixels.now) }
-    ensures causes { IfErr result (IsUncheckedIn pixels.now) }
+fn unspelled_in(alloc: Global, pixels: &Pixels) -> Result<Check, AllocError>
+    ensures { IfOk result (IsSquareCheck pixels.now) }
 {
     let Some(square) = square_of(alloc, pixels)? else {
-        return Err(Unread::NoSquare);
+        return Err(AllocError);
     };
     match check_square(alloc, &square.modules) {
         Ok(check) => Ok(check),
-        Err(error) => Err(no_symbol(square.count, error)),
+        Err(_) => Err(AllocError),
     }
 }

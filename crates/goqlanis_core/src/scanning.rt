@@ -163,7 +163,7 @@ pub(crate) fn read_clean(alloc: Global, pixels: &Pixels, is_inverted: bool) -> R
 }
 
 // Why a square of so many modules a side is not read.
-pub(crate) fn no_symbol(count: usize, error: qrcode_reader::Unread) -> Unread
+fn no_symbol(count: usize, error: qrcode_reader::Unread) -> Unread
     ensures { result ≡ unread_as count error }
 {
     match error {

@@ -1,13 +1,50 @@
-use Rattle.std.proofs.Common.{arith}
+use Rattle.std.proofs.Common.{◌∙◌, All, ap, sym, subst, arith, inl, inr}
+use Rattle.std.specs.List.{AllZip}
 use Rattle.std.proofs.lemmas.Slice.Zip.{AllZip-long}
 use Rattle.goqlanis_core.specs.Checked.{IsCheckOfScan}
-use Rattle.goqlanis_core.proofs.Checked.{have_squares}
+use Rattle.goqlanis_core.specs.Scans.{IsScanOf, IsUnreadPicture}
+use Rattle.goqlanis_core.specs.declared.codes.Codes.{Codes}
+use Rattle.goqlanis_core.specs.declared.scanning.Unread.TheVariants.{NoSymbol}
+use Rattle.goqlanis_core.proofs.Checked.{have_squares, said_of}
 use Rattle.goqlanis_core.proofs.checking.check_codes.Goals as goal
 
 pub checked-requires : goal.checked-requires
 checked-requires c = have_squares c.args.bytes.now c.in-Ok.codes.scans.items c.in-Ok.ensures.value
 
+pub returns-in_ok-checked-in-Ok-clause-each : goal.returns-in_ok-checked-in-Ok-clause-each
+returns-in_ok-checked-in-Ok-clause-each c =
+    let found = c.in_ok-checked-in-Ok.field-0 in
+    let same = sym c.in_ok-checked-in-Ok.ensures.codes in
+    inl (record {
+      read = subst (λ (codes : Codes). All (IsScanOf c.args.bytes.now) codes.scans.items) same c.in-Ok.ensures.value;
+      said = subst (λ (codes : Codes). AllZip IsCheckOfScan codes.scans.items found.checks.items) same c.in_ok-checked-in-Ok.ensures.checks;
+    })
+
 pub returns-in_ok-checked-in-Ok-clause-some : goal.returns-in_ok-checked-in-Ok-clause-some
 returns-in_ok-checked-in-Ok-clause-some c =
     let long = AllZip-long IsCheckOfScan c.in-Ok.codes.scans.items c.in_ok-checked-in-Ok.field-0.checks.items c.in_ok-checked-in-Ok.ensures.checks in
     omega (arith, long, c.in-Ok.ensures.some)
+
+pub returns-in_ok-only-in-Err-NoSymbol-default-NotSpelled-clause-each : goal.returns-in_ok-only-in-Err-NoSymbol-default-NotSpelled-clause-each
+returns-in_ok-only-in-Err-NoSymbol-default-NotSpelled-clause-each c =
+    let unread = c.in-Err-NoSymbol-default-NotSpelled in
+    let check = c.in_ok-unspelled-in-Err-NoSymbol-default-NotSpelled in
+    let found = c.in_ok-only-in-Err-NoSymbol-default-NotSpelled.ensures in
+    inr (record {
+      count = unread.field-0-0;
+      unread = subst (IsUnreadPicture c.args.bytes.now) (unread.field-0-is ∙ ap (NoSymbol unread.field-0-0) unread.field-0-1-is) unread.ensures.causes;
+      none = found.scans;
+      check = check.field-0;
+      only = found.checks;
+      said = check.ensures;
+    })
+
+pub returns-in_ok-checked-in-Ok-clause-value : goal.returns-in_ok-checked-in-Ok-clause-value
+returns-in_ok-checked-in-Ok-clause-value c =
+    let found = c.in_ok-checked-in-Ok.field-0 in
+    said_of c.args.bytes.now found.codes.scans.items found.checks.items (returns-in_ok-checked-in-Ok-clause-each c)
+
+pub returns-in_ok-only-in-Err-NoSymbol-default-NotSpelled-clause-value : goal.returns-in_ok-only-in-Err-NoSymbol-default-NotSpelled-clause-value
+returns-in_ok-only-in-Err-NoSymbol-default-NotSpelled-clause-value c =
+    let found = c.in_ok-only-in-Err-NoSymbol-default-NotSpelled.field-0 in
+    said_of c.args.bytes.now found.codes.scans.items found.checks.items (returns-in_ok-only-in-Err-NoSymbol-default-NotSpelled-clause-each c)
