@@ -17,7 +17,7 @@ def parts_have_their_colours(program):
 def labels_show_the_dots(program):
     """A second reader of what label printers take: where a picture stands, and each of its dots."""
     for words in ("01234567", "-l H -s 3 https://example.org", "-v 40 -s 5 A", "-q 1 -s 5 A",
-                  "-s 150 A", "-s 1 -q 0 --invert A"):
+                  "-s 88 A", "-s 1 -q 0 --invert A"):
         dots = written(program, f"-f pbm {words}")
         across, count = map(int, dots.split(b"\n", 2)[1].split())
         rows = labels.rows_of(dots.split(b"\n", 2)[2], (across + 7) // 8, count)
