@@ -97,6 +97,9 @@ pub fn asked_for<'a>(
         field: given.get_one::<u16>("field").map(usize::from),
         allows_empty: given.get_flag("allow-empty"),
     };
+    if asked.delimiter.is_empty() {
+        return usage(alloc, "--delimiter: give it a text, e.g. \";\"");
+    }
     if asked.is_by_line {
         check_one_behind_another(alloc, &asked)?;
     } else if asked.field.is_some() {

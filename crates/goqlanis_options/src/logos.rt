@@ -123,8 +123,8 @@ fn size_of(alloc: Global, text: Option<&str>) -> Result<Size, Failure> {
         None => text.parse::<usize>().map(Size::Modules),
     };
     match size {
-        Ok(size) => Ok(size),
-        Err(_) => Err(Failure::Usage(format!(in alloc;
+        Ok(size) if !matches!(size, Size::Percent(0)) => Ok(size),
+        _ => Err(Failure::Usage(format!(in alloc;
             "--logo-size {text}: use modules, e.g. 9, or percent of the code's side, e.g. 20%"
         )?)),
     }

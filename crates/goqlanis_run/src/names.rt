@@ -135,7 +135,7 @@ fn place_of(piece: &str) -> Option<(Place, &str)> {
     let place = match (word, word.parse::<usize>()) {
         ("", _) => Place::Number,
         ("text", _) => Place::Text,
-        (_, Ok(number)) if number > 0 => Place::Field(number),
+        (_, Ok(number)) if number > 0 && !word.starts_with('+') => Place::Field(number),
         _ => return None,
     };
     Some((place, rest))

@@ -82,7 +82,8 @@ pub(crate) fn picture_of<'a>(
     };
     if bytes.starts_with(b"P4") && bytes.len() > MOST_PACKED {
         return Err(Failure::Refused(format!(in rt.alloc();
-            "cannot read {name}: it has more than 67,108,864 pixels; crop it, or make it smaller"
+            "cannot read {name}: it has more than 8,389,632 bytes, those of 67,108,864 pixels; crop it, or \
+            make it smaller"
         )?));
     }
     Ok((name, bytes))

@@ -12,7 +12,7 @@ use Rattle.qrcode_contents.specs.Wifi.{Network}
 use Rattle.qrcode_contents.specs.declared.bill.Currency.TheVariants.{Franc}
 use Rattle.qrcode_contents.specs.declared.bill.Currency as currencies
 use Rattle.qrcode_contents.specs.declared.fields.errors.Cause.{Cause}
-use Rattle.qrcode_contents.specs.declared.fields.errors.Cause.TheVariants.{Character, Decimals, Empty, Range, TooLong, TooShort, Word}
+use Rattle.qrcode_contents.specs.declared.fields.errors.Cause.TheVariants.{Character, Decimals, Empty, Range, TooLong, TooShort, Unused, Word}
 use Rattle.qrcode_contents.specs.declared.fields.errors.ContentError.{ContentError}
 use Rattle.qrcode_contents.specs.declared.fields.errors.ContentError.TheVariants.{Refused}
 use Rattle.qrcode_contents.specs.declared.fields.errors.Field.{Field}
@@ -194,12 +194,12 @@ phone_in g = phone_number (g Phone)
 abbrev pub whole_in : List ℕ → ℕ → Field → Result ℕ ContentError
 whole_in text most field = with_value (said (scaled_value 0 text) field (number_cause text)) (λ n. if nat_lt most n then Err (Refused field Range) else Ok n)
 
--- what passwords change with: a counter where one is given, and else the time, every 30 seconds or as many as are given
+-- what passwords change with: a counter where one is given, and no period, and else the time, every 30 seconds or as many as are given
 abbrev pub factor_in : List ℕ → List ℕ → Result Factor ContentError
 factor_in counter period =
     if is_empty counter
     then (if is_empty period then Ok (factors.Time 30) else with_value (whole_in period (2 ^ 32 - 1) Period) (λ seconds. Ok (factors.Time seconds)))
-    else with_value (whole_in counter (2 ^ 64 - 2) Counter) (λ count. Ok (factors.Counter count))
+    else (if is_empty period then with_value (whole_in counter (2 ^ 64 - 2) Counter) (λ count. Ok (factors.Counter count)) else Err (Refused Period Unused))
 
 abbrev pub key_in : (Field → List ℕ) → Result Key ContentError  -- one-time passwords
 key_in g = with_value (factor_in (g Counter) (g Period)) (λ factor. with_value (algorithm_in (g Algorithm)) (λ algorithm. with_value (digits_in (g Digits)) (λ digits. Ok (record {

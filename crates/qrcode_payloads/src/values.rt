@@ -173,12 +173,15 @@ fn whole(text: &str, most: u64, field: Field) -> ContentResult<u64>
     }
 }
 
-/// What passwords change with: a counter where one is given, and else the time, every 30 seconds or
-/// as many as are given.
+/// What passwords change with: a counter where one is given, and no period, and else the time, every
+/// 30 seconds or as many as are given.
 pub(crate) fn factor(counter: &str, period: &str) -> ContentResult<Factor>
     ensures value { result ≡ factor_in counter.now period.now }
 {
     if !counter.is_empty() {
+        if !period.is_empty() {
+            return Err(ContentError::Refused(Field::Period, Cause::Unused));
+        }
         let most = 18_446_744_073_709_551_614;
         return Ok(Factor::Counter(whole(counter, most, Field::Counter)?));
     }
