@@ -37,8 +37,8 @@ class Symbol:
       for Micro QR;
     - `dark`, `light`: a colour of CSS by its name, "#rgb", "#rrggbb", "#rrggbbaa", a tuple of red,
       green, blue and perhaps opacity (0 to 255), or None for a transparent one. EPS, PDF
-      and PPM have opaque ones alone, PBM and the like none. Of colours that many readers do not
-      tell apart a UserWarning says so.
+      and PPM have opaque ones alone, PBM and the like none. Colours that many readers
+      cannot tell apart draw a UserWarning.
 
     >>> from goqlanis import encode
     >>> symbol = encode("01234567")
@@ -162,6 +162,18 @@ zpl, tspl, escpos, xbm, ppm: save 'ticket.png', and convert that
         return self._drawn("eps", Look(scale, border, quiet_zone, dark, light, size=size)).decode()
 
     @named
+    def pdf(self, scale: Optional[int] = None, quiet_zone: Optional[int] = None, *,
+            border: Optional[int] = None, dark: Colour = "black", light: Colour = "white",
+            size: Size = None) -> bytes:
+        """A PDF file of one page, in points: 8 a module, or in a size.
+
+        >>> from goqlanis import encode
+        >>> encode("01234567").pdf(size="30mm")[:8]
+        b'%PDF-1.4'
+        """
+        return self._drawn("pdf", Look(scale, border, quiet_zone, dark, light, size=size))
+
+    @named
     def pbm(self, scale: Optional[int] = None, quiet_zone: Optional[int] = None, *,
             border: Optional[int] = None, size: Size = None) -> bytes:
         """A PBM file: black and white pixels, eight in a byte.
@@ -282,8 +294,8 @@ zpl, tspl, escpos, xbm, ppm: save 'ticket.png', and convert that
     def largest_area(self, ratio: Tuple[int, int] = (1, 1), *, reserve: Optional[int] = None,
                      keep_alignment: bool = False) -> Rectangle:
         """The largest rectangle in the middle that may show anything, of a width and height in a
-        ratio. So many more codewords of each block may be lost, half of them unless you say
-        otherwise. It leaves patterns alone, those of alignment too if you say so.
+        ratio. Besides it, each block can still correct `reserve` wrong codewords, by default half
+        of those that it can. It covers no patterns, but those of alignment, unless these are kept.
 
         >>> from goqlanis import encode
         >>> encode("01234567", "H").largest_area(reserve=0)
@@ -293,8 +305,8 @@ zpl, tspl, escpos, xbm, ppm: save 'ticket.png', and convert that
 
     @named
     def with_area(self, area: Optional[Area] = None) -> "Symbol":
-        """The symbol with an area light, by itself the largest one: whatever it then shows, the
-        symbol reads as the same data and nothing else.
+        """The symbol with an area light, by default the largest one (`largest_area()`). Whatever
+        the area then shows, the symbol reads as the same data and nothing else.
 
         >>> from goqlanis import encode, read
         >>> read(encode("01234567", "H").with_area()).data
