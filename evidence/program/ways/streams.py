@@ -119,7 +119,7 @@ def strangers_send_no_control_characters_to_a_terminal(program):
         seen = [in_terminal(program, [it, f"{folder}/a.pbm"]) for it in ("read", "join")]
         asked = [in_terminal(program, [it, "-o", "-", f"{folder}/a.pbm"])[0]
                  for it in ("read", "join")]
-    wanted = shown.replace(rb"\nd", b"\nd") + b"\t" + rb"\r\xff" + b"\xc3\xa9"
+    wanted = shown.replace(rb"\nd", b"\nd") + b"\t" + rb"\r\xff" + b"\xc3\xa9\n"
     is_raw = drawn.returncode == 0 and raw == data and asked == [data] * 2
     return is_raw and seen == [(wanted, 0)] * 2
 
