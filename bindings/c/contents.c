@@ -107,7 +107,7 @@ static void lengths(void)
     memcpy(name, wide, sizeof name - 1);
     REFUSES(PAYMENT, GOQ_PAYMENT_FIELDS, GOQ_FIELD_TOO_LONG, GOQ_PAYMENT_FIELDS,
         "more than 331 bytes as a whole", PRINTED_PAYMENT,
-        [GOQ_PAYMENT_AMOUNT] = T("999 999'999.99"), [GOQ_PAYMENT_MESSAGE] = T(wide),
+        [GOQ_PAYMENT_AMOUNT] = T("999 999 999.99"), [GOQ_PAYMENT_MESSAGE] = T(wide),
         [GOQ_PAYMENT_NAME] = T(name))
 }
 
