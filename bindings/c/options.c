@@ -195,6 +195,8 @@ static void elements(void)
     expect(goq_encode_gs1(parts, 3, &o, modules, 441, &symbol, &place) == GOQ_NO_ROOM, "M4");
     o.level = 4;
     expect(goq_encode_gs1(parts, 3, &o, modules, 441, &symbol, &place) == GOQ_NO_SUCH_LEVEL, "4");
+    expect(goq_encode_gs1(parts, 4, &o, modules, 441, &symbol, &place) == GOQ_NO_SUCH_LEVEL,
+        "4, before a wrong check digit");
     expect(place == 77 && modules[0] == 7, "untouched");
     o = GOQ_OPTIONS;
     o.level = GOQ_L;
@@ -211,8 +213,11 @@ static void elements(void)
 static void several(void)
 {
     goq_several o = {sizeof o, GOQ_L, GOQ_AS_BYTES, 2, 2, 0};
+    const goq_several most = GOQ_SEVERAL;
     uint8_t bytes[64], part[64];
     goq_reading reading;
+    expect(most.level == GOQ_M && most.manner == GOQ_AS_BYTES && most.least_version == 1
+        && most.greatest_version == 40 && most.count == 0, "the defaults of several");
     memset(bytes, 'a', 64);
     count = 5;
     expect(goq_encode_several(bytes, 32, &o, modules, sizeof modules, &symbol, &count) == GOQ_OK

@@ -81,6 +81,7 @@ static void shapes(void)
     goq_drawing drawing;
     drawing = GOQ_DRAWING;
     expect(drawing.size == sizeof drawing && drawing.format == GOQ_PNG, "a drawing that is assigned");
+    expect(drawing.zone == 4 && drawing.scale == 8 && drawing.dark == 0 && drawing.light == 0xffffff && drawing.dpi == 0, "its defaults");
     expect(goq_version() == GOQ_VERSION && GOQ_VERSION == 10000, "the version");
     expect(!strcmp(goq_strerror(GOQ_NO_ROOM), "no symbol of the asked kind holds the data"), "the text of an answer");
     expect(!strcmp(goq_strerror(999), "no answer of this library"), "the text of none");

@@ -23,7 +23,9 @@ def no_bytes_to_a_terminal(program):
     """In none of their formats, unless it is asked for."""
     said = (b"goqlanis: this format is not for a terminal: add --output FILE, or --output - to "
             b"write it there anyway\n")
-    for kind, head in (("pgm", b"P5\n"), ("pbm", b"P4\n"), ("png", b"\x89PNG\r\n")):
+    heads = {"pgm": b"P5\n", "pbm": b"P4\n", "ppm": b"P6\n", "png": b"\x89PNG\r\n",
+             "pdf": b"%PDF-1.4\n", "tspl": b"SIZE ", "escpos": b"\x1dv0"}
+    for kind, head in heads.items():
         asked, status = in_terminal(program, ["-f", kind, "-o", "-", "1"])
         refused = in_terminal(program, ["-f", kind, "1"])
         if refused != (said, 1) or status or not asked.startswith(head):

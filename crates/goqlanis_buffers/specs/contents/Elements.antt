@@ -86,14 +86,18 @@ pub record HaveNoVersion (o : Options) (parts : List Part) : Type 0 where
   pub named : IsAsked o asked
   pub refused : IsElementsRefused asked.choice asked.level (items_of parts) (Symbol DataTooLong)
 
--- why elements have no symbol in a buffer of so much room
+-- options ask for something
+abbrev pub AskFor : Options → Type 0
+AskFor o = (a : Asked) × IsAsked o a
+
+-- why elements have no symbol in a buffer of so much room: elements are looked at where options ask for something
 abbrev pub IsElementsSymbolCause : Options → List Part → ℕ → Refusal → Type 0
 IsElementsSymbolCause o parts room (NoSymbol refusal) =
     ((refusal ≡ NoRoom) × HaveNoVersion o parts) ⊎ (AreNotWritten o parts room refusal
     ⊎ ((bytes : List ℕ) (room : ℕ) → IsOptionsCause o bytes room refusal))
-IsElementsSymbolCause o parts room (NotText place) = IsFirstNoText parts place
+IsElementsSymbolCause o parts room (NotText place) = AskFor o × IsFirstNoText parts place
 IsElementsSymbolCause o parts room (NotElement place cause) =
-    AreTexts parts (length parts) × (refusal_from 0 (items_of parts) ≡ Some (Refused place cause))
+    AskFor o × (AreTexts parts (length parts) × (refusal_from 0 (items_of parts) ≡ Some (Refused place cause)))
 IsElementsSymbolCause o parts room OutOfMemory = ⊤
 IsElementsSymbolCause o parts room refusal = ⊥
 
