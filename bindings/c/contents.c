@@ -129,7 +129,7 @@ static void elements(void)
         {ELEMENT("05", "1"), GOQ_NO_SUCH_IDENTIFIER}, {ELEMENT("17", "19112"), GOQ_ELEMENT_LENGTH},
         {ELEMENT("10", "a b"), GOQ_FIELD_CHARACTER},
         {ELEMENT("01", "03453120000012"), GOQ_FIELD_CHECK_DIGITS},
-        {ELEMENT("10", "\xc3"), GOQ_NOT_TEXT}};
+        {ELEMENT("17", "271301"), GOQ_FIELD_RANGE}, {ELEMENT("10", "\xc3"), GOQ_NOT_TEXT}};
     const goq_segment segments[] = {
         {GOQ_FNC1_FIRST, 0, NULL, 0}, {GOQ_BYTES, 0, out, strlen(text)}};
     static uint8_t modules[GOQ_MODULES_MAX];

@@ -736,14 +736,15 @@ goq_answer goq_content(uint32_t kind, const goq_field *fields, size_t fields_len
    goes to the beginning of `out`, and its length to `count`, with a separator (byte 29) after each
    element whose length is not predefined, except for the last. The place of the first wrong element
    goes to `place`: GOQ_NOT_TEXT; else
-   GOQ_NO_SUCH_IDENTIFIER, GOQ_ELEMENT_LENGTH, GOQ_FIELD_CHARACTER, GOQ_FIELD_CHECK_DIGITS.
-   GOQ_SMALL_BUFFER, GOQ_OUT_OF_MEMORY. */
+   GOQ_NO_SUCH_IDENTIFIER, GOQ_ELEMENT_LENGTH, GOQ_FIELD_CHARACTER, GOQ_FIELD_CHECK_DIGITS,
+   GOQ_FIELD_RANGE (a date). GOQ_SMALL_BUFFER, GOQ_OUT_OF_MEMORY. */
 goq_answer goq_gs1(const goq_element *elements, size_t elements_length, void *out,
     size_t out_length, size_t *count, size_t *place);
 
 /* Encodes a GS1 element string by options, in the fewest bits; their manner and boost are ignored.
    For the first wrong element, with its place, GOQ_NOT_TEXT;
-   else GOQ_NO_SUCH_IDENTIFIER, GOQ_ELEMENT_LENGTH, GOQ_FIELD_CHARACTER, GOQ_FIELD_CHECK_DIGITS.
+   else GOQ_NO_SUCH_IDENTIFIER, GOQ_ELEMENT_LENGTH, GOQ_FIELD_CHARACTER, GOQ_FIELD_CHECK_DIGITS,
+   GOQ_FIELD_RANGE (a date).
    Before these GOQ_NO_SUCH_STRUCT, GOQ_NO_SUCH_LEVEL, GOQ_NO_SUCH_VERSION, GOQ_NO_SUCH_MANNER;
    after them GOQ_NO_ROOM (Micro has no such symbols), GOQ_NO_SUCH_MASK, GOQ_SMALL_BUFFER;
    GOQ_OUT_OF_MEMORY. */

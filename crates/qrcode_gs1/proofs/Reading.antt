@@ -11,9 +11,9 @@ use Rattle.std.proofs.Math.Seq.{take-append_seam, drop-append_seam}
 use Rattle.qrcode_gs1.specs.declared.errors.Gs1Error.{Gs1Error}
 use Rattle.qrcode_gs1.specs.declared.errors.Gs1Error.TheVariants.{OutOfMemory}
 use Rattle.qrcode_gs1.specs.declared.errors.Cause.{Cause}
-use Rattle.qrcode_gs1.specs.declared.errors.Cause.TheVariants.{Length, Character, CheckDigit}
+use Rattle.qrcode_gs1.specs.declared.errors.Cause.TheVariants.{Length, Character, CheckDigit, Range}
 use Rattle.qrcode_gs1.specs.Elements.{Item, number_of, prefix_of, digit_count, fixed_length, is_fixed, separator, element_string, before_separator, behind_separator, first_element, item_of, read_items, read_elements, are_apart}
-use Rattle.qrcode_gs1.specs.Refusals.{is_digit, is_character, is_identifier, numbered_rule, is_checked, cause_by, cause_found, cause_of, refusal_or, refusal_from, checked, Answers}
+use Rattle.qrcode_gs1.specs.Refusals.{is_digit, is_character, is_identifier, numbered_rule, is_checked, is_dated, is_date, cause_by, cause_found, cause_of, refusal_or, refusal_from, checked, Answers}
 use Rattle.qrcode_gs1.specs.Table.{Rule, rules}
 
 -- two tests that hold
@@ -52,14 +52,14 @@ record Whole (item : Item) : Type 0 where
   predefined : (not (is_fixed item.0) || (length item.0 + length item.1 == fixed_length (prefix_of item.0))) ≡ true
   plain : is_plain (item.0 ++ item.1) ≡ true
 
-tests_pass : (a b c : Bool) → (if not a then Some Length else (if not b then Some Character else (if not c then Some CheckDigit else None))) ≡ None → (a ≡ true) × (b ≡ true)
-tests_pass false b c is = cc
-tests_pass true false c is = cc
-tests_pass true true c is = (refl, refl)
+tests_pass : (a b c d : Bool) → (if not a then Some Length else (if not b then Some Character else (if not c then Some CheckDigit else (if d then Some Range else None)))) ≡ None → (a ≡ true) × (b ≡ true)
+tests_pass false b c d is = cc
+tests_pass true false c d is = cc
+tests_pass true true c d is = (refl, refl)
 
 value_passes : (rule : Rule) (item : Item) → cause_by rule item ≡ None → ((not (is_fixed item.0) || (length item.0 + length item.1 == fixed_length (prefix_of item.0))) ≡ true) × (is_plain item.1 ≡ true)
 value_passes rule item is =
-    let tests = tests_pass _ _ (is_checked (take rule.3 item.1)) is in
+    let tests = tests_pass _ _ (is_checked (take rule.3 item.1)) (is_dated item.0 && not (is_date item.1)) is in
     ((both _ _ tests.0).1, all_plain is_character character_is_plain item.1 (both _ _ tests.1).0)
 
 rule_passes : (known : Bool) (rule : Option Rule) (item : Item) → cause_found (if known then rule else None) item ≡ None → (known ≡ true) × (((not (is_fixed item.0) || (length item.0 + length item.1 == fixed_length (prefix_of item.0))) ≡ true) × (is_plain item.1 ≡ true))

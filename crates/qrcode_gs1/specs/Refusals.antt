@@ -1,10 +1,10 @@
 -- Which elements are refused, and for what cause.
-use Rattle.std.specs.Prelude.{◌≡◌, ◌⊎◌, ℕ, nat_lt, ◌==◌, ◌&&◌, ◌||◌, ◌+◌, ◌-◌, ◌*◌, ◌%◌, not, Bool, true, false, List, [], ◌∷◌, length, take, Option, Some, None, if◌then◌else◌, Result, Ok, Err, codes, refl}
+use Rattle.std.specs.Prelude.{◌≡◌, ◌⊎◌, ℕ, nat_lt, ◌==◌, ◌&&◌, ◌||◌, ◌+◌, ◌-◌, ◌*◌, ◌%◌, not, Bool, true, false, List, [], ◌∷◌, length, take, drop, Option, Some, None, if◌then◌else◌, Result, Ok, Err, codes, refl}
 use Rattle.std.specs.List.{list_all}
 use Rattle.std.specs.declared.alloc.Global.{Global}
 use Rattle.std.specs.declared.vec.Vec.{Vec}
 use Rattle.qrcode_gs1.specs.declared.errors.Cause.{Cause}
-use Rattle.qrcode_gs1.specs.declared.errors.Cause.TheVariants.{UnknownIdentifier, Length, Character, CheckDigit}
+use Rattle.qrcode_gs1.specs.declared.errors.Cause.TheVariants.{UnknownIdentifier, Length, Character, CheckDigit, Range}
 use Rattle.qrcode_gs1.specs.declared.errors.Gs1Error.{Gs1Error}
 use Rattle.qrcode_gs1.specs.declared.errors.Gs1Error.TheVariants.{Refused, OutOfMemory}
 use Rattle.qrcode_gs1.specs.Elements.{Item, is_within, number_of, prefix_of, digit_count, fixed_length, is_fixed}
@@ -58,11 +58,45 @@ is_long_enough rule item =
 abbrev pub is_written : Rule → List ℕ → Bool  -- the value has characters that may stand there
 is_written rule value = list_all is_character value && list_all is_digit (take rule.2 value)
 
+abbrev pub is_dated : List ℕ → Bool  -- an identifier of a date of six digits: 11 to 13 and 15 to 17
+is_dated bytes = is_within 11 13 (prefix_of bytes) || is_within 15 17 (prefix_of bytes)
+
+abbrev pub days_in : ℕ → ℕ → ℕ  -- how many days the month of a year has; of years with two digits, 00 is 2000
+days_in year month =
+    if month == 2 then (if year % 4 == 0 then 29 else 28)
+    else (if month == 4 || month == 6 || month == 9 || month == 11 then 30 else 31)
+
+abbrev pub pair_at : ℕ → List ℕ → ℕ  -- the number of the two digits at a place
+pair_at i digits = number_of (take 2 (drop i digits))
+
+-- six digits of a year, a month and a day of it; day 00 leaves the day open
+unfoldable pub is_date : List ℕ → Bool
+is_date digits =
+    length digits == 6 && is_within 1 12 (pair_at 2 digits) && not (nat_lt (days_in (pair_at 0 digits) (pair_at 2 digits)) (pair_at 4 digits))
+
+-- 29 February of 2000, a day that is left open, a 31st of June, and month 13
+leap_row : is_date (codes "000229") ≡ true
+unfolding is_date
+leap_row = refl
+
+open_row : is_date (codes "271200") ≡ true
+unfolding is_date
+open_row = refl
+
+june_row : is_date (codes "270631") ≡ false
+unfolding is_date
+june_row = refl
+
+month_row : is_date (codes "271301") ≡ false
+unfolding is_date
+month_row = refl
+
 abbrev pub cause_by : Rule → Item → Option Cause  -- what is wrong with an element for which there is this rule
 cause_by rule item =
     if not (is_long_enough rule item) then Some Length
     else (if not (is_written rule item.1) then Some Character
-    else (if not (is_checked (take rule.3 item.1)) then Some CheckDigit else None))
+    else (if not (is_checked (take rule.3 item.1)) then Some CheckDigit
+    else (if is_dated item.0 && not (is_date item.1) then Some Range else None)))
 
 abbrev pub cause_found : Option Rule → Item → Option Cause  -- what is wrong with an element
 cause_found None item = Some UnknownIdentifier

@@ -2,10 +2,10 @@
 
 ghost use Rattle.std.specs.Prelude.{◌≡◌};
 ghost use Rattle.std.specs.List.{list_all};
-ghost use Rattle.qrcode_gs1.specs.Refusals.{cause_of, is_character, is_checked, is_long_enough, is_written};
+ghost use Rattle.qrcode_gs1.specs.Refusals.{cause_of, days_in, is_character, is_checked, is_date, is_dated, is_long_enough, is_written};
 
 use crate::errors::Cause;
-use crate::table::{Rule, are_digits, fixed_length, prefix_of, rule_of, start};
+use crate::table::{Rule, are_digits, fixed_length, number_of, prefix_of, rule_of, start};
 
 // Whether all bytes are among the 82 characters.
 #[tactic(auto, unfolding(crate::specs::Refusals::is_character))]
@@ -49,6 +49,38 @@ fn is_written(rule: &Rule, value: &[u8]) -> bool
     are_characters(value) & are_digits(start(value, rule.2))
 }
 
+// Whether the value of an identifier is a date.
+fn is_dated(identifier: &[u8]) -> bool
+    ensures { result ≡ is_dated identifier.now }
+{
+    matches!(prefix_of(identifier), 11..=13 | 15..=17)
+}
+
+// How many days the month of a year has, by the last two digits of the year.
+fn days_in(year: usize, month: usize) -> usize
+    ensures { result ≡ days_in year month }
+{
+    match month {
+        2 if year % 4 == 0 => 29,
+        2 => 28,
+        4 | 6 | 9 | 11 => 30,
+        _ => 31,
+    }
+}
+
+// Whether digits are a date: year, month and day, where day 00 leaves the day open.
+#[tactic(auto, unfolding(crate::specs::Refusals::is_date))]
+fn is_date(digits: &[u8]) -> bool
+    ensures { result ≡ is_date digits.now }
+{
+    if digits.len() != 6 {
+        return false;
+    }
+    let month = number_of(&digits[2..4]);
+    let day = number_of(&digits[4..6]);
+    0 < month && month < 13 && day <= days_in(number_of(&digits[..2]), month)
+}
+
 /// What is wrong with an element, if anything.
 pub fn cause_of(identifier: &[u8], value: &[u8]) -> Option<Cause>
     ensures { result ≡ cause_of (identifier.now, value.now) }
@@ -64,6 +96,9 @@ pub fn cause_of(identifier: &[u8], value: &[u8]) -> Option<Cause>
     }
     if !is_checked(start(value, rule.3)) {
         return Some(Cause::CheckDigit);
+    }
+    if is_dated(identifier) && !is_date(value) {
+        return Some(Cause::Range);
     }
     None
 }

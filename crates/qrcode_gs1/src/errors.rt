@@ -18,6 +18,8 @@ pub enum Cause {
     Character,
     /// The check digit of the value is wrong.
     CheckDigit,
+    /// The value is to be a date, and the calendar does not have it.
+    Range,
 }
 
 /// Why there is no element string.

@@ -129,8 +129,8 @@ pub fn start(bytes: &[u8], count: usize) -> &[u8]
     bytes.split_at(count).0
 }
 
-// The number that digits write.
-fn number_of(digits: &[u8]) -> usize
+/// The number that digits write.
+pub fn number_of(digits: &[u8]) -> usize
     requires { length digits.now ≤ 4 }
     ensures { result ≡ number_of digits.now }
 {

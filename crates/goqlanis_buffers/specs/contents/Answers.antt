@@ -23,6 +23,7 @@ cause_number Word = 45
 abbrev pub element_number : of_elements.Cause → ℕ  -- the number of a cause of an element
 element_number element.Character = 38
 element_number element.CheckDigit = 39
+element_number element.Range = 40
 element_number element.UnknownIdentifier = 42
 element_number element.Length = 43
 

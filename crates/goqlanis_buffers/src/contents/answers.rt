@@ -55,6 +55,7 @@ fn element_number(cause: ElementCause) -> u32
     match cause {
         ElementCause::Character => 38,
         ElementCause::CheckDigit => 39,
+        ElementCause::Range => 40,
         ElementCause::UnknownIdentifier => 42,
         ElementCause::Length => 43,
     }

@@ -88,6 +88,7 @@ impl Elements {
             (Cause::CheckDigit, Some(rule)) => {
                 push_digit(&mut text, identifier.as_str(), value.as_str(), rule.3)?;
             }
+            (Cause::Range, _) => text.push_str("its value is no date, YYMMDD (DD may be 00)")?,
             _ => text.push_str(
                 "no such identifier is known; \
                 identifiers have two to four digits, as 01, 414 and 3103",
