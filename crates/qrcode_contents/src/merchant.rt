@@ -2,15 +2,15 @@
 //! PromptPay in Thailand.
 
 ghost use Rattle.std.specs.Prelude.{◌≡◌, Some, IfOk, IsOkUnless, string_bytes};
-ghost use Rattle.std.specs.List.{after_first, list_all};
+ghost use Rattle.std.specs.List.{list_all};
 ghost use Rattle.qrcode_contents.specs.declared.fields.errors.ContentError.TheVariants.{OutOfMemory};
-ghost use Rattle.qrcode_contents.specs.Merchant.{key_objects, account_refusal, charge_of, is_key_byte, is_printed, is_reference_byte, pix_refusal, pix_text, read_pix, receiver_refusal, reference_text, payee_objects, claim_of, initiation, is_identity, is_phone, is_wallet, is_zero, payee_tag, payee_text, promptpay_refusal, promptpay_text, read_promptpay};
+ghost use Rattle.qrcode_contents.specs.Merchant.{key_objects, account_refusal, charge_of, is_key_byte, is_printed, is_reference_byte, pix_refusal, pix_text, read_pix, receiver_refusal, reference_text, payee_objects, claim_of, initiation, payee_tag, payee_text, promptpay_refusal, promptpay_text, read_promptpay};
 ghost use Rattle.qrcode_contents.specs.fields.Objects.{objects_text};
 ghost use Rattle.qrcode_contents.specs.fields.Refusals.{Answers, checked};
 
 use crate::bill::is_out_of_range;
 use crate::fields::amounts::open_amount;
-use crate::fields::characters::are_digits;
+use crate::fields::characters::{are_digits, parts};
 use crate::fields::errors::{Cause, ContentResult, Field};
 use crate::fields::objects::{push_check, push_object};
 use crate::fields::refusals::refuse_first;
@@ -180,45 +180,15 @@ pub struct PromptPay<'a> {
     pub cents: Option<u64>,
 }
 
-// Whether a payee is a telephone number.
-fn is_phone(payee: &str) -> bool
-    ensures { result ≡ is_phone payee.now }
-{
-    payee.len() == 10
-}
-
-// Whether a payee is a number of a person or for taxes.
-fn is_identity(payee: &str) -> bool
-    ensures { result ≡ is_identity payee.now }
-{
-    payee.len() == 13
-}
-
-// Whether a payee is an electronic wallet.
-fn is_wallet(payee: &str) -> bool
-    ensures { result ≡ is_wallet payee.now }
-{
-    payee.len() == 15
-}
-
 // The tag of a payee.
 fn payee_tag(payee: &str) -> &'static str
     ensures { result.now ≡ payee_tag payee.now }
 {
-    if is_phone(payee) {
-        "01"
-    } else if is_identity(payee) {
-        "02"
-    } else {
-        "03"
+    match payee.len() {
+        10 => "01",
+        13 => "02",
+        _ => "03",
     }
-}
-
-// The bytes behind the first zero, and none where there is none.
-fn behind_zero(payee: &str) -> &str
-    ensures { result.now ≡ after_first is_zero payee.now }
-{
-    payee.split_once('0').unwrap_or(("", "")).1
 }
 
 // The value of a payee.
@@ -226,11 +196,11 @@ fn payee_text(alloc: Global, payee: &str) -> ContentResult<String>
     ensures value { IfOk result (λ text. string_bytes text ≡ payee_text payee.now) }
     ensures memory { IsOkUnless result OutOfMemory }
 {
-    if !is_phone(payee) {
+    if payee.len() != 10 {
         return Ok(String::from_str(alloc, payee)?);
     }
     let mut text = String::from_str(alloc, "0066")?;
-    text.push_str(behind_zero(payee))?;
+    text.push_str(parts(payee, '0').1)?;
     Ok(text)
 }
 
@@ -265,8 +235,8 @@ impl PromptPay<'_> {
         ensures { result ≡ checked (promptpay_refusal (claim_of self.now)) }
     {
         let payee = self.payee;
-        let phone = is_phone(payee);
-        let other = !phone & !is_identity(payee) & !is_wallet(payee);
+        let phone = payee.len() == 10;
+        let other = !matches!(payee.len(), 10 | 13 | 15);
         let foreign = phone & !payee.as_bytes().starts_with(b"0");
         let outside = is_out_of_range(self.cents);
         refuse_first(&[

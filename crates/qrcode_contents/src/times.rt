@@ -84,25 +84,19 @@ impl Day {
         (u32::from(self.year) * 100 + u32::from(self.month)) * 100 + u32::from(self.day)
     }
 
-    // Appends the eight digits of the day.
-    #[tactic(auto, unfolding(crate::specs::Times::day_text))]
-    fn push(self, text: &mut String) -> ContentResult<()>
-        ensures appends { OnOk result (string_bytes text.new
-            ≡ string_bytes text.old ++ day_text self) }
-        ensures memory { IsOkUnless result OutOfMemory }
-    {
-        let month = u16::from(self.month);
-        let day = u16::from(self.day);
-        push_pairs(text, &[self.year / 100, self.year % 100, month, day])
-    }
-
     /// The text of the day in iCalendar. It fails only where memory is refused (`OutOfMemory`).
+    #[tactic(auto, unfolding(crate::specs::Times::day_text))]
     pub fn text(self, alloc: Global) -> ContentResult<String>
         ensures value { IfOk result (λ text. string_bytes text ≡ day_text self) }
         ensures memory { IsOkUnless result OutOfMemory }
     {
         let mut text = String::new(alloc);
-        self.push(&mut text)?;
+        let month = u16::from(self.month);
+        let day = u16::from(self.day);
+        push_pairs(
+            &mut text,
+            &[self.year / 100, self.year % 100, month, day],
+        )?;
         Ok(text)
     }
 

@@ -1,16 +1,16 @@
 //! Links that ask for a payment by UPI in India.
 
 ghost use Rattle.std.specs.Prelude.{◌≡◌, ◌++◌, ◌∷◌, [], Some, IfOk, OnOk, IsOkUnless, string_bytes, codes};
-ghost use Rattle.std.specs.List.{after_first, before_first, list_all};
+ghost use Rattle.std.specs.List.{list_all};
 ghost use Rattle.qrcode_contents.specs.Bill.{amount_line};
 ghost use Rattle.qrcode_contents.specs.declared.fields.errors.ContentError.TheVariants.{OutOfMemory};
-ghost use Rattle.qrcode_contents.specs.Upi.{is_at, is_address, is_address_byte, is_category, read_upi, request_of, upi_parameters, upi_refusal, upi_text};
+ghost use Rattle.qrcode_contents.specs.Upi.{is_address, is_address_byte, is_category, read_upi, request_of, upi_parameters, upi_refusal, upi_text};
 ghost use Rattle.qrcode_contents.specs.fields.Links.{query_text};
 ghost use Rattle.qrcode_contents.specs.fields.Refusals.{Answers, checked};
 
 use crate::bill::is_out_of_range;
 use crate::fields::amounts::open_amount;
-use crate::fields::characters::{are_digits, has_one_at};
+use crate::fields::characters::{are_digits, has_one_at, parts};
 use crate::fields::errors::{Cause, ContentResult, Field};
 use crate::fields::links::push_parameters;
 use crate::fields::refusals::{controls, refuse_first};
@@ -34,19 +34,11 @@ pub struct Upi<'a> {
     pub cents: Option<u64>,
 }
 
-// The bytes before the first `@`, and those behind it; all and none where there is none.
-fn parts(text: &str) -> (&str, &str)
-    ensures name { result.0.now ≡ before_first is_at text.now }
-    ensures bank { result.1.now ≡ after_first is_at text.now }
-{
-    text.split_once('@').unwrap_or((text, ""))
-}
-
 // Whether a text has the form of an address.
 fn is_address(text: &str) -> bool
     ensures { result ≡ is_address text.now }
 {
-    let (name, bank) = parts(text);
+    let (name, bank) = parts(text, '@');
     has_one_at(text) && !name.is_empty() && !bank.is_empty()
 }
 

@@ -1,7 +1,7 @@
 //! What characters a field has.
 
-ghost use Rattle.std.specs.Prelude.{◌≡◌, ◌==◌, length, count_by};
-ghost use Rattle.std.specs.List.{list_all, list_any};
+ghost use Rattle.std.specs.Prelude.{◌≡◌, ◌<◌, ◌==◌, length, count_by};
+ghost use Rattle.std.specs.List.{after_first, before_first, list_all, list_any};
 ghost use Rattle.std.specs.Str.{chars};
 ghost use Rattle.qrcode_contents.specs.fields.Characters.{is_base32, is_capital, is_capital_or_digit, is_control, is_dialled, is_digit, is_stray, is_unicode_break};
 
@@ -83,6 +83,15 @@ pub fn has_unicode_break(text: &str) -> bool
     ensures { result ≡ list_any is_unicode_break (chars text.now) }
 {
     text.chars().any(|character| is_unicode_break(character))
+}
+
+/// What stands before the first of these marks and behind it; all and nothing where there is none.
+pub fn parts(text: &str, mark: char) -> (&str, &str)
+    requires ascii { mark < 128 }
+    ensures before { result.0.now ≡ before_first (λ b. b == mark) text.now }
+    ensures behind { result.1.now ≡ after_first (λ b. b == mark) text.now }
+{
+    text.split_once(mark).unwrap_or((text, ""))
 }
 
 /// How many characters the text has.
