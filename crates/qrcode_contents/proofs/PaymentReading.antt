@@ -12,7 +12,7 @@ use Rattle.qrcode_contents.specs.fields.Amounts.{amount_text, read_amount}
 use Rattle.qrcode_contents.specs.fields.Characters.{is_control, control_refusal}
 use Rattle.qrcode_contents.specs.fields.Entries.{is_filled, behind}
 use Rattle.qrcode_contents.specs.fields.Lines.{line_at}
-use Rattle.qrcode_contents.specs.Payment.{Transfer, version_name, payment_lines, payment_text, later_count, later_lines, read_payment, transfer_of, transfer_from, named_version, field_checks, control_checks, break_checks, bank_checks, account_checks, name_checks, message_checks}
+use Rattle.qrcode_contents.specs.Payment.{Transfer, version_name, payment_lines, payment_text, later_count, later_lines, read_payment, transfer_of, transfer_from, named_version, field_checks, control_checks, break_checks, bank_checks, bank_refusal, text_checks}
 use Rattle.qrcode_contents.specs.fields.Refusals.{refused_if}
 use Rattle.qrcode_contents.proofs.EntryReading.{neither}
 use Rattle.qrcode_contents.proofs.AmountReading.{amount_read, HasNoFeed-amount}
@@ -62,12 +62,12 @@ lines_have_none t fits is =
     (refl, (version_none t.version, (refl, (refl, (have.0, (have.1.0, (have.1.1.0, (HasNoFeed-amount t.cents fits, later))))))))
 
 -- an amount that is not refused fits
-amount_fits : (t : Transfer) → name_checks t ≡ None → t.cents < 2 ^ 64
-unfolding name_checks
+amount_fits : (t : Transfer) → bank_refusal t ≡ None → t.cents < 2 ^ 64
+unfolding bank_refusal
 amount_fits t is =
     let outside = nat_lt t.cents 1 || nat_lt 99999999999 t.cents in
-    let amount = passes (refused_if outside Amount Range) _ is in
-    let inside = neither (nat_lt t.cents 1) (nat_lt 99999999999 t.cents) (test_passes outside Amount Range amount.0) in
+    let amount = (all_pass (bank_checks t) is).1.1.1.1.1.1.1.1.1.0 in
+    let inside = neither (nat_lt t.cents 1) (nat_lt 99999999999 t.cents) (test_passes outside Amount Range amount) in
     let most : nat_lt 99999999999 t.cents ≡ false = inside.1 in
     grind (arith, nat_tests)
 
@@ -91,8 +91,8 @@ lines_say t fits =
 pub payment_read : (t : Transfer) → field_checks t ≡ None → read_payment (payment_text t) ≡ Some t
 unfolding payment_text read_payment field_checks
 payment_read t is =
-    let none = all_pass (control_checks t ∷ break_checks t ∷ bank_checks t ∷ account_checks t ∷ name_checks t ∷ message_checks t ∷ []) is in
-    let fits = amount_fits t none.1.1.1.1.0 in
+    let none = all_pass (control_checks t ∷ break_checks t ∷ bank_refusal t ∷ text_checks t ∷ []) is in
+    let fits = amount_fits t none.1.1.0 in
     let have = lines_have_none t fits none.0 in
     let later : List (List ℕ) = version_name t.version ∷ codes "1" ∷ codes "SCT" ∷ t.bic ∷ t.name ∷ t.iban ∷ (codes "EUR" ++ amount_text t.cents) ∷ later_lines t in
     ap (λ lines. transfer_of (line_at lines)) (lines_read (codes "BCD") later have.0 have.1) ∙ lines_say t fits

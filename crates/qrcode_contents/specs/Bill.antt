@@ -187,43 +187,25 @@ message_checks b =
 unfoldable pub message_refusal : Invoice → Option ContentError
 message_refusal b = first_refusal (message_checks b)
 
--- a reference that is to be a QR reference, and is none: 27 digits, of which the last is the check digit
-abbrev pub qr_checks : Invoice → List (Option ContentError)
-qr_checks b =
+-- what is wrong with a reference: a QR reference has 27 digits, of which the last is the check digit; then what is to be one of ISO 11649, and is none;
+-- then no reference to an account that wants a QR reference, and one that does not belong to the account
+abbrev pub reference_checks : Invoice → List (Option ContentError)
+reference_checks b =
     refused_if (is_qr_reference b.reference && not (list_all is_digit b.reference)) Reference Character
     ∷ refused_if (is_qr_reference b.reference && nat_lt (length (chars b.reference)) 27) Reference TooShort
     ∷ refused_if (nat_lt 27 (length (chars b.reference))) Reference TooLong
     ∷ refused_if (is_qr_reference b.reference && not (carry_of b.reference == 0)) Reference CheckDigits
-    ∷ []
-
-unfoldable pub qr_refusal : Invoice → Option ContentError
-qr_refusal b = first_refusal (qr_checks b)
-
--- a reference that is to be one of ISO 11649, and is none
-abbrev pub creditor_checks : Invoice → List (Option ContentError)
-creditor_checks b =
-    refused_if (is_creditor_reference b.reference && nat_lt (length (chars b.reference)) 5) Reference TooShort
+    ∷ refused_if (is_creditor_reference b.reference && nat_lt (length (chars b.reference)) 5) Reference TooShort
     ∷ refused_if (is_creditor_reference b.reference && nat_lt 25 (length (chars b.reference))) Reference TooLong
     ∷ refused_if (is_creditor_reference b.reference && not (has_form b.reference)) Reference Character
     ∷ refused_if (is_creditor_reference b.reference && not (is_checked b.reference)) Reference CheckDigits
-    ∷ []
-
-unfoldable pub creditor_refusal : Invoice → Option ContentError
-creditor_refusal b = first_refusal (creditor_checks b)
-
--- no reference to an account that wants a QR reference, and a reference that does not belong to the account
-abbrev pub belonging_checks : Invoice → List (Option ContentError)
-belonging_checks b =
-    refused_if (is_qr_account b.iban && is_empty b.reference) Reference Empty
+    ∷ refused_if (is_qr_account b.iban && is_empty b.reference) Reference Empty
     ∷ refused_if (is_qr_account b.iban && not (is_qr_reference b.reference)) Reference Unused
     ∷ refused_if (not (is_qr_account b.iban) && is_qr_reference b.reference) Reference Unused
     ∷ []
 
-unfoldable pub belonging_refusal : Invoice → Option ContentError
-belonging_refusal b = first_refusal (belonging_checks b)
-
-unfoldable pub reference_refusal : Invoice → Option ContentError  -- what is wrong with a reference
-reference_refusal b = first_refusal (qr_refusal b ∷ creditor_refusal b ∷ belonging_refusal b ∷ [])
+unfoldable pub reference_refusal : Invoice → Option ContentError
+reference_refusal b = first_refusal (reference_checks b)
 
 abbrev pub bill_checks : Invoice → List (Option ContentError)  -- what the text cannot say
 bill_checks b =

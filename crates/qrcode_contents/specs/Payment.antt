@@ -70,37 +70,32 @@ break_checks t = first_refusal (
     ∷ refused_if (list_any is_unicode_break (chars t.information)) Information ControlCharacter
     ∷ [])
 
-unfoldable pub bank_checks : Transfer → Option ContentError  -- what is no BIC, and where it lacks
-bank_checks t = first_refusal (
+-- what is no BIC, and where it lacks, what is no account, and an amount out of range
+abbrev pub bank_checks : Transfer → List (Option ContentError)
+bank_checks t =
     refused_if (needs_bic t.version && is_empty t.bic) Bic Empty
     ∷ refused_if (is_filled t.bic && nat_lt (length (chars t.bic)) 8) Bic TooShort
     ∷ refused_if (nat_lt 11 (length (chars t.bic))) Bic TooLong
     ∷ refused_if (is_filled t.bic && not (is_bic t.bic)) Bic Character
-    ∷ [])
-
-unfoldable pub account_checks : Transfer → Option ContentError  -- what is no account
-account_checks t = first_refusal (
-    refused_if (is_empty t.iban) Iban Empty
+    ∷ refused_if (is_empty t.iban) Iban Empty
     ∷ refused_if (nat_lt (length (chars t.iban)) 5) Iban TooShort
     ∷ refused_if (nat_lt 34 (length (chars t.iban))) Iban TooLong
     ∷ refused_if (not (has_form t.iban)) Iban Character
     ∷ refused_if (not (is_checked t.iban)) Iban CheckDigits
-    ∷ [])
+    ∷ refused_if (nat_lt t.cents 1 || nat_lt 99999999999 t.cents) Amount Range
+    ∷ []
 
--- an amount out of range, and a name or a purpose that is wrong
-unfoldable pub name_checks : Transfer → Option ContentError
-name_checks t = first_refusal (
-    refused_if (nat_lt t.cents 1 || nat_lt 99999999999 t.cents) Amount Range
-    ∷ refused_if (is_empty t.name) Name Empty
+unfoldable pub bank_refusal : Transfer → Option ContentError
+bank_refusal t = first_refusal (bank_checks t)
+
+-- a name or a purpose that is wrong, a wrong reference, one beside a message, and what is too long
+unfoldable pub text_checks : Transfer → Option ContentError
+text_checks t = first_refusal (
+    refused_if (is_empty t.name) Name Empty
     ∷ refused_if (nat_lt 70 (length (chars t.name))) Name TooLong
     ∷ refused_if (nat_lt 4 (length (chars t.purpose))) Purpose TooLong
     ∷ refused_if (not (list_all is_capital_or_digit t.purpose)) Purpose Character
-    ∷ [])
-
--- a wrong reference, one beside a message, and what is too long
-unfoldable pub message_checks : Transfer → Option ContentError
-message_checks t = first_refusal (
-    refused_if (is_filled t.reference && nat_lt (length (chars t.reference)) 5) Reference TooShort
+    ∷ refused_if (is_filled t.reference && nat_lt (length (chars t.reference)) 5) Reference TooShort
     ∷ refused_if (nat_lt 25 (length (chars t.reference))) Reference TooLong
     ∷ refused_if (is_filled t.reference && not (is_reference t.reference)) Reference Character
     ∷ refused_if (is_filled t.reference && not (is_checked t.reference)) Reference CheckDigits
@@ -131,7 +126,7 @@ payment_text t = lines_text (payment_lines t)
 
 unfoldable pub field_checks : Transfer → Option ContentError  -- what the fields refuse
 field_checks t =
-    first_refusal (control_checks t ∷ break_checks t ∷ bank_checks t ∷ account_checks t ∷ name_checks t ∷ message_checks t ∷ [])
+    first_refusal (control_checks t ∷ break_checks t ∷ bank_refusal t ∷ text_checks t ∷ [])
 
 -- what the text cannot say: what the fields refuse, and a text of more than 331 bytes
 abbrev pub payment_refusal : Transfer → Option ContentError

@@ -4,11 +4,11 @@ ghost use Rattle.std.specs.Prelude.{◌≡◌, ◌++◌, ◌∷◌, Option, Some
 ghost use Rattle.std.specs.Option.{option_map};
 ghost use Rattle.qrcode_contents.specs.declared.fields.errors.ContentError.{ContentError};
 ghost use Rattle.qrcode_contents.specs.declared.fields.errors.ContentError.TheVariants.{OutOfMemory};
-ghost use Rattle.qrcode_contents.specs.Bill.{addressee_of, invoice_of, is_latin, foreign_count, is_unsaid, is_country, is_account, is_qr_account, is_creditor_reference, is_qr_reference, reference_kind, text_refusal, length_refusal, form_refusal, named_refusal, is_nobody, party_refusal, debtor_field, of_debtor, debtor_refusal, is_out_of_range, account_refusal, message_refusal, qr_refusal, creditor_refusal, belonging_refusal, reference_refusal, bill_refusal, currency_name, address_kind, address_lines, amount_line, end_lines, bill_text, read_bill};
+ghost use Rattle.qrcode_contents.specs.Bill.{addressee_of, invoice_of, is_latin, foreign_count, is_unsaid, is_country, is_account, is_qr_account, is_creditor_reference, is_qr_reference, reference_kind, text_refusal, length_refusal, form_refusal, named_refusal, is_nobody, party_refusal, debtor_field, of_debtor, debtor_refusal, is_out_of_range, account_refusal, message_refusal, reference_refusal, bill_refusal, currency_name, address_kind, address_lines, amount_line, end_lines, bill_text, read_bill};
 ghost use Rattle.qrcode_contents.specs.fields.Lines.{later_text};
 ghost use Rattle.qrcode_contents.specs.fields.Refusals.{Answers, checked};
 
-use crate::accounts::{self, has_form, is_checked};
+use crate::accounts::{LEAST, has_form, is_checked};
 use crate::fields::amounts::push_amount;
 use crate::fields::characters::{are_capitals, are_digits, character_count, has_control};
 use crate::fields::errors::{Cause, ContentError, ContentResult, Field};
@@ -331,69 +331,34 @@ impl Bill<'_> {
         ])
     }
 
-    // Refuses what is to be a QR reference, and is none.
-    #[tactic(auto, unfolding(crate::specs::Bill::qr_refusal))]
-    fn check_qr(&self) -> ContentResult<()>
-        ensures { result ≡ checked (qr_refusal (invoice_of self.now)) }
-    {
-        let bytes = self.reference.as_bytes();
-        let qr = is_qr_reference(self.reference);
-        let short = character_count(self.reference) < 27;
-        refuse_first(&[
-            (qr & !are_digits(bytes), Field::Reference, Cause::Character),
-            (qr & short, Field::Reference, Cause::TooShort),
-            too_long(Field::Reference, self.reference, 27),
-            (
-                qr & (carry_of(bytes) != 0),
-                Field::Reference,
-                Cause::CheckDigits,
-            ),
-        ])
-    }
-
-    // Refuses what is to be a reference of ISO 11649, and is none.
-    #[tactic(auto, unfolding(crate::specs::Bill::creditor_refusal))]
-    fn check_creditor(&self) -> ContentResult<()>
-        ensures { result ≡ checked (creditor_refusal (invoice_of self.now)) }
-    {
-        let creditor = is_creditor_reference(self.reference);
-        let count = character_count(self.reference);
-        let (formed, checked) = (has_form(self.reference), is_checked(self.reference));
-        refuse_first(&[
-            (
-                creditor & (count < accounts::LEAST),
-                Field::Reference,
-                Cause::TooShort,
-            ),
-            (creditor & (count > 25), Field::Reference, Cause::TooLong),
-            (creditor & !formed, Field::Reference, Cause::Character),
-            (creditor & !checked, Field::Reference, Cause::CheckDigits),
-        ])
-    }
-
-    // Refuses a QR-IBAN without a reference, and a reference that does not belong to the account.
-    #[tactic(auto, unfolding(crate::specs::Bill::belonging_refusal))]
-    fn check_belonging(&self) -> ContentResult<()>
-        ensures { result ≡ checked (belonging_refusal (invoice_of self.now)) }
-    {
-        let qr = is_qr_reference(self.reference);
-        let of_qr = is_qr_account(self.iban);
-        let missing = of_qr & self.reference.is_empty();
-        refuse_first(&[
-            (missing, Field::Reference, Cause::Empty),
-            (of_qr & !qr, Field::Reference, Cause::Unused),
-            (!of_qr & qr, Field::Reference, Cause::Unused),
-        ])
-    }
-
-    // Refuses a wrong reference.
+    // Refuses a reference that is wrong, that is missing, or that does not belong to the account.
     #[tactic(auto, unfolding(crate::specs::Bill::reference_refusal))]
     fn check_reference(&self) -> ContentResult<()>
         ensures { result ≡ checked (reference_refusal (invoice_of self.now)) }
     {
-        self.check_qr()?;
-        self.check_creditor()?;
-        self.check_belonging()
+        let (bytes, of_qr) = (self.reference.as_bytes(), is_qr_account(self.iban));
+        let (qr, other) = (
+            is_qr_reference(self.reference),
+            is_creditor_reference(self.reference),
+        );
+        let wrong_digits = qr & (carry_of(bytes) != 0);
+        let wrong_form = other & !has_form(self.reference);
+        let unchecked = other & !is_checked(self.reference);
+        let count = character_count(self.reference);
+        let missing = of_qr & self.reference.is_empty();
+        refuse_first(&[
+            (qr & !are_digits(bytes), Field::Reference, Cause::Character),
+            (qr & (count < 27), Field::Reference, Cause::TooShort),
+            (count > 27, Field::Reference, Cause::TooLong),
+            (wrong_digits, Field::Reference, Cause::CheckDigits),
+            (other & (count < LEAST), Field::Reference, Cause::TooShort),
+            (other & (count > 25), Field::Reference, Cause::TooLong),
+            (wrong_form, Field::Reference, Cause::Character),
+            (unchecked, Field::Reference, Cause::CheckDigits),
+            (missing, Field::Reference, Cause::Empty),
+            (of_qr & !qr, Field::Reference, Cause::Unused),
+            (!of_qr & qr, Field::Reference, Cause::Unused),
+        ])
     }
 
     // Refuses what the text cannot say.

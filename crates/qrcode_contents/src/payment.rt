@@ -6,7 +6,7 @@ ghost use Rattle.qrcode_contents.specs.declared.fields.errors.Field.TheVariants.
 ghost use Rattle.qrcode_contents.specs.declared.fields.errors.Cause.TheVariants.{TooLong};
 ghost use Rattle.qrcode_contents.specs.fields.Lines.{later_text};
 ghost use Rattle.qrcode_contents.specs.fields.Refusals.{Answers, checked};
-ghost use Rattle.qrcode_contents.specs.Payment.{payment_fields, control_checks, break_checks, needs_bic, bank_checks, account_checks, name_checks, message_checks, field_checks, payment_refusal, payment_text, later_count, later_lines, read_payment, version_for, version_name, is_bic, is_reference};
+ghost use Rattle.qrcode_contents.specs.Payment.{payment_fields, control_checks, break_checks, needs_bic, bank_refusal, text_checks, field_checks, payment_refusal, payment_text, later_count, later_lines, read_payment, version_for, version_name, is_bic, is_reference};
 
 use crate::accounts::{self, has_form, is_checked};
 use crate::fields::amounts::push_amount;
@@ -145,63 +145,46 @@ impl Payment<'_> {
         ])
     }
 
-    // Refuses what is no BIC, and where it lacks.
-    #[tactic(auto, unfolding(crate::specs::Payment::bank_checks))]
+    // Refuses what is no BIC, and where it lacks, what is no account, and an amount out of range.
+    #[tactic(auto, unfolding(crate::specs::Payment::bank_refusal))]
     fn check_bank(&self) -> ContentResult<()>
-        ensures { result ≡ checked (bank_checks (payment_fields self.now)) }
+        ensures { result ≡ checked (bank_refusal (payment_fields self.now)) }
     {
         let needed = self.version.needs_bic();
         let given = !self.bic.is_empty();
         let short = character_count(self.bic) < 8;
+        let outside = (self.cents < 1) | (self.cents > 99_999_999_999);
         refuse_first(&[
             (needed & self.bic.is_empty(), Field::Bic, Cause::Empty),
             (given & short, Field::Bic, Cause::TooShort),
             too_long(Field::Bic, self.bic, 11),
             (given & !is_a_bic(self.bic), Field::Bic, Cause::Character),
-        ])
-    }
-
-    // Refuses what is no account.
-    #[tactic(auto, unfolding(crate::specs::Payment::account_checks))]
-    fn check_account(&self) -> ContentResult<()>
-        ensures { result ≡ checked (account_checks (payment_fields self.now)) }
-    {
-        refuse_first(&[
             (self.iban.is_empty(), Field::Iban, Cause::Empty),
             too_short(Field::Iban, self.iban, accounts::LEAST),
             too_long(Field::Iban, self.iban, 34),
             (!has_form(self.iban), Field::Iban, Cause::Character),
             (!is_checked(self.iban), Field::Iban, Cause::CheckDigits),
-        ])
-    }
-
-    // Refuses an amount that is out of range, and a name or a purpose that is wrong.
-    #[tactic(auto, unfolding(crate::specs::Payment::name_checks))]
-    fn check_name(&self) -> ContentResult<()>
-        ensures { result ≡ checked (name_checks (payment_fields self.now)) }
-    {
-        let outside = (self.cents < 1) | (self.cents > 99_999_999_999);
-        let wrong_purpose = !are_capitals_or_digits(self.purpose);
-        refuse_first(&[
             (outside, Field::Amount, Cause::Range),
-            (self.name.is_empty(), Field::Name, Cause::Empty),
-            too_long(Field::Name, self.name, 70),
-            too_long(Field::Purpose, self.purpose, 4),
-            (wrong_purpose, Field::Purpose, Cause::Character),
         ])
     }
 
-    // Refuses a wrong reference, one beside a message, and what is too long.
-    #[tactic(auto, unfolding(crate::specs::Payment::message_checks))]
-    fn check_messages(&self) -> ContentResult<()>
-        ensures { result ≡ checked (message_checks (payment_fields self.now)) }
+    // Refuses a name or a purpose that is wrong, a wrong reference, one beside a message, and what
+    // is too long.
+    #[tactic(auto, unfolding(crate::specs::Payment::text_checks))]
+    fn check_texts(&self) -> ContentResult<()>
+        ensures { result ≡ checked (text_checks (payment_fields self.now)) }
     {
+        let wrong_purpose = !are_capitals_or_digits(self.purpose);
         let referenced = !self.reference.is_empty();
         let short = character_count(self.reference) < accounts::LEAST;
         let formed = is_a_reference(self.reference);
         let checked = is_checked(self.reference);
         let beside = referenced & !self.message.is_empty();
         refuse_first(&[
+            (self.name.is_empty(), Field::Name, Cause::Empty),
+            too_long(Field::Name, self.name, 70),
+            too_long(Field::Purpose, self.purpose, 4),
+            (wrong_purpose, Field::Purpose, Cause::Character),
             (referenced & short, Field::Reference, Cause::TooShort),
             too_long(Field::Reference, self.reference, 25),
             (referenced & !formed, Field::Reference, Cause::Character),
@@ -220,9 +203,7 @@ impl Payment<'_> {
         self.check_controls()?;
         self.check_breaks()?;
         self.check_bank()?;
-        self.check_account()?;
-        self.check_name()?;
-        self.check_messages()
+        self.check_texts()
     }
 
     // How many of the last four lines there are: those behind the last filled one are left out.

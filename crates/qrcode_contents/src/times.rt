@@ -93,10 +93,7 @@ impl Day {
         let mut text = String::new(alloc);
         let month = u16::from(self.month);
         let day = u16::from(self.day);
-        push_pairs(
-            &mut text,
-            &[self.year / 100, self.year % 100, month, day],
-        )?;
+        push_pairs(&mut text, &[self.year / 100, self.year % 100, month, day])?;
         Ok(text)
     }
 
