@@ -1,16 +1,15 @@
 -- The codes that are read of a picture.
-use Rattle.std.proofs.Common.{◌≡◌, ◌∙◌, ◌≤◌, ◌*◌, ◌⊎◌, ◌++◌, ◌∷◌, [], ℕ, Bool, true, false, List, None, All, length, take, drop, sym, subst, inl, inr}
+use Rattle.std.proofs.Common.{◌≡◌, ◌*◌, ◌⊎◌, ◌++◌, ◌∷◌, [], ℕ, Bool, List, None, All, length, take, drop, sym, subst, inl, inr}
 use Rattle.std.proofs.lemmas.List.Elements.{All-append, All-cons, All-drop, All-nil, All-push, All-take, All-weaker}
-use Rattle.std.specs.Prelude.{if◌then◌else◌, insert, slice_index_or}
+use Rattle.std.specs.Prelude.{insert}
 use Rattle.qrcode_types.specs.declared.types.Color.{Color}
 use Rattle.qrcode_render.specs.Bitmap.{Bitmap}
 use Rattle.qrcode_reader.specs.scan.Grids.{IsSampled}
-use Rattle.qrcode_reader.specs.scan.Squares.{has_dark_edge, inverted}
 use Rattle.qrcode_reader.specs.Readings.{IsPartsCause}
 use Rattle.qrcode_reader.specs.declared.scan.grids.Grid.{Grid}
 use Rattle.qrcode_reader.specs.declared.refusals.Unread as reading
 use Rattle.goqlanis_core.specs.Codes.{AreCodesIn, IsCodeIn, IsMissedIn, IsMissedOf}
-use Rattle.goqlanis_core.specs.Scans.{IsFoundIn, IsPictureOf, IsReadAs, IsScanOf, IsSquareOf}
+use Rattle.goqlanis_core.specs.Scans.{IsReadAs, IsScanOf, IsSeenAs, IsSquareOf}
 use Rattle.goqlanis_core.specs.declared.scanning.Scan.{Scan}
 use Rattle.goqlanis_core.specs.declared.codes.Codes.{Codes}
 use Rattle.goqlanis_core.specs.declared.codes.Missed.{Missed}
@@ -62,34 +61,12 @@ missed_code b g modules e sampled other why = elim why [
   | inr both ↦ record { modules = modules; sampled = sampled; cause = both.0; none = both.1 g.count (sampled_length b g modules sampled) }
 ]
 
--- the first of the codes of a picture is one
-pub first_scan : (bytes : List ℕ) (scans : List Scan) (scan : Scan) → 1 ≤ length scans → scan ≡ slice_index_or scans 0 scan → All (IsScanOf bytes) scans → IsScanOf bytes scan
-first_scan bytes scans scan some first all = subst (IsScanOf bytes) (sym first) (all 0 scan some)
+-- codes in the pixels of a picture are codes of it
+pub scans_of : (bytes : List ℕ) (b : Bitmap) (i : Bool) (codes : Codes) → IsSeenAs bytes b i → AreCodesIn b i codes → All (IsScanOf bytes) codes.scans.items
+scans_of bytes b i codes seen are =
+    All-weaker (IsCodeIn b i) (IsScanOf bytes)
+    (λ scan code. record { pixels = b; seen = subst (IsSeenAs bytes b) (sym code.inverted) seen; square = code.square; read = code.read }) codes.scans.items are.scans
 
--- codes in the pixels of a picture are codes of it, with dark and light exchanged where the first row is dark
-in_picture : (bytes : List ℕ) (b : Bitmap) (i : Bool) (scan : Scan) → IsPictureOf bytes b → has_dark_edge b ≡ i → IsCodeIn (if i then inverted b else b) i scan → IsScanOf bytes scan
-in_picture bytes b i scan seen is code = record {
-  pixels = b;
-  seen = seen;
-  edge = code.inverted ∙ sym is;
-  square = subst (λ (j : Bool). IsFoundIn scan (if j then inverted b else b)) (sym code.inverted) code.square;
-  read = code.read;
-}
-
-missed_in_picture : (bytes : List ℕ) (b : Bitmap) (i : Bool) (m : Missed) → IsPictureOf bytes b → has_dark_edge b ≡ i → IsMissedIn (if i then inverted b else b) m → IsMissedOf bytes m
-missed_in_picture bytes b i m seen is missed =
-    record { pixels = b; seen = seen; missed = subst (λ (j : Bool). IsMissedIn (if j then inverted b else b) m) (sym is) missed }
-
-pub plain_scans : (bytes : List ℕ) (b : Bitmap) (codes : Codes) → IsPictureOf bytes b → has_dark_edge b ≡ false → AreCodesIn b false codes → All (IsScanOf bytes) codes.scans.items
-plain_scans bytes b codes seen is are = All-weaker (IsCodeIn b false) (IsScanOf bytes) (λ scan code. in_picture bytes b false scan seen is code) codes.scans.items are.scans
-
-pub turned_scans : (bytes : List ℕ) (b : Bitmap) (codes : Codes) → IsPictureOf bytes b → has_dark_edge b ≡ true → AreCodesIn (inverted b) true codes → All (IsScanOf bytes) codes.scans.items
-turned_scans bytes b codes seen is are =
-    All-weaker (IsCodeIn (inverted b) true) (IsScanOf bytes) (λ scan code. in_picture bytes b true scan seen is code) codes.scans.items are.scans
-
-pub plain_missed : (bytes : List ℕ) (b : Bitmap) (codes : Codes) → IsPictureOf bytes b → has_dark_edge b ≡ false → AreCodesIn b false codes → All (IsMissedOf bytes) codes.missed.items
-plain_missed bytes b codes seen is are = All-weaker (IsMissedIn b) (IsMissedOf bytes) (λ m missed. missed_in_picture bytes b false m seen is missed) codes.missed.items are.missed
-
-pub turned_missed : (bytes : List ℕ) (b : Bitmap) (codes : Codes) → IsPictureOf bytes b → has_dark_edge b ≡ true → AreCodesIn (inverted b) true codes → All (IsMissedOf bytes) codes.missed.items
-turned_missed bytes b codes seen is are =
-    All-weaker (IsMissedIn (inverted b)) (IsMissedOf bytes) (λ m missed. missed_in_picture bytes b true m seen is missed) codes.missed.items are.missed
+pub missed_of : (bytes : List ℕ) (b : Bitmap) (i : Bool) (codes : Codes) → IsSeenAs bytes b i → AreCodesIn b i codes → All (IsMissedOf bytes) codes.missed.items
+missed_of bytes b i codes seen are =
+    All-weaker (IsMissedIn b) (IsMissedOf bytes) (λ m missed. record { pixels = b; is_inverted = i; seen = seen; missed = missed }) codes.missed.items are.missed

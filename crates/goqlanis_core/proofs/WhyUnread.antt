@@ -1,15 +1,13 @@
 -- Why pictures are not read.
 use Rattle.std.proofs.Common.{◌≡◌, ◌*◌, ℕ, Bool, List, length, sym, subst, ◌⊎◌, inl, inr, refl}
-use Rattle.std.specs.Prelude.{if◌then◌else◌}
 use Rattle.qrcode_types.specs.declared.types.Color.{Color}
 use Rattle.qrcode_render.specs.Bitmap.{Bitmap}
-use Rattle.qrcode_reader.specs.scan.Squares.{has_dark_edge, inverted}
 use Rattle.qrcode_reader.specs.Positions.{seen}
 use Rattle.qrcode_reader.specs.Readings.{IsPartsCause, ReadsParts}
 use Rattle.qrcode_reader.specs.declared.positions.Position.{Position}
 use Rattle.qrcode_reader.specs.declared.spell.parts.Part.{Part}
 use Rattle.qrcode_reader.specs.declared.refusals.Unread as reading
-use Rattle.goqlanis_core.specs.Scans.{IsLeastSquareIn, IsNotClean, IsPictureOf, IsUnreadIn, IsUnreadPicture, IsUnseen, unread_as}
+use Rattle.goqlanis_core.specs.Scans.{IsLeastSquareIn, IsNotClean, IsSeenAs, IsUnreadIn, IsUnreadPicture, IsUnseen, unread_as}
 use Rattle.goqlanis_core.specs.declared.scanning.Unread.{Unread}
 use Rattle.goqlanis_core.specs.declared.scanning.Unread.TheVariants.{Unscanned, Png, Jpeg, NoSquare, NoSymbol, OutOfMemory}
 
@@ -31,13 +29,13 @@ unread_square b count zone scale modules e square why = elim why [
   caused reading.TheVariants.OutOfMemory cause none = tt
 
 -- the pixels that a picture shows are not read
-pub unread_picture : (bytes : List ℕ) (b : Bitmap) (e : Unread) → IsPictureOf bytes b → IsUnreadIn (if has_dark_edge b then inverted b else b) e → IsUnreadPicture bytes e
-unread_picture bytes b (Unscanned e) seen unread = absurd unread
-unread_picture bytes b (Png e) seen unread = absurd unread
-unread_picture bytes b Jpeg seen unread = absurd unread
-unread_picture bytes b NoSquare seen unread = record { pixels = b; seen = seen; unread = unread }
-unread_picture bytes b (NoSymbol count e) seen unread = record { pixels = b; seen = seen; unread = unread }
-unread_picture bytes b OutOfMemory seen unread = tt
+pub unread_picture : (bytes : List ℕ) (b : Bitmap) (i : Bool) (e : Unread) → IsSeenAs bytes b i → IsUnreadIn b e → IsUnreadPicture bytes e
+unread_picture bytes b i (Unscanned e) seen unread = absurd unread
+unread_picture bytes b i (Png e) seen unread = absurd unread
+unread_picture bytes b i Jpeg seen unread = absurd unread
+unread_picture bytes b i NoSquare seen unread = record { pixels = b; is_inverted = i; seen = seen; unread = unread }
+unread_picture bytes b i (NoSymbol count e) seen unread = record { pixels = b; is_inverted = i; seen = seen; unread = unread }
+unread_picture bytes b i OutOfMemory seen unread = tt
 
 -- no square in a margin is read, for another cause than memory
 pub not_clean : (b : Bitmap) (e : Unread) → IsUnreadIn b e → ¬ (e ≡ OutOfMemory) → IsNotClean b

@@ -1,14 +1,13 @@
 -- What checks of a picture's codes say.
-use Rattle.std.specs.Prelude.{◌≡◌, ◌≢◌, ◌⊎◌, ◌*◌, ℕ, List, [], ◌∷◌, All, length, if◌then◌else◌}
+use Rattle.std.specs.Prelude.{◌≡◌, ◌≢◌, ◌⊎◌, ◌*◌, ℕ, Bool, List, [], ◌∷◌, All, length}
 use Rattle.std.specs.List.{AllZip}
 use Rattle.qrcode_types.specs.declared.types.Color.{Color}
 use Rattle.qrcode_render.specs.Bitmap.{Bitmap}
 use Rattle.qrcode_reader.specs.Positions.{seen}
-use Rattle.qrcode_reader.specs.scan.Squares.{inverted, has_dark_edge}
 use Rattle.qrcode_reader.specs.declared.refusals.Unread as reading
 use Rattle.qrcode_check.specs.Checks.{IsCheck}
 use Rattle.qrcode_check.specs.declared.checking.Check.{Check}
-use Rattle.goqlanis_core.specs.Scans.{IsLeastSquareIn, IsPictureOf, IsScanOf, IsUnreadPicture}
+use Rattle.goqlanis_core.specs.Scans.{IsLeastSquareIn, IsScanOf, IsSeenAs, IsUnreadPicture}
 use Rattle.goqlanis_core.specs.declared.scanning.Scan.{Scan}
 use Rattle.goqlanis_core.specs.declared.scanning.Unread.{Unread}
 use Rattle.goqlanis_core.specs.declared.scanning.Unread.TheVariants.{NoSymbol}
@@ -32,15 +31,12 @@ pub record IsSquareCheck (b : Bitmap) (check : Check) : Type 0 where
   pub square : IsLeastSquareIn b count zone scale modules
   pub said : IsCheck modules check
 
--- the same of the pixels of a picture, with dark and light exchanged where their first row is dark
+-- the same of the pixels of a picture
 pub record IsSquareCheckOf (bytes : List ℕ) (check : Check) : Type 0 where
   pub pixels : Bitmap
-  pub seen : IsPictureOf bytes pixels
-  pub said : IsSquareCheck (if has_dark_edge pixels then inverted pixels else pixels) check
-
--- what is said of a code of a picture: of one that is read, or of the square in a margin, whose bits need be no headers and segments
-abbrev pub IsCheckOf : List ℕ → Check → Type 0
-IsCheckOf bytes check = ((scan : Scan) × (IsScanOf bytes scan × IsCheckOfScan scan check)) ⊎ IsSquareCheckOf bytes check
+  pub is_inverted : Bool
+  pub seen : IsSeenAs bytes pixels is_inverted
+  pub said : IsSquareCheck pixels check
 
 -- what is said of the codes of a picture: of each of those that are read, in their order
 pub record AreScanChecks (bytes : List ℕ) (scans : List Scan) (checks : List Check) : Type 0 where

@@ -1,14 +1,13 @@
 -- The codes that a picture shows.
-use Rattle.std.specs.Prelude.{◌≡◌, ℕ, Bool, List, All, if◌then◌else◌}
+use Rattle.std.specs.Prelude.{◌≡◌, ℕ, Bool, List, All}
 use Rattle.qrcode_types.specs.declared.types.Color.{Color}
 use Rattle.qrcode_render.specs.Bitmap.{Bitmap}
 use Rattle.qrcode_reader.specs.scan.Grids.{IsSampled}
-use Rattle.qrcode_reader.specs.scan.Squares.{has_dark_edge, inverted}
 use Rattle.qrcode_reader.specs.Positions.{seen}
 use Rattle.qrcode_reader.specs.Readings.{IsPartsCause, ReadsParts}
 use Rattle.qrcode_reader.specs.declared.spell.parts.Part.{Part}
 use Rattle.qrcode_reader.specs.declared.positions.Position.{Position}
-use Rattle.goqlanis_core.specs.Scans.{IsFoundIn, IsPictureOf, IsReadAs}
+use Rattle.goqlanis_core.specs.Scans.{IsFoundIn, IsReadAs, IsSeenAs}
 use Rattle.goqlanis_core.specs.declared.scanning.Scan.{Scan}
 use Rattle.goqlanis_core.specs.declared.codes.Codes.{Codes}
 use Rattle.goqlanis_core.specs.declared.codes.Missed as missed
@@ -28,11 +27,12 @@ pub record IsMissedIn (b : Bitmap) (m : missed.Missed) : Type 0 where
   pub cause : IsPartsCause modules m.cause
   pub none : (p : Position) (is_inverted : Bool) (bytes : List ℕ) (parts : List Part) → ¬ ReadsParts (seen m.grid.count p is_inverted modules) bytes parts
 
--- the same of the pixels of a picture, with dark and light exchanged where their first row is dark
+-- the same of the pixels of a picture
 pub record IsMissedOf (bytes : List ℕ) (m : missed.Missed) : Type 0 where
   pub pixels : Bitmap
-  pub seen : IsPictureOf bytes pixels
-  pub missed : IsMissedIn (if has_dark_edge pixels then inverted pixels else pixels) m
+  pub is_inverted : Bool
+  pub seen : IsSeenAs bytes pixels is_inverted
+  pub missed : IsMissedIn pixels m
 
 pub record AreCodesIn (b : Bitmap) (is_inverted : Bool) (codes : Codes) : Type 0 where  -- codes are those of pixels
   pub scans : All (IsCodeIn b is_inverted) codes.scans.items

@@ -108,6 +108,13 @@ pub record IsPictureOf (bytes : List ℕ) (b : Bitmap) : Type 0 where
   pub png : is_png bytes ≡ true → IsShownBy bytes b
   pub other : is_png bytes ≡ false → IsSeenIn bytes b
 
+-- the pixels of a picture, with dark and light exchanged where their first row is dark
+pub record IsSeenAs (bytes : List ℕ) (b : Bitmap) (is_inverted : Bool) : Type 0 where
+  pub pixels : Bitmap
+  pub shown : IsPictureOf bytes pixels
+  pub edge : is_inverted ≡ has_dark_edge pixels
+  pub same : b ≡ (if is_inverted then inverted pixels else pixels)
+
 -- the image of a PNG file has too many pixels
 abbrev pub IsLargeImage : List ℕ → unscanned.Unscanned → Type 0
 IsLargeImage bytes e = (image : Image) × ((image_of bytes ≡ Some image) × IsColoursRefusal (length image.pixels) image.across image.down e)
@@ -121,13 +128,11 @@ IsUnseen bytes NoSquare = ⊥
 IsUnseen bytes (NoSymbol count e) = ⊥
 IsUnseen bytes OutOfMemory = Unit
 
--- what the bytes of a picture are read as: a square of modules that its pixels show, with dark and light exchanged where their first row is dark, and
--- that square's reading
+-- what the bytes of a picture are read as: a square of modules that its pixels show, and that square's reading
 pub record IsScanOf (bytes : List ℕ) (scan : Scan) : Type 0 where
   pub pixels : Bitmap
-  pub seen : IsPictureOf bytes pixels
-  pub edge : scan.is_inverted ≡ has_dark_edge pixels
-  pub square : IsFoundIn scan (if scan.is_inverted then inverted pixels else pixels)
+  pub seen : IsSeenAs bytes pixels scan.is_inverted
+  pub square : IsFoundIn scan pixels
   pub read : IsReadAs scan
 
 -- why pixels whose square of so many modules a side is not read are not read
@@ -138,11 +143,12 @@ unread_as count reading.TheVariants.NoFormat = NoSymbol count reading.TheVariant
 unread_as count (reading.TheVariants.Damaged b) = NoSymbol count (reading.TheVariants.Damaged b)
 unread_as count reading.TheVariants.NotSpelled = NoSymbol count reading.TheVariants.NotSpelled
 
--- pixels that a picture shows are not read, with dark and light exchanged where their first row is dark
+-- pixels that a picture shows are not read
 pub record HasUnreadPixels (bytes : List ℕ) (e : Unread) : Type 0 where
   pub pixels : Bitmap
-  pub seen : IsPictureOf bytes pixels
-  pub unread : IsUnreadIn (if has_dark_edge pixels then inverted pixels else pixels) e
+  pub is_inverted : Bool
+  pub seen : IsSeenAs bytes pixels is_inverted
+  pub unread : IsUnreadIn pixels e
 
 abbrev pub IsUnreadPicture : List ℕ → Unread → Type 0  -- why the bytes of a picture are not read
 IsUnreadPicture bytes (Unscanned e) = IsUnseen bytes (Unscanned e)

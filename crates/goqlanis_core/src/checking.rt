@@ -1,15 +1,14 @@
 //! The codes of a picture, checked.
 
-ghost use Rattle.std.specs.Prelude.{◌≡◌, ◌≤◌, ◌++◌, ◌∷◌, [], All, length, IfErr, IfOk, OnOk};
+ghost use Rattle.std.specs.Prelude.{◌≡◌, ◌≤◌, ◌∷◌, [], All, length, IfErr, IfOk};
 ghost use Rattle.std.specs.List.{AllZip};
-ghost use Rattle.qrcode_reader.specs.scan.Squares.{inverted};
-ghost use Rattle.goqlanis_core.specs.Checked.{AreChecksOf, HasSquare, IsCheckOf, IsCheckOfScan, IsSquareCheck, IsSquareCheckOf, IsUncheckedPicture};
+ghost use Rattle.goqlanis_core.specs.Checked.{AreChecksOf, HasSquare, IsCheckOfScan, IsSquareCheckOf, IsUncheckedPicture};
 ghost use Rattle.goqlanis_core.specs.Codes.{IsMissedOf};
 
 use crate::codes::{Codes, read_codes};
-use crate::scanning::{Scan, Unread, pixels_in};
+use crate::scanning::{Scan, Unread, seen_in};
 use qrcode_check::{Check, check_seen, check_square};
-use qrcode_reader::scan::{Pixels, square_of};
+use qrcode_reader::scan::square_of;
 use std::alloc::{AllocError, Global};
 
 /// The codes of a picture, checked.
@@ -27,7 +26,6 @@ pub struct Checks {
 ///
 /// The errors are those of `read_codes`, except for bits that are no headers and segments.
 pub fn check_codes(alloc: Global, bytes: &[u8]) -> Result<Checks, Unread>
-    ensures value { IfOk result (λ found. All (IsCheckOf bytes.now) found.checks.items) }
     ensures each { IfOk result (λ found.
         AreChecksOf bytes.now found.codes.scans.items found.checks.items) }
     ensures some { IfOk result (λ found. 1 ≤ length found.checks.items) }
@@ -69,17 +67,9 @@ fn checked(alloc: Global, codes: Codes) -> Result<Checks, AllocError>
 {
     let mut checks = Vec::new(alloc);
     for scan in &codes.scans {
-        push_check(&mut checks, check_scan(alloc, scan)?)?;
+        checks.push(check_scan(alloc, scan)?)?;
     }
     Ok(Checks { checks, codes })
-}
-
-// Appends what is said of a code.
-fn push_check(checks: &mut Vec<Check>, check: Check) -> Result<(), AllocError>
-    ensures { OnOk result (checks.new.items ≡ checks.old.items ++ check ∷ []) }
-{
-    checks.push(check)?;
-    Ok(())
 }
 
 // Checks a code that is read. It is read as bits, so that memory alone may be refused.
@@ -99,30 +89,10 @@ fn check_scan(alloc: Global, scan: &Scan) -> Result<Check, AllocError>
 fn unspelled(alloc: Global, bytes: &[u8]) -> Result<Check, AllocError>
     ensures { IfOk result (IsSquareCheckOf bytes.now) }
 {
-    let pixels = match pixels_in(alloc, bytes) {
-        Ok(pixels) => pixels,
-        Err(_) => return Err(AllocError),
+    let Ok((pixels, _)) = seen_in(alloc, bytes) else {
+        return Err(AllocError);
     };
-    if pixels.has_dark_edge() {
-        unspelled_inverted(alloc, &pixels)
-    } else {
-        unspelled_in(alloc, &pixels)
-    }
-}
-
-// The same of pixels with dark and light exchanged.
-fn unspelled_inverted(alloc: Global, pixels: &Pixels) -> Result<Check, AllocError>
-    ensures { IfOk result (IsSquareCheck (inverted pixels.now)) }
-{
-    let pixels = pixels.inverted(alloc)?;
-    unspelled_in(alloc, &pixels)
-}
-
-// The same of pixels.
-fn unspelled_in(alloc: Global, pixels: &Pixels) -> Result<Check, AllocError>
-    ensures { IfOk result (IsSquareCheck pixels.now) }
-{
-    let Some(square) = square_of(alloc, pixels)? else {
+    let Some(square) = square_of(alloc, &pixels)? else {
         return Err(AllocError);
     };
     match check_square(alloc, &square.modules) {

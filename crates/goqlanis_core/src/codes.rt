@@ -1,12 +1,11 @@
 //! All codes of a picture.
 
 ghost use Rattle.std.specs.Prelude.{◌≡◌, ◌≤◌, ◌⊎◌, ◌++◌, ◌∷◌, [], ℕ, All, true, insert, length, IsTrue, IfOk, IfErr, OnOk};
-ghost use Rattle.qrcode_reader.specs.scan.Squares.{inverted};
 ghost use Rattle.qrcode_reader.specs.declared.refusals.Unread.TheVariants.{OutOfMemory};
 ghost use Rattle.goqlanis_core.specs.Codes.{AreCodesIn, IsFoundAs, IsMissedOf};
 ghost use Rattle.goqlanis_core.specs.Scans.{IsNotClean, IsScanOf, IsUnreadPicture, IsUnreadIn};
 
-use crate::scanning::{self, Scan, pixels_in, read_clean, scan_of};
+use crate::scanning::{self, Scan, read_clean, scan_of, seen_in};
 use qrcode_reader::scan::{Grid, Pixels, Square, grids_of, sampled_at};
 use qrcode_reader::{Unread, read_any_parts};
 use std::alloc::{AllocError, Global};
@@ -54,47 +53,19 @@ pub struct Codes {
     pub missed: Vec<Missed>,
 }
 
-/// Reads the first code of a picture.
-#[tactic(auto, using(crate::proofs::Read::first_scan))]
-pub fn read_picture(alloc: Global, bytes: &[u8]) -> Result<Scan, scanning::Unread>
-    ensures value { IfOk result (IsScanOf bytes.now) }
-    ensures causes { IfErr result (IsUnreadPicture bytes.now) }
-{
-    let mut codes = match read_codes(alloc, bytes) {
-        Ok(codes) => codes,
-        Err(cause) => return Err(cause),
-    };
-    Ok(codes.scans.remove(0))
-}
-
 /// Reads the codes of a picture: the square in a margin, or else those that stand between finder
 /// patterns. There is one at least, or an error.
-#[tactic(auto, using(crate::proofs::WhyUnread::unread_picture, crate::proofs::WhyUnread::unseen_picture, crate::proofs::Read::plain_scans, crate::proofs::Read::turned_scans, crate::proofs::Read::plain_missed, crate::proofs::Read::turned_missed))]
+#[tactic(auto, using(crate::proofs::WhyUnread::unread_picture, crate::proofs::WhyUnread::unseen_picture, crate::proofs::Read::scans_of, crate::proofs::Read::missed_of))]
 pub fn read_codes(alloc: Global, bytes: &[u8]) -> Result<Codes, scanning::Unread>
     ensures value { IfOk result (λ codes. All (IsScanOf bytes.now) codes.scans.items) }
     ensures some { IfOk result (λ codes. 1 ≤ length codes.scans.items) }
     ensures missed { IfOk result (λ codes. All (IsMissedOf bytes.now) codes.missed.items) }
     ensures causes { IfErr result (IsUnreadPicture bytes.now) }
 {
-    let pixels = match pixels_in(alloc, bytes) {
-        Ok(pixels) => pixels,
-        Err(cause) => return Err(cause),
-    };
-    if pixels.has_dark_edge() {
-        inverted_codes(alloc, &pixels)
-    } else {
-        codes_in(alloc, &pixels, false)
+    match seen_in(alloc, bytes) {
+        Ok((pixels, is_inverted)) => codes_in(alloc, &pixels, is_inverted),
+        Err(cause) => Err(cause),
     }
-}
-
-// The codes in pixels with dark and light exchanged.
-fn inverted_codes(alloc: Global, pixels: &Pixels) -> Result<Codes, scanning::Unread>
-    ensures codes { IfOk result (AreCodesIn (inverted pixels.now) true) }
-    ensures some { IfOk result (λ codes. 1 ≤ length codes.scans.items) }
-    ensures causes { IfErr result (IsUnreadIn (inverted pixels.now)) }
-{
-    let pixels = pixels.inverted(alloc)?;
-    codes_in(alloc, &pixels, true)
 }
 
 // The codes in pixels, which may have dark and light exchanged.
@@ -162,7 +133,7 @@ fn add(
     requires codes { AreCodesIn pixels.now is_inverted codes.old }
     ensures { OnOk result (AreCodesIn pixels.now is_inverted codes.new) }
 {
-    if has_read(&codes.scans, grid) {
+    if codes.has_read(grid) {
         return Ok(());
     }
     match found_at(alloc, pixels, grid, is_inverted)? {
@@ -241,14 +212,11 @@ fn push_missed(all: &mut Vec<Missed>, missed: Missed) -> Result<(), AllocError>
 impl Codes {
     /// Whether a code is read where a grid stands.
     pub fn has_read(&self, grid: &Grid) -> bool {
-        has_read(&self.scans, grid)
+        let place = place_of(grid);
+        self.scans
+            .iter()
+            .any(|scan| overlap(place, place_of_scan(scan)))
     }
-}
-
-// The same.
-fn has_read(scans: &[Scan], grid: &Grid) -> bool {
-    let place = place_of(grid);
-    scans.iter().any(|scan| overlap(place, place_of_scan(scan)))
 }
 
 // Where a code stands among others.

@@ -26,7 +26,7 @@ mod shades;
 mod terminal;
 
 pub use checking::{Checks, check_codes};
-pub use codes::{Codes, Missed, read_codes, read_picture};
+pub use codes::{Codes, Missed, read_codes};
 pub use drawing::{
     Drawing, dots, draw, draw_elements, draw_for_application, draw_segments, drawing_of,
     quiet_zone, scale, symbol_in,

@@ -6,7 +6,7 @@ ghost use Rattle.qrcode_reader.specs.scan.Squares.{inverted};
 ghost use Rattle.qrcode_reader.specs.Positions.{IsFirstPartsReading};
 ghost use Rattle.goqlanis_core.specs.declared.scanning.Unread.TheVariants.{OutOfMemory};
 ghost use Rattle.goqlanis_core.specs.HandedOn.{byte_count, is_fnc1, part_on, handed_on};
-ghost use Rattle.goqlanis_core.specs.Scans.{IsFoundIn, IsPictureOf, IsReadAs, IsSampledIn, IsScanOf, IsShownBy, IsSquareOf, IsUnreadPicture, IsUnreadIn, IsUnseen, is_png, is_jpeg, unread_as};
+ghost use Rattle.goqlanis_core.specs.Scans.{IsFoundIn, IsPictureOf, IsReadAs, IsSampledIn, IsScanOf, IsSeenAs, IsShownBy, IsSquareOf, IsUnreadPicture, IsUnreadIn, IsUnseen, is_png, is_jpeg, unread_as};
 
 use qrcode::types::Mode;
 use qrcode_reader::scan::{
@@ -105,9 +105,26 @@ fn is_jpeg(bytes: &[u8]) -> bool
     bytes.starts_with(&[0xff, 0xd8, 0xff])
 }
 
+// The pixels of a picture, with dark and light exchanged where the first row is dark; and whether they
+// are.
+pub(crate) fn seen_in(alloc: Global, bytes: &[u8]) -> Result<(Pixels, bool), Unread>
+    ensures value { IfOk result (λ seen. IsSeenAs bytes.now seen.0 seen.1) }
+    ensures causes { IfErr result (IsUnseen bytes.now) }
+{
+    let pixels = match pixels_in(alloc, bytes) {
+        Ok(pixels) => pixels,
+        Err(cause) => return Err(cause),
+    };
+    if pixels.has_dark_edge() {
+        Ok((pixels.inverted(alloc)?, true))
+    } else {
+        Ok((pixels, false))
+    }
+}
+
 // The pixels of a picture.
 #[tactic(auto, using(crate::proofs::Seen::png_picture, crate::proofs::Seen::other_picture))]
-pub(crate) fn pixels_in(alloc: Global, bytes: &[u8]) -> Result<Pixels, Unread>
+fn pixels_in(alloc: Global, bytes: &[u8]) -> Result<Pixels, Unread>
     ensures value { IfOk result (IsPictureOf bytes.now) }
     ensures causes { IfErr result (IsUnseen bytes.now) }
 {

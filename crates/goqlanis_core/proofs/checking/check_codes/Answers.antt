@@ -5,7 +5,7 @@ use Rattle.goqlanis_core.specs.Checked.{IsCheckOfScan}
 use Rattle.goqlanis_core.specs.Scans.{IsScanOf, IsUnreadPicture}
 use Rattle.goqlanis_core.specs.declared.codes.Codes.{Codes}
 use Rattle.goqlanis_core.specs.declared.scanning.Unread.TheVariants.{NoSymbol}
-use Rattle.goqlanis_core.proofs.Checked.{have_squares, said_of}
+use Rattle.goqlanis_core.proofs.Checked.{have_squares}
 use Rattle.goqlanis_core.proofs.checking.check_codes.Goals as goal
 
 pub checked-requires : goal.checked-requires
@@ -38,13 +38,3 @@ returns-in_ok-only-in-Err-NoSymbol-default-NotSpelled-clause-each c =
       only = found.checks;
       said = check.ensures;
     })
-
-pub returns-in_ok-checked-in-Ok-clause-value : goal.returns-in_ok-checked-in-Ok-clause-value
-returns-in_ok-checked-in-Ok-clause-value c =
-    let found = c.in_ok-checked-in-Ok.field-0 in
-    said_of c.args.bytes.now found.codes.scans.items found.checks.items (returns-in_ok-checked-in-Ok-clause-each c)
-
-pub returns-in_ok-only-in-Err-NoSymbol-default-NotSpelled-clause-value : goal.returns-in_ok-only-in-Err-NoSymbol-default-NotSpelled-clause-value
-returns-in_ok-only-in-Err-NoSymbol-default-NotSpelled-clause-value c =
-    let found = c.in_ok-only-in-Err-NoSymbol-default-NotSpelled.field-0 in
-    said_of c.args.bytes.now found.codes.scans.items found.checks.items (returns-in_ok-only-in-Err-NoSymbol-default-NotSpelled-clause-each c)

@@ -1,5 +1,6 @@
 use Rattle.std.proofs.Common.{◌≡◌, ◌<◌, ◌++◌, ◌∷◌, [], List, length, take, get_or, sym, ap, subst, arith, rules}
 use Rattle.std.specs.List.{AllZip}
+use Rattle.std.proofs.lemmas.Grind.{common_steps}
 use Rattle.std.proofs.lemmas.List.{take_more}
 use Rattle.qrcode_check.specs.declared.checking.Check.{Check}
 use Rattle.goqlanis_core.specs.Checked.{IsCheckOfScan}
@@ -15,6 +16,7 @@ loop-scan-preserved c =
     let check = c.in_ok-check_scan.field-0 in
     let inside : i < length xs = omega (arith, ap length c.deref-scan-items.ensures.value) in
     let item : s ≡ get_or xs i s = search rules in
-    subst (λ (l : List Scan). AllZip IsCheckOfScan l c.push_check.new.checks.items) (sym (take_more xs i s inside))
-    (subst (λ (ys : List Check). AllZip IsCheckOfScan (take i xs ++ get_or xs i s ∷ []) ys) (sym c.in_ok-push_check.ensures)
+    let pushed : c.push.new.self.items ≡ c.loop-scan.checks.items ++ check ∷ [] = grind (arith, common_steps) in
+    subst (λ (l : List Scan). AllZip IsCheckOfScan l c.push.new.self.items) (sym (take_more xs i s inside))
+    (subst (λ (ys : List Check). AllZip IsCheckOfScan (take i xs ++ get_or xs i s ∷ []) ys) (sym pushed)
     (zip_more IsCheckOfScan (take i xs) c.loop-scan.checks.items (get_or xs i s) check c.loop-scan.invariant (subst (λ (x : Scan). IsCheckOfScan x check) item c.in_ok-check_scan.ensures)))
