@@ -77,22 +77,7 @@ pub(crate) fn is_painted(
     ensures { result ≡ is_painted version modules.now ink.now index }
 {
     let width = side(version);
-    is_tone(ink.tone, modules[index])
-        && is_part(ink.part, part_of(version, index % width, index / width))
-}
-
-// Whether two colours are one.
-fn is_tone(tone: Color, color: Color) -> bool
-    ensures { result ≡ is_tone tone color }
-{
-    tone == color
-}
-
-// Whether two parts are one.
-fn is_part(part: Part, other: Part) -> bool
-    ensures { result ≡ (order part == order other) }
-{
-    part == other
+    ink.tone == modules[index] && ink.part == part_of(version, index % width, index / width)
 }
 
 // The modules that have the colour, as dark ones among light ones.
@@ -110,39 +95,6 @@ fn layer(
         colors.push(color_of(is_painted(ink, version, modules, index)))?;
     }
     Ok(colors)
-}
-
-// The colour of pictures whose colours are not drawn.
-const NO_INK: Ink<'static> = Ink {
-    name: "none",
-    red: 255,
-    green: 255,
-    blue: 255,
-    opacity: 0,
-};
-
-// A picture of as many modules, of so many pixels each.
-fn redrawn<'a>(shown: &Picture<'_>, modules: &'a [Color], scale: u32) -> Picture<'a>
-    requires square { length modules.now ≡ length shown.now.modules.now }
-    requires scale_at_least { 1 ≤ scale }
-    requires scale_at_most { scale < 2 ^ 16 }
-    ensures width { result.width ≡ shown.now.width }
-    ensures zone { result.zone ≡ shown.now.zone }
-    ensures layout { layout_of result ≡ layout shown.now.width shown.now.zone scale scale }
-    ensures modules { result.modules.now ≡ modules.entry.now }
-    ensures plain { result.is_inverted ≡ false }
-{
-    Picture {
-        modules,
-        width: shown.width,
-        zone: shown.zone,
-        scale,
-        dark: NO_INK,
-        light: NO_INK,
-        is_inverted: false,
-        dpi: None,
-        ends_lines: false,
-    }
 }
 
 // What is drawn over the modules: a layer for each colour, and something over all.
@@ -180,7 +132,17 @@ fn layer_in(
     ensures memory { IsOkUnless result OutOfMemory }
 {
     let modules = layer(alloc, version, shown.modules, ink)?;
-    let over = redrawn(shown, &modules, format.units(shown.scale));
+    let over = Picture {
+        modules: &modules,
+        width: shown.width,
+        zone: shown.zone,
+        scale: format.units(shown.scale),
+        dark: shown.dark,
+        light: shown.light,
+        is_inverted: false,
+        dpi: None,
+        ends_lines: false,
+    };
     match format {
         Format::Eps => eps_layer(alloc, &over, ink.ink),
         Format::Pdf => {
@@ -212,29 +174,18 @@ fn push_boxes(text: &mut String, shown: &Picture<'_>) -> QrResult<()>
         ≡ drawn eps_rect (layout_of shown.now) shown.now.modules.now (string_bytes text.old)) }
     ensures memory { IsOkUnless result OutOfMemory }
 {
-    for index in 0..shown.modules.len() {
-        if shown.modules[index] == Color::Dark {
-            push_box(text, shown, index)?;
-        }
-    }
-    Ok(())
-}
-
-// Appends the box of the module with an index.
-fn push_box(text: &mut String, shown: &Picture<'_>, index: usize) -> QrResult<()>
-    requires { index < length shown.now.modules.now }
-    ensures appends { OnOk result (string_bytes text.new
-        ≡ module_step eps_rect (layout_of shown.now) index Dark (string_bytes text.old)) }
-    ensures memory { IsOkUnless result OutOfMemory }
-{
     let (width, zone, scale) = (
         shown.width as usize,
         shown.zone as usize,
         shown.scale as usize,
     );
-    let left = (index % width + zone) * scale;
-    let top = (index / width + zone) * scale;
-    write!(text, "{left} {top} {scale} {scale} rectfill\n")?;
+    for index in 0..shown.modules.len() {
+        if shown.modules[index] == Color::Dark {
+            let left = (index % width + zone) * scale;
+            let top = (index / width + zone) * scale;
+            write!(text, "{left} {top} {scale} {scale} rectfill\n")?;
+        }
+    }
     Ok(())
 }
 

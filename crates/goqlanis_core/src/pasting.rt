@@ -72,18 +72,8 @@ pub fn pasted(
         light: png_ink(request.light).0,
     };
     let pixels = ground.pixels(alloc, inset)?;
-    Ok(full_color(alloc, &pixels, side, side, density(request.dpi))?)
-}
-
-// Dots per inch as dots per metre, where they are given.
-fn density(dpi: Option<u16>) -> Option<u32>
-    ensures value { result ≡ option_map per_metre dpi }
-    ensures at_most { ForSome result (λ n. n < 2 ^ 31) }
-{
-    match dpi {
-        Some(dpi) => Some(per_metre(dpi)),
-        None => None,
-    }
+    let density = request.dpi.map(per_metre);
+    Ok(full_color(alloc, &pixels, side, side, density)?)
 }
 
 // A drawing without its picture: a byte for each pixel, 0 for a dark one; the pixels along a side; the

@@ -9,8 +9,8 @@ ghost use Rattle.goqlanis_core.specs.Formats.{dark_of, layout_of, light_of, shad
 ghost use Rattle.goqlanis_core.specs.Layers.{module_bytes, module_shade, pixel_bytes, pixel_in, shade_bytes, IsPaintedFile};
 
 use crate::layers::{PartInk, is_painted};
-use crate::picture::{Ink, Picture};
-use crate::render::per_metre;
+use crate::picture::Picture;
+use crate::render::{per_metre, png_ink};
 use qrcode::types::{Color, QrError, QrResult, Version};
 use qrcode_png::full_color;
 use std::alloc::{AllocError, Global};
@@ -112,7 +112,7 @@ fn module_color(
     let mut color = plain(shown, shown.modules[index]);
     for ink in inks {
         if is_painted(ink, version, shown.modules, index) {
-            color = ink_bytes(&ink.ink);
+            color = png_ink(ink.ink).0;
         }
     }
     color
@@ -125,15 +125,8 @@ fn plain(shown: &Picture<'_>, tone: Color) -> [u8; 4]
         (light_of (view_of shown.now) (view_of shown.now).dark (view_of shown.now).light)) }
 {
     if (tone == Color::Dark) != shown.is_inverted {
-        ink_bytes(&shown.dark)
+        png_ink(shown.dark).0
     } else {
-        ink_bytes(&shown.light)
+        png_ink(shown.light).0
     }
-}
-
-// Red, green and blue, and how opaque a colour is.
-fn ink_bytes(ink: &Ink<'_>) -> [u8; 4]
-    ensures { result ≡ shade_bytes (shade_of ink.now) }
-{
-    [ink.red, ink.green, ink.blue, ink.opacity]
 }

@@ -1,4 +1,4 @@
-use Rattle.std.proofs.Common.{◌≡◌, ℕ, ◌+◌, ◌*◌, [], ◌∷◌, List, Option, Some, length, map, max, sym, ap, ap₂, ◌∙◌}
+use Rattle.std.proofs.Common.{◌≡◌, ℕ, ◌+◌, ◌*◌, [], ◌∷◌, List, Option, Some, length, map, max, sym, ap, ap₂, rules, ◌∙◌}
 use Rattle.std.specs.Option.{option_map}
 use Rattle.std.proofs.lemmas.List.{length-map}
 use Rattle.std.proofs.lemmas.List.FromFn.{length-map-range_with_len}
@@ -9,7 +9,7 @@ use Rattle.qrcode_render.specs.Layout.{pixels_across, pixels_down}
 use Rattle.qrcode_render.specs.Picture.{picture}
 use Rattle.qrcode_render.specs.Texts.{raw_bytes}
 use Rattle.goqlanis_core.specs.Drawings.{layout_for, view_for, zone_for}
-use Rattle.goqlanis_core.specs.Formats.{dark_of, light_of}
+use Rattle.goqlanis_core.specs.Formats.{dark_of, light_of, per_metre}
 use Rattle.goqlanis_core.specs.Pasted.{pasted_image}
 use Rattle.goqlanis_core.proofs.Inset.{AreMarks, marks_count, pixels_shown}
 use Rattle.goqlanis_core.proofs.pasting.pasted.Goals as goal
@@ -60,6 +60,7 @@ returns c =
     ∙ ap (λ k. (side version + 2 * zone_for r version) * k) whole in
     let shown = ap (map rgba) c.deref-3.ensures.value
     ∙ pixels_shown v at c.args.area n s marks dark light zone scale ((c.width.result + 2 * zone) * scale) c.in_ok-pixels.pixels.items are c.quiet_zone-zone.ensures.value whole count c.in_ok-pixels.ensures in
+    let density : c.map-density.result ≡ option_map per_metre r.dpi = search rules in
     let pair : Option ℕ → Option (ℕ × ℕ) = option_map (λ n. (n, n)) in
     let image : ℕ → ℕ → List Shade → Option ℕ → Option Image = λ x y p d. Some (record { across = x; down = y; pixels = p; density = pair d }) in
     record {
@@ -68,8 +69,8 @@ returns c =
         (
           c.in_ok-modules.ensures.beside,
           c.in_ok-full_color.ensures
-              ∙ ap₂ (λ x y. image x y (map rgba c.deref-3.result.now) c.density.result) count count
-              ∙ ap₂ (λ p d. image (pixels_across at) (pixels_down at) p d) shown c.density.ensures.value,
+              ∙ ap₂ (λ x y. image x y (map rgba c.deref-3.result.now) c.map-density.result) count count
+              ∙ ap₂ (λ p d. image (pixels_across at) (pixels_down at) p d) shown density,
         ),
       );
       causes = tt;
