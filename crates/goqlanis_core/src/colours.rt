@@ -1,7 +1,7 @@
 //! Colours as people write them: names of CSS, and digits to the base 16.
 
 ghost use Rattle.std.specs.Prelude.{◌≡◌, map, ◌<◌, IfSome};
-ghost use Rattle.goqlanis_core.specs.Colours.{clear, colour_named, colour_or, is_clear, is_name, colour_of_digits, colour_of_parts, digit_of, names, number_among, opaque, pair, row_of, without_hash};
+ghost use Rattle.goqlanis_core.specs.Colours.{clear, colour_named, is_clear, is_name, colour_of_digits, colour_of_parts, digit_of, names, number_among, opaque, pair, row_of, without_hash};
 
 /// A colour: red, green and blue, and how opaque it is, each from 0 to 255.
 #[derive(Clone, Copy, PartialEq, Eq)]
@@ -80,10 +80,10 @@ pub fn colour_named(text: &str) -> Option<Colour>
     if is_clear(text) {
         return Some(TRANSPARENT);
     }
-    colour_or(
-        number_named(text),
-        colour_of_digits(without_hash(text.as_bytes())),
-    )
+    match number_named(text) {
+        Some(number) => Some(opaque(number)),
+        None => colour_of_digits(without_hash(text.as_bytes())),
+    }
 }
 
 // Whether a text names no colour, in capitals or not.
@@ -91,16 +91,6 @@ fn is_clear(text: &str) -> bool
     ensures { result ≡ is_clear text.now }
 {
     text.eq_ignore_ascii_case("transparent") || text.eq_ignore_ascii_case("none")
-}
-
-// The colour of a number where there is one, and else another.
-fn colour_or(number: Option<u32>, other: Option<Colour>) -> Option<Colour>
-    ensures { result ≡ colour_or number other }
-{
-    match number {
-        Some(number) => Some(opaque(number)),
-        None => other,
-    }
 }
 
 // The number of the colour of a name, in capitals or not.
