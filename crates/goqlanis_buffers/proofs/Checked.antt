@@ -1,10 +1,13 @@
 -- Checks of codes.
-use Rattle.std.proofs.Common.{ℕ, List, All, inl, inr}
-use Rattle.std.proofs.lemmas.List.Elements.{All-weaker}
+use Rattle.std.proofs.Common.{[], ◌∷◌, List, All, sym, subst, inl, inr, arith}
+use Rattle.std.specs.List.{AllZip}
+use Rattle.std.proofs.lemmas.List.Elements.{All-cons, All-nil}
+use Rattle.std.specs.Prelude.{ℕ}
 use Rattle.qrcode_types.specs.declared.types.Color.{Color}
 use Rattle.qrcode_check.specs.Checks.{IsCheck}
 use Rattle.qrcode_check.specs.declared.checking.Check.{Check}
-use Rattle.goqlanis_core.specs.Checked.{IsCheckOf}
+use Rattle.goqlanis_core.specs.Checked.{AreChecksOf, IsCheckOfScan}
+use Rattle.goqlanis_core.specs.declared.scanning.Scan.{Scan}
 use Rattle.goqlanis_buffers.specs.Checking.{HasLevel}
 
 -- the version of a check has the level
@@ -12,10 +15,13 @@ pub level_exists : (s : List Color) (check : Check) → IsCheck s check → HasL
 level_exists s check is = is.read.only.found.exists
 
 -- the same of the codes of a picture
-pub levels_exist : (picture : List ℕ) (checks : List Check) → All (IsCheckOf picture) checks → All HasLevel checks
-levels_exist picture checks all = All-weaker (IsCheckOf picture) HasLevel exists checks all where
-  exists : (check : Check) → IsCheckOf picture check → HasLevel check
-  exists check is = elim is [
-    | inl scan ↦ level_exists _ check scan.1.1
-    | inr square ↦ level_exists square.said.modules check square.said.said
-  ]
+pub levels_exist : (picture : List ℕ) (scans : List Scan) (checks : List Check) → AreChecksOf picture scans checks → All HasLevel checks
+levels_exist picture scans checks are = elim are [
+  | inl read ↦ each scans checks read.said
+  | inr square ↦ subst (All HasLevel) (sym square.only) (All-cons HasLevel square.check [] (level_exists square.said.said.modules square.check square.said.said.said) (All-nil HasLevel))
+] where
+  each : (scans : List Scan) (checks : List Check) → AllZip IsCheckOfScan scans checks → All HasLevel checks
+  each [] [] said = All-nil HasLevel
+  each [] (check ∷ checks) said = absurd said
+  each (scan ∷ scans) [] said = absurd said
+  each (scan ∷ scans) (check ∷ checks) said = All-cons HasLevel check checks (level_exists _ check said.0) (each scans checks said.1)

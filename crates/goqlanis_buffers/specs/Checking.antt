@@ -1,5 +1,5 @@
 -- What the calls for C say of codes that are checked.
-use Rattle.std.specs.Prelude.{◌≡◌, ◌⊎◌, ◌<◌, ◌≤◌, ⊤, ℕ, Bool, List, All, flat_map, length, Option, Some, None, Result, IfOk, IfErr, OnErr, IsTrue, if◌then◌else◌}
+use Rattle.std.specs.Prelude.{◌≡◌, ◌⊎◌, ◌<◌, ◌≤◌, ⊤, ℕ, Bool, List, flat_map, length, Option, Some, None, Result, IfOk, IfErr, OnErr, IsTrue, if◌then◌else◌}
 use Rattle.std.specs.List.{AllZip}
 use Rattle.qrcode_types.specs.Versions.{has_level}
 use Rattle.qrcode_render.specs.Shades.{colors_of}
@@ -11,7 +11,8 @@ use Rattle.qrcode_check.specs.declared.checking.Content.{Content}
 use Rattle.qrcode_check.specs.declared.correction.Grade.{Grade}
 use Rattle.qrcode_check.specs.declared.correction.Grade.TheVariants.{A, B, C, D, F}
 use Rattle.qrcode_check.specs.declared.segments.Taken.{Taken}
-use Rattle.goqlanis_core.specs.Checked.{IsCheckOf, IsUncheckedPicture}
+use Rattle.goqlanis_core.specs.Checked.{AreChecksOf, IsUncheckedPicture}
+use Rattle.goqlanis_core.specs.declared.scanning.Scan.{Scan}
 use Rattle.goqlanis_buffers.specs.Calls.{Writes}
 use Rattle.goqlanis_buffers.specs.Names.{level_named, version_named}
 use Rattle.goqlanis_buffers.specs.Outputs.{IsFilled}
@@ -79,7 +80,8 @@ pub record IsChecked (picture : List ℕ) (size : ℕ) (told : List Checked) (wr
   pub sized : size ≡ 24
   pub limited : length picture ≤ most
   pub checks : List Check
-  pub said : All (IsCheckOf picture) checks
+  pub scans : List Scan
+  pub said : AreChecksOf picture scans checks
   pub some : 1 ≤ length checks
   pub each : AreToldChecks checks told
   pub blocks : wrong ≡ flat_map wrong_in checks

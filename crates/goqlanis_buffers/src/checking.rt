@@ -126,7 +126,6 @@ pub fn check_into(
 }
 
 // What is said of a picture.
-#[tactic(auto, using(crate::proofs::Checked::levels_exist))]
 fn told_in(alloc: Global, picture: &[u8], size: u32) -> Result<Told, Refusal>
     ensures told { IfOk result (λ told.
         IsChecked picture.now size told.checks.items told.wrong.items) }
@@ -142,22 +141,10 @@ fn told_in(alloc: Global, picture: &[u8], size: u32) -> Result<Told, Refusal>
         Ok(found) => found,
         Err(unread) => return Err(picture_refusal(unread)),
     };
-    match told_of(alloc, &found.checks) {
-        Ok(told) => Ok(told),
-        Err(_) => Err(Refusal::OutOfMemory),
+    match (checks_in(alloc, &found.checks), wrong_in(alloc, &found.checks)) {
+        (Ok(checks), Ok(wrong)) => Ok(Told { checks, wrong }),
+        _ => Err(Refusal::OutOfMemory),
     }
-}
-
-// What C gets of codes.
-fn told_of(alloc: Global, checks: &[Check]) -> Result<Told, AllocError>
-    requires { All HasLevel checks.now }
-    ensures checks { IfOk result (λ told. AreToldChecks checks.now told.checks.items) }
-    ensures wrong { IfOk result (λ told. told.wrong.items ≡ flat_map wrong_in checks.now) }
-{
-    Ok(Told {
-        checks: checks_in(alloc, checks)?,
-        wrong: wrong_in(alloc, checks)?,
-    })
 }
 
 // What is said of each.
@@ -267,7 +254,7 @@ fn told_content(content: Option<Content>) -> DataBits
 ///
 /// An error is `NoSuchSide`, `NoFormat`, `Damaged`, `SmallBuffer` or `OutOfMemory`; then the buffer
 /// is as it was.
-#[tactic(auto, using(crate::proofs::Checked::level_exists))]
+#[tactic(auto, using(crate::proofs::Checked::level_exists, crate::proofs::Known::no_side))]
 pub fn check_square_into(
     alloc: Global,
     modules: &[u8],
@@ -275,34 +262,20 @@ pub fn check_square_into(
 ) -> Result<Checked, Refusal>
     ensures { ChecksSquare modules.now wrong.old wrong.new result }
 {
-    let check = match square_check(alloc, modules) {
+    if version_of(modules.len()).is_none() {
+        return Err(Refusal::NoSuchSide);
+    }
+    let colors = colors_of(alloc, modules)?;
+    let check = match check_square(alloc, &colors) {
         Ok(check) => check,
-        Err(refusal) => return Err(refusal),
+        Err(Unread::NoSuchSide) => return Err(Refusal::NoSuchSide),
+        Err(Unread::NoFormat) => return Err(Refusal::NoFormat),
+        Err(Unread::Damaged(_)) => return Err(Refusal::Damaged),
+        Err(_) => return Err(Refusal::OutOfMemory),
     };
     if wrong.len() < check.wrong.len() {
         return Err(Refusal::SmallBuffer);
     }
     fill(wrong, &check.wrong);
     Ok(told_check(&check))
-}
-
-// What is said of a square.
-#[tactic(auto, using(crate::proofs::Known::no_side))]
-fn square_check(alloc: Global, modules: &[u8]) -> Result<Check, Refusal>
-    ensures value { IfOk result (IsCheck (colors_of modules.now)) }
-    ensures causes { IfErr result (IsSquareRefusal modules.now) }
-{
-    if version_of(modules.len()).is_none() {
-        return Err(Refusal::NoSuchSide);
-    }
-    let Ok(colors) = colors_of(alloc, modules) else {
-        return Err(Refusal::OutOfMemory);
-    };
-    match check_square(alloc, &colors) {
-        Ok(check) => Ok(check),
-        Err(Unread::NoSuchSide) => Err(Refusal::NoSuchSide),
-        Err(Unread::NoFormat) => Err(Refusal::NoFormat),
-        Err(Unread::Damaged(_)) => Err(Refusal::Damaged),
-        Err(_) => Err(Refusal::OutOfMemory),
-    }
 }

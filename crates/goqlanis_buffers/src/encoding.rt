@@ -1,10 +1,6 @@
 //! Symbols of bytes.
 
-ghost use Rattle.std.specs.Prelude.{ℕ};
-ghost use Rattle.goqlanis_buffers.specs.Answers.{IsAutomaticCause, IsCauseIn};
-ghost use Rattle.goqlanis_buffers.specs.Calls.{Tells, TellsLeast, WritesAutomatic, WritesIn};
-ghost use Rattle.goqlanis_buffers.specs.Symbols.{IsAutomaticSymbol, IsSymbolIn};
-ghost use Rattle.goqlanis_buffers.specs.declared.answers.Refusal.{Refusal};
+ghost use Rattle.goqlanis_buffers.specs.Calls.{TellsLeast, WritesAutomatic, WritesIn};
 
 use crate::answers::Refusal;
 use crate::names::{level_named, version_named, version_number};
@@ -27,9 +23,13 @@ pub fn encode(
 ) -> Result<Symbol, Refusal>
     ensures { WritesAutomatic level bytes.now modules.old modules.new result }
 {
-    match automatic(alloc, bytes, level) {
+    let Some(ec_level) = level_named(level) else {
+        return Err(Refusal::NoSuchLevel);
+    };
+    match QrCode::with_error_correction_level(alloc, bytes, ec_level) {
         Ok(code) => write_symbol(code, modules),
-        Err(refusal) => Err(refusal),
+        Err(QrError::OutOfMemory) => Err(Refusal::OutOfMemory),
+        Err(_) => Err(Refusal::NoRoom),
     }
 }
 
@@ -37,6 +37,7 @@ pub fn encode(
 ///
 /// An error is the first that applies of `NoSuchLevel`, `NoSuchVersion`, `TooLong`, `NoMode`,
 /// `LevelNotInVersion`, `NoRoom` and `SmallBuffer`, or `OutOfMemory`; then the buffer is as it was.
+#[tactic(auto, using(crate::proofs::Refused::refused_in))]
 pub fn encode_in(
     alloc: Global,
     bytes: &[u8],
@@ -46,9 +47,18 @@ pub fn encode_in(
 ) -> Result<Symbol, Refusal>
     ensures { WritesIn version level bytes.now modules.old modules.new result }
 {
-    match in_version(alloc, bytes, version, level) {
+    let Some(ec_level) = level_named(level) else {
+        return Err(Refusal::NoSuchLevel);
+    };
+    let Some(version) = version_named(version) else {
+        return Err(Refusal::NoSuchVersion);
+    };
+    if bytes.len() > DATA_LIMIT {
+        return Err(Refusal::TooLong);
+    }
+    match QrCode::with_version(alloc, bytes, version, ec_level) {
         Ok(code) => write_symbol(code, modules),
-        Err(refusal) => Err(refusal),
+        Err(error) => Err(Refusal::from(error)),
     }
 }
 
@@ -65,41 +75,5 @@ pub fn least_version(alloc: Global, bytes: &[u8], level: u32) -> Result<u32, Ref
         Ok(bits) => Ok(version_number(bits.version())),
         Err(QrError::OutOfMemory) => Err(Refusal::OutOfMemory),
         Err(_) => Err(Refusal::NoRoom),
-    }
-}
-
-// The symbol of bytes at the level of a number.
-fn automatic(alloc: Global, bytes: &[u8], level: u32) -> Result<QrCode, Refusal>
-    ensures { Tells (IsAutomaticSymbol level bytes.now)
-        (λ refusal. (room : ℕ) → IsAutomaticCause level bytes.now room refusal) result }
-{
-    let Some(ec_level) = level_named(level) else {
-        return Err(Refusal::NoSuchLevel);
-    };
-    match QrCode::with_error_correction_level(alloc, bytes, ec_level) {
-        Ok(code) => Ok(code),
-        Err(QrError::OutOfMemory) => Err(Refusal::OutOfMemory),
-        Err(_) => Err(Refusal::NoRoom),
-    }
-}
-
-// The symbol of bytes, of a version and level of these numbers.
-#[tactic(auto, using(crate::proofs::Refused::refused_in))]
-fn in_version(alloc: Global, bytes: &[u8], version: u32, level: u32) -> Result<QrCode, Refusal>
-    ensures { Tells (IsSymbolIn version level bytes.now)
-        (λ refusal. (room : ℕ) → IsCauseIn version level bytes.now room refusal) result }
-{
-    let Some(ec_level) = level_named(level) else {
-        return Err(Refusal::NoSuchLevel);
-    };
-    let Some(version) = version_named(version) else {
-        return Err(Refusal::NoSuchVersion);
-    };
-    if bytes.len() > DATA_LIMIT {
-        return Err(Refusal::TooLong);
-    }
-    match QrCode::with_version(alloc, bytes, version, ec_level) {
-        Ok(code) => Ok(code),
-        Err(error) => Err(Refusal::from(error)),
     }
 }

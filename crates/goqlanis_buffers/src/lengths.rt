@@ -60,10 +60,9 @@ fn pgm_length(alloc: Global, side: usize) -> QrResult<usize>
     ensures memory { IsOkUnless result OutOfMemory }
 {
     let head = format!(in alloc; "P5\n{side} {side}\n255\n")?;
-    match head.len().checked_add(side * side) {
-        Some(length) => Ok(length),
-        None => Err(QrError::OutOfMemory),
-    }
+    head.len()
+        .checked_add(side * side)
+        .ok_or(QrError::OutOfMemory)
 }
 
 // The length of a PPM file of so many pixels a side.
@@ -73,13 +72,8 @@ fn ppm_length(alloc: Global, side: usize) -> QrResult<usize>
     ensures memory { IsOkUnless result OutOfMemory }
 {
     let head = format!(in alloc; "P6\n{side} {side}\n255\n")?;
-    let Some(bytes) = (side * side).checked_mul(3) else {
-        return Err(QrError::OutOfMemory);
-    };
-    match head.len().checked_add(bytes) {
-        Some(length) => Ok(length),
-        None => Err(QrError::OutOfMemory),
-    }
+    let bytes = (side * side).checked_mul(3).ok_or(QrError::OutOfMemory)?;
+    head.len().checked_add(bytes).ok_or(QrError::OutOfMemory)
 }
 
 // The length of a raster for receipt printers of so many dots a side.
@@ -113,11 +107,7 @@ fn xbm_length(alloc: Global, side: usize) -> QrResult<usize>
         "#define symbol_width {side}\n#define symbol_height {side}\n\
          static unsigned char symbol_bits[] = {{\n"
     )?;
-    match head
-        .len()
+    head.len()
         .checked_add(side * (5 * ((side + 7) / 8) + 1) + 3)
-    {
-        Some(length) => Ok(length),
-        None => Err(QrError::OutOfMemory),
-    }
+        .ok_or(QrError::OutOfMemory)
 }

@@ -76,12 +76,18 @@ pub fn read_into(alloc: Global, modules: &[u8], bytes: &mut [u8]) -> Result<Read
 /// The same of a square in any position, in the first of the sixteen in which it is read.
 ///
 /// An error is `NotRead`, `SmallBuffer` or `OutOfMemory`; then the buffer is as it was.
+#[tactic(auto, using(crate::proofs::Known::existing, crate::proofs::Known::nowhere))]
 pub fn read_any_into(alloc: Global, modules: &[u8], bytes: &mut [u8]) -> Result<AnyReading, Refusal>
     ensures { WritesAnyReading modules.now bytes.old bytes.new result }
 {
-    let found = match read_any_square(alloc, modules) {
-        Ok(found) => found,
-        Err(refusal) => return Err(refusal),
+    if version_of(modules.len()).is_none() {
+        return Err(Refusal::NotRead);
+    }
+    let colors = colors_of(alloc, modules)?;
+    let found = match read_any(alloc, &colors) {
+        Ok(Some(found)) => found,
+        Ok(None) => return Err(Refusal::NotRead),
+        Err(_) => return Err(Refusal::OutOfMemory),
     };
     let read = &found.reading;
     if bytes.len() < read.data.len() {
@@ -105,12 +111,21 @@ pub fn read_any_into(alloc: Global, modules: &[u8], bytes: &mut [u8]) -> Result<
 ///
 /// An error is `NoSuchSide`, `NoFormat`, `Damaged`, `NotShown`, `SmallBuffer` or `OutOfMemory`;
 /// then the buffer is as it was.
+#[tactic(auto, using(crate::proofs::Known::shown_existing, crate::proofs::Known::only_shown, crate::proofs::Known::no_side))]
 pub fn read_text_into(alloc: Global, modules: &[u8], text: &mut [u8]) -> Result<Reading, Refusal>
     ensures { WritesTextReading modules.now text.old text.new result }
 {
-    let found = match read_shown(alloc, modules) {
+    if version_of(modules.len()).is_none() {
+        return Err(Refusal::NoSuchSide);
+    }
+    let colors = colors_of(alloc, modules)?;
+    let found = match read_text(alloc, &colors) {
         Ok(found) => found,
-        Err(refusal) => return Err(refusal),
+        Err(UnreadText::NoBits(Unread::NoSuchSide)) => return Err(Refusal::NoSuchSide),
+        Err(UnreadText::NoBits(Unread::NoFormat)) => return Err(Refusal::NoFormat),
+        Err(UnreadText::NoBits(Unread::Damaged(_))) => return Err(Refusal::Damaged),
+        Err(UnreadText::NotShown) => return Err(Refusal::NotShown),
+        Err(UnreadText::NoBits(_)) => return Err(Refusal::OutOfMemory),
     };
     let bytes = found.text.as_bytes();
     if text.len() < bytes.len() {
@@ -162,9 +177,7 @@ fn read_square(alloc: Global, modules: &[u8]) -> Result<Found, Refusal>
     if version_of(modules.len()).is_none() {
         return Err(Refusal::NoSuchSide);
     }
-    let Ok(colors) = colors_of(alloc, modules) else {
-        return Err(Refusal::OutOfMemory);
-    };
+    let colors = colors_of(alloc, modules)?;
     match read(alloc, &colors) {
         Ok(found) => Ok(found),
         Err(Unread::NoSuchSide) => Err(Refusal::NoSuchSide),
@@ -216,70 +229,6 @@ fn format_in(version: Version, colors: &[Color]) -> Result<Format, Refusal>
             mask,
         }),
         None => Err(Refusal::NoFormat),
-    }
-}
-
-// What is read of a square in any position.
-#[tactic(auto, using(crate::proofs::Known::nowhere))]
-fn read_any_square(alloc: Global, modules: &[u8]) -> Result<FoundAnywhere, Refusal>
-    ensures reading { IfOk result (λ any.
-        IsReadAnywhere (colors_of modules.now) (found_anywhere any)) }
-    ensures exists { IfOk result (λ any.
-        IsTrue (has_level any.reading.version any.reading.ec_level)) }
-    ensures causes { (room : ℕ) → IfErr result (IsAnyReadingCause modules.now room) }
-{
-    if version_of(modules.len()).is_none() {
-        return Err(Refusal::NotRead);
-    }
-    let Ok(colors) = colors_of(alloc, modules) else {
-        return Err(Refusal::OutOfMemory);
-    };
-    match first_reading(alloc, &colors) {
-        Ok(Some(found)) => Ok(found),
-        Ok(None) => Err(Refusal::NotRead),
-        Err(_) => Err(Refusal::OutOfMemory),
-    }
-}
-
-// The first reading of a square, where there is one.
-#[tactic(auto, using(crate::proofs::Known::existing))]
-fn first_reading(alloc: Global, colors: &[Color]) -> Result<Option<FoundAnywhere>, AllocError>
-    ensures reading { IfOk result (λ found. IfSome found (λ any.
-        IsReadAnywhere colors.now (found_anywhere any))) }
-    ensures exists { IfOk result (λ found. IfSome found (λ any.
-        IsTrue (has_level any.reading.version any.reading.ec_level))) }
-    ensures nowhere { IfOk result (λ found. IfNone found (IsReadNowhere colors.now)) }
-{
-    match read_any(alloc, colors) {
-        Ok(Some(found)) => Ok(Some(found)),
-        Ok(None) => Ok(None),
-        Err(error) => Err(error),
-    }
-}
-
-// The text that readers show of a square.
-#[tactic(auto, using(crate::proofs::Known::shown_existing, crate::proofs::Known::only_shown, crate::proofs::Known::no_side))]
-fn read_shown(alloc: Global, modules: &[u8]) -> Result<TextReading, Refusal>
-    ensures reading { IfOk result (λ read. IsTextReading (colors_of modules.now) read.version
-        read.ec_level read.mask (chars (string_bytes read.text)) read.wrong.items) }
-    ensures only { IfOk result (λ read.
-        ShowsTextOnly (colors_of modules.now) (chars (string_bytes read.text))) }
-    ensures exists { IfOk result (λ read. IsTrue (has_level read.version read.ec_level)) }
-    ensures causes { (room : ℕ) → IfErr result (IsTextReadingCause modules.now room) }
-{
-    if version_of(modules.len()).is_none() {
-        return Err(Refusal::NoSuchSide);
-    }
-    let Ok(colors) = colors_of(alloc, modules) else {
-        return Err(Refusal::OutOfMemory);
-    };
-    match read_text(alloc, &colors) {
-        Ok(found) => Ok(found),
-        Err(UnreadText::NoBits(Unread::NoSuchSide)) => Err(Refusal::NoSuchSide),
-        Err(UnreadText::NoBits(Unread::NoFormat)) => Err(Refusal::NoFormat),
-        Err(UnreadText::NoBits(Unread::Damaged(_))) => Err(Refusal::Damaged),
-        Err(UnreadText::NotShown) => Err(Refusal::NotShown),
-        Err(UnreadText::NoBits(_)) => Err(Refusal::OutOfMemory),
     }
 }
 

@@ -89,9 +89,10 @@ pub fn codes_of(alloc: Global, picture: &[u8], size: u32) -> Result<Told, Refusa
         Ok(codes) => codes,
         Err(unread) => return Err(picture_refusal(unread)),
     };
-    match told_of(alloc, &codes.scans) {
-        Ok(found) => Ok(found),
-        Err(_) => Err(Refusal::OutOfMemory),
+    let scans = &codes.scans;
+    match (codes_in(alloc, scans), parts_in(alloc, scans), bytes_in(alloc, scans)) {
+        (Ok(codes), Ok(parts), Ok(bytes)) => Ok(Told { codes, parts, bytes }),
+        _ => Err(Refusal::OutOfMemory),
     }
 }
 
@@ -142,18 +143,6 @@ pub(crate) fn picture_refusal(unread: Unread) -> Refusal
         Unread::NoSymbol(_, qrcode_reader::Unread::Damaged(_)) => Refusal::Damaged,
         Unread::NoSymbol(_, qrcode_reader::Unread::NotSpelled) => Refusal::NotSpelled,
     }
-}
-
-// What C gets of codes.
-fn told_of(alloc: Global, scans: &[Found]) -> Result<Told, AllocError>
-    requires { All IsReadAs scans.now }
-    ensures { IfOk result (AreTold scans.now) }
-{
-    Ok(Told {
-        codes: codes_in(alloc, scans)?,
-        parts: parts_in(alloc, scans)?,
-        bytes: bytes_in(alloc, scans)?,
-    })
 }
 
 // What each is beside its parts and bytes.

@@ -67,13 +67,19 @@ pub fn encode_several(
     ensures unchanged { OnErr result (modules.new ≡ modules.old) }
     ensures causes { IfErr result (IsSeveralCause options.now bytes.now (length modules.old)) }
 {
-    let codes = match symbols_with(alloc, bytes, options) {
-        Ok(codes) => codes,
+    let asked = match named_by(options) {
+        Ok(asked) => asked,
         Err(refusal) => return Err(refusal),
     };
-    let Ok(all) = modules_of(alloc, &codes) else {
-        return Err(Refusal::OutOfMemory);
+    if !is_sound(asked.manner, bytes) {
+        return Err(Refusal::NotText);
+    }
+    let codes = match symbols_of(alloc, bytes, asked, options.count) {
+        Ok(codes) => codes,
+        Err(QrError::OutOfMemory) => return Err(Refusal::OutOfMemory),
+        Err(_) => return Err(Refusal::NoRoom),
     };
+    let all = modules_of(alloc, &codes)?;
     if modules.len() < all.len() {
         return Err(Refusal::SmallBuffer);
     }
@@ -82,26 +88,6 @@ pub fn encode_several(
         symbol: described(&codes[0]),
         count: codes.len(),
     })
-}
-
-// The symbols between which data is parted.
-fn symbols_with(alloc: Global, bytes: &[u8], options: &Several) -> Result<Vec<QrCode>, Refusal>
-    ensures made { IfOk result (λ codes. AreSymbolsWith options.now bytes.now codes.items) }
-    ensures some { IfOk result (λ codes. 0 < length codes.items) }
-    ensures causes { (room : ℕ) → IfErr result (IsSeveralCause options.now bytes.now room) }
-{
-    let asked = match named_by(options) {
-        Ok(asked) => asked,
-        Err(refusal) => return Err(refusal),
-    };
-    if !is_sound(asked.manner, bytes) {
-        return Err(Refusal::NotText);
-    }
-    match symbols_of(alloc, bytes, asked, options.count) {
-        Ok(codes) => Ok(codes),
-        Err(QrError::OutOfMemory) => Err(Refusal::OutOfMemory),
-        Err(_) => Err(Refusal::NoRoom),
-    }
 }
 
 // The symbols of so many parts, or of as few as there can be where that is 0.

@@ -1,9 +1,6 @@
 //! Symbols of texts.
 
-ghost use Rattle.std.specs.Prelude.{ℕ};
-ghost use Rattle.goqlanis_buffers.specs.Answers.{IsTextCause};
-ghost use Rattle.goqlanis_buffers.specs.Calls.{Tells, WritesText};
-ghost use Rattle.goqlanis_buffers.specs.Symbols.{IsTextSymbol};
+ghost use Rattle.goqlanis_buffers.specs.Calls.{WritesText};
 
 use crate::answers::Refusal;
 use crate::names::level_named;
@@ -27,17 +24,6 @@ pub fn encode_text(
 ) -> Result<Symbol, Refusal>
     ensures { WritesText manner level text.now modules.old modules.new result }
 {
-    match symbol_of(alloc, text, manner, level) {
-        Ok(code) => write_symbol(code, modules),
-        Err(refusal) => Err(refusal),
-    }
-}
-
-// The symbol of a text in a manner, at the level of a number.
-fn symbol_of(alloc: Global, text: &[u8], manner: Manner, level: u32) -> Result<QrCode, Refusal>
-    ensures { Tells (IsTextSymbol manner level text.now)
-        (λ refusal. (room : ℕ) → IsTextCause manner level text.now room refusal) result }
-{
     let Some(ec_level) = level_named(level) else {
         return Err(Refusal::NoSuchLevel);
     };
@@ -45,7 +31,7 @@ fn symbol_of(alloc: Global, text: &[u8], manner: Manner, level: u32) -> Result<Q
         return Err(Refusal::NotText);
     }
     match QrCode::at_least(alloc, text, manner, Version::Normal(1), ec_level) {
-        Ok(code) => Ok(code),
+        Ok(code) => write_symbol(code, modules),
         Err(QrError::OutOfMemory) => Err(Refusal::OutOfMemory),
         Err(_) => Err(Refusal::NoRoom),
     }

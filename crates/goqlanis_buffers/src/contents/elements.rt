@@ -9,10 +9,9 @@ ghost use Rattle.goqlanis_buffers.specs.Outputs.{IsWrittenAs};
 
 use crate::answers::Refusal as OfSymbols;
 use crate::contents::answers::Refusal;
-use crate::options::{Asked, Options, asked_by};
+use crate::options::{Options, asked_by};
 use crate::symbols::{Symbol, fill, write_masked};
 use goqlanis_core::symbol_of_elements;
-use qrcode::QrCode;
 use qrcode::types::QrError;
 use qrcode_gs1::elements::{Element, element_string};
 use qrcode_gs1::errors::Gs1Error;
@@ -38,9 +37,15 @@ pub fn write_elements(alloc: Global, parts: &[Part<'_>], out: &mut [u8]) -> Resu
     ensures unchanged { OnErr result (out.new ≡ out.old) }
     ensures causes { IfErr result (IsElementsCause parts.now (length out.old)) }
 {
-    let bytes = match string_of(alloc, parts) {
+    let elements = match elements_of(alloc, parts) {
+        Ok(elements) => elements,
+        Err(Some(place)) => return Err(Refusal::NotText(place)),
+        Err(None) => return Err(Refusal::OutOfMemory),
+    };
+    let bytes = match element_string(alloc, &elements) {
         Ok(bytes) => bytes,
-        Err(refusal) => return Err(refusal),
+        Err(Gs1Error::Refused(place, cause)) => return Err(Refusal::NotElement(place, cause)),
+        Err(Gs1Error::OutOfMemory) => return Err(Refusal::OutOfMemory),
     };
     if out.len() < bytes.len() {
         return Err(Refusal::SmallBuffer);
@@ -69,53 +74,24 @@ pub fn encode_elements(
         Ok(asked) => asked,
         Err(refusal) => return Err(Refusal::NoSymbol(refusal)),
     };
-    let code = match symbol_of(alloc, parts, asked) {
+    let elements = match elements_of(alloc, parts) {
+        Ok(elements) => elements,
+        Err(Some(place)) => return Err(Refusal::NotText(place)),
+        Err(None) => return Err(Refusal::OutOfMemory),
+    };
+    let code = match symbol_of_elements(alloc, asked.choice, asked.level, &elements) {
         Ok(code) => code,
-        Err(refusal) => return Err(refusal),
+        Err(SymbolError::Elements(Gs1Error::Refused(place, cause))) => {
+            return Err(Refusal::NotElement(place, cause));
+        }
+        Err(SymbolError::Symbol(QrError::DataTooLong)) => {
+            return Err(Refusal::NoSymbol(OfSymbols::NoRoom));
+        }
+        Err(_) => return Err(Refusal::OutOfMemory),
     };
     match write_masked(alloc, &code, asked.mask, modules) {
         Ok(symbol) => Ok(symbol),
         Err(refusal) => Err(Refusal::NoSymbol(refusal)),
-    }
-}
-
-// The symbol of elements that is asked for, under the mask of least penalty.
-fn symbol_of(alloc: Global, parts: &[Part<'_>], asked: Asked) -> Result<QrCode, Refusal>
-    ensures made { IfOk result (AreMadeAs asked parts.now) }
-    ensures causes { (options : Options) (room : ℕ) → IsAsked options asked
-        → IfErr result (IsElementsSymbolCause options parts.now room) }
-{
-    let elements = match elements_of(alloc, parts) {
-        Ok(elements) => elements,
-        Err(Some(place)) => return Err(Refusal::NotText(place)),
-        Err(None) => return Err(Refusal::OutOfMemory),
-    };
-    match symbol_of_elements(alloc, asked.choice, asked.level, &elements) {
-        Ok(code) => Ok(code),
-        Err(SymbolError::Elements(Gs1Error::Refused(place, cause))) => {
-            Err(Refusal::NotElement(place, cause))
-        }
-        Err(SymbolError::Symbol(QrError::DataTooLong)) => {
-            Err(Refusal::NoSymbol(OfSymbols::NoRoom))
-        }
-        Err(_) => Err(Refusal::OutOfMemory),
-    }
-}
-
-// The string of elements.
-fn string_of(alloc: Global, parts: &[Part<'_>]) -> Result<Vec<u8>, Refusal>
-    ensures string { IfOk result (λ bytes. IsString parts.now bytes.items) }
-    ensures causes { (room : ℕ) → IfErr result (IsElementsCause parts.now room) }
-{
-    let elements = match elements_of(alloc, parts) {
-        Ok(elements) => elements,
-        Err(Some(place)) => return Err(Refusal::NotText(place)),
-        Err(None) => return Err(Refusal::OutOfMemory),
-    };
-    match element_string(alloc, &elements) {
-        Ok(bytes) => Ok(bytes),
-        Err(Gs1Error::Refused(place, cause)) => Err(Refusal::NotElement(place, cause)),
-        Err(Gs1Error::OutOfMemory) => Err(Refusal::OutOfMemory),
     }
 }
 

@@ -26,32 +26,24 @@ pub fn write(alloc: Global, kind: u32, given: &[Item<'_>], out: &mut [u8]) -> Re
     ensures unchanged { OnErr result (out.new ≡ out.old) }
     ensures causes { IfErr result (IsCause kind given.now (length out.old)) }
 {
-    let text = content(alloc, kind, given)?;
+    let Some(kind) = kind_named(kind) else {
+        return Err(Refusal::NoSuchContent);
+    };
+    let fields = fields_of(kind);
+    check(fields.len(), given)?;
+    let text = match payload(alloc, kind, given) {
+        Ok(text) => text,
+        Err(ContentError::Refused(field, cause)) => {
+            return Err(Refusal::Wrong(place_of(fields, field), cause));
+        }
+        Err(ContentError::OutOfMemory) => return Err(Refusal::OutOfMemory),
+    };
     let bytes = text.as_bytes();
     if out.len() < bytes.len() {
         return Err(Refusal::SmallBuffer);
     }
     fill(out, bytes);
     Ok(bytes.len())
-}
-
-// The text of fields of the kind of a number.
-fn content(alloc: Global, kind: u32, given: &[Item<'_>]) -> Result<String, Refusal>
-    ensures text { IfOk result (λ text. IsContent kind given.now (string_bytes text)) }
-    ensures causes { (room : ℕ) → IfErr result (IsCause kind given.now room) }
-{
-    let Some(kind) = kind_named(kind) else {
-        return Err(Refusal::NoSuchContent);
-    };
-    let fields = fields_of(kind);
-    check(fields.len(), given)?;
-    match payload(alloc, kind, given) {
-        Ok(text) => Ok(text),
-        Err(ContentError::Refused(field, cause)) => {
-            Err(Refusal::Wrong(place_of(fields, field), cause))
-        }
-        Err(ContentError::OutOfMemory) => Err(Refusal::OutOfMemory),
-    }
 }
 
 // The text of fields of a kind, where each is right by itself.
