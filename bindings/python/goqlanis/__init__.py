@@ -44,8 +44,8 @@ lists them), and its text says what would help:
 >>> goqlanis.encode("a" * 3000)
 Traceback (most recent call last):
     ...
-goqlanis.NoRoom: 3,000 bytes at level M: at most 2,331 unless they are digits or capitals; no \
-level holds them: encode_sequence parts them between symbols
+goqlanis.NoRoom: 3,000 bytes at level M: at most 2,331 fit, more of digits or capitals; no level \
+holds them: encode_sequence parts them between symbols
 
 help(goqlanis.encode), help(goqlanis.Symbol) and help(goqlanis.contents) say all that may be asked,
 help(goqlanis.Code) and help(goqlanis.Reading) what is read, help(goqlanis.Check) what is checked.

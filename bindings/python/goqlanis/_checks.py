@@ -11,7 +11,8 @@ Call = TypeVar("Call", bound=Callable[..., Any])
 # What other packages call arguments, and what is taken here.
 OTHERS = {"error": "level='H'", "error_correction": "level='H'", "boost_error": "boost=True",
           "mask_pattern": "mask=3", "encoding": "data.encode(..)", "symbol_count": "count=3",
-          "mode": "encode_segments", "unit": "size='30mm'", "box_size": "scale=8",
+          "mode": "encode_segments", "unit": "size='30mm' (EPS, PDF, PNG) or size=300 (pixels)",
+          "box_size": "scale=8",
           "fill_color": "dark='navy'", "back_color": "light='white'", "color": "dark='navy'",
           "background": "light='white'", "omitsize": "CSS: svg {width: 100%}", "xmldecl": "svg_inline"}
 LEVELS = "LMQH"

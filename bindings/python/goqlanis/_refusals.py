@@ -8,8 +8,8 @@ from ._numbers import (AS_MARKED_TEXT, LEVEL_NOT_IN_VERSION, NO_MODE, NO_ROOM, N
 from .errors import Error, refusal
 
 LIMIT = 1_048_576
-MODES = ("numeric writes digits", "alphanumeric writes digits, capitals, space and $%*+-./:", "",
-         "kanji writes pairs of Shift JIS, 8140 to 9ffc and e040 to ebbf,")
+MODES = ("numeric holds only digits", "alphanumeric holds only digits, capitals, spaces and $%*+-./:",
+         "", "kanji holds only Shift JIS, 8140 to 9ffc and e040 to ebbf")
 
 
 def of(asked: Any, answer: int, said: str) -> Error:
@@ -25,7 +25,7 @@ def of(asked: Any, answer: int, said: str) -> Error:
 
 
 def _no_level(asked: Any) -> str:
-    levels = {41: "L alone", 44: "L, M and Q"}.get(asked.version, "L and M")
+    levels = {41: "only L", 44: "L, M and Q"}.get(asked.version, "L and M")
     return (f"version {version_name(asked.version)} has no level {LEVELS[asked.level]}; "
             f"it has {levels}")
 
@@ -39,15 +39,15 @@ def _no_mode(asked: Any) -> str:
     if isinstance(asked, Data) and asked.manner >= AS_MARKED_TEXT:
         return (f"version {name} cannot say which character set it holds; leave out marked and "
                 "eci, or take 1 to 40")
-    modes = "digits" if name == "M1" else "digits, capitals and $%*+-./:"
-    return f"version {name} writes {modes} alone; M3, M4 and 1 to 40 write any bytes"
+    modes = "digits" if name == "M1" else "digits, capitals, spaces and $%*+-./:"
+    return f"version {name} holds only {modes}; M3, M4 and 1 to 40 hold any bytes"
 
 
 def _not_in_mode(asked: Segments) -> str:
     """The first segment that is refused by itself."""
     for at, row in enumerate(asked.rows):
         if asked._replace(rows=[row], version=0).answer()[0] == NOT_IN_MODE:
-            return f"segment {at + 1}: {MODES[row.kind]} alone"
+            return f"segment {at + 1}: {MODES[row.kind]}"
     return ""
 
 
@@ -62,7 +62,7 @@ def _no_room(asked: Any, said: str) -> str:
     if isinstance(asked, Data):
         where = f"version {name} and level {level}" if asked.version else f"level {level}"
         text, most = f"{said} at {where}", _most(asked)
-        text += f": at most {most:,} unless they are digits or capitals" if most else ": too many"
+        text += f": at most {most:,} fit, more of digits or capitals" if most else ": too many"
     elif asked.version:
         text = f"version {name} at level {level} does not hold {said}"
     else:

@@ -60,8 +60,8 @@ def encode(data: Data, level: str = "M", version: Optional[Version] = None, *,
     >>> encode(bytes(2000), "H")
     Traceback (most recent call last):
         ...
-    goqlanis.NoRoom: 2,000 bytes at level H: at most 1,273 unless they are digits or capitals; \
-level M holds them
+    goqlanis.NoRoom: 2,000 bytes at level H: at most 1,273 fit, more of digits or capitals; level \
+M holds them
     """
     octets, is_text = _checks.data(data)
     manner, versions = _manner(is_text, marked, eci), _versions(version, least_version, micro)
@@ -157,7 +157,7 @@ def encode_segments(segments: Segments, level: str = "M",
     >>> encode_segments([("byte", b"a"), ("numeric", b"12a")])
     Traceback (most recent call last):
         ...
-    goqlanis.NotInMode: segment 2: numeric writes digits alone
+    goqlanis.NotInMode: segment 2: numeric holds only digits
     >>> encode_segments([("eci", "26")])
     Traceback (most recent call last):
         ...
