@@ -4,7 +4,7 @@ use Rattle.std.specs.List.{after_first, before_first, filter_map, starts_with}
 use Rattle.std.specs.Char.{to_ascii_uppercase}
 use Rattle.qrcode_contents.specs.fields.Entries.{is_filled}
 use Rattle.qrcode_payloads.specs.declared.plain.Between.{Between}
-use Rattle.qrcode_payloads.specs.declared.plain.Between.TheVariants.{Spaces, Phone, Amount, Groups, Degrees, Person, Secret, Time, Clock}
+use Rattle.qrcode_payloads.specs.declared.plain.Between.TheVariants.{Spaces, Phone, Digits, Amount, Groups, Degrees, Person, Secret, Time, Clock}
 
 abbrev pub is_space : ℕ → Bool  -- a space, or one that does not break
 is_space c = c == 32 || c == 160 || c == 8239
@@ -12,6 +12,7 @@ is_space c = c == 32 || c == 160 || c == 8239
 abbrev pub is_between : Between → ℕ → Bool  -- a character that stands between those of a value
 is_between Spaces c = is_space c
 is_between Phone c = is_space c || c == 47
+is_between Digits c = c == 45 || c == 46 || c == 40 || c == 41
 is_between Amount c = false
 is_between Groups c = c == 32 || c == 39
 is_between Degrees c = false
@@ -23,6 +24,7 @@ is_between Clock c = c == 58
 abbrev pub as_written : Between → ℕ → ℕ  -- a capital, a point for a comma in a number, a plain space or apostrophe in an amount, and a T for a space in a time
 as_written Spaces c = to_ascii_uppercase c
 as_written Phone c = to_ascii_uppercase c
+as_written Digits c = to_ascii_uppercase c
 as_written Amount c = if c == 44 then 46 else (if c == 160 || c == 8239 then 32 else (if c == 8217 then 39 else to_ascii_uppercase c))
 as_written Groups c = to_ascii_uppercase c
 as_written Degrees c = if c == 44 then 46 else to_ascii_uppercase c
@@ -53,6 +55,10 @@ without_zero number =
 
 abbrev pub phone_number : List ℕ → List ℕ  -- a telephone number as formats have it
 phone_number text = without_zero (plain Phone text)
+
+-- a telephone number without what stands between its digits, as MECARD has it
+abbrev pub phone_digits : List ℕ → List ℕ
+phone_digits text = plain Digits (phone_number text)
 
 abroad_row : without_zero (codes "+41(0)791234567") ≡ codes "+41791234567"
 unfolding without_zero

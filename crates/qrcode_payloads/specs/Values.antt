@@ -37,14 +37,14 @@ use Rattle.qrcode_contents.specs.fields.Entries.{is_empty}
 use Rattle.qrcode_payloads.specs.Amounts.{plain_amount}
 use Rattle.qrcode_payloads.specs.Given.{said, with_value}
 use Rattle.qrcode_payloads.specs.Numbers.{scaled_value, degrees_of, unsigned}
-use Rattle.qrcode_payloads.specs.Plain.{plain, phone_number}
+use Rattle.qrcode_payloads.specs.Plain.{plain, phone_number, phone_digits}
 use Rattle.qrcode_payloads.specs.Times.{day_said, moment_said, plain_time}
-use Rattle.qrcode_payloads.specs.Words.{security_named, currency_named, algorithm_named, digits_named, flag_named}
+use Rattle.qrcode_payloads.specs.Words.{named, security_words, currency_words, algorithm_words, digits_words, flag_words}
 use Rattle.qrcode_payloads.specs.declared.plain.Between.TheVariants as between
 
 -- the value of a word; another where none is given
-abbrev pub word_in : {A : Type 0} → (List ℕ → Option A) → A → List ℕ → Field → Result A ContentError
-word_in named other text field = if is_empty text then Ok other else said (named text) field Word
+abbrev pub word_in : {A : Type 0} → List (List ℕ × A) → A → List ℕ → Field → Result A ContentError
+word_in words other text field = if is_empty text then Ok other else said (named words text) field Word
 
 -- why a text says no number: it is empty, has more digits after its point, or other characters
 abbrev pub number_cause : List ℕ → Cause
@@ -68,19 +68,19 @@ open_amount_in text = if is_empty text then Ok None else with_value (amount_in t
 
 -- how a network is secured; where nothing is said, by WPA with a password, and not at all without one
 abbrev pub security_in : (Field → List ℕ) → Result ways.Security ContentError
-security_in g = word_in security_named (if is_empty (g Password) then Open else Wpa) (g Security) Security
+security_in g = word_in security_words (if is_empty (g Password) then Open else Wpa) (g Security) Security
 
 abbrev pub hidden_in : List ℕ → Result Bool ContentError  -- whether a network does not broadcast its name
-hidden_in text = word_in flag_named false text Hidden
+hidden_in text = word_in flag_words false text Hidden
 
 abbrev pub currency_in : List ℕ → Result currencies.Currency ContentError  -- the currency of a bill
-currency_in text = word_in currency_named Franc text Currency
+currency_in text = word_in currency_words Franc text Currency
 
 abbrev pub algorithm_in : List ℕ → Result algorithms.Algorithm ContentError  -- the hash of one-time passwords
-algorithm_in text = word_in algorithm_named Sha1 text Algorithm
+algorithm_in text = word_in algorithm_words Sha1 text Algorithm
 
 abbrev pub digits_in : List ℕ → Result digits.Digits ContentError  -- how many digits they have
-digits_in text = word_in digits_named Six text Digits
+digits_in text = word_in digits_words Six text Digits
 
 abbrev pub network_in : (Field → List ℕ) → Result Network ContentError  -- a network
 network_in g = with_value (security_in g) (λ security. with_value (hidden_in (g Hidden)) (λ hidden. Ok (record {
@@ -100,7 +100,7 @@ abbrev pub person_in : (Field → List ℕ) → Result Person ContentError  -- a
 person_in g = with_value (birthday_in (plain between.Time (g Birthday))) (λ birthday. Ok (record {
   family = g Family;
   given = g Given;
-  phone = g Phone;
+  phone = phone_digits (g Phone);
   email = g Email;
   url = g Url;
   birthday = birthday;

@@ -1,5 +1,5 @@
 -- Words that stand for values, in any case.
-use Rattle.std.specs.Prelude.{ℕ, ◌||◌, Bool, true, false, List, map, codes, Option, Some, None, if◌then◌else◌}
+use Rattle.std.specs.Prelude.{ℕ, Bool, true, false, List, [], ◌∷◌, map, codes, Option, Some, None, if◌then◌else◌}
 use Rattle.std.specs.Char.{to_ascii_lowercase}
 use Rattle.std.specs.Str.{bytes_eq}
 use Rattle.qrcode_contents.specs.declared.bill.Currency.{Currency}
@@ -14,30 +14,23 @@ use Rattle.qrcode_contents.specs.declared.wifi.Security.TheVariants.{Open, Wep, 
 abbrev pub is_word : List ℕ → List ℕ → Bool  -- the same, in any case
 is_word text word = bytes_eq (map to_ascii_lowercase text) (map to_ascii_lowercase word)
 
-abbrev pub security_named : List ℕ → Option Security  -- how a network is secured
-security_named text =
-    if is_word text (codes "open") || is_word text (codes "nopass") || is_word text (codes "none") then Some Open
-    else (if is_word text (codes "WEP") then Some Wep
-    else (if is_word text (codes "WPA") || is_word text (codes "WPA2") then Some Wpa
-    else (if is_word text (codes "WPA3") || is_word text (codes "SAE") then Some Wpa3 else None)))
+abbrev pub named : {A : Type 0} → List (List ℕ × A) → List ℕ → Option A  -- the value of the first of these words that a text is
+named [] text = None
+named (word ∷ words) text = if is_word text word.0 then Some word.1 else named words text
 
-abbrev pub currency_named : List ℕ → Option Currency  -- the currency of a bill
-currency_named text =
-    if is_word text (codes "CHF") then Some Franc
-    else (if is_word text (codes "EUR") then Some Euro else None)
+abbrev pub security_words : List (List ℕ × Security)  -- how a network is secured
+security_words =
+    (codes "open", Open) ∷ (codes "nopass", Open) ∷ (codes "none", Open) ∷ (codes "WEP", Wep) ∷ (codes "WPA", Wpa)
+    ∷ (codes "WPA2", Wpa) ∷ (codes "WPA3", Wpa3) ∷ (codes "SAE", Wpa3) ∷ []
 
-abbrev pub algorithm_named : List ℕ → Option Algorithm  -- the hash of one-time passwords
-algorithm_named text =
-    if is_word text (codes "SHA1") then Some Sha1
-    else (if is_word text (codes "SHA256") then Some Sha256
-    else (if is_word text (codes "SHA512") then Some Sha512 else None))
+abbrev pub currency_words : List (List ℕ × Currency)  -- the currency of a bill
+currency_words = (codes "CHF", Franc) ∷ (codes "EUR", Euro) ∷ []
 
-abbrev pub digits_named : List ℕ → Option Digits  -- how many digits a one-time password has
-digits_named text =
-    if bytes_eq text (codes "6") then Some Six
-    else (if bytes_eq text (codes "8") then Some Eight else None)
+abbrev pub algorithm_words : List (List ℕ × Algorithm)  -- the hash of one-time passwords
+algorithm_words = (codes "SHA1", Sha1) ∷ (codes "SHA256", Sha256) ∷ (codes "SHA512", Sha512) ∷ []
 
-abbrev pub flag_named : List ℕ → Option Bool  -- whether something is so
-flag_named text =
-    if is_word text (codes "true") then Some true
-    else (if is_word text (codes "false") then Some false else None)
+abbrev pub digits_words : List (List ℕ × Digits)  -- how many digits a one-time password has
+digits_words = (codes "6", Six) ∷ (codes "8", Eight) ∷ []
+
+abbrev pub flag_words : List (List ℕ × Bool)  -- whether something is so
+flag_words = (codes "true", true) ∷ (codes "false", false) ∷ []

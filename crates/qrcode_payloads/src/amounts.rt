@@ -3,8 +3,8 @@
 ghost use Rattle.std.specs.Prelude.{◌≡◌, IfOk, string_bytes};
 ghost use Rattle.qrcode_payloads.specs.Amounts.{are_groups, is_grouped, is_whole, is_amount, ungrouped, plain_amount};
 
-use crate::numbers::parts;
 use crate::plain::{Between, plain};
+use crate::numbers::parts;
 use qrcode_contents::fields::characters::are_digits;
 use std::alloc::{AllocError, Global};
 
@@ -42,7 +42,7 @@ fn is_whole(text: &str) -> bool
 fn is_amount(text: &str) -> bool
     ensures { result ≡ is_amount text.now }
 {
-    let (whole, part) = parts(text);
+    let (whole, part) = parts(text, '.');
     is_whole(whole) && are_digits(part.as_bytes())
 }
 

@@ -1,6 +1,6 @@
 //! Numbers as people write them: digits, and perhaps a point with more of them after it.
 
-ghost use Rattle.std.specs.Prelude.{◌≡◌, ◌++◌, ◌+◌, ◌-◌, ◌≤◌, ℕ, List, [], ◌∷◌, Option, Some, None, replicate, IfSome, if◌then◌else◌};
+ghost use Rattle.std.specs.Prelude.{◌≡◌, ◌==◌, ◌<◌, ◌++◌, ◌+◌, ◌-◌, ◌≤◌, ℕ, List, [], ◌∷◌, Option, Some, None, replicate, IfSome, if◌then◌else◌};
 ghost use Rattle.std.specs.List.{after_first, before_first, list_all};
 ghost use Rattle.std.specs.Str.Parse.{digits_value};
 ghost use Rattle.qrcode_contents.specs.fields.Characters.{is_digit};
@@ -11,7 +11,7 @@ ghost use Rattle.qrcode_payloads.specs.Numbers.{is_point, at_most_u64, scaled_va
 pub fn decimal(text: &str, places: usize) -> Option<u64>
     ensures value { result ≡ scaled_value places text.now }
 {
-    let (whole, part) = parts(text);
+    let (whole, part) = parts(text, '.');
     if whole.is_empty() || part.len() > places {
         return None;
     }
@@ -38,14 +38,6 @@ pub(crate) fn unsigned(text: &str) -> (bool, &str)
         Some(number) => (true, number),
         None => (false, text),
     }
-}
-
-/// What stands before the first point and behind it; all and nothing where there is none.
-pub(crate) fn parts(text: &str) -> (&str, &str)
-    ensures whole { result.0.now ≡ before_first is_point text.now }
-    ensures part { result.1.now ≡ after_first is_point text.now }
-{
-    text.split_once('.').unwrap_or((text, ""))
 }
 
 // A number with more digits behind it.
@@ -89,4 +81,13 @@ pub fn digit(byte: u8) -> Option<u8>
         b'0'..=b'9' => Some(byte - b'0'),
         _ => None,
     }
+}
+
+/// What stands before the first of these marks and behind it; all and nothing where there is none.
+pub(crate) fn parts(text: &str, mark: char) -> (&str, &str)
+    requires ascii { mark < 128 }
+    ensures before { result.0.now ≡ before_first (λ b. b == mark) text.now }
+    ensures behind { result.1.now ≡ after_first (λ b. b == mark) text.now }
+{
+    text.split_once(mark).unwrap_or((text, ""))
 }

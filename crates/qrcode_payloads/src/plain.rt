@@ -1,9 +1,9 @@
 //! Values without what people write between their characters.
 
 ghost use Rattle.std.specs.Prelude.{◌≡◌, IfOk, string_bytes};
-ghost use Rattle.std.specs.List.{after_first, before_first};
-ghost use Rattle.qrcode_payloads.specs.Plain.{is_between, as_written, kept, plain, is_opening, is_closing, without_zero, phone_number};
+ghost use Rattle.qrcode_payloads.specs.Plain.{is_between, as_written, kept, plain, without_zero, phone_number, phone_digits};
 
+use crate::numbers::parts;
 use std::alloc::{AllocError, Global};
 
 /// What people write between the characters of a value.
@@ -13,6 +13,8 @@ pub(crate) enum Between {
     Spaces,
     /// Spaces and slashes, in telephone numbers.
     Phone,
+    /// Hyphens, points and brackets, where formats have only the digits of such numbers.
+    Digits,
     /// Nothing, in amounts as they are written.
     Amount,
     /// Spaces and apostrophes, between the groups of an amount.
@@ -38,6 +40,7 @@ impl Between {
             (Between::Amount | Between::Degrees, _) => false,
             (Between::Groups, _) => matches!(character, ' ' | '\''),
             (Between::Time, _) => matches!(character, '-' | ':'),
+            (Between::Digits, _) => matches!(character, '-' | '.' | '(' | ')'),
             (Between::Clock, _) => character == ':',
             (_, ' ' | '\u{a0}' | '\u{202f}') => true,
             (Between::Phone, '/') => true,
@@ -82,33 +85,17 @@ pub(crate) fn plain(alloc: Global, text: &str, between: Between) -> Result<Strin
         .collect(alloc)
 }
 
-// What stands before the first opening bracket and behind it; all and nothing where there is none.
-fn at_opening(text: &str) -> (&str, &str)
-    ensures before { result.0.now ≡ before_first is_opening text.now }
-    ensures behind { result.1.now ≡ after_first is_opening text.now }
-{
-    text.split_once('(').unwrap_or((text, ""))
-}
-
-// What stands behind the first closing bracket; nothing where there is none.
-fn behind_closing(text: &str) -> &str
-    ensures { result.now ≡ after_first is_closing text.now }
-{
-    let (_, behind) = text.split_once(')').unwrap_or((text, ""));
-    behind
-}
-
 // A number without a (0) behind the code of its country.
 #[tactic(auto, unfolding(crate::specs::Plain::without_zero))]
 fn without_zero(alloc: Global, number: String) -> Result<String, AllocError>
     ensures { IfOk result (λ value. string_bytes value ≡ without_zero (string_bytes number)) }
 {
-    let (country, inside) = at_opening(number.as_str());
+    let (country, inside) = parts(number.as_str(), '(');
     if country.is_empty() || !inside.as_bytes().starts_with(b"0)") {
         return Ok(number);
     }
     let mut dialled = String::from_str(alloc, country)?;
-    dialled.push_str(behind_closing(inside))?;
+    dialled.push_str(parts(inside, ')').1)?;
     Ok(dialled)
 }
 
@@ -118,4 +105,12 @@ pub(crate) fn phone_number(alloc: Global, text: &str) -> Result<String, AllocErr
     ensures { IfOk result (λ value. string_bytes value ≡ phone_number text.now) }
 {
     without_zero(alloc, plain(alloc, text, Between::Phone)?)
+}
+
+/// A telephone number of digits alone, perhaps behind a plus sign, as MECARD has it.
+pub(crate) fn phone_digits(alloc: Global, text: &str) -> Result<String, AllocError>
+    ensures { IfOk result (λ value. string_bytes value ≡ phone_digits text.now) }
+{
+    let number = phone_number(alloc, text)?;
+    plain(alloc, number.as_str(), Between::Digits)
 }

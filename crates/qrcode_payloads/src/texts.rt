@@ -15,7 +15,7 @@ ghost use Rattle.qrcode_payloads.specs.declared.kinds.Kind.TheVariants.{Wifi, Me
 use crate::amounts::plain_amount;
 use crate::given::Given;
 use crate::kinds::{Kind, fields_of};
-use crate::plain::{Between, phone_number, plain};
+use crate::plain::{Between, phone_digits, phone_number, plain};
 use crate::times::plain_time;
 use crate::values;
 use qrcode_contents::card::Card;
@@ -90,11 +90,12 @@ fn mecard_text<G: Given>(alloc: Global, given: &G) -> ContentResult<String>
     ensures value { IfOk result (λ text. string_bytes text ≡ payload_text Mecard (G.fields given.now)) }
 {
     let day = plain(alloc, given.text(Field::Birthday), Between::Time)?;
+    let phone = phone_digits(alloc, given.text(Field::Phone))?;
     let birthday = values::birthday(day.as_str())?;
     let contact = Contact {
         family: given.text(Field::Family),
         given: given.text(Field::Given),
-        phone: given.text(Field::Phone),
+        phone: phone.as_str(),
         email: given.text(Field::Email),
         url: given.text(Field::Url),
         birthday,

@@ -1,13 +1,12 @@
 //! Days and moments as people write them, also in zones other than UTC.
 
 ghost use Rattle.std.specs.Prelude.{◌≡◌, ◌<◌, ◌+◌, IfOk, IfSome, Some, true, string_bytes};
-ghost use Rattle.std.specs.List.{after_first, before_first};
-ghost use Rattle.qrcode_payloads.specs.Times.{is_tee, is_zed, is_plus, is_minus, ends_with_zed, day_numbered, day_said, clock_number, moment_at, local_said, day_after, day_before, clock_minutes, with_minutes, earlier, later, zone_minutes, minute_count, day_count, from_ahead, from_behind, is_utc, zoned, moment_of, moment_said, plain_time};
+ghost use Rattle.qrcode_payloads.specs.Times.{day_numbered, day_said, clock_number, moment_at, local_said, day_after, day_before, clock_minutes, with_minutes, earlier, later, zone_minutes, minute_count, day_count, from_ahead, from_behind, is_utc, zoned, moment_said, plain_time};
 ghost use Rattle.qrcode_contents.specs.Times.{is_moment};
-ghost use Rattle.std.specs.Option.{option_and_then};
 
 use crate::numbers::decimal;
 use crate::plain::{Between, plain};
+use crate::numbers::parts;
 use qrcode_contents::fields::characters::are_digits;
 use qrcode_contents::times::{Day, Moment, days_in};
 use std::alloc::{AllocError, Global};
@@ -59,93 +58,35 @@ fn moment_at(day: Day, number: u64) -> Moment
     }
 }
 
-// The text before the first T, and that after it; all and nothing where there is none.
-fn parts(text: &str) -> (&str, &str)
-    ensures day { result.0.now ≡ before_first is_tee text.now }
-    ensures time { result.1.now ≡ after_first is_tee text.now }
-{
-    text.split_once('T').unwrap_or((text, ""))
-}
-
-// The text before the first Z, and that after it; all and nothing where there is none.
-fn zone_parts(text: &str) -> (&str, &str)
-    ensures clock { result.0.now ≡ before_first is_zed text.now }
-    ensures rest { result.1.now ≡ after_first is_zed text.now }
-{
-    text.split_once('Z').unwrap_or((text, ""))
-}
-
-// Whether the last byte is a Z.
-fn ends_with_zed(text: &str) -> bool
-    ensures { result ≡ ends_with_zed text.now }
-{
-    text.ends_with('Z')
-}
-
-// The text before the first plus sign, and that after it; all and nothing where there is none.
-fn plus_parts(text: &str) -> (&str, &str)
-    ensures clock { result.0.now ≡ before_first is_plus text.now }
-    ensures zone { result.1.now ≡ after_first is_plus text.now }
-{
-    text.split_once('+').unwrap_or((text, ""))
-}
-
-// The text before the first minus sign, and that after it; all and nothing where there is none.
-fn minus_parts(text: &str) -> (&str, &str)
-    ensures clock { result.0.now ≡ before_first is_minus text.now }
-    ensures zone { result.1.now ≡ after_first is_minus text.now }
-{
-    text.split_once('-').unwrap_or((text, ""))
-}
-
 // The day after another.
 fn day_after(day: Day) -> Day
     requires { day.year < 10_000 }
     ensures value { result ≡ day_after day }
 {
-    let (year, month) = (day.year, day.month);
-    if day.day < days_in(year, month) {
-        let day = day.day + 1;
-        Day { year, month, day }
-    } else if month < 12 {
-        let month = month + 1;
-        Day {
-            year,
-            month,
-            day: 1,
-        }
+    let (year, month, day) = if day.day < days_in(day.year, day.month) {
+        (day.year, day.month, day.day + 1)
+    } else if day.month < 12 {
+        (day.year, day.month + 1, 1)
     } else {
-        let year = year + 1;
-        Day {
-            year,
-            month: 1,
-            day: 1,
-        }
-    }
+        (day.year + 1, 1, 1)
+    };
+    Day { year, month, day }
 }
 
 // The day before another; none before the year 0.
 fn day_before(day: Day) -> Option<Day>
     ensures value { result ≡ day_before day }
 {
-    let (year, month) = (day.year, day.month);
-    if day.day > 1 {
-        let day = day.day - 1;
-        Some(Day { year, month, day })
-    } else if month > 1 {
-        let month = month - 1;
-        let day = days_in(year, month);
-        Some(Day { year, month, day })
-    } else if year == 0 {
-        None
+    let (year, month, day) = if day.day > 1 {
+        (day.year, day.month, day.day - 1)
+    } else if day.month > 1 {
+        (day.year, day.month - 1, days_in(day.year, day.month - 1))
+    } else if day.year > 0 {
+        (day.year - 1, 12, 31)
     } else {
-        let year = year - 1;
-        Some(Day {
-            year,
-            month: 12,
-            day: 31,
-        })
-    }
+        return None;
+    };
+    Some(Day { year, month, day })
 }
 
 // The minutes of a day up to a moment.
@@ -249,27 +190,11 @@ fn from_behind(zone: &str, local: Moment) -> Option<Moment>
     }
 }
 
-// The moment in UTC of a day and a time in a zone whose clocks are ahead.
-fn ahead(day: &str, clock: &str, zone: &str) -> Option<Moment>
-    ensures value { result ≡ option_and_then (from_ahead (zone_minutes zone.now))
-        (local_said day.now clock.now) }
-{
-    from_ahead(zone, local_said(day, clock)?)
-}
-
-// The same where they are behind.
-fn behind(day: &str, clock: &str, zone: &str) -> Option<Moment>
-    ensures value { result ≡ option_and_then (from_behind (zone_minutes zone.now))
-        (local_said day.now clock.now) }
-{
-    from_behind(zone, local_said(day, clock)?)
-}
-
 // Whether a time has one Z, at its end.
 fn is_utc(time: &str) -> bool
     ensures { result ≡ is_utc time.now }
 {
-    ends_with_zed(time) && zone_parts(time).1.is_empty()
+    time.ends_with('Z') && parts(time, 'Z').1.is_empty()
 }
 
 // The moment in UTC of a day and of a time with a sign and a zone.
@@ -277,32 +202,25 @@ fn is_utc(time: &str) -> bool
 fn zoned(day: &str, time: &str) -> Option<Moment>
     ensures value { result ≡ zoned day.now time.now }
 {
-    let (clock, zone) = plus_parts(time);
+    let (clock, zone) = parts(time, '+');
     if zone.is_empty() {
-        let (clock, zone) = minus_parts(time);
-        return behind(day, clock, zone);
+        let (clock, zone) = parts(time, '-');
+        return from_behind(zone, local_said(day, clock)?);
     }
-    ahead(day, clock, zone)
-}
-
-// The moment in UTC of a day and of a time with a Z, or with a zone.
-#[tactic(auto, unfolding(crate::specs::Times::moment_of))]
-fn moment_of(day: &str, time: &str) -> Option<Moment>
-    ensures value { result ≡ moment_of day.now time.now }
-{
-    if is_utc(time) {
-        return local_said(day, zone_parts(time).0);
-    }
-    zoned(day, time)
+    from_ahead(zone, local_said(day, clock)?)
 }
 
 /// The moment in UTC of a day, a T, a time of day, and a Z or a zone, e.g. 19970714T170000Z,
 /// 19970714T1700Z or 19970714T1900+0200.
+#[tactic(auto, unfolding(crate::specs::Times::moment_of))]
 pub(crate) fn moment_said(text: &str) -> Option<Moment>
     ensures value { result ≡ moment_said text.now }
 {
-    let (day, time) = parts(text);
-    moment_of(day, time)
+    let (day, time) = parts(text, 'T');
+    if is_utc(time) {
+        return local_said(day, parts(time, 'Z').0);
+    }
+    zoned(day, time)
 }
 
 /// A day, or a day and a time, without hyphens between the parts of the day and colons between
@@ -312,7 +230,7 @@ pub(crate) fn plain_time(alloc: Global, text: &str) -> Result<String, AllocError
     ensures { IfOk result (λ value. string_bytes value ≡ plain_time text.now) }
 {
     let written = plain(alloc, text, Between::Clock)?;
-    let (day, clock) = parts(written.as_str());
+    let (day, clock) = parts(written.as_str(), 'T');
     if clock.is_empty() {
         return plain(alloc, written.as_str(), Between::Time);
     }

@@ -1,14 +1,13 @@
 //! The values of the formats, from the texts that are given for fields.
 
 ghost use Rattle.std.specs.Prelude.{◌≡◌, ◌≤◌, IfOk};
-ghost use Rattle.qrcode_contents.specs.declared.fields.errors.Cause.TheVariants.{Word};
 ghost use Rattle.qrcode_contents.specs.declared.fields.errors.ContentError.TheVariants.{Refused};
-ghost use Rattle.qrcode_payloads.specs.Values.{word_in, number_cause, degrees_cause, amount_in, open_amount_in, day_cause, birthday_in, security_in, hidden_in, currency_in, algorithm_in, digits_in, degrees_in, whole_in, factor_in, time_cause, days_in, times_in, span_in, stamp_in};
+ghost use Rattle.qrcode_payloads.specs.Values.{number_cause, amount_in, open_amount_in, day_cause, birthday_in, security_in, hidden_in, currency_in, algorithm_in, digits_in, degrees_in, whole_in, factor_in, time_cause, days_in, times_in, span_in, stamp_in};
 
 use crate::given::Given;
 use crate::numbers::{decimal, degrees, unsigned};
 use crate::times::{day_said, moment_said};
-use crate::words::{algorithm_named, currency_named, digits_named, flag_named, security_named};
+use crate::words::word;
 use qrcode_contents::bill::Currency;
 use qrcode_contents::event::Span;
 use qrcode_contents::fields::characters::are_digits;
@@ -37,10 +36,7 @@ pub(crate) fn amount(text: &str) -> ContentResult<u64>
     if text.ends_with('.') {
         return Err(ContentError::Refused(Field::Amount, Cause::Character));
     }
-    match decimal(text, 2) {
-        Some(cents) => Ok(cents),
-        None => Err(ContentError::Refused(Field::Amount, number_cause(text))),
-    }
+    decimal(text, 2).ok_or(ContentError::Refused(Field::Amount, number_cause(text)))
 }
 
 /// An amount, in hundredths, or none.
@@ -50,10 +46,7 @@ pub(crate) fn open_amount(text: &str) -> ContentResult<Option<u64>>
     if text.is_empty() {
         return Ok(None);
     }
-    match amount(text) {
-        Ok(cents) => Ok(Some(cents)),
-        Err(error) => Err(error),
-    }
+    Ok(Some(amount(text)?))
 }
 
 // Why a text is no day of eight digits.
@@ -82,83 +75,67 @@ pub(crate) fn birthday(text: &str) -> ContentResult<Option<Day>>
     }
 }
 
-// The refusal of a field that is none of some words.
-fn no_word(field: Field) -> ContentError
-    ensures { result ≡ Refused field Word }
-{
-    ContentError::Refused(field, Cause::Word)
-}
-
 /// How a network is secured: as is said, or else by WPA with a password, and not at all without.
 pub(crate) fn security<G: Given>(given: &G) -> ContentResult<Security>
     ensures value { result ≡ security_in (G.fields given.now) }
 {
-    let text = given.text(Field::Security);
-    if !text.is_empty() {
-        return security_named(text).ok_or(no_word(Field::Security));
-    }
-    if given.text(Field::Password).is_empty() {
-        Ok(Security::Open)
-    } else {
-        Ok(Security::Wpa)
-    }
+    let words = [
+        ("open", Security::Open),
+        ("nopass", Security::Open),
+        ("none", Security::Open),
+        ("WEP", Security::Wep),
+        ("WPA", Security::Wpa),
+        ("WPA2", Security::Wpa),
+        ("WPA3", Security::Wpa3),
+        ("SAE", Security::Wpa3),
+    ];
+    let is_open = given.text(Field::Password).is_empty();
+    let other = if is_open { Security::Open } else { Security::Wpa };
+    word(given.text(Field::Security), &words, other, Field::Security)
 }
 
 /// Whether a network does not broadcast its name.
 pub(crate) fn hidden(text: &str) -> ContentResult<bool>
     ensures value { result ≡ hidden_in text.now }
 {
-    if text.is_empty() {
-        return Ok(false);
-    }
-    flag_named(text).ok_or(no_word(Field::Hidden))
+    let words = [("true", true), ("false", false)];
+    word(text, &words, false, Field::Hidden)
 }
 
 /// The currency of a bill, Swiss francs unless another one is said.
 pub(crate) fn currency(text: &str) -> ContentResult<Currency>
     ensures value { result ≡ currency_in text.now }
 {
-    if text.is_empty() {
-        return Ok(Currency::Franc);
-    }
-    currency_named(text).ok_or(no_word(Field::Currency))
+    let words = [("CHF", Currency::Franc), ("EUR", Currency::Euro)];
+    word(text, &words, Currency::Franc, Field::Currency)
 }
 
 /// The hash of one-time passwords, SHA1 unless another one is said.
 pub(crate) fn algorithm(text: &str) -> ContentResult<Algorithm>
     ensures value { result ≡ algorithm_in text.now }
 {
-    if text.is_empty() {
-        return Ok(Algorithm::Sha1);
-    }
-    algorithm_named(text).ok_or(no_word(Field::Algorithm))
+    let words = [
+        ("SHA1", Algorithm::Sha1),
+        ("SHA256", Algorithm::Sha256),
+        ("SHA512", Algorithm::Sha512),
+    ];
+    word(text, &words, Algorithm::Sha1, Field::Algorithm)
 }
 
 /// How many digits one-time passwords have, six unless eight are said.
 pub(crate) fn digits(text: &str) -> ContentResult<Digits>
     ensures value { result ≡ digits_in text.now }
 {
-    if text.is_empty() {
-        return Ok(Digits::Six);
-    }
-    digits_named(text).ok_or(no_word(Field::Digits))
-}
-
-// Why a text says no degrees.
-fn degrees_cause(text: &str) -> Cause
-    ensures { result ≡ degrees_cause text.now }
-{
-    number_cause(unsigned(text).1)
+    let words = [("6", Digits::Six), ("8", Digits::Eight)];
+    word(text, &words, Digits::Six, Field::Digits)
 }
 
 /// Degrees, in millionths.
 pub(crate) fn coordinate(text: &str, field: Field) -> ContentResult<i32>
     ensures value { result ≡ degrees_in text.now field }
 {
-    match degrees(text) {
-        Some(millionths) => Ok(millionths),
-        None => Err(ContentError::Refused(field, degrees_cause(text))),
-    }
+    let cause = number_cause(unsigned(text).1);
+    degrees(text).ok_or(ContentError::Refused(field, cause))
 }
 
 // A whole number that is at most this.

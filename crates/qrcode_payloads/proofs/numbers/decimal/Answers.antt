@@ -18,7 +18,7 @@ returns-in_err-number c =
     let first = taken (list_all is_digit whole) c.with_digits.result (at_most_u64 (digits_value 10 whole)) c.in_ok-with_digits.field-0 (c.with_digits.ensures.value [] start) (c.in_ok-with_digits.was) in
     let second = not_taken (list_all is_digit part) c.with_digits-2.result (at_most_u64 (digits_value 10 (whole ++ part))) (c.with_digits-2.ensures.value whole first.1) c.in_err-number.was in
     record {
-      value = c.from_residual-in_err-number.ensures ∙ sym (unplaced c.args.places whole part second) ∙ ap₂ (placed_value c.args.places) c.parts.ensures.whole c.parts.ensures.part;
+      value = c.from_residual-in_err-number.ensures ∙ sym (unplaced c.args.places whole part second) ∙ ap₂ (placed_value c.args.places) c.parts.ensures.before c.parts.ensures.behind;
     }
 
 pub returns : goal.returns
@@ -30,5 +30,5 @@ returns c =
     let second = taken (list_all is_digit part) c.with_digits-2.result (at_most_u64 (digits_value 10 (whole ++ part))) c.in_ok-number.number (c.with_digits-2.ensures.value whole first.1) (c.in_ok-number.was) in
     let some : (length whole == 0) ≡ false = grind (rules, arith, nat_tests) in
     record {
-      value = rw (c.parts.ensures.whole, c.parts.ensures.part) at (placed c.args.places whole part c.with_zeros.result some (omega (arith, c.if-part-places.false)) first.0 second.0 (c.with_zeros.ensures.value (whole ++ part) second.1));
+      value = rw (c.parts.ensures.before, c.parts.ensures.behind) at (placed c.args.places whole part c.with_zeros.result some (omega (arith, c.if-part-places.false)) first.0 second.0 (c.with_zeros.ensures.value (whole ++ part) second.1));
     }
