@@ -35,8 +35,8 @@ no_strays (field ∷ fields) pass = (
 record AreTexts (c : Contact) : Type 0 where
   first : HaveNoReturns (map (λ field. field.1) (first_fields c))
   last : HaveNoReturns (map (λ field. field.1) (last_fields c))
-  url : IsPlain c.url
-  birthday : wrong_day c.birthday ≡ false
+  url : IsPlain c.person.url
+  birthday : wrong_day c.person.birthday ≡ false
 
 card_said : (c : Contact) → card_refusal c ≡ None → AreTexts c
 unfolding first_refused last_refused
@@ -44,12 +44,12 @@ card_said c is =
     let none = all_pass (first_refused c ∷ last_refused c ∷ []) is in
     let first = all_pass (first_checks c) none.0 in
     let last = all_pass (last_checks c) none.1.0 in
-    let url = test_passes (list_any is_control c.url) Url ControlCharacter last.0 in
+    let url = test_passes (list_any is_control c.person.url) Url ControlCharacter last.0 in
     record {
       first = no_strays (first_fields c) first.1.1;
       last = no_strays (last_fields c) last.1.1;
-      url = record { no_return = no_return c.url url; no_feed = none_of is_control (λ b. b == 10) no_feed_of c.url url };
-      birthday = test_passes (wrong_day c.birthday) Birthday Range last.1.0;
+      url = record { no_return = no_return c.person.url url; no_feed = none_of is_control (λ b. b == 10) no_feed_of c.person.url url };
+      birthday = test_passes (wrong_day c.person.birthday) Birthday Range last.1.0;
     }
 
 word_plain : IsPlain (codes "VCARD")
@@ -61,18 +61,18 @@ version_plain = record { no_return = refl; no_feed = refl }
 -- the lines behind the first texts
 abbrev later_lines : Contact → List Parameter
 later_lines c =
-    (codes "URL", c.url) ∷ (codes "ADR", structured ([] ∷ [] ∷ c.street ∷ c.city ∷ c.region ∷ c.code ∷ c.country ∷ []))
+    (codes "URL", c.person.url) ∷ (codes "ADR", structured ([] ∷ [] ∷ c.person.street ∷ c.person.city ∷ c.person.region ∷ c.person.code ∷ c.person.country ∷ []))
     ∷ (text_lines (last_texts c) ++ (codes "END", codes "VCARD") ∷ [])
 
 later_content : (c : Contact) → AreTexts c → AreContent (later_lines c)
 later_content c are =
     let more = are.last.1 in
     let end : AreContent ((codes "END", codes "VCARD") ∷ []) = (line_with (codes "END") (codes "VCARD") refl refl refl refl word_plain, tt) in (
-      line_with (codes "URL") c.url refl refl refl refl are.url,
+      line_with (codes "URL") c.person.url refl refl refl refl are.url,
       (
-        line_with (codes "ADR") (structured ([] ∷ [] ∷ c.street ∷ c.city ∷ c.region ∷ c.code ∷ c.country ∷ [])) refl refl refl refl
-            (IsPlain-structured [] ([] ∷ c.street ∷ c.city ∷ c.region ∷ c.code ∷ c.country ∷ []) (refl, (refl, more.1.1))),
-        text_content (last_texts c) ((codes "END", codes "VCARD") ∷ []) refl ((IsPlain-date c.birthday are.birthday).no_return, (more.1.0, tt)) end,
+        line_with (codes "ADR") (structured ([] ∷ [] ∷ c.person.street ∷ c.person.city ∷ c.person.region ∷ c.person.code ∷ c.person.country ∷ [])) refl refl refl refl
+            (IsPlain-structured [] ([] ∷ c.person.street ∷ c.person.city ∷ c.person.region ∷ c.person.code ∷ c.person.country ∷ []) (refl, (refl, more.1.1))),
+        text_content (last_texts c) ((codes "END", codes "VCARD") ∷ []) refl ((IsPlain-date c.person.birthday are.birthday).no_return, (more.1.0, tt)) end,
       ),
     )
 
@@ -85,15 +85,15 @@ card_content c are =
       (
         line_with (codes "VERSION") (codes "3.0") refl refl refl refl version_plain,
         (
-          line_with (codes "N") (structured (c.family ∷ c.given ∷ [] ∷ [] ∷ [] ∷ [])) refl refl refl refl
-              (IsPlain-structured c.family (c.given ∷ [] ∷ [] ∷ [] ∷ []) (names.0, (names.1.0, (refl, (refl, (refl, tt)))))),
+          line_with (codes "N") (structured (c.person.family ∷ c.person.given ∷ [] ∷ [] ∷ [] ∷ [])) refl refl refl refl
+              (IsPlain-structured c.person.family (c.person.given ∷ [] ∷ [] ∷ [] ∷ []) (names.0, (names.1.0, (refl, (refl, (refl, tt)))))),
           text_content (first_texts c) (later_lines c) refl texts (later_content c are),
         ),
       ),
     )
 
-same_contact : (c : Contact) (name family given organisation title phone mobile work_phone home_phone email street city region code country note : List ℕ) → name ≡ c.name → family ≡ c.family → given ≡ c.given → organisation ≡ c.organisation → title ≡ c.title → phone ≡ c.phone → mobile ≡ c.mobile → work_phone ≡ c.work_phone → home_phone ≡ c.home_phone → email ≡ c.email → street ≡ c.street → city ≡ c.city → region ≡ c.region → code ≡ c.code → country ≡ c.country → note ≡ c.note
-    → (let d : Contact = record { name = name; family = family; given = given; organisation = organisation; title = title; phone = phone; mobile = mobile; work_phone = work_phone; home_phone = home_phone; email = email; url = c.url; birthday = c.birthday; street = street; city = city; region = region; code = code; country = country; note = note } in d) ≡ c
+same_contact : (c : Contact) (name family given organisation title phone mobile work_phone home_phone email street city region code country note : List ℕ) → name ≡ c.name → family ≡ c.person.family → given ≡ c.person.given → organisation ≡ c.organisation → title ≡ c.title → phone ≡ c.person.phone → mobile ≡ c.mobile → work_phone ≡ c.work_phone → home_phone ≡ c.home_phone → email ≡ c.person.email → street ≡ c.person.street → city ≡ c.person.city → region ≡ c.person.region → code ≡ c.person.code → country ≡ c.person.country → note ≡ c.person.note
+    → (let d : Contact = record { person = record { family = family; given = given; phone = phone; email = email; url = c.person.url; birthday = c.person.birthday; note = note; street = street; city = city; region = region; code = code; country = country }; name = name; organisation = organisation; title = title; mobile = mobile; work_phone = work_phone; home_phone = home_phone } in d) ≡ c
 same_contact c name family given organisation title phone mobile work_phone home_phone email street city region code country note h₁ h₂ h₃ h₄ h₅ h₆ h₇ h₈ h₉ h₁₀ h₁₁ h₁₂ h₁₃ h₁₄ h₁₅ h₁₆ =
     rw (h₁, h₂, h₃, h₄, h₅, h₆, h₇, h₈, h₉, h₁₀, h₁₁, h₁₂, h₁₃, h₁₄, h₁₅, h₁₆) refl
 
@@ -102,25 +102,25 @@ abbrev Says : Contact → List Entry → Type 0
 Says c lines = (key : List ℕ) → bytes_eq key [] ≡ false → value_of key lines ≡ value_of key (entries_of (card_lines c))
 
 -- such lines say the contact, with its birthday
-with_said : (c : Contact) (lines : List Entry) → Says c lines → contact_with lines c.birthday ≡ c
+with_said : (c : Contact) (lines : List Entry) → Says c lines → contact_with lines c.person.birthday ≡ c
 with_said c lines says =
-    let address : List (List ℕ) = [] ∷ c.street ∷ c.city ∷ c.region ∷ c.code ∷ c.country ∷ [] in
-    let names : List (List ℕ) = c.given ∷ [] ∷ [] ∷ [] ∷ [] in
+    let address : List (List ℕ) = [] ∷ c.person.street ∷ c.person.city ∷ c.person.region ∷ c.person.code ∷ c.person.country ∷ [] in
+    let names : List (List ℕ) = c.person.given ∷ [] ∷ [] ∷ [] ∷ [] in
     rw (says (codes "N") refl, says (codes "FN") refl, says (codes "ORG") refl, says (codes "TITLE") refl, says (codes "TEL") refl, says (codes "TEL;TYPE=CELL") refl, says (codes "TEL;TYPE=WORK") refl, says (codes "TEL;TYPE=HOME") refl, says (codes "EMAIL") refl, says (codes "URL") refl, says (codes "ADR") refl, says (codes "NOTE") refl)
     (same_contact c _ _ _ _ _ _ _ _ _ _ _ _ _ _ _ _
-    (part_read 0 c.name []) (part_read 0 c.family names) (part_read 1 c.family names) (part_read 0 c.organisation []) (part_read 0 c.title []) (part_read 0 c.phone []) (part_read 0 c.mobile []) (part_read 0 c.work_phone []) (part_read 0 c.home_phone []) (part_read 0 c.email [])
-    (part_read 2 [] address) (part_read 3 [] address) (part_read 4 [] address) (part_read 5 [] address) (part_read 6 [] address) (part_read 0 c.note []))
+    (part_read 0 c.name []) (part_read 0 c.person.family names) (part_read 1 c.person.family names) (part_read 0 c.organisation []) (part_read 0 c.title []) (part_read 0 c.person.phone []) (part_read 0 c.mobile []) (part_read 0 c.work_phone []) (part_read 0 c.home_phone []) (part_read 0 c.person.email [])
+    (part_read 2 [] address) (part_read 3 [] address) (part_read 4 [] address) (part_read 5 [] address) (part_read 6 [] address) (part_read 0 c.person.note []))
 
-contact_said : (c : Contact) (lines : List Entry) → Says c lines → wrong_day c.birthday ≡ false → contact_in lines ≡ Some c
+contact_said : (c : Contact) (lines : List Entry) → Says c lines → wrong_day c.person.birthday ≡ false → contact_in lines ≡ Some c
 contact_said c lines says is =
     let begins : value_of (codes "BEGIN") lines ≡ codes "VCARD" = says (codes "BEGIN") refl in
     let version : value_of (codes "VERSION") lines ≡ codes "3.0" = says (codes "VERSION") refl in
     let ends : value_of (codes "END") lines ≡ codes "VCARD" = says (codes "END") refl in
-    let birthday : value_of (codes "BDAY") lines ≡ structured (said_or_none date_text c.birthday ∷ []) = says (codes "BDAY") refl in
+    let birthday : value_of (codes "BDAY") lines ≡ structured (said_or_none date_text c.person.birthday ∷ []) = says (codes "BDAY") refl in
     rw (begins, version, ends)
     (ap (λ value. option_map (contact_with lines) (read_or_none read_date (part_in 0 value))) birthday
-    ∙ ap (λ text. option_map (contact_with lines) (read_or_none read_date text)) (part_read 0 (said_or_none date_text c.birthday) [])
-    ∙ ap (option_map (contact_with lines)) (date_or_none_read c.birthday is)
+    ∙ ap (λ text. option_map (contact_with lines) (read_or_none read_date text)) (part_read 0 (said_or_none date_text c.person.birthday) [])
+    ∙ ap (option_map (contact_with lines)) (date_or_none_read c.person.birthday is)
     ∙ ap Some (with_said c lines says))
 
 -- what is read is what was said

@@ -3,6 +3,7 @@ use Rattle.std.specs.Prelude.{◌≡◌, ℕ, ◌&&◌, List, [], ◌∷◌, ◌
 use Rattle.std.specs.Str.{bytes_eq}
 use Rattle.std.specs.List.{list_any}
 use Rattle.std.specs.Option.{option_map}
+use Rattle.qrcode_contents.specs.Contact.{Person, person_of}
 use Rattle.qrcode_contents.specs.declared.card.Card.{Card}
 use Rattle.qrcode_contents.specs.declared.fields.errors.ContentError.{ContentError}
 use Rattle.qrcode_contents.specs.declared.fields.errors.Field.{Field}
@@ -18,64 +19,42 @@ use Rattle.qrcode_contents.specs.fields.Refusals.{refused_if, first_refusal}
 use Rattle.qrcode_contents.specs.Times.{wrong_day, date_text, said_or_none, read_day, read_date, read_or_none}
 
 pub record Contact : Type 0 where  -- a contact as its card says it
+  pub person : Person
   pub name : List ℕ
-  pub family : List ℕ
-  pub given : List ℕ
   pub organisation : List ℕ
   pub title : List ℕ
-  pub phone : List ℕ
   pub mobile : List ℕ
   pub work_phone : List ℕ
   pub home_phone : List ℕ
-  pub email : List ℕ
-  pub url : List ℕ
-  pub birthday : Option Day
-  pub street : List ℕ
-  pub city : List ℕ
-  pub region : List ℕ
-  pub code : List ℕ
-  pub country : List ℕ
-  pub note : List ℕ
 
 abbrev pub contact_of : Card → Contact  -- what is said of a contact
 contact_of c = record {
+  person = person_of c.contact;
   name = c.name.now;
-  family = c.family.now;
-  given = c.given.now;
   organisation = c.organisation.now;
   title = c.title.now;
-  phone = c.phone.now;
   mobile = c.mobile.now;
   work_phone = c.work_phone.now;
   home_phone = c.home_phone.now;
-  email = c.email.now;
-  url = c.url.now;
-  birthday = c.birthday;
-  street = c.street.now;
-  city = c.city.now;
-  region = c.region.now;
-  code = c.code.now;
-  country = c.country.now;
-  note = c.note.now;
 }
 
 abbrev pub first_fields : Contact → List (Field × List ℕ)  -- fields of texts, in which tabs and line feeds may stand
 first_fields c =
-    (Name, c.name) ∷ (Family, c.family) ∷ (Given, c.given) ∷ (Organisation, c.organisation) ∷ (Title, c.title) ∷ (Phone, c.phone)
+    (Name, c.name) ∷ (Family, c.person.family) ∷ (Given, c.person.given) ∷ (Organisation, c.organisation) ∷ (Title, c.title) ∷ (Phone, c.person.phone)
     ∷ (Mobile, c.mobile) ∷ (WorkPhone, c.work_phone) ∷ []
 
 abbrev pub last_fields : Contact → List (Field × List ℕ)  -- more of these
 last_fields c =
-    (HomePhone, c.home_phone) ∷ (Email, c.email) ∷ (Note, c.note) ∷ (Street, c.street) ∷ (City, c.city) ∷ (Region, c.region) ∷ (PostalCode, c.code) ∷ (Country, c.country) ∷ []
+    (HomePhone, c.home_phone) ∷ (Email, c.person.email) ∷ (Note, c.person.note) ∷ (Street, c.person.street) ∷ (City, c.person.city) ∷ (Region, c.person.region) ∷ (PostalCode, c.person.code) ∷ (Country, c.person.country) ∷ []
 
 abbrev pub first_checks : Contact → List (Option ContentError)  -- missing names, and control characters
 first_checks c =
-    refused_if (is_empty c.name) Name Empty ∷ refused_if (is_empty c.family) Family Empty ∷ stray_checks (first_fields c)
+    refused_if (is_empty c.name) Name Empty ∷ refused_if (is_empty c.person.family) Family Empty ∷ stray_checks (first_fields c)
 
 -- control characters, of which none may stand in an address of the web, and a birthday that the calendar has not
 abbrev pub last_checks : Contact → List (Option ContentError)
 last_checks c =
-    refused_if (list_any is_control c.url) Url ControlCharacter ∷ refused_if (wrong_day c.birthday) Birthday Range
+    refused_if (list_any is_control c.person.url) Url ControlCharacter ∷ refused_if (wrong_day c.person.birthday) Birthday Range
     ∷ stray_checks (last_fields c)
 
 unfoldable pub first_refused : Contact → Option ContentError
@@ -90,22 +69,22 @@ card_refusal c = first_refusal (first_refused c ∷ last_refused c ∷ [])
 -- lines of one text before the addresses; a number may be that of a mobile telephone, at work or at home
 abbrev pub first_texts : Contact → List Parameter
 first_texts c =
-    (codes "FN", c.name) ∷ (codes "ORG", c.organisation) ∷ (codes "TITLE", c.title) ∷ (codes "TEL", c.phone)
+    (codes "FN", c.name) ∷ (codes "ORG", c.organisation) ∷ (codes "TITLE", c.title) ∷ (codes "TEL", c.person.phone)
     ∷ (codes "TEL;TYPE=CELL", c.mobile) ∷ (codes "TEL;TYPE=WORK", c.work_phone) ∷ (codes "TEL;TYPE=HOME", c.home_phone)
-    ∷ (codes "EMAIL", c.email) ∷ []
+    ∷ (codes "EMAIL", c.person.email) ∷ []
 
 abbrev pub last_texts : Contact → List Parameter  -- those behind the addresses
-last_texts c = (codes "BDAY", said_or_none date_text c.birthday) ∷ (codes "NOTE", c.note) ∷ []
+last_texts c = (codes "BDAY", said_or_none date_text c.person.birthday) ∷ (codes "NOTE", c.person.note) ∷ []
 
 abbrev pub name_lines : Contact → List Parameter  -- the lines of the name and of the first texts
-name_lines c = (codes "N", structured (c.family ∷ c.given ∷ [] ∷ [] ∷ [] ∷ [])) ∷ text_lines (first_texts c)
+name_lines c = (codes "N", structured (c.person.family ∷ c.person.given ∷ [] ∷ [] ∷ [] ∷ [])) ∷ text_lines (first_texts c)
 
 abbrev pub card_lines : Contact → List Parameter  -- the lines of the card
 card_lines c =
     (codes "BEGIN", codes "VCARD") ∷ (codes "VERSION", codes "3.0")
     ∷ (name_lines c
-    ++ ((codes "URL", c.url)
-    ∷ (codes "ADR", structured ([] ∷ [] ∷ c.street ∷ c.city ∷ c.region ∷ c.code ∷ c.country ∷ []))
+    ++ ((codes "URL", c.person.url)
+    ∷ (codes "ADR", structured ([] ∷ [] ∷ c.person.street ∷ c.person.city ∷ c.person.region ∷ c.person.code ∷ c.person.country ∷ []))
     ∷ (text_lines (last_texts c) ++ (codes "END", codes "VCARD") ∷ [])))
 
 unfoldable pub card_text : Contact → List ℕ  -- the text of a card
@@ -116,24 +95,26 @@ text_in key lines = part_in 0 (value_of key lines)
 
 abbrev pub contact_with : List Entry → Option Day → Contact  -- the contact that lines say, with this birthday
 contact_with lines birthday = record {
+  person = record {
+    family = text_in (codes "N") lines;
+    given = part_in 1 (value_of (codes "N") lines);
+    phone = text_in (codes "TEL") lines;
+    email = text_in (codes "EMAIL") lines;
+    url = value_of (codes "URL") lines;
+    birthday = birthday;
+    note = text_in (codes "NOTE") lines;
+    street = part_in 2 (value_of (codes "ADR") lines);
+    city = part_in 3 (value_of (codes "ADR") lines);
+    region = part_in 4 (value_of (codes "ADR") lines);
+    code = part_in 5 (value_of (codes "ADR") lines);
+    country = part_in 6 (value_of (codes "ADR") lines);
+  };
   name = text_in (codes "FN") lines;
-  family = text_in (codes "N") lines;
-  given = part_in 1 (value_of (codes "N") lines);
   organisation = text_in (codes "ORG") lines;
   title = text_in (codes "TITLE") lines;
-  phone = text_in (codes "TEL") lines;
   mobile = text_in (codes "TEL;TYPE=CELL") lines;
   work_phone = text_in (codes "TEL;TYPE=WORK") lines;
   home_phone = text_in (codes "TEL;TYPE=HOME") lines;
-  email = text_in (codes "EMAIL") lines;
-  url = value_of (codes "URL") lines;
-  birthday = birthday;
-  street = part_in 2 (value_of (codes "ADR") lines);
-  city = part_in 3 (value_of (codes "ADR") lines);
-  region = part_in 4 (value_of (codes "ADR") lines);
-  code = part_in 5 (value_of (codes "ADR") lines);
-  country = part_in 6 (value_of (codes "ADR") lines);
-  note = text_in (codes "NOTE") lines;
 }
 
 abbrev pub contact_in : List Entry → Option Contact  -- the contact that lines say
@@ -148,24 +129,26 @@ read_card text = contact_in (read_content text)
 -- a card of printed examples of RFC 2426: names of section 3.1.2, a birthday of 3.1.5, a number of 3.3.1 with one of its types, and a title of 3.5.1
 printed_card : read_card (codes "BEGIN:VCARD\r\nVERSION:3.0\r\nN:Public;John;Quinlan;Mr.;Esq.\r\nFN:Mr. John Q. Public\\, Esq.\r\nTITLE:Director\\, Research and Development\r\nTEL;TYPE=WORK:+1-213-555-1234\r\nBDAY:1996-04-15\r\nEND:VCARD\r\n")
     ≡ Some (let c : Contact = record {
+      person = record {
+        family = codes "Public";
+        given = codes "John";
+        phone = [];
+        email = [];
+        url = [];
+        birthday = Some (record { year = 1996; month = 4; day = 15 });
+        note = [];
+        street = [];
+        city = [];
+        region = [];
+        code = [];
+        country = [];
+      };
       name = codes "Mr. John Q. Public, Esq.";
-      family = codes "Public";
-      given = codes "John";
       organisation = [];
       title = codes "Director, Research and Development";
-      phone = [];
       mobile = [];
       work_phone = codes "+1-213-555-1234";
       home_phone = [];
-      email = [];
-      url = [];
-      birthday = Some (record { year = 1996; month = 4; day = 15 });
-      street = [];
-      city = [];
-      region = [];
-      code = [];
-      country = [];
-      note = [];
     } in c)
 unfolding read_card read_content unfolded read_date read_day unescaped_from pieces_from
 printed_card = refl

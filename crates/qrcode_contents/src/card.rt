@@ -6,51 +6,30 @@ ghost use Rattle.qrcode_contents.specs.Card.{contact_of, first_refused, last_ref
 ghost use Rattle.qrcode_contents.specs.fields.ContentLines.{content_text};
 ghost use Rattle.qrcode_contents.specs.fields.Refusals.{Answers, checked};
 
+use crate::contact::Contact;
 use crate::fields::content_lines::{push_content, push_texts, push_value};
 use crate::fields::errors::{Cause, ContentResult, Field};
 use crate::fields::refusals::{controls, refuse_first, stray};
-use crate::times::{Day, date_or_none, is_wrong_day};
+use crate::times::{date_or_none, is_wrong_day};
 use std::alloc::Global;
 
-/// A contact. What is empty is left out; texts may have line feeds.
+/// A contact with more fields. What is empty is left out; texts may have line feeds.
 #[derive(Copy, Clone, PartialEq, Eq, Debug)]
 pub struct Card<'a> {
+    /// What a MECARD has too.
+    pub contact: Contact<'a>,
     /// The name as it is shown.
     pub name: &'a str,
-    /// The family name, or the only one.
-    pub family: &'a str,
-    /// The given name.
-    pub given: &'a str,
     /// The organisation.
     pub organisation: &'a str,
     /// The title or function.
     pub title: &'a str,
-    /// A telephone number.
-    pub phone: &'a str,
     /// The number of a mobile telephone.
     pub mobile: &'a str,
     /// The number of a telephone at work.
     pub work_phone: &'a str,
     /// The number of a telephone at home.
     pub home_phone: &'a str,
-    /// An address of mail.
-    pub email: &'a str,
-    /// An address of the web.
-    pub url: &'a str,
-    /// The birthday.
-    pub birthday: Option<Day>,
-    /// The street with the number of the house.
-    pub street: &'a str,
-    /// The town.
-    pub city: &'a str,
-    /// The region.
-    pub region: &'a str,
-    /// The postal code.
-    pub code: &'a str,
-    /// The country.
-    pub country: &'a str,
-    /// A note.
-    pub note: &'a str,
 }
 
 impl Card<'_> {
@@ -61,13 +40,13 @@ impl Card<'_> {
     {
         refuse_first(&[
             (self.name.is_empty(), Field::Name, Cause::Empty),
-            (self.family.is_empty(), Field::Family, Cause::Empty),
+            (self.contact.family.is_empty(), Field::Family, Cause::Empty),
             stray(Field::Name, self.name),
-            stray(Field::Family, self.family),
-            stray(Field::Given, self.given),
+            stray(Field::Family, self.contact.family),
+            stray(Field::Given, self.contact.given),
             stray(Field::Organisation, self.organisation),
             stray(Field::Title, self.title),
-            stray(Field::Phone, self.phone),
+            stray(Field::Phone, self.contact.phone),
             stray(Field::Mobile, self.mobile),
             stray(Field::WorkPhone, self.work_phone),
         ])
@@ -79,16 +58,20 @@ impl Card<'_> {
         ensures { result ≡ checked (last_refused (contact_of self.now)) }
     {
         refuse_first(&[
-            controls(Field::Url, self.url),
-            (is_wrong_day(self.birthday), Field::Birthday, Cause::Range),
+            controls(Field::Url, self.contact.url),
+            (
+                is_wrong_day(self.contact.birthday),
+                Field::Birthday,
+                Cause::Range,
+            ),
             stray(Field::HomePhone, self.home_phone),
-            stray(Field::Email, self.email),
-            stray(Field::Note, self.note),
-            stray(Field::Street, self.street),
-            stray(Field::City, self.city),
-            stray(Field::Region, self.region),
-            stray(Field::PostalCode, self.code),
-            stray(Field::Country, self.country),
+            stray(Field::Email, self.contact.email),
+            stray(Field::Note, self.contact.note),
+            stray(Field::Street, self.contact.street),
+            stray(Field::City, self.contact.city),
+            stray(Field::Region, self.contact.region),
+            stray(Field::PostalCode, self.contact.code),
+            stray(Field::Country, self.contact.country),
         ])
     }
 
@@ -106,17 +89,17 @@ impl Card<'_> {
             ≡ string_bytes text.old ++ content_text (name_lines (contact_of self.now))) }
         ensures memory { IsOkUnless result OutOfMemory }
     {
-        let name = [self.family, self.given, "", "", ""];
+        let name = [self.contact.family, self.contact.given, "", "", ""];
         push_content(alloc, text, "N", &name)?;
         let texts = [
             ("FN", self.name),
             ("ORG", self.organisation),
             ("TITLE", self.title),
-            ("TEL", self.phone),
+            ("TEL", self.contact.phone),
             ("TEL;TYPE=CELL", self.mobile),
             ("TEL;TYPE=WORK", self.work_phone),
             ("TEL;TYPE=HOME", self.home_phone),
-            ("EMAIL", self.email),
+            ("EMAIL", self.contact.email),
         ];
         push_texts(alloc, text, &texts)
     }
@@ -126,22 +109,22 @@ impl Card<'_> {
         ensures value { IfOk result (λ text. string_bytes text ≡ card_text (contact_of self.now)) }
         ensures memory { IsOkUnless result OutOfMemory }
     {
-        let birthday = date_or_none(alloc, self.birthday)?;
+        let birthday = date_or_none(alloc, self.contact.birthday)?;
         let mut text = String::from_str(alloc, "BEGIN:VCARD\r\nVERSION:3.0\r\n")?;
         self.push_names(alloc, &mut text)?;
-        push_value(alloc, &mut text, "URL", self.url)?;
+        push_value(alloc, &mut text, "URL", self.contact.url)?;
         let address = [
             "",
             "",
-            self.street,
-            self.city,
-            self.region,
-            self.code,
-            self.country,
+            self.contact.street,
+            self.contact.city,
+            self.contact.region,
+            self.contact.code,
+            self.contact.country,
         ];
         push_content(alloc, &mut text, "ADR", &address)?;
         push_content(alloc, &mut text, "BDAY", &[birthday.as_str()])?;
-        push_content(alloc, &mut text, "NOTE", &[self.note])?;
+        push_content(alloc, &mut text, "NOTE", &[self.contact.note])?;
         text.push_str("END:VCARD\r\n")?;
         Ok(text)
     }

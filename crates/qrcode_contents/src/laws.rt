@@ -81,7 +81,7 @@ pub fn card_equality<'a>()
     ensures { (a b : Card)
         → IsTrue (⟦<Card<'a> as PartialEq>⟧.eq a b) ↔ (contact_of a ≡ contact_of b) }
 {
-    equality();
+    contact_equality();
 }
 
 /// Two contacts are equal by `==` exactly when their fields are.

@@ -7,7 +7,7 @@ ghost use Rattle.qrcode_contents.specs.fields.Refusals.{Answers, checked};
 
 use crate::fields::characters::has_one_at;
 use crate::fields::errors::{Cause, ContentResult, Field};
-use crate::fields::links::{Part, push_part, push_query};
+use crate::fields::links::{Part, push_parameters, push_part};
 use crate::fields::refusals::{controls, refuse_first, stray};
 use std::alloc::Global;
 
@@ -44,7 +44,7 @@ impl Mail<'_> {
         let mut text = String::from_str(alloc, "mailto:")?;
         push_part(&mut text, Part::Path, self.address)?;
         let query = [("subject", self.subject), ("body", self.body)];
-        push_query(&mut text, &query)?;
+        push_parameters(&mut text, false, &query)?;
         Ok(text)
     }
 

@@ -9,7 +9,7 @@ ghost use Rattle.qrcode_contents.specs.fields.Refusals.{Answers, checked};
 
 use crate::fields::characters::is_in_base32;
 use crate::fields::errors::{Cause, ContentResult, Field};
-use crate::fields::links::{Part, push_part, push_query};
+use crate::fields::links::{self, Part, push_part};
 use crate::fields::refusals::{controls, refuse_first};
 use std::alloc::Global;
 
@@ -157,7 +157,7 @@ fn push_parameters<'a>(
         ("digits", digits.value()),
         (factor.key(), number),
     ];
-    push_query(text, &parameters)
+    links::push_parameters(text, false, &parameters)
 }
 
 impl OneTime<'_> {

@@ -1,6 +1,5 @@
 -- The texts of payloads, and what refuses them.
-use Rattle.std.specs.Prelude.{◌≡◌, ◌≢◌, ℕ, nat_lt, Bool, List, [], ◌∷◌, ◌++◌, length, position, slice_get, unwrap_or, codes, Option, Some, if◌then◌else◌}
-use Rattle.std.specs.Option.{option_map}
+use Rattle.std.specs.Prelude.{◌≡◌, ◌≢◌, ℕ, nat_lt, Bool, List, [], ◌∷◌, ◌++◌, length, map, codes, Option, Some, if◌then◌else◌}
 use Rattle.qrcode_contents.specs.Bill.{bill_refusal, bill_text, read_bill}
 use Rattle.qrcode_contents.specs.Card.{card_refusal, card_text, read_card}
 use Rattle.qrcode_contents.specs.Contact.{contact_refusal, mecard_text, read_mecard}
@@ -15,10 +14,9 @@ use Rattle.qrcode_contents.specs.Upi.{upi_refusal, upi_text, read_upi}
 use Rattle.qrcode_contents.specs.Wifi.{wifi_refusal, wifi_text, read_wifi}
 use Rattle.qrcode_contents.specs.declared.fields.errors.ContentError.{ContentError}
 use Rattle.qrcode_contents.specs.declared.fields.errors.Field.{Field}
-use Rattle.qrcode_contents.specs.declared.fields.errors.Field.TheVariants.{Message, Whole}
+use Rattle.qrcode_contents.specs.declared.fields.errors.Field.TheVariants.{Message}
 use Rattle.qrcode_contents.specs.declared.fields.errors.Cause.TheVariants.{TooLong}
-use Rattle.qrcode_contents.specs.declared.fields.errors.ContentError.TheVariants.{Refused}
-use Rattle.qrcode_contents.specs.fields.Refusals.{first_refusal}
+use Rattle.qrcode_contents.specs.fields.Refusals.{first_refusal, refused_if}
 use Rattle.qrcode_payloads.specs.Kinds.{fields_of}
 use Rattle.qrcode_contents.specs.fields.Entries.{behind, is_empty}
 use Rattle.qrcode_payloads.specs.Given.{refusal_of, text_of, IsRead}
@@ -48,7 +46,7 @@ is_long text = nat_lt 113424 (length text)
 -- the first of these fields that is so long
 abbrev pub long_refusal : List Field → (Field → List ℕ) → Option ContentError
 long_refusal fields g =
-    option_map (λ place. Refused (unwrap_or (slice_get fields place) Whole) TooLong) (position (λ field. is_long (g field)) fields)
+    first_refusal (map (λ field. refused_if (is_long (g field)) field TooLong) fields)
 
 abbrev pub content_refusal : Kind → (Field → List ℕ) → Option ContentError  -- why fields have no text: one is too long, or the format cannot say them
 content_refusal kind g = first_refusal (long_refusal (fields_of kind) g ∷ payload_refusal kind g ∷ [])

@@ -96,11 +96,11 @@ day_cause text = if list_all is_digit text then (if nat_lt (length text) 8 then 
 abbrev pub birthday_in : List ℕ → Result (Option Day) ContentError  -- a birthday, where it is said
 birthday_in text = if is_empty text then Ok None else with_value (said (day_said text) Birthday (day_cause text)) (λ day. Ok (Some day))
 
-abbrev pub person_in : (Field → List ℕ) → Result Person ContentError  -- a contact, as MECARD has it
-person_in g = with_value (birthday_in (plain between.Time (g Birthday))) (λ birthday. Ok (record {
+abbrev pub person_said : (Field → List ℕ) → List ℕ → Option Day → Person  -- a contact with this telephone number and birthday
+person_said g phone birthday = record {
   family = g Family;
   given = g Given;
-  phone = phone_digits (g Phone);
+  phone = phone;
   email = g Email;
   url = g Url;
   birthday = birthday;
@@ -110,28 +110,20 @@ person_in g = with_value (birthday_in (plain between.Time (g Birthday))) (λ bir
   region = g Region;
   code = g PostalCode;
   country = g Country;
-}))
+}
+
+abbrev pub person_in : (Field → List ℕ) → Result Person ContentError  -- a contact, as MECARD has it
+person_in g = with_value (birthday_in (plain between.Time (g Birthday))) (λ birthday. Ok (person_said g (phone_digits (g Phone)) birthday))
 
 abbrev pub contact_in : (Field → List ℕ) → Result Contact ContentError  -- a contact, as vCard has it
 contact_in g = with_value (birthday_in (plain between.Time (g Birthday))) (λ birthday. Ok (record {
+  person = person_said g (g Phone) birthday;
   name = g Name;
-  family = g Family;
-  given = g Given;
   organisation = g Organisation;
   title = g Title;
-  phone = g Phone;
   mobile = g Mobile;
   work_phone = g WorkPhone;
   home_phone = g HomePhone;
-  email = g Email;
-  url = g Url;
-  birthday = birthday;
-  street = g Street;
-  city = g City;
-  region = g Region;
-  code = g PostalCode;
-  country = g Country;
-  note = g Note;
 }))
 
 abbrev pub transfer_in : (Field → List ℕ) → Result Transfer ContentError  -- a payment

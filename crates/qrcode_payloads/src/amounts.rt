@@ -4,8 +4,7 @@ ghost use Rattle.std.specs.Prelude.{◌≡◌, IfOk, string_bytes};
 ghost use Rattle.qrcode_payloads.specs.Amounts.{are_groups, is_grouped, is_whole, is_amount, ungrouped, plain_amount};
 
 use crate::plain::{Between, plain};
-use crate::numbers::parts;
-use qrcode_contents::fields::characters::are_digits;
+use qrcode_contents::fields::characters::{are_digits, parts};
 use std::alloc::{AllocError, Global};
 
 // Whether bytes are groups of three digits, with a separator before each.

@@ -1,10 +1,12 @@
 //! Numbers as people write them: digits, and perhaps a point with more of them after it.
 
-ghost use Rattle.std.specs.Prelude.{◌≡◌, ◌==◌, ◌<◌, ◌++◌, ◌+◌, ◌-◌, ◌≤◌, ℕ, List, [], ◌∷◌, Option, Some, None, replicate, IfSome, if◌then◌else◌};
-ghost use Rattle.std.specs.List.{after_first, before_first, list_all};
+ghost use Rattle.std.specs.Prelude.{◌≡◌, ◌++◌, ◌+◌, ◌-◌, ◌≤◌, ℕ, List, [], ◌∷◌, Option, Some, None, replicate, IfSome, if◌then◌else◌};
+ghost use Rattle.std.specs.List.{list_all};
 ghost use Rattle.std.specs.Str.Parse.{digits_value};
 ghost use Rattle.qrcode_contents.specs.fields.Characters.{is_digit};
-ghost use Rattle.qrcode_payloads.specs.Numbers.{is_point, at_most_u64, scaled_value, has_minus, unsigned, degrees_of};
+ghost use Rattle.qrcode_payloads.specs.Numbers.{at_most_u64, scaled_value, has_minus, unsigned, degrees_of};
+
+use qrcode_contents::fields::characters::parts;
 
 /// A number with at most this many digits after its point, counted in the last of them: 12.5 with
 /// two is 1250. A number that is too large stays at the largest.
@@ -81,13 +83,4 @@ pub fn digit(byte: u8) -> Option<u8>
         b'0'..=b'9' => Some(byte - b'0'),
         _ => None,
     }
-}
-
-/// What stands before the first of these marks and behind it; all and nothing where there is none.
-pub(crate) fn parts(text: &str, mark: char) -> (&str, &str)
-    requires ascii { mark < 128 }
-    ensures before { result.0.now ≡ before_first (λ b. b == mark) text.now }
-    ensures behind { result.1.now ≡ after_first (λ b. b == mark) text.now }
-{
-    text.split_once(mark).unwrap_or((text, ""))
 }

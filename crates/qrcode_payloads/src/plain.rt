@@ -3,7 +3,7 @@
 ghost use Rattle.std.specs.Prelude.{◌≡◌, IfOk, string_bytes};
 ghost use Rattle.qrcode_payloads.specs.Plain.{is_between, as_written, kept, plain, without_zero, phone_number, phone_digits};
 
-use crate::numbers::parts;
+use qrcode_contents::fields::characters::parts;
 use std::alloc::{AllocError, Global};
 
 /// What people write between the characters of a value.

@@ -1,14 +1,14 @@
 //! The texts of payloads.
 
-ghost use Rattle.std.specs.Prelude.{◌≡◌, IfOk, position, string_bytes};
+ghost use Rattle.std.specs.Prelude.{◌≡◌, IfOk, string_bytes};
 ghost use Rattle.qrcode_contents.specs.Bill.{addressee_of};
+ghost use Rattle.qrcode_contents.specs.Contact.{person_of};
 ghost use Rattle.qrcode_contents.specs.Phone.{phone_refusal};
 ghost use Rattle.qrcode_contents.specs.fields.Refusals.{Answers, checked};
 ghost use Rattle.qrcode_contents.specs.declared.fields.errors.Field.TheVariants.{Country, DebtorCountry};
-ghost use Rattle.qrcode_payloads.specs.Kinds.{fields_of};
 ghost use Rattle.qrcode_payloads.specs.Plain.{plain};
 ghost use Rattle.qrcode_payloads.specs.declared.plain.Between.TheVariants as between;
-ghost use Rattle.qrcode_payloads.specs.Values.{creditor_in, debtor_in};
+ghost use Rattle.qrcode_payloads.specs.Values.{creditor_in, debtor_in, person_said};
 ghost use Rattle.qrcode_payloads.specs.Texts.{is_long, long_refusal, content_refusal, payload_refusal, payload_text, sms_text, IsReadAs, IsReadAsSms};
 ghost use Rattle.qrcode_payloads.specs.declared.kinds.Kind.TheVariants.{Wifi, Mecard, Vcard, Payment, Bill, Mail, Geo, Tel, Sms, Otp, Event, Upi, Pix, Promptpay};
 
@@ -24,6 +24,7 @@ use qrcode_contents::fields::errors::{Cause, ContentError, ContentResult, Field}
 use qrcode_contents::geo::Place;
 use qrcode_contents::one_time::OneTime;
 use qrcode_contents::phone::Phone;
+use qrcode_contents::times::Day;
 use qrcode_contents::{bill, event, mail, merchant, payment, upi, wifi};
 use std::alloc::Global;
 
@@ -84,18 +85,14 @@ fn geo_text<G: Given>(alloc: Global, given: &G) -> ContentResult<String>
     place.text(alloc)
 }
 
-// The text of a contact, as MECARD.
-fn mecard_text<G: Given>(alloc: Global, given: &G) -> ContentResult<String>
-    ensures reads { Answers (payload_refusal Mecard (G.fields given.now)) result (IsReadAs Mecard (G.fields given.now)) }
-    ensures value { IfOk result (λ text. string_bytes text ≡ payload_text Mecard (G.fields given.now)) }
+// A contact with this telephone number and birthday.
+fn contact<'a, G: Given>(given: &'a G, phone: &'a str, birthday: Option<Day>) -> Contact<'a>
+    ensures { person_of result ≡ person_said (G.fields given.now) phone.now birthday }
 {
-    let day = plain(alloc, given.text(Field::Birthday), Between::Time)?;
-    let phone = phone_digits(alloc, given.text(Field::Phone))?;
-    let birthday = values::birthday(day.as_str())?;
-    let contact = Contact {
+    Contact {
         family: given.text(Field::Family),
         given: given.text(Field::Given),
-        phone: phone.as_str(),
+        phone,
         email: given.text(Field::Email),
         url: given.text(Field::Url),
         birthday,
@@ -105,8 +102,18 @@ fn mecard_text<G: Given>(alloc: Global, given: &G) -> ContentResult<String>
         region: given.text(Field::Region),
         code: given.text(Field::PostalCode),
         country: given.text(Field::Country),
-    };
-    contact.mecard(alloc)
+    }
+}
+
+// The text of a contact, as MECARD.
+fn mecard_text<G: Given>(alloc: Global, given: &G) -> ContentResult<String>
+    ensures reads { Answers (payload_refusal Mecard (G.fields given.now)) result (IsReadAs Mecard (G.fields given.now)) }
+    ensures value { IfOk result (λ text. string_bytes text ≡ payload_text Mecard (G.fields given.now)) }
+{
+    let day = plain(alloc, given.text(Field::Birthday), Between::Time)?;
+    let phone = phone_digits(alloc, given.text(Field::Phone))?;
+    let birthday = values::birthday(day.as_str())?;
+    contact(given, phone.as_str(), birthday).mecard(alloc)
 }
 
 // The text of a contact, as vCard.
@@ -117,24 +124,13 @@ fn vcard_text<G: Given>(alloc: Global, given: &G) -> ContentResult<String>
     let day = plain(alloc, given.text(Field::Birthday), Between::Time)?;
     let birthday = values::birthday(day.as_str())?;
     let card = Card {
+        contact: contact(given, given.text(Field::Phone), birthday),
         name: given.text(Field::Name),
-        family: given.text(Field::Family),
-        given: given.text(Field::Given),
         organisation: given.text(Field::Organisation),
         title: given.text(Field::Title),
-        phone: given.text(Field::Phone),
         mobile: given.text(Field::Mobile),
         work_phone: given.text(Field::WorkPhone),
         home_phone: given.text(Field::HomePhone),
-        email: given.text(Field::Email),
-        url: given.text(Field::Url),
-        birthday,
-        street: given.text(Field::Street),
-        city: given.text(Field::City),
-        region: given.text(Field::Region),
-        code: given.text(Field::PostalCode),
-        country: given.text(Field::Country),
-        note: given.text(Field::Note),
     };
     card.text(alloc)
 }
@@ -331,38 +327,25 @@ fn promptpay_text<G: Given>(alloc: Global, given: &G) -> ContentResult<String>
     payment.text(alloc)
 }
 
-// Whether a field has more bytes than the digits that sixteen codes hold, the most of a split.
-fn is_long<G: Given>(given: &G, field: Field) -> bool
-    ensures { result ≡ is_long (G.fields given.now field) }
+// Whether a text has more bytes than the digits that sixteen codes hold, the most of a split.
+fn is_long(text: &str) -> bool
+    ensures { result ≡ is_long text.now }
 {
-    given.text(field).len() > 113_424
+    text.len() > 113_424
 }
 
-// The place of the first field that is so long.
-fn long_place<G: Given>(fields: &[Field], given: &G) -> Option<usize>
-    ensures { result ≡ position (λ field. is_long (G.fields given.now field)) fields.now }
-{
-    fields.iter().position(|field| is_long(given, *field))
-}
-
-// Refuses the first of some fields that is so long.
-fn refuse_field<G: Given>(fields: &[Field], given: &G) -> ContentResult<()>
+// Refuses the first of some fields that is so long, before memory is taken for it.
+fn refuse_long<G: Given>(fields: &[Field], given: &G) -> ContentResult<()>
     ensures { result ≡ checked (long_refusal fields.now (G.fields given.now)) }
 {
-    match long_place(fields, given) {
-        Some(place) => {
-            let field = fields.get(place).copied().unwrap_or(Field::Whole);
-            Err(ContentError::Refused(field, Cause::TooLong))
+    let mut rest = fields;
+    while let [field, more @ ..] = rest {
+        if is_long(given.text(*field)) {
+            return Err(ContentError::Refused(*field, Cause::TooLong));
         }
-        None => Ok(()),
+        rest = more;
     }
-}
-
-// Refuses the first field of a kind that is so long, before memory is taken for it.
-fn refuse_long<G: Given>(kind: Kind, given: &G) -> ContentResult<()>
-    ensures { result ≡ checked (long_refusal (fields_of kind) (G.fields given.now)) }
-{
-    refuse_field(fields_of(kind), given)
+    Ok(())
 }
 
 // The text of a kind of payload, of fields that are not too long.
@@ -396,6 +379,6 @@ pub fn text_of<G: Given>(alloc: Global, kind: Kind, given: &G) -> ContentResult<
     ensures reads { Answers (content_refusal kind (G.fields given.now)) result (IsReadAs kind (G.fields given.now)) }
     ensures value { IfOk result (λ text. string_bytes text ≡ payload_text kind (G.fields given.now)) }
 {
-    refuse_long(kind, given)?;
+    refuse_long(fields_of(kind), given)?;
     payload_text(alloc, kind, given)
 }

@@ -6,8 +6,7 @@ ghost use Rattle.qrcode_contents.specs.Times.{is_moment};
 
 use crate::numbers::decimal;
 use crate::plain::{Between, plain};
-use crate::numbers::parts;
-use qrcode_contents::fields::characters::are_digits;
+use qrcode_contents::fields::characters::{are_digits, parts};
 use qrcode_contents::times::{Day, Moment, days_in};
 use std::alloc::{AllocError, Global};
 

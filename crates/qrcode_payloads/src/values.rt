@@ -90,7 +90,11 @@ pub(crate) fn security<G: Given>(given: &G) -> ContentResult<Security>
         ("SAE", Security::Wpa3),
     ];
     let is_open = given.text(Field::Password).is_empty();
-    let other = if is_open { Security::Open } else { Security::Wpa };
+    let other = if is_open {
+        Security::Open
+    } else {
+        Security::Wpa
+    };
     word(given.text(Field::Security), &words, other, Field::Security)
 }
 

@@ -1,6 +1,6 @@
 //! Parts and parameters of links, percent-encoded.
 
-ghost use Rattle.std.specs.Prelude.{◌≡◌, ◌++◌, map, string_bytes, codes, OnOk, IsOkUnless};
+ghost use Rattle.std.specs.Prelude.{◌≡◌, ◌++◌, map, string_bytes, OnOk, IsOkUnless};
 ghost use Rattle.qrcode_contents.specs.declared.fields.errors.ContentError.TheVariants.{OutOfMemory};
 ghost use Rattle.qrcode_contents.specs.fields.Links.{mark_text, part_byte, part_text, parameter_text, query_text};
 
@@ -83,13 +83,4 @@ pub fn push_parameters(
         }
     }
     Ok(())
-}
-
-/// Appends parameters, of which none stand before. After `OutOfMemory` a part of it is appended.
-pub fn push_query(text: &mut String, parameters: &[(&str, &str)]) -> ContentResult<()>
-    ensures appends { OnOk result (string_bytes text.new ≡ string_bytes text.old
-        ++ query_text (codes "?") (map (λ pair. (pair.0.now, pair.1.now)) parameters.now)) }
-    ensures memory { IsOkUnless result OutOfMemory }
-{
-    push_parameters(text, false, parameters)
 }
