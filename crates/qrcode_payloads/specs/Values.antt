@@ -1,5 +1,5 @@
 -- The values of the formats, of the texts that are given for fields.
-use Rattle.std.specs.Prelude.{ℕ, ℤ, nat_lt, ◌==◌, ◌-◌, ◌^◌, Bool, false, List, length, slice_index, is_some, codes, Option, Some, None, Result, Ok, Err, if◌then◌else◌}
+use Rattle.std.specs.Prelude.{ℕ, ℤ, nat_lt, ◌==◌, ◌-◌, ◌^◌, Bool, false, List, length, slice_index, is_some, Option, Some, None, Result, Ok, Err, if◌then◌else◌}
 use Rattle.qrcode_contents.specs.Bill.{Addressee, Invoice}
 use Rattle.qrcode_contents.specs.Card.{Contact}
 use Rattle.qrcode_contents.specs.Contact.{Person}

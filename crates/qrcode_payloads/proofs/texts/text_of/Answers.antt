@@ -5,7 +5,7 @@ use Rattle.qrcode_contents.specs.declared.fields.errors.ContentError.{ContentErr
 use Rattle.qrcode_contents.specs.fields.Refusals.{Answers, checked, first_refusal}
 use Rattle.qrcode_contents.proofs.Answering.{checked_none}
 use Rattle.qrcode_payloads.specs.Kinds.{fields_of}
-use Rattle.qrcode_payloads.specs.Texts.{long_refusal, payload_refusal, IsReadAs}
+use Rattle.qrcode_payloads.specs.Texts.{long_refusal}
 use Rattle.qrcode_payloads.proofs.texts.text_of.Goals as goal
 
 -- where the first check refuses nothing, the answers are those of the second
