@@ -3,14 +3,12 @@
 ghost use Rattle.std.specs.Prelude.{◌≡◌, ℕ, List, false, IfOk, IfErr, IsTrue, IsUtf8};
 ghost use Rattle.qrcode_bits.specs.Manners.{is_text};
 ghost use Rattle.goqlanis_buffers.specs.Calls.{WritesWith};
-ghost use Rattle.goqlanis_buffers.specs.Options.{choice_named, manner_named, mask_named, IsAsked, IsMadeAs, IsOptionsCause};
-ghost use Rattle.goqlanis_buffers.specs.declared.options.Options.{Options};
+ghost use Rattle.goqlanis_buffers.specs.Options.{choice_named, manner_named, mask_named, IsAsked, IsOptionsCause};
 
 use crate::answers::Refusal;
 use crate::names::{level_named, version_named};
 use crate::symbols::{Symbol, write_masked};
 use goqlanis_core::{Choice, symbol_in};
-use qrcode::QrCode;
 use qrcode::bits::Manner;
 use qrcode::types::EcLevel;
 use std::alloc::Global;
@@ -55,7 +53,7 @@ pub struct Asked {
 /// An error is the first that applies of `NoSuchStruct`, `NoSuchLevel`, `NoSuchVersion`,
 /// `NoSuchManner`, `NotText`, `NoMode`, `LevelNotInVersion`, `NoRoom`, `NoSuchMask` and
 /// `SmallBuffer`, or `OutOfMemory`; then the buffer is as it was.
-#[tactic(auto, using(crate::proofs::Refused::masked_as))]
+#[tactic(auto, using(crate::proofs::Refused::masked_as, crate::proofs::Refused::refused_as))]
 pub fn encode_with(
     alloc: Global,
     bytes: &[u8],
@@ -68,24 +66,11 @@ pub fn encode_with(
         Ok(asked) => asked,
         Err(refusal) => return Err(refusal),
     };
-    match symbol_of(alloc, bytes, asked) {
-        Ok(code) => write_masked(alloc, &code, asked.mask, modules),
-        Err(refusal) => Err(refusal),
-    }
-}
-
-// The symbol of data that is asked for, under the mask of least penalty.
-#[tactic(auto, using(crate::proofs::Refused::refused_as))]
-fn symbol_of(alloc: Global, bytes: &[u8], asked: Asked) -> Result<QrCode, Refusal>
-    ensures made { IfOk result (IsMadeAs asked bytes.now) }
-    ensures causes { (options : Options) (room : ℕ) → IsAsked options asked
-        → IfErr result (IsOptionsCause options bytes.now room) }
-{
     if !is_sound(asked.manner, bytes) {
         return Err(Refusal::NotText);
     }
     match symbol_in(alloc, asked.choice, asked.manner, asked.level, bytes) {
-        Ok(code) => Ok(code),
+        Ok(code) => write_masked(alloc, &code, asked.mask, modules),
         Err(error) => Err(Refusal::from(error)),
     }
 }

@@ -3,10 +3,3 @@ use Rattle.goqlanis_buffers.proofs.options.encode_with.Goals as goal
 
 pub returns-in-Err : goal.returns-in-Err
 returns-in-Err c = record { made = tt; unchanged = refl; causes = c.in-Err.ensures.causes c.args.bytes.now (length c.args.modules.now) }
-
-pub returns-in-Err-symbol_of : goal.returns-in-Err-symbol_of
-returns-in-Err-symbol_of c = record {
-  made = tt;
-  unchanged = refl;
-  causes = c.in-Err-symbol_of.ensures.causes c.args.options.now (length c.args.modules.now) c.in-Ok.ensures.made;
-}

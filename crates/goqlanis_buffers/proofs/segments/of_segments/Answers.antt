@@ -1,16 +1,11 @@
 use Rattle.std.proofs.Common.{◌≡◌, length, refl, sym, ap, subst, ◌∙◌}
-use Rattle.std.specs.Prelude.{Result, Ok, Err, IsErr, IsErrAnd, IfErr}
 use Rattle.qrcode_bits.specs.BitList.{BitList}
 use Rattle.qrcode_types.specs.Versions.{has_level}
 use Rattle.goqlanis_buffers.specs.Answers.{IsSegmentsCause}
 use Rattle.goqlanis_buffers.specs.Segments.{written_segments, AreTaken}
 use Rattle.goqlanis_buffers.proofs.Ended.{ended}
+use Rattle.goqlanis_buffers.proofs.Fields.{handed_on}
 use Rattle.goqlanis_buffers.proofs.segments.of_segments.Goals as goal
-
--- an error that a `?` hands on
-handed_on : {T R : Type 0} (result : Result T R) (r : R) (P : R → Type 0) → IsErr result × IsErrAnd result (λ x. x ≡ r) → P r → IfErr result P
-handed_on (Ok u) r P h p = tt
-handed_on (Err x) r P h p = subst P (sym h.1) p
 
 pub returns-in_err-push_terminator-clause-causes : goal.returns-in_err-push_terminator-clause-causes
 returns-in_err-push_terminator-clause-causes c = λ room.

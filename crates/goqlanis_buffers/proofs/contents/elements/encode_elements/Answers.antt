@@ -3,6 +3,3 @@ use Rattle.goqlanis_buffers.proofs.contents.elements.encode_elements.Goals as go
 
 pub returns-in-Err-clause-causes : goal.returns-in-Err-clause-causes
 returns-in-Err-clause-causes c = inr (inr (λ bytes room. c.in-Err.ensures.causes bytes room))
-
-pub returns-in-Err-symbol_of-clause-causes : goal.returns-in-Err-symbol_of-clause-causes
-returns-in-Err-symbol_of-clause-causes c = c.in-Err-symbol_of.ensures.causes c.args.options.now (length c.args.modules.now) c.in-Ok.ensures.made
