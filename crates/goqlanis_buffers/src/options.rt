@@ -3,7 +3,7 @@
 ghost use Rattle.std.specs.Prelude.{◌≡◌, ℕ, List, false, IfOk, IfErr, IsTrue, IsUtf8};
 ghost use Rattle.qrcode_bits.specs.Manners.{is_text};
 ghost use Rattle.goqlanis_buffers.specs.Calls.{WritesWith};
-ghost use Rattle.goqlanis_buffers.specs.Options.{choice_named, manner_named, mask_named, IsAsked, IsOptionsCause};
+ghost use Rattle.goqlanis_buffers.specs.Options.{choice_named, manner_named, IsAsked, IsOptionsCause};
 
 use crate::answers::Refusal;
 use crate::names::{level_named, version_named};
@@ -100,7 +100,7 @@ pub(crate) fn asked_by(options: &Options) -> Result<Asked, Refusal>
         choice,
         level,
         manner,
-        mask: mask_named(options.mask),
+        mask: (options.mask as usize).checked_sub(1),
     })
 }
 
@@ -132,17 +132,6 @@ fn choice_named(options: &Options) -> Option<Choice>
     } else {
         Choice::Boosted(from)
     })
-}
-
-// The number of a mask that options name.
-fn mask_named(mask: u32) -> Option<usize>
-    ensures value { result ≡ mask_named mask }
-{
-    if mask == 0 {
-        None
-    } else {
-        Some(mask as usize - 1)
-    }
 }
 
 // The manner of a number.

@@ -78,34 +78,23 @@ pub fn put_picture(alloc: Global, asked: &Asked<'_>, out: &mut [u8]) -> Result<u
     ensures { WritesPicture asked.now.modules.now asked.now.width asked.now.drawing.now
         out.old out.new result }
 {
-    let bytes = match picture_within(alloc, asked, out.len()) {
-        Ok(bytes) => bytes,
-        Err(refusal) => return Err(refusal),
-    };
-    fill(out, &bytes);
-    Ok(bytes.len())
-}
-
-// A picture that has no more bytes than there is room for.
-fn picture_within(alloc: Global, asked: &Asked<'_>, room: usize) -> Result<Vec<u8>, Refusal>
-    ensures picture { IfOk result (λ bytes. IsPictureFor asked.now bytes.items) }
-    ensures room { IfOk result (λ bytes. length bytes.items ≤ room) }
-    ensures causes { IfErr result (IsCauseFor asked.now room) }
-{
     let format = match format_of(asked) {
         Ok(format) => format,
         Err(refusal) => return Err(refusal),
     };
     match known_length(alloc, asked, format) {
-        Ok(Some(length)) if room < length => return Err(Refusal::SmallBuffer),
+        Ok(Some(length)) if out.len() < length => return Err(Refusal::SmallBuffer),
         Ok(_) => {}
         Err(_) => return Err(Refusal::OutOfMemory),
     }
-    match drawn(alloc, asked, format) {
-        Ok(bytes) if room < bytes.len() => Err(Refusal::SmallBuffer),
-        Ok(bytes) => Ok(bytes),
-        Err(_) => Err(Refusal::OutOfMemory),
+    let Ok(bytes) = drawn(alloc, asked, format) else {
+        return Err(Refusal::OutOfMemory);
+    };
+    if out.len() < bytes.len() {
+        return Err(Refusal::SmallBuffer);
     }
+    fill(out, &bytes);
+    Ok(bytes.len())
 }
 
 /// The length of a picture.

@@ -1,27 +1,25 @@
 //! Squares of modules read back.
 
-ghost use Rattle.std.specs.Prelude.{◌≡◌, ◌*◌, ℕ, chars, length, string_bytes, IsTrue, IfOk, IfErr, IfNone, IfSome, OnErr};
-ghost use Rattle.qrcode_types.specs.Versions.{has_level, is_valid, side};
+ghost use Rattle.std.specs.Prelude.{◌≡◌, ◌*◌, ℕ, length, IsTrue, IfOk, IfErr};
+ghost use Rattle.qrcode_types.specs.Versions.{has_level, side};
 ghost use Rattle.qrcode.specs.Reading.{ReadsOnly};
-ghost use Rattle.qrcode.specs.Texts.{ShowsTextOnly};
 ghost use Rattle.qrcode_reader.specs.Formats.{HasFormat};
-ghost use Rattle.qrcode_reader.specs.Readings.{HasNoFormat, IsReading, IsTextReading};
-ghost use Rattle.goqlanis_buffers.specs.Answers.{IsAnyReadingCause, IsMaskCause, IsReadingCause, IsTextReadingCause};
+ghost use Rattle.qrcode_reader.specs.Readings.{IsReading};
+ghost use Rattle.goqlanis_buffers.specs.Answers.{IsMaskCause, IsReadingCause};
 ghost use Rattle.goqlanis_buffers.specs.Calls.{TellsMask, TellsReadLength, WritesAnyReading, WritesReading, WritesTextReading};
 ghost use Rattle.qrcode_render.specs.Shades.{colors_of};
-ghost use Rattle.goqlanis_buffers.specs.declared.answers.Refusal.TheVariants.{NoFormat};
-ghost use Rattle.goqlanis_buffers.specs.Readings.{mask_number_in, position_number, found_anywhere, IsReadAnywhere, IsReadNowhere, IsReported};
+ghost use Rattle.goqlanis_buffers.specs.Readings.{mask_number_in, position_number, IsReported};
 
 use crate::answers::Refusal;
 use crate::names::{level_number, version_number};
 use crate::symbols::{colors_of, fill};
 use qrcode::canvas::MaskPattern;
-use qrcode::types::{Color, EcLevel, Version};
+use qrcode::types::{EcLevel, Version};
 use qrcode_reader::{
-    AnyReading as FoundAnywhere, Position, Reading as Found, TextReading, Unread, UnreadText, read,
-    read_any, read_format, read_text, version_of,
+    Position, Reading as Found, Unread, UnreadText, read, read_any, read_format, read_text,
+    version_of,
 };
-use std::alloc::{AllocError, Global};
+use std::alloc::Global;
 
 /// What is read of a square beside its bytes.
 #[repr(C)]
@@ -207,22 +205,8 @@ pub(crate) fn format_of(alloc: Global, modules: &[u8]) -> Result<Format, Refusal
     let Some(version) = version_of(modules.len()) else {
         return Err(Refusal::NoSuchSide);
     };
-    match colors_of(alloc, modules) {
-        Ok(colors) => format_in(version, &colors),
-        Err(_) => Err(Refusal::OutOfMemory),
-    }
-}
-
-// The same of a version.
-fn format_in(version: Version, colors: &[Color]) -> Result<Format, Refusal>
-    requires valid { IsTrue (is_valid version) }
-    requires square { length colors.now ≡ side version * side version }
-    ensures version { IfOk result (λ f. f.version ≡ version) }
-    ensures named { IfOk result (λ f. HasFormat f.version colors.now f.level f.mask) }
-    ensures is { IfErr result (λ refusal. refusal ≡ NoFormat) }
-    ensures none { OnErr result (HasNoFormat colors.now) }
-{
-    match read_format(version, colors) {
+    let colors = colors_of(alloc, modules)?;
+    match read_format(version, &colors) {
         Some((level, mask)) => Ok(Format {
             version,
             level,
