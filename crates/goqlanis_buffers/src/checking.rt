@@ -141,7 +141,10 @@ fn told_in(alloc: Global, picture: &[u8], size: u32) -> Result<Told, Refusal>
         Ok(found) => found,
         Err(unread) => return Err(picture_refusal(unread)),
     };
-    match (checks_in(alloc, &found.checks), wrong_in(alloc, &found.checks)) {
+    match (
+        checks_in(alloc, &found.checks),
+        wrong_in(alloc, &found.checks),
+    ) {
         (Ok(checks), Ok(wrong)) => Ok(Told { checks, wrong }),
         _ => Err(Refusal::OutOfMemory),
     }

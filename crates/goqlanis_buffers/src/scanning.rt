@@ -90,8 +90,16 @@ pub fn codes_of(alloc: Global, picture: &[u8], size: u32) -> Result<Told, Refusa
         Err(unread) => return Err(picture_refusal(unread)),
     };
     let scans = &codes.scans;
-    match (codes_in(alloc, scans), parts_in(alloc, scans), bytes_in(alloc, scans)) {
-        (Ok(codes), Ok(parts), Ok(bytes)) => Ok(Told { codes, parts, bytes }),
+    match (
+        codes_in(alloc, scans),
+        parts_in(alloc, scans),
+        bytes_in(alloc, scans),
+    ) {
+        (Ok(codes), Ok(parts), Ok(bytes)) => Ok(Told {
+            codes,
+            parts,
+            bytes,
+        }),
         _ => Err(Refusal::OutOfMemory),
     }
 }

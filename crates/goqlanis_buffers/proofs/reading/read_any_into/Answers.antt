@@ -23,7 +23,7 @@ returns-then-bytes-len c =
     let square = of_some _ any.field-0 any.found any.field-0-is any.ensures.square in
     let first = of_some _ any.field-0 any.found any.field-0-is any.ensures.value in
     let read = subst (λ (s : List Color). IsReadAnywhere s (found_anywhere any.found)) (c.deref.ensures.value ∙ c.in_ok-colors.ensures.value)
-        (record { side = square.0; square = square.1; read = first square.0 square.1 }) in
+    (record { side = square.0; square = square.1; read = first square.0 square.1 }) in
     record { made = tt; unchanged = refl; causes = (found_anywhere any.found, (read, omega (arith, c.if-bytes-len.true, c.len.ensures))) }
 
 pub returns : goal.returns
