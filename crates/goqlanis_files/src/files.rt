@@ -17,6 +17,9 @@ pub enum Unwritten {
     /// No file can be made in this folder, which is to hold it.
     #[error("no file can be made in its folder {0}: {1}")]
     Folder(String, io::Error),
+    /// What stands under its name is a folder.
+    #[error("it is a folder; name a file in it")]
+    IsFolder,
     /// It was written beside its place, and cannot be put there.
     #[error("another file cannot take its place: {0}")]
     Place(io::Error),
@@ -90,6 +93,9 @@ pub fn write_whole(rt: &HostRuntime, path: &str, bytes: &[u8]) -> Result<(), Unw
         }
         if found.is_file() {
             return replace(rt, &folder, inside.as_str(), Some(found), bytes);
+        }
+        if found.is_dir() {
+            return Err(Unwritten::IsFolder);
         }
         if !found.is_symlink() {
             return write_straight(rt, inside.as_str(), false, bytes);

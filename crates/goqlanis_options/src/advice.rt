@@ -2,8 +2,9 @@
 //! of 80 characters.
 
 use crate::nearest::nearest;
-use crate::options::{ADVICE, TASKS, Task, task_named};
+use crate::options::{ADVICE, TASKS, Takes, Task, task_named};
 use clap::error::Error;
+use goqlanis_core::Grouped;
 use std::alloc::{AllocError, Global};
 
 /// What is wrong with words of a task that `clap` refuses, and what to write instead, where `clap` does
@@ -44,12 +45,16 @@ fn value_help(
     if let Some(help) = known_help(alloc, task, value)? {
         return Ok(Some(help));
     }
-    match between(text, "for '", " <") {
-        Some(option) if text.contains("invalid digit") => Ok(Some(format!(in alloc;
-            "{option} {value}: it takes a whole number"
-        )?)),
-        _ => Ok(None),
+    let name = between(text, "for '--", " <").filter(|_| text.contains("invalid digit"));
+    for (_, entry) in &task.all_options(alloc)? {
+        if let (true, Takes::Number(_, least, most)) = (Some(entry.long) == name, entry.takes) {
+            let (long, most) = (entry.long, Grouped(most as usize));
+            return Ok(Some(format!(in alloc;
+                "--{long} {value}: use a whole number, {least} to {most}"
+            )?));
+        }
     }
+    Ok(None)
 }
 
 // What stands between two texts in another one.

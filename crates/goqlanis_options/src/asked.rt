@@ -1,10 +1,10 @@
 //! From the command line to what is asked for.
 
-use crate::colours::{Inks, check_colours};
+use crate::colours::{check_colours, ink_of, part_colour, part_inks};
 use crate::frames::{frame_of, place_of};
 use crate::logos::{AskedLogo, logo_of};
 use crate::options::Task;
-use crate::sizes::{Sizes, has_dots, sizes_of};
+use crate::sizes::{Sizes, sizes_of};
 use crate::warnings::warn;
 use clap::ArgMatches;
 use clap::parser::ValueSource;
@@ -16,6 +16,7 @@ use qrcode::bits::Manner;
 use qrcode::types::{EcLevel, Version};
 use qrcode_append::Versions;
 use std::alloc::{AllocError, Global};
+use std::fs;
 
 /// Where the data comes from.
 #[derive(Clone, Copy)]
@@ -35,74 +36,60 @@ pub enum Target<'a> {
     File(&'a str),
 }
 
-/// How what was drawn is reported on standard error.
-#[derive(Clone, Copy)]
-pub enum Reporting {
-    Lines,
-    Json,
-}
-
 /// What is asked for.
 #[derive(Clone, Copy)]
 pub struct Asked<'a> {
-    /// Its manner is that of data that is written as a text; `manner` decides.
+    /// Its manner is that of data that is written as a text; the data decides.
     pub request: Request<'a>,
-    /// How the data is written, where that is asked for: as bytes, or as a text with the number of
-    /// UTF-8 in front. Otherwise what is UTF-8 is written as a text, and other bytes as bytes.
-    pub manner: Option<Manner>,
-    pub source: Source<'a>,
+    /// The options that are given.
+    pub given: &'a ArgMatches<'a>,
     pub target: Target<'a>,
-    /// Whether a newline at the end of the data is left out.
-    pub trims: bool,
-    /// Whether each line is data of its own.
-    pub is_by_line: bool,
-    /// What stands between the fields of a line.
-    pub delimiter: &'a str,
-    /// The field of a line that is its data, counted from 1, where it is not all of the line.
-    pub field: Option<usize>,
-    /// Whether data that is empty is drawn.
-    pub allows_empty: bool,
     /// The side that is asked for in hundredths of millimetres, where it is.
     pub hundredths: Option<u64>,
     /// The pixels of a printed inch, where they are known.
     pub dots: Option<u16>,
     /// What is asked of the middle of a code, where something is.
     pub logo: Option<AskedLogo<'a>>,
-    pub reporting: Option<Reporting>,
+}
+
+impl Asked<'_> {
+    /// Whether each line is data of its own.
+    pub fn is_by_line(&self) -> bool {
+        self.given.get_flag("lines")
+    }
+
+    /// What stands between the fields of a line.
+    pub fn delimiter(&self) -> &str {
+        self.given.get_str("delimiter").unwrap_or(",")
+    }
 }
 
 /// What is asked for by the options that are given. What is doubtful is said on standard error.
 pub fn asked_for<'a>(
     rt: &HostRuntime,
     task: &Task,
-    given: &ArgMatches<'a>,
+    given: &'a ArgMatches<'a>,
 ) -> Result<Asked<'a>, Failure> {
     let alloc = rt.alloc();
     check_conflicts(alloc, given)?;
     let target = target_of(given);
-    let format = format(alloc, given.get_str("format"), target, has_colours(rt))?;
+    let format = format(rt, given.get_str("format"), target)?;
+    check_format(alloc, given, format)?;
     let sizes = sizes_of(alloc, given, format)?;
     let asked = Asked {
         request: request_of(alloc, task, given, format, &sizes)?,
+        given,
+        target,
         hundredths: sizes.hundredths,
         dots: sizes.dots,
-        logo: logo_of(alloc, given, format)?,
-        reporting: reporting_of(given),
-        manner: manner_of(given),
-        source: source_of(given),
-        target,
-        trims: given.get_flag("trim"),
-        is_by_line: given.get_flag("lines"),
-        delimiter: given.get_str("delimiter").unwrap_or(","),
-        field: given.get_one::<u16>("field").map(usize::from),
-        allows_empty: given.get_flag("allow-empty"),
+        logo: logo_of(alloc, given)?,
     };
-    if asked.delimiter.is_empty() {
+    if asked.delimiter().is_empty() {
         return usage(alloc, "--delimiter: give it a text, e.g. \";\"");
     }
-    if asked.is_by_line {
+    if asked.is_by_line() {
         check_one_behind_another(alloc, &asked)?;
-    } else if asked.field.is_some() {
+    } else if given.contains_id("field") {
         return usage(alloc, "--field: it is a field of a line; add --lines");
     }
     warn(rt, &asked);
@@ -157,7 +144,8 @@ fn is_given(given: &ArgMatches<'_>, name: &str) -> bool {
     given.value_source(name.trim_start_matches('-')) == Some(ValueSource::CommandLine)
 }
 
-fn source_of<'a>(given: &ArgMatches<'a>) -> Source<'a> {
+/// Where the data comes from.
+pub fn source_of<'a>(given: &ArgMatches<'a>) -> Source<'a> {
     match (given.get_str("TEXT"), given.get_str("input")) {
         (Some(text), _) => Source::Text(text),
         (None, None | Some("-")) => Source::StandardInput,
@@ -170,16 +158,6 @@ fn target_of<'a>(given: &ArgMatches<'a>) -> Target<'a> {
         None => Target::Terminal,
         Some("-") => Target::StandardOutput,
         Some(path) => Target::File(path),
-    }
-}
-
-fn manner_of(given: &ArgMatches<'_>) -> Option<Manner> {
-    if given.get_flag("bytes") {
-        Some(Manner::Bytes)
-    } else if given.get_flag("eci") {
-        Some(Manner::MarkedText)
-    } else {
-        None
     }
 }
 
@@ -241,16 +219,6 @@ fn version_of(
     }
 }
 
-fn reporting_of(given: &ArgMatches<'_>) -> Option<Reporting> {
-    if given.get_flag("json") {
-        Some(Reporting::Json)
-    } else if given.get_flag("verbose") {
-        Some(Reporting::Lines)
-    } else {
-        None
-    }
-}
-
 fn request_of<'a>(
     alloc: Global,
     task: &Task,
@@ -258,62 +226,96 @@ fn request_of<'a>(
     format: Format,
     sizes: &Sizes,
 ) -> Result<Request<'a>, Failure> {
-    let inks = Inks::of(alloc, given)?;
-    if let Some(text) = unsuitable_option(given, format) {
-        return usage(alloc, text);
-    }
-    check_colours(alloc, given, format, inks)?;
-    Ok(Request {
+    let choice = choice_of(alloc, given)?;
+    let request = Request {
         manner: Manner::Text,
-        choice: choice_of(alloc, given)?,
-        level: level_of(task, given),
+        choice,
+        level: level_of(task, given, choice),
         mask: given.get_one::<u8>("mask").map(usize::from),
         format,
         zone: given.get_one::<u8>("quiet-zone"),
         scale: sizes.scale,
         size: sizes.side,
-        dpi: sizes.dpi,
+        dpi: given.get_one::<u16>("dpi"),
         length: sizes.length,
-        place: place_of(alloc, given, format)?,
-        frame: frame_of(alloc, given, format)?,
-        dark: inks.dark,
-        light: inks.light,
-        parts: inks.parts,
+        place: place_of(alloc, given)?,
+        frame: frame_of(alloc, given)?,
+        dark: ink_of(alloc, "dark", given.get_str("dark").unwrap_or("#000"))?,
+        light: ink_of(alloc, "light", given.get_str("light").unwrap_or("#fff"))?,
+        parts: part_inks(alloc, given)?.leak(),
         is_inverted: given.get_flag("invert"),
-    })
+    };
+    check_colours(alloc, &request)?;
+    Ok(request)
 }
 
-// What is said of options that a format does not have.
-fn unsuitable_option(given: &ArgMatches<'_>, format: Format) -> Option<&'static str> {
-    let has_colours = format.has_colours();
-    if !has_colours && given.contains_id("dark") {
-        Some("--dark: only PNG, SVG, EPS, PDF and PPM have colours; add --format png, svg or eps")
-    } else if !has_colours && given.contains_id("light") {
-        Some("--light: only PNG, SVG, EPS, PDF and PPM have colours; add --format png, svg or eps")
-    } else if !has_dots(format) && given.contains_id("dpi") {
-        Some("--dpi: text, SVG and PIC have no resolution; use another --format, e.g. png")
-    } else if format == Format::Pic && given.get_flag("invert") {
-        Some("--invert: PIC draws no light modules; use another --format")
-    } else {
-        None
+// Refuses options that a format does not have.
+fn check_format(alloc: Global, given: &ArgMatches<'_>, format: Format) -> Result<(), Failure> {
+    let part = part_colour(given).unwrap_or("");
+    let is_svg = format == Format::SvgPath;
+    let rows: [(&[&str], bool, &str); 8] = [
+        (
+            &["dark", "light"],
+            format.has_colours(),
+            "only PNG, SVG, EPS, PDF and PPM have colours; add --format png, svg or eps",
+        ),
+        (
+            &[part],
+            format.has_colours() && format != Format::Ppm,
+            "only PNG, SVG, EPS and PDF have colours of parts; add --format png, svg, eps or pdf",
+        ),
+        (
+            &["dpi"],
+            format.pixels() > 1 && !is_svg,
+            "text, SVG and PIC have no resolution; use another --format, e.g. png",
+        ),
+        (
+            &["invert"],
+            format != Format::Pic,
+            "PIC draws no light modules; use another --format",
+        ),
+        (
+            &["at"],
+            matches!(format, Format::Zpl | Format::Tspl),
+            "only labels have a place for the code; add --format zpl or tspl",
+        ),
+        (
+            &["logo"],
+            is_svg || format == Format::Png,
+            "only SVG and PNG take a logo; add --format svg, or use --logo-area instead and put \
+            the logo there yourself",
+        ),
+        (
+            &["svg-title", "svg-desc", "svg-id", "svg-class", "no-size"],
+            is_svg,
+            "only SVG has it; add --format svg",
+        ),
+        (
+            &["pdf-title"],
+            format == Format::Pdf,
+            "only PDF has it; add --format pdf",
+        ),
+    ];
+    for (options, has, why) in &rows {
+        let option = options.iter().find(|option| is_given(given, option));
+        if let Some(option) = option.filter(|_| !*has) {
+            return Err(Failure::Usage(format!(in alloc; "--{option}: {why}")?));
+        }
     }
+    Ok(())
 }
 
-// The level that is asked for. Where none is, it is M, and with a logo H, which leaves room for a
-// larger one, unless the format of a payload says the level.
-fn level_of(task: &Task, given: &ArgMatches<'_>) -> EcLevel {
-    match given.get_str("level") {
-        Some("L" | "l") => EcLevel::L,
-        Some("Q" | "q") => EcLevel::Q,
-        Some("H" | "h") => EcLevel::H,
-        None if !task.has_its_level() && has_middle(given) => EcLevel::H,
+// The level that is asked for. Where none is, it is M, of version M1 L, and with a logo H, which
+// leaves room for a larger one, unless the format of a payload says the level.
+fn level_of(task: &Task, given: &ArgMatches<'_>, choice: Choice) -> EcLevel {
+    let has_middle = given.contains_id("logo") || given.get_flag("logo-area");
+    match (given.get_str("level"), choice) {
+        (Some("L" | "l"), _) | (None, Choice::At(Version::Micro(1))) => EcLevel::L,
+        (Some("Q" | "q"), _) => EcLevel::Q,
+        (Some("H" | "h"), _) => EcLevel::H,
+        (None, _) if has_middle && !task.has_its_level() => EcLevel::H,
         _ => EcLevel::M,
     }
-}
-
-// Whether something is asked of the middle.
-fn has_middle(given: &ArgMatches<'_>) -> bool {
-    given.contains_id("logo") || given.get_flag("logo-area")
 }
 
 // The version of a name: 1 to 40, or M1 to M4.
@@ -327,29 +329,31 @@ fn version(name: &str) -> Option<Version> {
 }
 
 // The format that is named, or that of the file extension, or that of the terminal.
-fn format(
-    alloc: Global,
-    name: Option<&str>,
-    target: Target<'_>,
-    has_colours: bool,
-) -> Result<Format, Failure> {
+fn format(rt: &HostRuntime, name: Option<&str>, target: Target<'_>) -> Result<Format, Failure> {
     if let Some(format) = name.and_then(format_named) {
         return Ok(format);
     }
-    match target {
-        Target::Terminal if has_colours => Ok(Format::Terminal),
-        Target::Terminal | Target::StandardOutput => Ok(Format::HalfBlocks),
-        Target::File(path) => match ending_format(path) {
-            Some(format) => Ok(format),
-            None => {
-                let endings = all_endings(alloc)?;
-                Err(Failure::Usage(format!(in alloc;
-                    "--output {path}: the file extension is none of{endings}; \
-                    use one of these and convert the file, or add --format"
-                )?))
-            }
-        },
+    let Target::File(path) = target else {
+        let is_coloured = matches!(target, Target::Terminal) && has_colours(rt);
+        return Ok(if is_coloured {
+            Format::Terminal
+        } else {
+            Format::HalfBlocks
+        });
+    };
+    if let Some(format) = ending_format(path) {
+        return Ok(format);
     }
+    if fs::metadata(rt, path).is_ok_and(|found| found.is_dir()) {
+        return Err(Failure::Usage(format!(in rt.alloc();
+            "--output {path}: it is a folder; name a file in it"
+        )?));
+    }
+    let endings = all_endings(rt.alloc())?;
+    Err(Failure::Usage(format!(in rt.alloc();
+        "--output {path}: the file extension is none of{endings}; use one of these and convert \
+        the file, or add --format"
+    )?))
 }
 
 // The file extensions, each after a space and a point.

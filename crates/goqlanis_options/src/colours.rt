@@ -4,39 +4,22 @@ use crate::nearest::nearest;
 use crate::options::PART_COLOURS;
 use clap::ArgMatches;
 use goqlanis_core::colours::{Colour, NAMES, colour_named};
-use goqlanis_core::{Format, Ink, Part, PartInk};
+use goqlanis_core::{Format, Ink, PartInk, Request};
 use goqlanis_files::failure::{Failure, usage};
-use qrcode::types::Color;
 use std::alloc::{AllocError, Global};
 
-/// How modules are drawn.
-#[derive(Clone, Copy)]
-pub struct Inks<'a> {
-    pub dark: Ink<'a>,
-    pub light: Ink<'a>,
-    pub parts: &'a [PartInk<'a>],
-}
-
-impl<'a> Inks<'a> {
-    /// The colours that the command line gives, black and white where it gives none. Those of parts,
-    /// at most twelve, stand in a list that is not freed.
-    pub fn of(alloc: Global, given: &ArgMatches<'a>) -> Result<Inks<'a>, Failure> {
-        Ok(Inks {
-            dark: ink_of(alloc, "dark", given.get_str("dark").unwrap_or("#000"))?,
-            light: ink_of(alloc, "light", given.get_str("light").unwrap_or("#fff"))?,
-            parts: part_inks(alloc, given)?.leak(),
-        })
-    }
-}
-
-// The colours of parts that the command line gives: what is dark is light where both are exchanged.
-fn part_inks<'a>(alloc: Global, given: &ArgMatches<'a>) -> Result<Vec<PartInk<'a>>, Failure> {
+/// The colours of parts that the command line gives: what is dark is light where both are exchanged.
+pub fn part_inks<'a>(alloc: Global, given: &ArgMatches<'a>) -> Result<Vec<PartInk<'a>>, Failure> {
     let mut inks = Vec::new(alloc);
     for colour in PART_COLOURS {
         if let Some(text) = given.get_str(colour.entry.long) {
             inks.push(PartInk {
                 part: colour.part,
-                tone: shown_tone(given, colour.tone),
+                tone: if given.get_flag("invert") {
+                    !colour.tone
+                } else {
+                    colour.tone
+                },
                 ink: ink_of(alloc, colour.entry.long, text)?,
             })?;
         }
@@ -44,17 +27,8 @@ fn part_inks<'a>(alloc: Global, given: &ArgMatches<'a>) -> Result<Vec<PartInk<'a
     Ok(inks)
 }
 
-// The modules that are drawn dark or light.
-fn shown_tone(given: &ArgMatches<'_>, tone: Color) -> Color {
-    match tone {
-        Color::Dark if given.get_flag("invert") => Color::Light,
-        Color::Light if given.get_flag("invert") => Color::Dark,
-        tone => tone,
-    }
-}
-
-// The colour that the text of an option names.
-fn ink_of<'a>(alloc: Global, option: &str, text: &'a str) -> Result<Ink<'a>, Failure> {
+/// The colour that the text of an option names.
+pub fn ink_of<'a>(alloc: Global, option: &str, text: &'a str) -> Result<Ink<'a>, Failure> {
     match colour_named(text) {
         Some(colour) => Ok(Ink {
             name: svg_name(alloc, text, colour)?,
@@ -92,27 +66,16 @@ fn unknown_colour(alloc: Global, option: &str, text: &str) -> Result<String, All
     }
 }
 
-/// Refuses colours that a format does not have: those of parts, and what is not opaque.
-pub fn check_colours(
-    alloc: Global,
-    given: &ArgMatches<'_>,
-    format: Format,
-    inks: Inks<'_>,
-) -> Result<(), Failure> {
-    if let Some(option) = part_colour(given).filter(|_| !has_parts(format)) {
-        return Err(Failure::Usage(format!(in alloc;
-            "--{option}: only PNG, SVG, EPS and PDF have colours of parts; add --format png, svg, eps or \
-            pdf"
-        )?));
-    }
-    let is_opaque = inks.dark.opacity == 255 && inks.light.opacity == 255;
-    if matches!(format, Format::Eps | Format::Pdf | Format::Ppm) && !is_opaque {
+/// Refuses colours that a format does not have: those that are not opaque.
+pub fn check_colours(alloc: Global, request: &Request<'_>) -> Result<(), Failure> {
+    let is_opaque = request.dark.opacity == 255 && request.light.opacity == 255;
+    if matches!(request.format, Format::Eps | Format::Pdf | Format::Ppm) && !is_opaque {
         return usage(
             alloc,
             "EPS, PDF and PPM have no transparency: use --format png or svg",
         );
     }
-    if format != Format::Png && !inks.parts.iter().all(|part| part.ink.opacity == 255) {
+    if request.format != Format::Png && !request.parts.iter().all(|part| part.ink.opacity == 255) {
         return usage(
             alloc,
             "colours of parts are drawn over --dark and --light in SVG, EPS and PDF: for transparent \
@@ -128,12 +91,4 @@ pub fn part_colour(given: &ArgMatches<'_>) -> Option<&'static str> {
         .iter()
         .find(|colour| given.contains_id(colour.entry.long));
     Some(found?.entry.long)
-}
-
-// Whether a format draws parts in colours of their own.
-fn has_parts(format: Format) -> bool {
-    matches!(
-        format,
-        Format::Png | Format::Svg | Format::SvgPath | Format::Eps | Format::Pdf
-    )
 }

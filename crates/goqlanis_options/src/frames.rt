@@ -1,26 +1,15 @@
 //! Where a drawing stands on a label, and what is said at the element of SVG and of a PDF file.
 
 use clap::ArgMatches;
-use goqlanis_core::Format;
-use goqlanis_files::failure::{Failure, usage};
+use goqlanis_files::failure::Failure;
 use qrcode::render::svg::{Frame, Size};
 use std::alloc::Global;
 
 /// The dots from the left and from the top of a label that the command line gives.
-pub fn place_of(
-    alloc: Global,
-    given: &ArgMatches<'_>,
-    format: Format,
-) -> Result<(u32, u32), Failure> {
+pub fn place_of(alloc: Global, given: &ArgMatches<'_>) -> Result<(u32, u32), Failure> {
     let Some(text) = given.get_str("at") else {
         return Ok((0, 0));
     };
-    if !matches!(format, Format::Zpl | Format::Tspl) {
-        return usage(
-            alloc,
-            "--at: only labels have a place for the code; add --format zpl or tspl",
-        );
-    }
     match dots_of(text) {
         Some(place) => Ok(place),
         None => Err(Failure::Usage(format!(in alloc;
@@ -37,21 +26,16 @@ fn dots_of(text: &str) -> Option<(u32, u32)> {
 }
 
 /// What the command line says at the element of SVG; in PDF its title.
-pub fn frame_of<'a>(
-    alloc: Global,
-    given: &ArgMatches<'a>,
-    format: Format,
-) -> Result<Frame<'a>, Failure> {
+pub fn frame_of<'a>(alloc: Global, given: &ArgMatches<'a>) -> Result<Frame<'a>, Failure> {
     let [id, class, in_svg, description, in_pdf] = [
-        text_of(alloc, given, format, "svg-id")?,
-        text_of(alloc, given, format, "svg-class")?,
-        text_of(alloc, given, format, "svg-title")?,
-        text_of(alloc, given, format, "svg-desc")?,
-        text_of(alloc, given, format, "pdf-title")?,
+        text_of(alloc, given, "svg-id")?,
+        text_of(alloc, given, "svg-class")?,
+        text_of(alloc, given, "svg-title")?,
+        text_of(alloc, given, "svg-desc")?,
+        text_of(alloc, given, "pdf-title")?,
     ];
     let title = if in_pdf.is_empty() { in_svg } else { in_pdf };
     let size = if given.get_flag("no-size") {
-        check_format(alloc, format, "no-size")?;
         Size::Free
     } else {
         Size::Pixels
@@ -65,21 +49,15 @@ pub fn frame_of<'a>(
     })
 }
 
-// The text of an option that one format has, empty where it is not given.
-fn text_of<'a>(
-    alloc: Global,
-    given: &ArgMatches<'a>,
-    format: Format,
-    option: &str,
-) -> Result<&'a str, Failure> {
+// The text of an option, of one line of XML; empty where it is not given.
+fn text_of<'a>(alloc: Global, given: &ArgMatches<'a>, option: &str) -> Result<&'a str, Failure> {
     let Some(text) = given.get_str(option) else {
         return Ok("");
     };
-    check_format(alloc, format, option)?;
     if text.is_empty() || text.contains('\n') {
         return Err(Failure::Usage(format!(in alloc; "--{option}: give it a text of one line")?));
     }
-    if let Some(character) = text.chars().find(|character| is_foreign(*character)) {
+    if let Some(character) = text.chars().find(is_foreign) {
         let code = character as u32;
         return Err(Failure::Usage(format!(in alloc;
             "--{option}: it has U+{code:04X}, which cannot stand there; leave it out"
@@ -89,19 +67,6 @@ fn text_of<'a>(
 }
 
 // Whether no text of XML in one line has a character.
-fn is_foreign(character: char) -> bool {
-    character < ' ' || matches!(character, '\u{fffe}' | '\u{ffff}')
-}
-
-// Refuses an option that only SVG or only PDF has in another format.
-fn check_format(alloc: Global, format: Format, option: &str) -> Result<(), Failure> {
-    let (wanted, name, word) = if option == "pdf-title" {
-        (Format::Pdf, "PDF", "pdf")
-    } else {
-        (Format::SvgPath, "SVG", "svg")
-    };
-    if format == wanted {
-        return Ok(());
-    }
-    Err(Failure::Usage(format!(in alloc; "--{option}: only {name} has it; add --format {word}")?))
+fn is_foreign(character: &char) -> bool {
+    matches!(character, '\0'..='\x1f' | '\u{fffe}' | '\u{ffff}')
 }

@@ -1,6 +1,6 @@
 //! What was made, on standard error: `--verbose` and `--json`.
 
-use crate::asked::{Asked, Reporting};
+use crate::asked::Asked;
 use crate::warnings::{Decimal, hundredths_of, warn_of_label, warn_of_modules, warn_of_size};
 use goqlanis_core::{Drawing, VersionName, dots, quiet_zone, scale};
 use qrcode::types::EcLevel;
@@ -40,10 +40,12 @@ pub fn show_report(
     warn_of_size(rt, asked, modules);
     warn_of_label(rt, asked, modules.saturating_mul(report.scale));
     warn_of_modules(rt, asked, report.scale, report.dots);
-    let text = match asked.reporting {
-        None => return Ok(()),
-        Some(Reporting::Lines) => lines(rt.alloc(), &report)?,
-        Some(Reporting::Json) => json(rt.alloc(), &report)?,
+    let text = if asked.given.get_flag("json") {
+        json(rt.alloc(), &report)?
+    } else if asked.given.get_flag("verbose") {
+        lines(rt.alloc(), &report)?
+    } else {
+        return Ok(());
     };
     let _ = eprint!(rt; "{text}");
     Ok(())

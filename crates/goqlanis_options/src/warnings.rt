@@ -56,7 +56,7 @@ pub fn warn_of_size(rt: &HostRuntime, asked: &Asked<'_>, modules: u32) {
     }
     let scale = side as u32 / modules;
     let made = hundredths_of(modules.saturating_mul(scale), u32::from(dots));
-    if !asked.is_by_line && made.saturating_add(10) <= wanted {
+    if !asked.is_by_line() && made.saturating_add(10) <= wanted {
         let (wanted, made) = (Decimal(wanted), Decimal(made));
         let _ = eprintln!(rt;
             "goqlanis: warning: --size {wanted}mm comes out at {made} mm: \
@@ -72,7 +72,7 @@ pub fn warn_of_modules(rt: &HostRuntime, asked: &Asked<'_>, scale: u32, dots: Op
         return;
     };
     let side = hundredths_of(scale, dots);
-    if !asked.is_by_line && side < 25 {
+    if !asked.is_by_line() && side < 25 {
         let side = Decimal(side);
         let _ = eprintln!(rt;
             "goqlanis: warning: modules of {side} mm are under the 0.25 mm that many readers need"

@@ -5,15 +5,14 @@ use clap::ArgMatches;
 use goqlanis_core::{Checks, Unread, VersionName, check_codes};
 use goqlanis_files::failure::Failure;
 use goqlanis_files::streams::print;
+use goqlanis_options::warnings::Decimal;
 use qrcode_check::correction::grade_of;
 use qrcode_check::ending::Ending;
-use qrcode_check::guesses::Guesses;
 use qrcode_check::masks::Rank;
 use qrcode_check::modules::WrongModules;
 use qrcode_check::segments::Taken;
 use qrcode_check::{Check, Content};
 use std::alloc::{AllocError, Global};
-use std::fmt;
 use std::process::ExitCode;
 
 /// Checks the codes of the picture that the command line names, and says what departs from the
@@ -22,11 +21,7 @@ pub(crate) fn check(rt: &HostRuntime, given: &ArgMatches<'_>) -> Result<ExitCode
     let alloc = rt.alloc();
     let found = checks_of(rt, given.get_str("PICTURE").unwrap_or("-"))?;
     let checks = found.checks.as_slice();
-    let text = if given.get_flag("json") {
-        listed(alloc, checks)?
-    } else {
-        lines(alloc, checks)?
-    };
+    let text = report(alloc, checks, given.get_flag("json"))?;
     print(rt, text.as_bytes())?;
     let is_whole = warn_of_missed(rt, &found.codes);
     if is_whole && checks.iter().all(|check| check.is_standard()) {
@@ -47,221 +42,171 @@ fn checks_of(rt: &HostRuntime, path: &str) -> Result<Checks, Failure> {
     }
 }
 
-// What is said of codes, in lines, with a heading where there are several.
-fn lines(alloc: Global, checks: &[Check]) -> Result<String, AllocError> {
-    let mut text = String::new(alloc);
+// What is said of codes: as a list of JSON, or in lines, with a heading where there are several.
+fn report(alloc: Global, checks: &[Check], is_json: bool) -> Result<String, AllocError> {
+    let mut text = String::from_str(alloc, if is_json { "[" } else { "" })?;
     let count = checks.len();
     for (place, check) in checks.iter().enumerate() {
-        if count > 1 {
-            let number = place.saturating_add(1);
+        let number = place.saturating_add(1);
+        if is_json {
+            text.push_str(if place == 0 { "\n" } else { ",\n" })?;
+        } else if count > 1 {
             write!(text, "code {number} of {count}\n")?;
         }
-        push_check(&mut text, check)?;
+        push_check(&mut text, check, is_json)?;
     }
+    text.push_str(if is_json { "\n]\n" } else { "" })?;
     Ok(text)
 }
 
-// What is said of a code.
-fn push_check(text: &mut String, check: &Check) -> Result<(), AllocError> {
-    let verdict = if check.is_standard() { "yes" } else { "no" };
-    write!(text, "meets the standard: {verdict}\n")?;
-    push_symbol(text, check)?;
-    push_modules(text, check.modules)?;
-    match &check.content {
-        Some(content) => push_content(text, content)?,
-        None => text.push_str("segments: none, since the data bits are no segments and an end\n")?,
+// What is said of a code: as an object in a line, or in lines.
+fn push_check(text: &mut String, check: &Check, is_json: bool) -> Result<(), AllocError> {
+    let is_standard = check.is_standard();
+    if !is_json {
+        let verdict = if is_standard { "yes" } else { "no" };
+        write!(text, "meets the standard: {verdict}\n")?;
     }
-    push_rank(text, "masks", check.stepped)?;
-    push_rank(text, "masks by the balance of goqlanis", check.own)
-}
-
-// The symbol, its codewords and its error correction.
-fn push_symbol(text: &mut String, check: &Check) -> Result<(), AllocError> {
-    let (version, level, mask) = (
-        VersionName(check.version),
-        check.ec_level,
-        check.mask_number(),
-    );
-    write!(
-        text,
-        "version {version}, level {level:?}, mask {mask}\nwrong codewords by block: "
-    )?;
-    push_numbers(text, &check.wrong)?;
-    let (allowed, unused) = (check.allowed, Hundredths(check.unused));
-    let grade = grade_of(check.unused);
-    write!(
-        text,
-        "; {allowed} may be wrong in each\nunused error correction: {unused}, grade {grade:?}\n"
-    )
-}
-
-// A number of hundredths, as 0.07.
-#[derive(Clone, Copy)]
-struct Hundredths(usize);
-
-impl fmt::Display for Hundredths {
-    fn fmt<W: fmt::Write>(&self, f: &mut fmt::Formatter<W>) -> fmt::Result {
-        let (whole, rest) = (self.0 / 100, self.0 % 100);
-        write!(f, "{whole}.{rest:02}")
-    }
-}
-
-// Numbers, with commas between them.
-fn push_numbers(text: &mut String, numbers: &[usize]) -> Result<(), AllocError> {
-    let mut sign = "";
-    for number in numbers {
-        write!(text, "{sign}{number}")?;
-        sign = ", ";
+    push_symbol(text, check, is_json)?;
+    push_modules(text, check.modules, is_json)?;
+    push_content(text, &check.content, is_json)?;
+    let names = if is_json {
+        ["masks", "masks_here"]
+    } else {
+        ["masks", "masks by the balance of goqlanis"]
+    };
+    push_rank(text, names[0], check.stepped, is_json)?;
+    push_rank(text, names[1], check.own, is_json)?;
+    if is_json {
+        write!(text, ", \"standard\": {is_standard}}}")?;
     }
     Ok(())
 }
 
-// What is wrong of the patterns.
-fn push_modules(text: &mut String, modules: WrongModules) -> Result<(), AllocError> {
-    let WrongModules {
-        finder,
-        alignment,
-        timing,
-        format,
-        version,
-        remainder,
-    } = modules;
-    write!(
-        text,
-        "wrong modules: finder {finder}, alignment {alignment}, timing {timing}, format {format}, \
-        version {version}, remainder {remainder}\n"
-    )
-}
-
-// What is said of the data.
-fn push_content(text: &mut String, content: &Content) -> Result<(), AllocError> {
-    push_taken(text, content.taken)?;
-    let Ending {
-        terminator,
-        padding,
-    } = content.ending;
-    write!(
-        text,
-        "wrong bits: terminator {terminator}, padding {padding}\n"
-    )?;
-    let (count, set) = (content.guesses.segments, guess(content.guesses));
-    write!(
-        text,
-        "segments whose character set is guessed: {count}{set}\n"
-    )
-}
-
-// How many bits the segments take.
-fn push_taken(text: &mut String, taken: Option<Taken>) -> Result<(), AllocError> {
-    match taken {
-        Some(Taken { bits, least }) => {
-            let more = bits.saturating_sub(least);
-            write!(text, "segments: {bits} bits, {more} more than the fewest\n")
-        }
-        None => text.push_str("segments: not compared with others, for their headers\n"),
+// The symbol, its codewords and its error correction.
+fn push_symbol(text: &mut String, check: &Check, is_json: bool) -> Result<(), AllocError> {
+    let (version, level) = (VersionName(check.version), check.ec_level);
+    let mask = check.mask_number();
+    let wrong = numbers(*text.allocator(), &check.wrong)?;
+    let (allowed, unused) = (check.allowed, Decimal(check.unused as u64));
+    let grade = grade_of(check.unused);
+    if is_json {
+        write!(
+            text,
+            "{{\"version\": \"{version}\", \"level\": \"{level:?}\", \"mask\": {mask}, \
+            \"wrong_by_block\": [{wrong}], \"allowed_by_block\": {allowed}, \
+            \"unused_correction\": {unused}, \"grade\": \"{grade:?}\""
+        )
+    } else {
+        write!(
+            text,
+            "version {version}, level {level:?}, mask {mask}\nwrong codewords by block: {wrong}; \
+            {allowed} may be wrong in each\nunused error correction: {unused}, grade {grade:?}\n"
+        )
     }
 }
 
-// As which character set a reader can take segments.
-fn guess(guesses: Guesses) -> &'static str {
-    match (guesses.segments, guesses.are_utf8) {
-        (0, _) => "",
-        (_, true) => ", as UTF-8",
-        (_, false) => ", not all as UTF-8",
+// Numbers, with commas between them.
+fn numbers(alloc: Global, numbers: &[usize]) -> Result<String, AllocError> {
+    let mut text = String::new(alloc);
+    for number in numbers {
+        let sign = if text.is_empty() { "" } else { ", " };
+        write!(text, "{sign}{number}")?;
     }
-}
-
-// How the mask stands among all, by a balance.
-fn push_rank(text: &mut String, name: &str, rank: Rank) -> Result<(), AllocError> {
-    let Rank { lower, equal } = rank;
-    write!(
-        text,
-        "{name} of a lower penalty: {lower}; of the same, before it: {equal}\n"
-    )
-}
-
-// What is said of codes, as a list of JSON.
-fn listed(alloc: Global, checks: &[Check]) -> Result<String, AllocError> {
-    let mut text = String::from_str(alloc, "[")?;
-    let mut sign = "\n";
-    for check in checks {
-        text.push_str(sign)?;
-        push_object(&mut text, check)?;
-        sign = ",\n";
-    }
-    text.push_str("\n]\n")?;
     Ok(text)
 }
 
-// What is said of a code, as an object in a line.
-fn push_object(text: &mut String, check: &Check) -> Result<(), AllocError> {
-    let (version, level, mask) = (
-        VersionName(check.version),
-        check.ec_level,
-        check.mask_number(),
-    );
-    write!(
-        text,
-        "{{\"version\": \"{version}\", \"level\": \"{level:?}\", \"mask\": {mask}, \"wrong_by_block\": ["
-    )?;
-    push_numbers(text, &check.wrong)?;
-    let (allowed, unused) = (check.allowed, Hundredths(check.unused));
-    let grade = grade_of(check.unused);
-    write!(
-        text,
-        "], \"allowed_by_block\": {allowed}, \"unused_correction\": {unused}, \"grade\": \"{grade:?}\""
-    )?;
-    push_modules_object(text, check.modules)?;
-    push_content_fields(text, &check.content)?;
-    push_rank_object(text, "masks", check.stepped)?;
-    push_rank_object(text, "masks_here", check.own)?;
-    let is_standard = check.is_standard();
-    write!(text, ", \"standard\": {is_standard}}}")
-}
-
 // What is wrong of the patterns.
-fn push_modules_object(text: &mut String, modules: WrongModules) -> Result<(), AllocError> {
-    let WrongModules {
-        finder,
-        alignment,
-        timing,
-        format,
-        version,
-        remainder,
-    } = modules;
-    write!(
-        text,
-        ", \"wrong_modules\": {{\"finder\": {finder}, \"alignment\": {alignment}, \"timing\": {timing}, \
-        \"format\": {format}, \"version\": {version}, \"remainder\": {remainder}}}"
-    )
+fn push_modules(text: &mut String, modules: WrongModules, is_json: bool) -> Result<(), AllocError> {
+    let counts = [
+        ("finder", modules.finder),
+        ("alignment", modules.alignment),
+        ("timing", modules.timing),
+        ("format", modules.format),
+        ("version", modules.version),
+        ("remainder", modules.remainder),
+    ];
+    let (mut sign, quote, colon, end) = if is_json {
+        (", \"wrong_modules\": {", "\"", ":", "}")
+    } else {
+        ("wrong modules: ", "", "", "\n")
+    };
+    for (name, count) in &counts {
+        write!(text, "{sign}{quote}{name}{quote}{colon} {count}")?;
+        sign = ", ";
+    }
+    text.push_str(end)
 }
 
 // What is said of the data, where there is something.
-fn push_content_fields(text: &mut String, content: &Option<Content>) -> Result<(), AllocError> {
+fn push_content(
+    text: &mut String,
+    content: &Option<Content>,
+    is_json: bool,
+) -> Result<(), AllocError> {
     let Some(content) = content else {
-        return text.push_str(", \"segments\": false");
+        return text.push_str(if is_json {
+            ", \"segments\": false"
+        } else {
+            "segments: none, since the data bits are no segments and an end\n"
+        });
     };
-    text.push_str(", \"segments\": true")?;
-    if let Some(Taken { bits, least }) = content.taken {
-        write!(text, ", \"bits\": {bits}, \"fewest_bits\": {least}")?;
+    push_taken(text, content.taken, is_json)?;
+    let (
+        Ending {
+            terminator,
+            padding,
+        },
+        guesses,
+    ) = (content.ending, content.guesses);
+    let (count, is_utf8) = (guesses.segments, guesses.are_utf8);
+    let set = match (count, is_utf8) {
+        (0, _) => "",
+        (_, true) => ", as UTF-8",
+        (_, false) => ", not all as UTF-8",
+    };
+    if is_json {
+        write!(
+            text,
+            ", \"wrong_terminator\": {terminator}, \"wrong_padding\": {padding}, \
+            \"guessed_segments\": {count}, \"guessed_utf8\": {is_utf8}"
+        )
+    } else {
+        write!(
+            text,
+            "wrong bits: terminator {terminator}, padding {padding}\n\
+            segments whose character set is guessed: {count}{set}\n"
+        )
     }
-    let Ending {
-        terminator,
-        padding,
-    } = content.ending;
-    let Guesses { segments, are_utf8 } = content.guesses;
-    write!(
-        text,
-        ", \"wrong_terminator\": {terminator}, \"wrong_padding\": {padding}, \
-        \"guessed_segments\": {segments}, \"guessed_utf8\": {are_utf8}"
-    )
 }
 
-// How the mask stands among all, by a balance.
-fn push_rank_object(text: &mut String, name: &str, rank: Rank) -> Result<(), AllocError> {
+// How many bits the segments take.
+fn push_taken(text: &mut String, taken: Option<Taken>, is_json: bool) -> Result<(), AllocError> {
+    match (taken, is_json) {
+        (Some(Taken { bits, least }), true) => write!(
+            text,
+            ", \"segments\": true, \"bits\": {bits}, \"fewest_bits\": {least}"
+        ),
+        (Some(Taken { bits, least }), false) => {
+            let more = bits.saturating_sub(least);
+            write!(text, "segments: {bits} bits, {more} more than the fewest\n")
+        }
+        (None, true) => text.push_str(", \"segments\": true"),
+        (None, false) => text.push_str("segments: not compared with others, for their headers\n"),
+    }
+}
+
+// How the mask stands among all, by a balance of this name.
+fn push_rank(text: &mut String, name: &str, rank: Rank, is_json: bool) -> Result<(), AllocError> {
     let Rank { lower, equal } = rank;
-    write!(
-        text,
-        ", \"{name}\": {{\"lower\": {lower}, \"same_before\": {equal}}}"
-    )
+    if is_json {
+        write!(
+            text,
+            ", \"{name}\": {{\"lower\": {lower}, \"same_before\": {equal}}}"
+        )
+    } else {
+        write!(
+            text,
+            "{name} of a lower penalty: {lower}; of the same, before it: {equal}\n"
+        )
+    }
 }

@@ -9,16 +9,17 @@ ghost use Rattle.goqlanis_run.specs.Labels.{label_text};
 
 use crate::contents::Elements;
 use crate::middle::redrawn;
-use crate::segments::{characters_of, is_empty, pieces, segments};
+use crate::segments::{characters_of, is_empty, segments_of};
 use goqlanis_core::{
-    Drawing, Request, Segment, application_refusal_text, draw, draw_elements, draw_for_application,
-    draw_segments, elements_refusal_text, manner_of, quiet_zone, refusal_text,
-    segments_refusal_text, unwritable,
+    Drawing, Format, GREATEST_PAINTED, Request, Segment, application_refusal_text,
+    draw_for_application, draw_segments, drawing_of, elements_refusal_text, manner_of, quiet_zone,
+    refusal_text, scale, segments_refusal_text, symbol_in, symbol_of_elements, unwritable,
 };
 use goqlanis_files::failure::{Failure, refused};
 use goqlanis_files::streams::{print, write_file};
 use goqlanis_options::asked::{Asked, Target};
 use goqlanis_options::report::show_report;
+use qrcode::QrCode;
 use qrcode::bits::Manner;
 use qrcode::types::QrError;
 use qrcode_gs1::errors::Gs1Error;
@@ -40,20 +41,76 @@ pub(crate) fn draw_one(
         manner: manner(alloc, asked, bytes)?,
         ..asked.request
     };
-    match draw(alloc, &request, bytes) {
-        Ok(drawing) => write_drawing(rt, asked, &drawing),
+    match symbol_in(alloc, request.choice, request.manner, request.level, bytes) {
+        Ok(code) => write_drawing(rt, asked, &drawn(alloc, &request, code)?),
         Err(error) => Err(Failure::Refused(refusal_text(alloc, &request, bytes, error)?)),
+    }
+}
+
+/// A symbol drawn as a request asks for, unless a side would have too many pixels, or too few.
+pub(crate) fn drawn(alloc: Global, request: &Request<'_>, code: QrCode) -> Result<Drawing, Failure>
+    ensures symbol { IfOk result (λ drawing. drawing.code ≡ code) }
+    ensures shown { IfOk result (IsShownIn request.now) }
+{
+    check_side(alloc, request, &code)?;
+    match drawing_of(alloc, request, code) {
+        Ok(drawing) => Ok(drawing),
+        Err(error) => Err(Failure::Refused(refusal_text(alloc, request, &[], error)?)),
+    }
+}
+
+// The most pixels along a side of pictures that are not compressed, and stand in memory whole: PPM
+// has then 0.8 GB.
+const GREATEST_WHOLE: u32 = 16_384;
+
+// Refuses a side of more pixels than a format has, or of fewer than it has modules.
+fn check_side(alloc: Global, request: &Request<'_>, code: &QrCode) -> Result<(), Failure> {
+    let modules = code.width() as u32 + 2 * quiet_zone(request, code);
+    let scale = scale(request, code);
+    let side = modules.saturating_mul(scale);
+    let most = match request.format {
+        Format::Png if !request.parts.is_empty() => GREATEST_PAINTED,
+        Format::Pbm | Format::Pgm | Format::Ppm => GREATEST_WHOLE,
+        format => format.greatest_side(),
+    };
+    let why = match request.size {
+        Some(size) if scale == 0 => format!(in alloc;
+            "a side of {size} pixels is too small: the code and its quiet zone have {modules} \
+            modules a side; use --size {modules} or more, or a smaller --quiet-zone"
+        )?,
+        _ if side > most => {
+            let most_scale = most / modules.max(1);
+            format!(in alloc;
+                "a side of {side} pixels is too large: this format has at most {most}; use --scale \
+                {most_scale} or less"
+            )?
+        }
+        _ => return Ok(()),
+    };
+    Err(Failure::Refused(why))
+}
+
+// The same request for a small picture, to know the symbol before it is drawn.
+fn small<'a>(request: &Request<'a>) -> Request<'a>
+    ensures choice { result.choice ≡ request.now.choice }
+    ensures level { result.level ≡ request.now.level }
+{
+    Request {
+        format: Format::Pgm,
+        scale: 1,
+        size: None,
+        ..*request
     }
 }
 
 /// Refuses data that is empty, unless that is allowed.
 pub(crate) fn check_empty(alloc: Global, asked: &Asked<'_>, bytes: &[u8]) -> Result<(), Failure> {
-    if !bytes.is_empty() || asked.allows_empty {
+    if !bytes.is_empty() || asked.given.get_flag("allow-empty") {
         return Ok(());
     }
     refused(
         alloc,
-        if asked.is_by_line {
+        if asked.is_by_line() {
             "it is empty; --allow-empty accepts it"
         } else {
             "the input is empty, e.g. of a variable that is not set; --allow-empty accepts it"
@@ -69,8 +126,7 @@ pub(crate) fn segments_drawing(
 ) -> Result<Drawing, Failure>
     ensures { IfOk result (IsShownIn asked.now.request) }
 {
-    let pieces = pieces(alloc, words)?;
-    let segments = segments(alloc, &pieces)?;
+    let segments = segments_of(alloc, words)?;
     if segments.iter().all(|segment| is_empty(segment)) {
         check_empty(alloc, asked, &[])?;
     }
@@ -82,8 +138,8 @@ pub(crate) fn segments_drawing(
         let number = place.saturating_add(1);
         return Err(Failure::Refused(format!(in alloc; "segment {number}: {why}")?));
     }
-    match draw_segments(alloc, &asked.request, &segments) {
-        Ok(drawing) => Ok(drawing),
+    match draw_segments(alloc, &small(&asked.request), &segments) {
+        Ok(drawing) => drawn(alloc, &asked.request, drawing.code),
         Err(error) => {
             let why = segments_refusal_text(alloc, &asked.request, &segments, error)?;
             Err(Failure::Refused(why))
@@ -103,8 +159,8 @@ pub(crate) fn elements_drawing(
 {
     let read = Elements::read(alloc, text)?;
     let elements = read.elements(alloc)?;
-    match draw_elements(alloc, request, &elements) {
-        Ok(drawing) => Ok(drawing),
+    match symbol_of_elements(alloc, request.choice, request.level, &elements) {
+        Ok(code) => drawn(alloc, request, code),
         Err(SymbolError::Elements(Gs1Error::Refused(index, cause))) => {
             Err(Failure::Refused(read.refusal(alloc, index, cause)?))
         }
@@ -140,8 +196,8 @@ pub(crate) fn application_drawing(
         );
     }
     let bytes = data.as_bytes();
-    match draw_for_application(alloc, request, application, bytes) {
-        Ok(drawing) => Ok(drawing),
+    match draw_for_application(alloc, &small(request), application, bytes) {
+        Ok(drawing) => drawn(alloc, request, drawing.code),
         Err(QrError::OutOfMemory) => Err(Failure::OutOfMemory),
         Err(_) => {
             let why = application_refusal_text(alloc, request, application, bytes)?;
@@ -156,7 +212,6 @@ pub(crate) fn write_drawing(
     asked: &Asked<'_>,
     drawing: &Drawing,
 ) -> Result<ExitCode, Failure> {
-    check_size(rt.alloc(), &asked.request, drawing)?;
     let covered = redrawn(rt.alloc(), asked, &drawing.code)?;
     let (area, bytes) = match &covered {
         Some((area, bytes)) => (Some(*area), bytes.as_slice()),
@@ -176,25 +231,12 @@ pub(crate) fn write_drawing(
     }
 }
 
-// Refuses a drawing whose side has more modules than pixels are asked for.
-fn check_size(alloc: Global, request: &Request<'_>, drawing: &Drawing) -> Result<(), Failure> {
-    let code = &drawing.code;
-    let side = code.width() as u32 + 2 * quiet_zone(request, code);
-    match request.size {
-        Some(size) if (size as u32) < side => Err(Failure::Refused(format!(in alloc;
-            "a side of {size} pixels is too small: the code and its quiet zone have {side} modules a \
-            side; use --size {side} or more, or a smaller --quiet-zone"
-        )?)),
-        _ => Ok(()),
-    }
-}
-
 /// How data is written.
 pub(crate) fn manner(alloc: Global, asked: &Asked<'_>, bytes: &[u8]) -> Result<Manner, Failure> {
-    match (asked.manner, manner_of(bytes)) {
-        (Some(Manner::MarkedText), Manner::Bytes) => {
-            refused(alloc, "the data is not UTF-8: leave out --eci")
-        }
-        (manner, otherwise) => Ok(manner.unwrap_or(otherwise)),
+    match manner_of(bytes) {
+        _ if asked.given.get_flag("bytes") => Ok(Manner::Bytes),
+        manner if !asked.given.get_flag("eci") => Ok(manner),
+        Manner::Bytes => refused(alloc, "the data is not UTF-8: leave out --eci"),
+        _ => Ok(Manner::MarkedText),
     }
 }

@@ -6,7 +6,7 @@ use goqlanis_core::Grouped;
 use goqlanis_files::failure::{Failure, refused};
 use goqlanis_files::progress::Progress;
 use goqlanis_files::streams::{ask, shown, unread};
-use goqlanis_options::asked::{Asked, Source, Target};
+use goqlanis_options::asked::{Asked, Source, Target, source_of};
 use std::alloc::Global;
 use std::collections::BTreeSet;
 use std::fs;
@@ -22,7 +22,7 @@ const MOST_IN_LINE: usize = 100_000;
 pub(crate) fn draw_lines(rt: &HostRuntime, asked: &Asked<'_>) -> Result<ExitCode, Failure> {
     let alloc = rt.alloc();
     check_names(rt, asked)?;
-    match asked.source {
+    match source_of(asked.given) {
         Source::Text(text) => draw_from(rt, asked, "TEXT", text.as_bytes()),
         Source::File(path) => match fs::open(rt, path) {
             Ok(file) => draw_from(rt, asked, path, buffered(alloc, file)?),
@@ -99,7 +99,7 @@ fn draw_line(
     let item = Item {
         number,
         text: text.as_str(),
-        delimiter: asked.delimiter,
+        delimiter: asked.delimiter(),
     };
     let name = take_name(rt.alloc(), taken, path, item)?;
     let target = Target::File(name.as_str());
@@ -108,11 +108,11 @@ fn draw_line(
 
 // The field of a line that is asked for, if one is.
 fn field_in(alloc: Global, asked: &Asked<'_>, line: &[u8]) -> Result<Option<String>, Failure> {
-    let Some(number) = asked.field else {
+    let Some(number) = asked.given.get_one::<u16>("field") else {
         return Ok(None);
     };
     match str::from_utf8(line) {
-        Ok(text) => Ok(Some(field_of(alloc, text, asked.delimiter, number)?)),
+        Ok(text) => Ok(Some(field_of(alloc, text, asked.delimiter(), number as usize)?)),
         Err(_) => refused(alloc, "it is not UTF-8: leave out --field"),
     }
 }

@@ -32,9 +32,15 @@ fn push_scan(text: &mut String, scan: &Scan) -> Result<(), AllocError> {
     let (place, inverted) = (position_text(scan.any.position), has_light_on_dark(scan));
     write!(
         text,
-        "{{\"version\": \"{version}\", \"level\": \"{level:?}\", \"mask\": {mask}, \"modules\": {count}, \
-        \"quiet_zone\": {zone}, \"scale\": {scale}, \"position\": \"{place}\", \
-        \"inverted\": {inverted}, \"wrong_codewords\": ["
+        "{{\"version\": \"{version}\", \"level\": \"{level:?}\", \"mask\": {mask}, \"modules\": {count}"
+    )?;
+    if scan.grid.is_none() {
+        write!(text, ", \"quiet_zone\": {zone}")?;
+    }
+    write!(
+        text,
+        ", \"scale\": {scale}, \"position\": \"{place}\", \"inverted\": {inverted}, \
+        \"wrong_codewords\": ["
     )?;
     push_wrong(text, &reading.wrong)?;
     text.push_str("], \"parts\": [")?;

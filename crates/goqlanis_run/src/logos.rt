@@ -4,12 +4,12 @@ ghost use Rattle.std.specs.Prelude.{◌+◌, ◌<◌, length};
 
 use base64::engine::general_purpose::STANDARD;
 use goqlanis_files::failure::Failure;
-use goqlanis_options::logos::{Element, Raster};
+use goqlanis_options::logos::Logo;
 use qrcode_png::{Unread, read};
 use std::alloc::{AllocError, Global};
 
 /// The pixels of a logo in a PNG file of a path, in which these bytes stand.
-pub(crate) fn pixels_of(alloc: Global, path: &str, file: &[u8]) -> Result<Raster, Failure> {
+pub(crate) fn pixels_of(alloc: Global, path: &str, file: &[u8]) -> Result<Logo, Failure> {
     let picture = match read(alloc, file) {
         Ok(picture) => picture,
         Err(Unread::OutOfMemory) => return Err(Failure::OutOfMemory),
@@ -19,61 +19,38 @@ pub(crate) fn pixels_of(alloc: Global, path: &str, file: &[u8]) -> Result<Raster
         Err(why) => return Err(Failure::Refused(format!(in alloc; "--logo {path}: {why}")?)),
     };
     let (across, down) = picture.sides();
-    Ok(Raster {
-        pixels: picture.pixels(alloc)?,
-        across: across as u16,
-        down: down as u16,
-    })
+    Ok(Logo::Pixels(picture.pixels(alloc)?, across as u16, down as u16))
 }
 
 /// The logo of the file of a path, in which these bytes stand, as an element of SVG.
-pub(crate) fn element_of(alloc: Global, path: &str, file: &[u8]) -> Result<Element, Failure> {
-    let why = match element_in(alloc, file) {
-        Ok(element) => return Ok(element),
-        Err(LogoFault::OutOfMemory) => return Err(Failure::OutOfMemory),
-        Err(LogoFault::Unknown) => "it is neither a PNG file nor SVG in UTF-8",
-        Err(LogoFault::Scripts) => "it has scripts or entities; save it as plain SVG",
-        Err(LogoFault::Sizeless) =>
-            "its svg element needs a viewBox, or width and height in pixels",
-        Err(LogoFault::Nameless) =>
-            "its svg element needs xmlns=\"http://www.w3.org/2000/svg\", as every SVG file has",
+pub(crate) fn element_of(alloc: Global, path: &str, file: &[u8]) -> Result<Logo, Failure> {
+    let sides = match str::from_utf8(file) {
+        Ok(text) => svg_sides(text).map(|(across, down)| (across, down, "svg+xml")),
+        // Its sides stand behind sixteen bytes, each in four.
+        Err(_) if file.len() >= 24 && file.starts_with(b"\x89PNG") => {
+            Ok((
+                number_at(file, 18).max(1),
+                number_at(file, 22).max(1),
+                "png",
+            ))
+        }
+        Err(_) => Err(UNKNOWN),
     };
-    Err(Failure::Refused(format!(in alloc; "--logo {path}: {why}")?))
+    match sides {
+        Ok((across, down, kind)) => Ok(image(alloc, across, down, kind, file)?),
+        Err(why) => Err(Failure::Refused(format!(in alloc; "--logo {path}: {why}")?)),
+    }
 }
 
 // Why a file is no logo.
-#[derive(Clone, Copy)]
-enum LogoFault {
-    // It is neither an SVG text in UTF-8 nor a PNG file.
-    Unknown,
-    // It has scripts, or declares entities.
-    Scripts,
-    // It says no size: it has no `viewBox`, and no width and height in pixels.
-    Sizeless,
-    // It does not name SVG, without which no browser draws it as an image.
-    Nameless,
-    OutOfMemory,
-}
+const UNKNOWN: &str = "it is neither a PNG file nor SVG in UTF-8";
 
-impl From<AllocError> for LogoFault {
-    fn from(_error: AllocError) -> LogoFault {
-        LogoFault::OutOfMemory
-    }
-}
+const SCRIPTS: &str = "it has scripts or entities; save it as plain SVG";
 
-// The logo of an SVG or PNG file.
-fn element_in(alloc: Global, file: &[u8]) -> Result<Element, LogoFault> {
-    if let Ok(text) = str::from_utf8(file) {
-        let (across, down) = svg_sides(text)?;
-        return Ok(image(alloc, across, down, "svg+xml", file)?);
-    }
-    if file.len() < 24 || !file.starts_with(b"\x89PNG") {
-        return Err(LogoFault::Unknown);
-    }
-    // Its sides stand behind sixteen bytes, each in four.
-    let (across, down) = (number_at(file, 18), number_at(file, 22));
-    Ok(image(alloc, across.max(1), down.max(1), "png", file)?)
-}
+const SIZELESS: &str = "its svg element needs a viewBox, or width and height in pixels";
+// No browser draws it as an image then.
+const NAMELESS: &str =
+    "its svg element needs xmlns=\"http://www.w3.org/2000/svg\", as every SVG file has";
 
 // The number of two bytes.
 fn number_at(file: &[u8], at: usize) -> u32
@@ -90,14 +67,14 @@ fn image(
     down: u32,
     kind: &str,
     file: &[u8],
-) -> Result<Element, AllocError> {
+) -> Result<Logo, AllocError> {
     let data = STANDARD.encode(alloc, file)?;
     let rest = format!(in alloc;
         " viewBox=\"0 0 {across} {down}\"><image width=\"{across}\" height=\"{down}\" \
         xmlns:xlink=\"http://www.w3.org/1999/xlink\" \
         xlink:href=\"data:image/{kind};base64,{data}\"/></svg>"
     )?;
-    Ok(Element { across, down, rest })
+    Ok(Logo::Element(across, down, rest))
 }
 
 // What the root element of an SVG text says of its size, while its attributes are read.
@@ -110,12 +87,12 @@ struct Root<'a> {
 }
 
 // How wide and how high an SVG text is, in proportion.
-fn svg_sides(text: &str) -> Result<(u32, u32), LogoFault> {
+fn svg_sides(text: &str) -> Result<(u32, u32), &'static str> {
     if text.contains("<script") || text.contains("<!ENTITY") || has_handler(text) {
-        return Err(LogoFault::Scripts);
+        return Err(SCRIPTS);
     }
     let Some(mut left) = behind_prolog(text).and_then(|text| text.strip_prefix("<svg")) else {
-        return Err(LogoFault::Unknown);
+        return Err(UNKNOWN);
     };
     let mut root = Root {
         view: "",
@@ -129,7 +106,7 @@ fn svg_sides(text: &str) -> Result<(u32, u32), LogoFault> {
             return sides(&root);
         }
         let Some((name, value, rest)) = next_attribute(left) else {
-            return Err(LogoFault::Unknown);
+            return Err(UNKNOWN);
         };
         match name {
             "width" => root.width = value,
@@ -140,7 +117,7 @@ fn svg_sides(text: &str) -> Result<(u32, u32), LogoFault> {
         }
         left = rest;
     }
-    Err(LogoFault::Unknown)
+    Err(UNKNOWN)
 }
 
 // Whether a text has an attribute that a browser runs, as onload.
@@ -191,12 +168,12 @@ fn next_attribute(text: &str) -> Option<(&str, &str, &str)> {
 }
 
 // How wide and how high a root element is, in proportion: by its sides in pixels, or by its units.
-fn sides(root: &Root<'_>) -> Result<(u32, u32), LogoFault> {
+fn sides(root: &Root<'_>) -> Result<(u32, u32), &'static str> {
     let mut units = root.view.split_whitespace().skip(2);
     let found = pixels(root.width).zip(pixels(root.height));
     match found.or(units.next().zip(units.next())) {
-        None => Err(LogoFault::Sizeless),
-        Some(_) if root.space != "http://www.w3.org/2000/svg" => Err(LogoFault::Nameless),
+        None => Err(SIZELESS),
+        Some(_) if root.space != "http://www.w3.org/2000/svg" => Err(NAMELESS),
         Some((across, down)) => Ok((whole(across), whole(down))),
     }
 }

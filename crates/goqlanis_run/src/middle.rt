@@ -14,7 +14,7 @@ use goqlanis_core::{Format, Request, VersionName, quiet_zone, scale};
 use goqlanis_files::failure::{Failure, usage};
 use goqlanis_files::streams::read_file;
 use goqlanis_options::asked::Asked;
-use goqlanis_options::logos::{AskedLogo, Element, Logo, Middle, Raster, Size};
+use goqlanis_options::logos::{AskedLogo, Logo, Middle};
 use qrcode::QrCode;
 use qrcode_area::areas::Rectangle;
 use qrcode_area::excess::Excess;
@@ -28,8 +28,8 @@ const MOST_LOGO: usize = 1_048_576;
 pub(crate) const SWISS_CROSS: AskedLogo<'static> = AskedLogo {
     path: None,
     middle: Middle::Cross,
-    size: Size::Largest,
-    keeps_alignment: false,
+    size: LogoSize::Largest,
+    kept: Kept::ButAlignment,
     margin: 0,
 };
 
@@ -47,12 +47,11 @@ pub(crate) fn read_logo(rt: &HostRuntime, asked: &Asked<'_>) -> Result<Option<Lo
         return Ok(None);
     };
     let file = read_file(rt, path, MOST_LOGO)?;
-    let logo = if asked.request.format == Format::Png {
-        Logo::Pixels(pixels_of(rt.alloc(), path, &file)?)
+    if asked.request.format == Format::Png {
+        Ok(Some(pixels_of(rt.alloc(), path, &file)?))
     } else {
-        Logo::Element(element_of(rt.alloc(), path, &file)?)
-    };
-    Ok(Some(logo))
+        Ok(Some(element_of(rt.alloc(), path, &file)?))
+    }
 }
 
 /// What is asked for, with the logo that was read.
@@ -78,63 +77,34 @@ pub(crate) fn redrawn(
         return Ok(None);
     };
     let request = &asked.request;
-    let is_light = matches!(logo.middle, Middle::Light);
-    if request.format == Format::Png && !request.parts.is_empty() && !is_light {
+    let is_png = request.format == Format::Png;
+    if is_png && !request.parts.is_empty() && !matches!(logo.middle, Middle::Light) {
         return usage(
             alloc,
             "a PNG file has colours of parts or a picture in the middle; add --format svg for both",
         );
     }
-    let covered = match logo.middle {
-        Middle::Logo(Logo::Pixels(raster)) => pixels_drawn(alloc, request, code, logo, raster),
-        Middle::Logo(Logo::Element(element)) => element_drawn(alloc, request, code, logo, element),
-        Middle::Cross => {
-            let area = area_of(alloc, code, wish_of(logo, (1, 1), code))?;
-            if request.format == Format::Png {
-                cross_in_pixels(alloc, request, code, area)
-            } else {
-                drawn(alloc, request, code, area, Inside::Cross)
-            }
+    let area = area_of(alloc, code, wish_of(logo, code))?;
+    let bytes = match logo.middle {
+        Middle::Logo(Logo::Pixels(pixels, across, down)) => {
+            let place = place_of(alloc, request, code, area, logo.margin)?;
+            let inset = Inset {
+                pixels,
+                across: *across,
+                down: *down,
+                place: place.fitted(*across, *down),
+            };
+            inset_drawn(alloc, request, code, area, &inset)
         }
-        Middle::Light => {
-            let area = area_of(alloc, code, wish_of(logo, (1, 1), code))?;
-            drawn(alloc, request, code, area, Inside::Nothing)
+        Middle::Logo(Logo::Element(_, _, rest)) => {
+            let inside = Inside::Element(logo.margin, rest.as_str());
+            drawn(alloc, request, code, area, inside)
         }
+        Middle::Cross if is_png => cross_in_pixels(alloc, request, code, area),
+        Middle::Cross => drawn(alloc, request, code, area, Inside::Cross),
+        Middle::Light => drawn(alloc, request, code, area, Inside::Nothing),
     };
-    Ok(Some(covered?))
-}
-
-// A code drawn with pixels in its middle.
-fn pixels_drawn(
-    alloc: Global,
-    request: &Request<'_>,
-    code: &QrCode,
-    asked: &AskedLogo<'_>,
-    logo: &Raster,
-) -> Result<Covered, Failure> {
-    let sides = (logo.across as u32, logo.down as u32);
-    let area = area_of(alloc, code, wish_of(asked, sides, code))?;
-    let place = place_of(alloc, request, code, area, asked.margin)?;
-    let inset = Inset {
-        pixels: &logo.pixels,
-        across: logo.across,
-        down: logo.down,
-        place: place.fitted(logo.across, logo.down),
-    };
-    inset_drawn(alloc, request, code, area, &inset)
-}
-
-// A code drawn with an element of SVG in its middle.
-fn element_drawn(
-    alloc: Global,
-    request: &Request<'_>,
-    code: &QrCode,
-    asked: &AskedLogo<'_>,
-    logo: &Element,
-) -> Result<Covered, Failure> {
-    let area = area_of(alloc, code, wish_of(asked, (logo.across, logo.down), code))?;
-    let inside = Inside::Element(asked.margin, logo.rest.as_str());
-    drawn(alloc, request, code, area, inside)
+    Ok(Some((area, bytes?)))
 }
 
 // A code drawn with the Swiss cross in the middle of its area, as a PNG file.
@@ -143,7 +113,7 @@ fn cross_in_pixels(
     request: &Request<'_>,
     code: &QrCode,
     area: Rectangle,
-) -> Result<Covered, Failure> {
+) -> Result<Vec<u8>, Failure> {
     let place = place_of(alloc, request, code, area, 0)?;
     let pixels = cross_pixels(alloc)?;
     let inset = Inset {
@@ -162,7 +132,7 @@ fn inset_drawn(
     code: &QrCode,
     area: Rectangle,
     inset: &Inset<'_>,
-) -> Result<Covered, Failure> {
+) -> Result<Vec<u8>, Failure> {
     let side = code.width() as u64 + 2 * quiet_zone(request, code) as u64;
     if side * scale(request, code) as u64 > GREATEST_SIDE as u64 {
         return Err(Failure::Refused(format!(in alloc;
@@ -170,10 +140,7 @@ fn inset_drawn(
             a smaller --scale or --size"
         )?));
     }
-    match pasted(alloc, request, code, area, inset) {
-        Ok(bytes) => Ok((area, bytes)),
-        Err(_) => Err(Failure::OutOfMemory),
-    }
+    pasted(alloc, request, code, area, inset).map_err(|_| Failure::OutOfMemory)
 }
 
 // A code drawn with what stands in its area, where that is not drawn in pixels.
@@ -183,32 +150,30 @@ fn drawn(
     code: &QrCode,
     area: Rectangle,
     inside: Inside<'_>,
-) -> Result<Covered, Failure> {
+) -> Result<Vec<u8>, Failure> {
     match with_logo(alloc, request, code, area, inside) {
-        Ok(Some(bytes)) => Ok((area, bytes)),
+        Ok(Some(bytes)) => Ok(bytes),
         Ok(None) => Err(no_room(alloc, area)?),
         Err(_) => Err(Failure::OutOfMemory),
     }
 }
 
-// What is asked of the area of a code, for what has such a ratio of its sides.
-fn wish_of(asked: &AskedLogo<'_>, sides: (u32, u32), code: &QrCode) -> LogoWish {
-    let size = match (asked.middle, asked.size) {
-        (Middle::Cross, _) => LogoSize::Modules(cross_size(code.width())),
-        (_, Size::Largest) => LogoSize::Largest,
-        (_, Size::Modules(modules)) => LogoSize::Modules(modules),
-        (_, Size::Percent(part)) => LogoSize::Percent(part),
+// What is asked of the area of a code.
+fn wish_of(asked: &AskedLogo<'_>, code: &QrCode) -> LogoWish {
+    let (across, down) = match asked.middle {
+        Middle::Logo(Logo::Pixels(_, across, down)) => (*across as u32, *down as u32),
+        Middle::Logo(Logo::Element(across, down, _)) => (*across, *down),
+        Middle::Cross | Middle::Light => (1, 1),
     };
-    let (across, down) = sides;
     LogoWish {
-        size,
+        size: if matches!(asked.middle, Middle::Cross) {
+            LogoSize::Modules(cross_size(code.width()))
+        } else {
+            asked.size
+        },
         across,
         down,
-        kept: if asked.keeps_alignment {
-            Kept::AllPatterns
-        } else {
-            Kept::ButAlignment
-        },
+        kept: asked.kept,
     }
 }
 

@@ -46,7 +46,7 @@ pub(crate) fn check_names(rt: &HostRuntime, asked: &Asked<'_>) -> Result<(), Fai
             rt.alloc(),
             "--output: {}, {text} and {1} are for the file name, not for its folder",
         )
-    } else if has_text(path) && !asked.is_by_line {
+    } else if has_text(path) && !asked.is_by_line() {
         usage(
             rt.alloc(),
             "--output: {text} and {1} are for --lines; {} is the number",

@@ -80,6 +80,9 @@ pub(crate) fn picture_of<'a>(
     } else {
         (path, read_file(rt, path, MOST_PICTURE)?)
     };
+    if bytes.is_empty() {
+        return Err(Failure::Refused(format!(in rt.alloc(); "cannot read {name}: it is empty")?));
+    }
     if bytes.starts_with(b"P4") && bytes.len() > MOST_PACKED {
         return Err(Failure::Refused(format!(in rt.alloc();
             "cannot read {name}: it has more than 8,389,632 bytes, those of 67,108,864 pixels; crop it, or \

@@ -103,9 +103,12 @@ fn push_square(text: &mut String, scan: &Scan) -> Result<(), AllocError> {
     };
     write!(
         text,
-        "modules: {count} by {count}; pixels of a module: {scale}; quiet zone: {zone}
-position: {place}{shades}\n"
-    )
+        "modules: {count} by {count}; pixels of a module: {scale}"
+    )?;
+    if scan.grid.is_none() {
+        write!(text, "; quiet zone: {zone}")?;
+    }
+    write!(text, "\nposition: {place}{shades}\n")
 }
 
 /// Whether dark modules are light in the picture.

@@ -4,59 +4,38 @@ use goqlanis_core::Segment;
 use goqlanis_files::failure::Failure;
 use hex::FromHexError;
 use qrcode::types::Mode;
-use std::alloc::{AllocError, Global};
+use std::alloc::Global;
 
-/// A segment by hand.
-#[derive(Drop)]
-pub(crate) enum Piece {
-    Data(Mode, Vec<u8>),
-    CharacterSet(u32),
-}
-
-impl Piece {
-    // The segment of a word MODE:TEXT, of which the text of Kanji is Shift JIS in digits to the
-    // base 16; or of eci:NUMBER, the number of a character set.
-    fn read(alloc: Global, word: &str) -> Result<Piece, Failure> {
-        let (name, text) = word.split_once(':').unwrap_or(("", ""));
-        let why = match mode_named(name) {
-            Some(Mode::Kanji) => match hex::decode(alloc, text) {
-                Ok(bytes) => return Ok(Piece::Data(Mode::Kanji, bytes)),
-                Err(FromHexError::OutOfMemory) => return Err(Failure::OutOfMemory),
-                Err(_) => "the data of kanji is Shift JIS in hex, e.g. 935f",
-            },
-            Some(mode) => return Ok(Piece::Data(mode, Vec::from_slice(alloc, text.as_bytes())?)),
-            None if name.eq_ignore_ascii_case("eci") => match text.parse::<u32>() {
-                Ok(number) if number <= 999_999 => return Ok(Piece::CharacterSet(number)),
-                _ => "an ECI number is 0 to 999999, e.g. 26 for UTF-8",
-            },
-            None => {
-                "use MODE:DATA with the mode numeric, alphanumeric, byte or kanji, or eci:NUMBER"
-            }
-        };
-        Err(Failure::Usage(format!(in alloc; "--segment {word}: {why}")?))
-    }
-
-    // The segment.
-    fn segment(&self) -> Segment<'_> {
-        match self {
-            Piece::Data(mode, bytes) => Segment::Data(*mode, bytes),
-            Piece::CharacterSet(number) => Segment::CharacterSet(*number),
-        }
-    }
+// The segment of a word MODE:TEXT, of which the text of Kanji is Shift JIS in digits to the base 16,
+// in a list that is not freed; or of eci:NUMBER, the number of a character set.
+fn segment_of<'a>(alloc: Global, word: &'a str) -> Result<Segment<'a>, Failure> {
+    let (name, text) = word.split_once(':').unwrap_or(("", ""));
+    let why = match mode_named(name) {
+        Some(Mode::Kanji) => match hex::decode(alloc, text) {
+            Ok(bytes) => return Ok(Segment::Data(Mode::Kanji, bytes.leak())),
+            Err(FromHexError::OutOfMemory) => return Err(Failure::OutOfMemory),
+            Err(_) => "the data of kanji is Shift JIS in hex, e.g. 935f",
+        },
+        Some(mode) => return Ok(Segment::Data(mode, text.as_bytes())),
+        None if name.eq_ignore_ascii_case("eci") => match text.parse::<u32>() {
+            Ok(number) if number <= 999_999 => return Ok(Segment::CharacterSet(number)),
+            _ => "an ECI number is 0 to 999999, e.g. 26 for UTF-8",
+        },
+        None => "use MODE:DATA with the mode numeric, alphanumeric, byte or kanji, or eci:NUMBER",
+    };
+    Err(Failure::Usage(format!(in alloc; "--segment {word}: {why}")?))
 }
 
 /// The segments of words.
-pub(crate) fn pieces(alloc: Global, words: &[&str]) -> Result<Vec<Piece>, Failure> {
-    let mut pieces = Vec::with_capacity(alloc, words.len())?;
+pub(crate) fn segments_of<'a>(
+    alloc: Global,
+    words: &[&'a str],
+) -> Result<Vec<Segment<'a>>, Failure> {
+    let mut segments = Vec::with_capacity(alloc, words.len())?;
     for word in words {
-        pieces.push(Piece::read(alloc, word)?)?;
+        segments.push(segment_of(alloc, word)?)?;
     }
-    Ok(pieces)
-}
-
-/// The same, as they are drawn.
-pub(crate) fn segments(alloc: Global, pieces: &[Piece]) -> Result<Vec<Segment<'_>>, AllocError> {
-    pieces.iter().map(|piece| piece.segment()).collect(alloc)
+    Ok(segments)
 }
 
 /// Whether a segment writes no data: it is empty, or the number of a character set.

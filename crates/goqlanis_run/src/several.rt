@@ -1,10 +1,10 @@
 //! `goqlanis several`: data in several symbols; and `goqlanis join`: the data of such symbols.
 
-use crate::drawing::{check_empty, manner, write_drawing};
+use crate::drawing::{check_empty, drawn, manner, write_drawing};
 use crate::names::{Item, check_names, name_of};
 use crate::reading::codes_of;
 use clap::ArgMatches;
-use goqlanis_core::{Drawing, Grouped, Scan, drawing_of};
+use goqlanis_core::{Grouped, Scan};
 use goqlanis_files::failure::{Failure, refused};
 use goqlanis_files::streams::{MOST_DATA, shown, write_data};
 use goqlanis_options::asked::{Asked, Target, check_one_behind_another, versions_of};
@@ -52,35 +52,23 @@ pub(crate) fn draw_several(
     }
 }
 
-// Draws symbols one after the other.
+// Draws symbols one after the other, each to the file of its number where drawings go to files.
 fn draw_each(rt: &HostRuntime, asked: &Asked<'_>, codes: Vec<QrCode>) -> Result<ExitCode, Failure> {
     let count = codes.len();
     for (index, code) in codes.into_iter().enumerate() {
-        let number = index.saturating_add(1);
-        let drawing = drawing_of(rt.alloc(), &asked.request, code).map_err(
-            |_| Failure::OutOfMemory,
-        )?;
-        write_part(rt, asked, &drawing, number)?;
+        let drawing = drawn(rt.alloc(), &asked.request, code)?;
+        if let Target::File(path) = asked.target {
+            let name = name_of(rt.alloc(), path, item(index.saturating_add(1)))?;
+            let target = Target::File(name.as_str());
+            write_drawing(rt, &Asked { target, ..*asked }, &drawing)?;
+        } else {
+            write_drawing(rt, asked, &drawing)?;
+        }
     }
     if let Target::File(path) = asked.target {
         warn_of_others(rt, path, count)?;
     }
     Ok(ExitCode::SUCCESS)
-}
-
-// Writes the symbol of a number, to the file of its name where drawings go to files.
-fn write_part(
-    rt: &HostRuntime,
-    asked: &Asked<'_>,
-    drawing: &Drawing,
-    number: usize,
-) -> Result<ExitCode, Failure> {
-    let Target::File(path) = asked.target else {
-        return write_drawing(rt, asked, drawing);
-    };
-    let name = name_of(rt.alloc(), path, item(number))?;
-    let target = Target::File(name.as_str());
-    write_drawing(rt, &Asked { target, ..*asked }, drawing)
 }
 
 // What the name of the file of a number is made of.
@@ -190,9 +178,9 @@ fn not_joined(
             let name = names.get(index).unwrap_or(&"");
             format!(in alloc; "{name}: it belongs to other data than {first}")?
         }
-        JoinError::Missing(place) => {
-            let number = place.saturating_add(1);
-            format!(in alloc; "part {number} is missing; name the pictures of all parts")?
+        JoinError::Missing(_) => {
+            let missing = missing_places(alloc, parts)?;
+            format!(in alloc; "missing parts: {missing}; name the pictures of all parts")?
         }
         JoinError::Twice(place) => {
             let number = place.saturating_add(1);
@@ -218,6 +206,20 @@ fn names_at(
     for (name, part) in names.iter().zip(parts) {
         if part.place as usize == place {
             write!(text, " {name}")?;
+        }
+    }
+    Ok(text)
+}
+
+// The numbers of parts that are missing.
+fn missing_places(alloc: Global, parts: &[Part<'_>]) -> Result<String, AllocError> {
+    let mut text = String::new(alloc);
+    let last = parts.first().map_or(0, |part| part.last);
+    for place in 0..last as usize + 1 {
+        if !parts.iter().any(|part| part.place as usize == place) {
+            let sign = if text.is_empty() { "" } else { ", " };
+            let number = place.saturating_add(1);
+            write!(text, "{sign}{number}")?;
         }
     }
     Ok(text)

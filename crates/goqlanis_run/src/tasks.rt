@@ -14,7 +14,7 @@ use clap::error::{Error, ErrorKind};
 use goqlanis_files::failure::{Failure, refused, status, usage};
 use goqlanis_files::streams::{Escaped, MOST_DATA, print, read_file, read_standard_input};
 use goqlanis_options::advice::{advice, wrapped_help};
-use goqlanis_options::asked::{Asked, Source, asked_for};
+use goqlanis_options::asked::{Asked, Source, asked_for, source_of};
 use goqlanis_options::command::{command_of, end_of_help};
 use goqlanis_options::completions::{completions_of, shell_named};
 use goqlanis_options::manual::manual_page;
@@ -127,7 +127,7 @@ fn make(rt: &HostRuntime, task: &Task, given: &ArgMatches<'_>) -> Result<ExitCod
     let logo = read_logo(rt, &asked)?;
     let asked = with_read(asked, &logo);
     match task.purpose {
-        Purpose::Several => draw_several(rt, given, &asked, &data(rt, &asked, MOST_IN_SEVERAL)?),
+        Purpose::Several => draw_several(rt, given, &asked, &data(rt, given, MOST_IN_SEVERAL)?),
         Purpose::Content(kind) => draw_content(rt, kind, given, &asked),
         Purpose::Elements => draw_gs1(rt, given, &asked),
         _ => draw_asked(rt, given, &asked),
@@ -157,10 +157,10 @@ fn draw_asked(
         let drawing = segments_drawing(rt.alloc(), asked, words)?;
         return write_drawing(rt, asked, &drawing);
     }
-    if asked.is_by_line {
+    if asked.is_by_line() {
         return draw_lines(rt, asked);
     }
-    draw_one(rt, asked, &data(rt, asked, MOST_DATA)?)
+    draw_one(rt, asked, &data(rt, given, MOST_DATA)?)
 }
 
 // Draws the text of a kind, of the fields that are given.
@@ -237,14 +237,13 @@ fn draw_gs1(
 }
 
 // The data that is asked about, of at most so many bytes where it is read.
-fn data(rt: &HostRuntime, asked: &Asked<'_>, most: usize) -> Result<Vec<u8>, Failure> {
-    let alloc = rt.alloc();
-    let mut bytes = match asked.source {
-        Source::Text(text) => Vec::from_slice(alloc, text.as_bytes())?,
+fn data(rt: &HostRuntime, given: &ArgMatches<'_>, most: usize) -> Result<Vec<u8>, Failure> {
+    let mut bytes = match source_of(given) {
+        Source::Text(text) => Vec::from_slice(rt.alloc(), text.as_bytes())?,
         Source::File(path) => read_file(rt, path, most)?,
         Source::StandardInput => read_standard_input(rt, "the text", most)?,
     };
-    if asked.trims && bytes.last() == Some(&b'\n') {
+    if given.get_flag("trim") && bytes.last() == Some(&b'\n') {
         bytes.pop();
     }
     Ok(bytes)

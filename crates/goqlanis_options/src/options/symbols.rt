@@ -1,6 +1,6 @@
 //! Plain codes, and pictures that are read.
 
-use super::Takes::{Nothing, Number, Path, Text, Texts, Word};
+use super::Takes::{self, Nothing, Number, Path, Text, Texts, Word};
 use super::{Entry, Purpose, Task};
 
 // From formats.rt of goqlanis_core, by bindings/same:
@@ -56,15 +56,13 @@ pub static ONE_CODE: &[Entry] = &[
         "Separator of the fields in a line [default: ,]"),
 ];
 
-// The level.
-#[rattlefmt::skip]
-const LEVEL: Entry =
-    entry!("level", 'l', Word("LEVEL", &["L", "M", "Q", "H"]), "Error correction level [default: M]");
+// The levels.
+const LEVEL: Takes = Word("LEVEL", &["L", "M", "Q", "H"]);
 
 /// The level and the version.
 #[rattlefmt::skip]
 pub static LEVELS: &[Entry] = &[
-    LEVEL,
+    entry!("level", 'l', LEVEL, "Error correction level [default: M; L in version M1]"),
     entry!("symbol-version", 'v', Text("VERSION"),
         "Version, 1 to 40 or M1 to M4 [default: the smallest of 1 to 40 that fits]"),
     entry!("min-version", Text("VERSION"),
@@ -74,7 +72,7 @@ pub static LEVELS: &[Entry] = &[
 /// The level and the version of what Micro QR cannot say.
 #[rattlefmt::skip]
 pub static NORMAL_LEVELS: &[Entry] = &[
-    LEVEL,
+    entry!("level", 'l', LEVEL, "Error correction level [default: M]"),
     entry!("symbol-version", 'v', Text("VERSION"),
         "Version, 1 to 40 [default: the smallest that fits]"),
     entry!("min-version", Text("VERSION"), "Smallest version to try, 1 to 40"),

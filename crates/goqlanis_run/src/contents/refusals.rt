@@ -2,7 +2,7 @@
 
 use goqlanis_files::failure::Failure;
 use goqlanis_options::options::entry_of;
-use qrcode_contents::fields::errors::{Cause, ContentError};
+use qrcode_contents::fields::errors::{Cause, ContentError, Field};
 use qrcode_payloads::kinds::Kind;
 use std::alloc::{AllocError, Global};
 
@@ -16,7 +16,11 @@ pub(crate) fn refusal_of(
     let ContentError::Refused(field, cause) = error else {
         return Ok(Failure::OutOfMemory);
     };
-    let (what, entry) = (cause_text(cause), entry_of(kind, field));
+    let what = match (field, cause) {
+        (Field::Reference, Cause::Unused) => "it does not go with this account",
+        _ => cause_text(cause),
+    };
+    let entry = entry_of(kind, field);
     if entry.long.is_empty() {
         return Ok(wrong(alloc, "the whole text", what, ""));
     }
