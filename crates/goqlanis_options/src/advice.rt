@@ -94,7 +94,15 @@ fn command_help(
         return Ok(None);
     }
     if word.starts_with('-') {
-        return later_command(alloc, words);
+        let later = words
+            .iter()
+            .find_map(|word| Some((word, task_named(word.as_str())?.word)));
+        return match later {
+            Some((word, name)) => Ok(Some(format!(in alloc;
+                "{word}: the command comes first, before options: goqlanis {name} .."
+            )?)),
+            None => Ok(None),
+        };
     }
     let names = TASKS
         .iter()
@@ -106,19 +114,6 @@ fn command_help(
         )?)),
         None => known_help(alloc, task, word),
     }
-}
-
-// What is said of options before a command.
-fn later_command(alloc: Global, words: &[String]) -> Result<Option<String>, AllocError> {
-    for word in words {
-        if let Some(task) = task_named(word.as_str()) {
-            let name = task.word;
-            return Ok(Some(format!(in alloc;
-                "{word}: the command comes first, before options: goqlanis {name} .."
-            )?));
-        }
-    }
-    Ok(None)
 }
 
 // What is said of any other word that is not taken.
@@ -137,13 +132,10 @@ fn other_help(
         _ if words.iter().any(|word| word.as_str() == "--version") => format!(in alloc;
             "{word}: --version is the program's; for the code's version, use -v"
         ),
-        Some(operand) if operand.name == "TEXT" => format!(in alloc;
+        Some(("TEXT", _)) => format!(in alloc;
             "{word}: only one TEXT; put quotes around one with spaces, e.g. \"hello world\""
         ),
-        Some(operand) => {
-            let name = operand.name;
-            format!(in alloc; "{word}: only one {name} at a time")
-        }
+        Some((name, _)) => format!(in alloc; "{word}: only one {name} at a time"),
         None => format!(in alloc; "{word}: goqlanis {name} takes only options; --help lists them"),
     }
 }

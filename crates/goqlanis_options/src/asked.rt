@@ -52,14 +52,14 @@ pub struct Asked<'a> {
     pub logo: Option<AskedLogo<'a>>,
 }
 
-impl Asked<'_> {
+impl<'a> Asked<'a> {
     /// Whether each line is data of its own.
     pub fn is_by_line(&self) -> bool {
         self.given.get_flag("lines")
     }
 
     /// What stands between the fields of a line.
-    pub fn delimiter(&self) -> &str {
+    pub fn delimiter(&self) -> &'a str {
         self.given.get_str("delimiter").unwrap_or(",")
     }
 }
@@ -250,51 +250,28 @@ fn request_of<'a>(
 }
 
 // Refuses options that a format does not have.
+#[rattlefmt::skip]
 fn check_format(alloc: Global, given: &ArgMatches<'_>, format: Format) -> Result<(), Failure> {
     let part = part_colour(given).unwrap_or("");
     let is_svg = format == Format::SvgPath;
     let rows: [(&[&str], bool, &str); 8] = [
-        (
-            &["dark", "light"],
-            format.has_colours(),
-            "only PNG, SVG, EPS, PDF and PPM have colours; add --format png, svg or eps",
-        ),
-        (
-            &[part],
-            format.has_colours() && format != Format::Ppm,
-            "only PNG, SVG, EPS and PDF have colours of parts; add --format png, svg, eps or pdf",
-        ),
-        (
-            &["dpi"],
-            format.pixels() > 1 && !is_svg,
-            "text, SVG and PIC have no resolution; use another --format, e.g. png",
-        ),
-        (
-            &["invert"],
-            format != Format::Pic,
-            "PIC draws no light modules; use another --format",
-        ),
-        (
-            &["at"],
-            matches!(format, Format::Zpl | Format::Tspl),
-            "only labels have a place for the code; add --format zpl or tspl",
-        ),
-        (
-            &["logo"],
-            is_svg || format == Format::Png,
+        (&["dark", "light"], format.has_colours(),
+            "only PNG, SVG, EPS, PDF and PPM have colours; add --format png, svg or eps"),
+        (&[part], format.has_colours() && format != Format::Ppm,
+            "only PNG, SVG, EPS and PDF have colours of parts; add --format png, svg, eps or pdf"),
+        (&["dpi"], format.pixels() > 1 && !is_svg,
+            "text, SVG and PIC have no resolution; use another --format, e.g. png"),
+        (&["invert"], format != Format::Pic,
+            "PIC draws no light modules; use another --format"),
+        (&["at"], matches!(format, Format::Zpl | Format::Tspl),
+            "only labels have a place for the code; add --format zpl or tspl"),
+        (&["logo"], is_svg || format == Format::Png,
             "only SVG and PNG take a logo; add --format svg, or use --logo-area instead and put \
-            the logo there yourself",
-        ),
-        (
-            &["svg-title", "svg-desc", "svg-id", "svg-class", "no-size"],
-            is_svg,
-            "only SVG has it; add --format svg",
-        ),
-        (
-            &["pdf-title"],
-            format == Format::Pdf,
-            "only PDF has it; add --format pdf",
-        ),
+            the logo there yourself"),
+        (&["svg-title", "svg-desc", "svg-id", "svg-class", "no-size"], is_svg,
+            "only SVG has it; add --format svg"),
+        (&["pdf-title"], format == Format::Pdf,
+            "only PDF has it; add --format pdf"),
     ];
     for (options, has, why) in &rows {
         let option = options.iter().find(|option| is_given(given, option));

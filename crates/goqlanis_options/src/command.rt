@@ -1,6 +1,6 @@
 //! The command line, as `clap` reads it.
 
-use crate::options::{EXAMPLES, Entry, OTHER_NAMES, TASKS, Takes, Task};
+use crate::options::{EXAMPLES, Entry, OTHER_NAMES, Purpose, TASKS, Takes, Task};
 use clap::builder::ValueParser;
 use clap::{Arg, ArgAction, Command};
 use std::alloc::{AllocError, Global};
@@ -36,9 +36,9 @@ pub fn end_of_help(alloc: Global, task: &Task) -> Result<String, AllocError> {
 // What a task takes: its operand, and options.
 fn arguments<'a>(alloc: Global, task: &Task) -> Result<Vec<Arg<'a>>, AllocError> {
     let mut arguments = Vec::new(alloc);
-    if let Some(operand) = task.operand() {
-        let arg = Arg::new(alloc, operand.name).help(operand.help);
-        arguments.push(if operand.is_many {
+    if let Some((name, help)) = task.operand() {
+        let arg = Arg::new(alloc, name).help(help);
+        arguments.push(if matches!(task.purpose, Purpose::Join) {
             arg.num_args(1..).action(ArgAction::Append).required(true)
         } else {
             arg

@@ -10,19 +10,13 @@ pub fn place_of(alloc: Global, given: &ArgMatches<'_>) -> Result<(u32, u32), Fai
     let Some(text) = given.get_str("at") else {
         return Ok((0, 0));
     };
-    match dots_of(text) {
-        Some(place) => Ok(place),
-        None => Err(Failure::Usage(format!(in alloc;
+    let place = text.split_once(',').unwrap_or(("", ""));
+    match (place.0.parse::<u32>(), place.1.parse::<u32>()) {
+        (Ok(x), Ok(y)) if x.max(y) <= 32_000 => Ok((x, y)),
+        _ => Err(Failure::Usage(format!(in alloc;
             "--at {text}: use dots from the left and from the top, each 0 to 32,000, e.g. 50,30"
         )?)),
     }
-}
-
-// Two numbers of dots.
-fn dots_of(text: &str) -> Option<(u32, u32)> {
-    let (x, y) = text.split_once(',')?;
-    let (x, y) = (x.parse::<u32>().ok()?, y.parse::<u32>().ok()?);
-    (x.max(y) <= 32_000).then_some((x, y))
 }
 
 /// What the command line says at the element of SVG; in PDF its title.

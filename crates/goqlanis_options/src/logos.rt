@@ -29,8 +29,6 @@ pub enum Middle<'a> {
 /// What is asked of the middle of a code.
 #[derive(Clone, Copy)]
 pub struct AskedLogo<'a> {
-    /// The path of the logo's file, where there is one.
-    pub path: Option<&'a str>,
     /// What stands there: light modules until the file is read.
     pub middle: Middle<'a>,
     pub size: LogoSize,
@@ -42,15 +40,13 @@ pub struct AskedLogo<'a> {
 
 /// What the command line asks of the middle of a code, where it asks for something, before a logo
 /// is read.
-pub fn logo_of<'a>(
+pub fn logo_of(
     alloc: Global,
-    given: &ArgMatches<'a>,
-) -> Result<Option<AskedLogo<'a>>, Failure> {
-    let path = given.get_str("logo");
+    given: &ArgMatches<'_>,
+) -> Result<Option<AskedLogo<'static>>, Failure> {
     let keeps_alignment = given.get_flag("keep-alignment");
-    if path.is_some() || given.get_flag("logo-area") {
+    if given.contains_id("logo") || given.get_flag("logo-area") {
         return Ok(Some(AskedLogo {
-            path,
             middle: Middle::Light,
             size: size_of(alloc, given.get_str("logo-size"))?,
             kept: if keeps_alignment {

@@ -48,8 +48,7 @@ pub fn manual_page(alloc: Global) -> Result<String, AllocError> {
 fn push_task(text: &mut String, task: &Task) -> Result<(), AllocError> {
     let (word, about) = (task.word, task.about);
     write!(text, ".SS goqlanis {word}\n{about}.\n")?;
-    if let Some(operand) = task.operand() {
-        let (name, help) = (operand.name, operand.help);
+    if let Some((name, help)) = task.operand() {
         let plain = format!(in *text.allocator(); "{name}: {help}.\n")?;
         push_plain(text, plain.as_str())?;
     }

@@ -93,17 +93,6 @@ pub enum Purpose {
     Elements,
 }
 
-/// An argument that is not an option.
-#[derive(Clone, Copy)]
-pub struct Operand {
-    /// What help calls it.
-    pub name: &'static str,
-    /// What help and the manual say of it.
-    pub help: &'static str,
-    /// Whether it is given once or more often.
-    pub is_many: bool,
-}
-
 /// What the program can be asked for.
 #[derive(Clone, Copy)]
 pub struct Task {
@@ -131,9 +120,10 @@ impl Task {
         !matches!(self.purpose, Purpose::Read | Purpose::Check | Purpose::Join)
     }
 
-    /// The argument that it takes besides options.
-    pub fn operand(&self) -> Option<Operand> {
-        let (name, help) = match self.purpose {
+    /// The argument that it takes besides options: what help calls it, and what help and the manual
+    /// say of it.
+    pub fn operand(&self) -> Option<(&'static str, &'static str)> {
+        Some(match self.purpose {
             Purpose::Draw | Purpose::Several => (
                 "TEXT",
                 "Text to encode; standard input if neither TEXT nor --input is given",
@@ -152,12 +142,6 @@ impl Task {
                 ( in a value as \\(. With --application: plain data",
             ),
             Purpose::Content(_) => return None,
-        };
-        let is_many = matches!(self.purpose, Purpose::Join);
-        Some(Operand {
-            name,
-            help,
-            is_many,
         })
     }
 

@@ -1,8 +1,9 @@
 //! What was made, on standard error: `--verbose` and `--json`.
 
 use crate::asked::Asked;
-use crate::warnings::{Decimal, hundredths_of, warn_of_label, warn_of_modules, warn_of_size};
+use crate::warnings::{Decimal, hundredths_of, warn_of_sizes};
 use goqlanis_core::{Drawing, VersionName, dots, quiet_zone, scale};
+use qrcode::QrCode;
 use qrcode::types::EcLevel;
 use qrcode_area::areas::Rectangle;
 use std::alloc::{AllocError, Global};
@@ -34,12 +35,26 @@ pub fn show_report(
     drawing: &Drawing,
     area: Option<Rectangle>,
 ) -> Result<(), AllocError> {
-    let report = report_of(asked, drawing, area);
-    let zone = report.zone.saturating_mul(2);
-    let modules = report.modules.saturating_add(zone);
-    warn_of_size(rt, asked, modules);
-    warn_of_label(rt, asked, modules.saturating_mul(report.scale));
-    warn_of_modules(rt, asked, report.scale, report.dots);
+    let (request, code) = (&asked.request, &drawing.code);
+    let (modules, zone) = (code.width() as u32, quiet_zone(request, code));
+    let (scale, all) = (
+        scale(request, code).max(1),
+        modules.saturating_add(zone.saturating_mul(2)),
+    );
+    let dots = dots(request, code).or(asked.dots.map(u32::from));
+    warn_of_sizes(rt, asked, all, scale, dots);
+    let report = Report {
+        version: VersionName(code.version()),
+        level: code.error_correction_level(),
+        mask: request.mask.unwrap_or(own_mask(code)),
+        modules,
+        zone,
+        scale,
+        side: all.saturating_mul(scale),
+        dots,
+        is_length: request.length.is_some(),
+        area,
+    };
     let text = if asked.given.get_flag("json") {
         json(rt.alloc(), &report)?
     } else if asked.given.get_flag("verbose") {
@@ -51,29 +66,12 @@ pub fn show_report(
     Ok(())
 }
 
-fn report_of(asked: &Asked<'_>, drawing: &Drawing, area: Option<Rectangle>) -> Report {
-    let (request, code) = (&asked.request, &drawing.code);
-    let version = code.version();
-    let own = if version.is_micro() {
+// The number of the mask of least penalty.
+fn own_mask(code: &QrCode) -> usize {
+    if code.version().is_micro() {
         code.mask().micro_number()
     } else {
         code.mask().number()
-    };
-    let (modules, zone) = (code.width() as u32, quiet_zone(request, code));
-    let scale = scale(request, code).max(1);
-    Report {
-        version: VersionName(version),
-        level: code.error_correction_level(),
-        mask: request.mask.unwrap_or(own),
-        modules,
-        zone,
-        scale,
-        side: modules
-            .saturating_add(zone.saturating_mul(2))
-            .saturating_mul(scale),
-        dots: dots(request, code).or(asked.dots.map(u32::from)),
-        is_length: request.length.is_some(),
-        area,
     }
 }
 

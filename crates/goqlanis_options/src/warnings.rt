@@ -44,47 +44,39 @@ pub fn warn_of_password(rt: &HostRuntime, given: &ArgMatches<'_>) {
     }
 }
 
-/// Warns of a side in millimetres that differs from the one that is asked for by a tenth or more,
-/// of a code of so many modules a side with its quiet zone.
-pub fn warn_of_size(rt: &HostRuntime, asked: &Asked<'_>, modules: u32) {
-    let (Some(wanted), Some(dots), Some(side)) = (asked.hundredths, asked.dots, asked.request.size)
-    else {
-        return;
-    };
-    if modules == 0 {
-        return;
-    }
-    let scale = side as u32 / modules;
-    let made = hundredths_of(modules.saturating_mul(scale), u32::from(dots));
-    if !asked.is_by_line() && made.saturating_add(10) <= wanted {
-        let (wanted, made) = (Decimal(wanted), Decimal(made));
-        let _ = eprintln!(rt;
-            "goqlanis: warning: --size {wanted}mm comes out at {made} mm: \
-            {modules} modules of {scale} whole pixels"
-        );
-    }
-}
-
-/// Warns of modules of so many pixels that are under a quarter of a millimetre on paper, where the
-/// pixels of an inch are known.
-pub fn warn_of_modules(rt: &HostRuntime, asked: &Asked<'_>, scale: u32, dots: Option<u32>) {
-    let Some(dots) = dots else {
-        return;
-    };
-    let side = hundredths_of(scale, dots);
-    if !asked.is_by_line() && side < 25 {
-        let side = Decimal(side);
-        let _ = eprintln!(rt;
-            "goqlanis: warning: modules of {side} mm are under the 0.25 mm that many readers need"
-        );
-    }
-}
-
 // The most bytes of a graphic field in ZPL, by the format of its command ^GF.
 const MOST_FIELD: u32 = 99_999;
 
-/// Warns of a label whose side has so many dots that printers that speak ZPL may refuse it.
-pub fn warn_of_label(rt: &HostRuntime, asked: &Asked<'_>, side: u32) {
+/// Warns of the sizes of a code of so many modules a side with its quiet zone, of so many pixels
+/// each, and of so many pixels to an inch where that is known: of a side in millimetres that
+/// differs from the one that is asked for by a tenth or more, of modules under a quarter of a
+/// millimetre, and of a label whose side has so many dots that printers that speak ZPL may refuse it.
+pub fn warn_of_sizes(
+    rt: &HostRuntime,
+    asked: &Asked<'_>,
+    modules: u32,
+    scale: u32,
+    dots: Option<u32>,
+) {
+    let side = modules.saturating_mul(scale);
+    if let Some(dots) = dots.filter(|_| !asked.is_by_line()) {
+        let (wanted, made) = (asked.hundredths.unwrap_or(0), hundredths_of(side, dots));
+        if made.saturating_add(10) <= wanted {
+            let (wanted, made) = (Decimal(wanted), Decimal(made));
+            let _ = eprintln!(rt;
+                "goqlanis: warning: --size {wanted}mm comes out at {made} mm: {modules} modules of \
+                {scale} whole pixels"
+            );
+        }
+        let module = hundredths_of(scale, dots);
+        if module < 25 {
+            let module = Decimal(module);
+            let _ = eprintln!(rt;
+                "goqlanis: warning: modules of {module} mm are under the 0.25 mm that many readers \
+                need"
+            );
+        }
+    }
     let bytes = side.div_ceil(8).saturating_mul(side);
     if asked.request.format == Format::Zpl && bytes > MOST_FIELD {
         let _ = eprintln!(rt;

@@ -5,7 +5,6 @@ mod checking;
 mod contents;
 mod drawing;
 mod lines;
-mod listing;
 mod logos;
 mod middle;
 mod names;

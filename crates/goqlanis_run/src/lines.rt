@@ -25,27 +25,24 @@ pub(crate) fn draw_lines(rt: &HostRuntime, asked: &Asked<'_>) -> Result<ExitCode
     match source_of(asked.given) {
         Source::Text(text) => draw_from(rt, asked, "TEXT", text.as_bytes()),
         Source::File(path) => match fs::open(rt, path) {
-            Ok(file) => draw_from(rt, asked, path, buffered(alloc, file)?),
+            Ok(file) => draw_from(rt, asked, path, file),
             Err(error) => unread(alloc, path, &error),
         },
         Source::StandardInput => {
             ask(rt, "the lines");
-            draw_from(rt, asked, "standard input", buffered(alloc, rt.stdin())?)
+            draw_from(rt, asked, "standard input", rt.stdin())
         }
     }
 }
 
-fn buffered<R: Read + Drop>(alloc: Global, from: R) -> Result<BufReader<R>, Failure> {
-    BufReader::new(alloc, from).map_err(|_| Failure::OutOfMemory)
-}
-
 // Draws each line of what has a name.
-fn draw_from<R: BufRead + Drop>(
+fn draw_from<R: Read + Drop>(
     rt: &HostRuntime,
     asked: &Asked<'_>,
     name: &str,
-    mut from: R,
+    from: R,
 ) -> Result<ExitCode, Failure> {
+    let mut from = BufReader::new(rt.alloc(), from).map_err(|_| Failure::OutOfMemory)?;
     let goes_to_file = matches!(asked.target, Target::File(_));
     let progress = Progress::new(rt, !goes_to_file && rt.stdout().is_terminal());
     let drawn = draw_each(rt, asked, name, &mut from, progress);

@@ -26,7 +26,6 @@ const MOST_LOGO: usize = 1_048_576;
 
 /// The Swiss cross in the middle of a bill.
 pub(crate) const SWISS_CROSS: AskedLogo<'static> = AskedLogo {
-    path: None,
     middle: Middle::Cross,
     size: LogoSize::Largest,
     kept: Kept::ButAlignment,
@@ -43,7 +42,7 @@ pub(crate) fn has_cross(format: Format) -> bool {
 
 /// The logo that is asked for, read once for all codes; none where none is.
 pub(crate) fn read_logo(rt: &HostRuntime, asked: &Asked<'_>) -> Result<Option<Logo>, Failure> {
-    let Some(path) = asked.logo.and_then(|logo| logo.path) else {
+    let Some(path) = asked.given.get_str("logo") else {
         return Ok(None);
     };
     let file = read_file(rt, path, MOST_LOGO)?;

@@ -1,12 +1,10 @@
 //! `goqlanis read`: the codes of a picture, read back.
 
-use crate::listing::listed;
-use crate::readings::{described, other_set};
+use crate::readings::{described, listed, other_set};
 use clap::ArgMatches;
 use goqlanis_core::{Codes, Scan, Unread, read_codes};
 use goqlanis_files::failure::Failure;
 use goqlanis_files::streams::{MOST_PICTURE, read_file, read_standard_input, write_data};
-use std::alloc::{AllocError, Global};
 use std::process::ExitCode;
 
 /// Reads the picture that the command line names, and writes the data of its codes.
@@ -32,20 +30,15 @@ pub(crate) fn read(rt: &HostRuntime, given: &ArgMatches<'_>) -> Result<ExitCode,
 
 // Writes the data of codes: as it is where there is one, and otherwise each in a line.
 fn write_all(rt: &HostRuntime, output: Option<&str>, scans: &[Scan]) -> Result<ExitCode, Failure> {
-    match scans {
-        [only] => write_data(rt, output, &only.any.reading.data),
-        scans => write_data(rt, output, &lines_of(rt.alloc(), scans)?),
+    if let [only] = scans {
+        return write_data(rt, output, &only.any.reading.data);
     }
-}
-
-// The data of codes, a line feed behind each.
-fn lines_of(alloc: Global, scans: &[Scan]) -> Result<Vec<u8>, AllocError> {
-    let mut lines = Vec::new(alloc);
+    let mut lines = Vec::new(rt.alloc());
     for scan in scans {
         lines.extend_from_slice(&scan.any.reading.data)?;
         lines.push(b'\n')?;
     }
-    Ok(lines)
+    write_data(rt, output, &lines)
 }
 
 /// What is read of a picture, which a file holds, or standard input where its name is -. It warns of

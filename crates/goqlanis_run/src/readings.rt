@@ -1,10 +1,11 @@
-//! What was read, in lines.
+//! What was read, in lines or as JSON.
 
 use crate::segments::mode_name;
 use goqlanis_core::{Scan, VersionName};
+use goqlanis_files::streams::is_unseen;
 use qrcode::types::Mode;
 use qrcode_reader::spell::{Header, Part};
-use qrcode_reader::{Position, Reading, WrongCodeword};
+use qrcode_reader::{Position, WrongCodeword};
 use std::alloc::{AllocError, Global};
 use std::fmt;
 
@@ -23,11 +24,11 @@ static CHARACTER_SETS: &[(u32, &str)] = &[
 
 /// The number of a character set (ECI), written with its name.
 #[derive(Clone, Copy)]
-pub(crate) struct CharacterSet(pub(crate) u32);
+pub(crate) struct CharacterSet(u32);
 
 impl CharacterSet {
-    /// Its name, where it has one.
-    pub(crate) fn name(self) -> Option<&'static str> {
+    // Its name, where it has one.
+    fn name(self) -> Option<&'static str> {
         let (_, name) = CHARACTER_SETS.iter().find(|(known, _)| *known == self.0)?;
         Some(*name)
     }
@@ -55,8 +56,8 @@ pub(crate) fn other_set(parts: &[Part]) -> Option<CharacterSet> {
     None
 }
 
-/// Whether data is UTF-8 by headers and modes: they name no other character set, and nothing is Kanji.
-pub(crate) fn is_in_utf8(parts: &[Part]) -> bool {
+// Whether data is UTF-8 by headers and modes: they name no other character set, and nothing is Kanji.
+fn is_in_utf8(parts: &[Part]) -> bool {
     parts.iter().all(|part| match *part {
         Part::Front(Header::Eci(number)) => matches!(number, 26 | 27 | 170),
         Part::Bytes(mode, _) => mode != Mode::Kanji,
@@ -64,66 +65,125 @@ pub(crate) fn is_in_utf8(parts: &[Part]) -> bool {
     })
 }
 
-/// What was read, in lines.
-pub(crate) fn described(alloc: Global, scan: &Scan) -> Result<String, AllocError> {
-    let mut text = String::new(alloc);
-    push_symbol(&mut text, &scan.any.reading)?;
-    push_square(&mut text, scan)?;
-    push_wrong(&mut text, &scan.any.reading.wrong)?;
-    for part in &scan.parts {
-        push_part(&mut text, *part)?;
+/// What was read of codes, as a list of JSON.
+pub(crate) fn listed(alloc: Global, scans: &[Scan]) -> Result<String, AllocError> {
+    let mut text = String::from_str(alloc, "[")?;
+    let mut sign = "\n";
+    for scan in scans {
+        text.push_str(sign)?;
+        push_scan(&mut text, scan, true)?;
+        sign = ",\n";
     }
+    text.push_str("\n]\n")?;
     Ok(text)
 }
 
-// What a symbol is, in a line.
-fn push_symbol(text: &mut String, reading: &Reading) -> Result<(), AllocError> {
-    let (version, level) = (VersionName(reading.version), reading.ec_level);
-    let mask = mask_of(reading);
-    write!(text, "version {version}, level {level:?}, mask {mask}\n")
+/// What was read, in lines.
+pub(crate) fn described(alloc: Global, scan: &Scan) -> Result<String, AllocError> {
+    let mut text = String::new(alloc);
+    push_scan(&mut text, scan, false)?;
+    Ok(text)
 }
 
-/// The number of a mask.
-pub(crate) fn mask_of(reading: &Reading) -> usize {
-    if reading.version.is_micro() {
+// What was read: as an object of JSON in a line, with the data, or in lines.
+fn push_scan(text: &mut String, scan: &Scan, is_json: bool) -> Result<(), AllocError> {
+    let reading = &scan.any.reading;
+    push_symbol(text, scan, is_json)?;
+    push_wrong(text, &reading.wrong, is_json)?;
+    let mut sign = "";
+    for part in &scan.parts {
+        text.push_str(sign)?;
+        push_part(text, *part, is_json)?;
+        sign = if is_json { ", " } else { "" };
+    }
+    if !is_json {
+        return Ok(());
+    }
+    text.push_str("], ")?;
+    if is_in_utf8(&scan.parts) {
+        push_text(text, &reading.data)?;
+    }
+    push_bytes(text, &reading.data)
+}
+
+// What a symbol is, the square of modules, and how it stands in its picture.
+fn push_symbol(text: &mut String, scan: &Scan, is_json: bool) -> Result<(), AllocError> {
+    let (square, reading) = (&scan.square, &scan.any.reading);
+    let (version, level) = (VersionName(reading.version), reading.ec_level);
+    let mask = if reading.version.is_micro() {
         reading.mask.micro_number()
     } else {
         reading.mask.number()
-    }
-}
-
-// The square of modules, and how it stands in its picture, in two lines.
-fn push_square(text: &mut String, scan: &Scan) -> Result<(), AllocError> {
-    let (count, zone, scale) = (scan.square.count, scan.square.zone, scan.square.scale);
+    };
+    let (count, zone, scale) = (square.count, square.zone, square.scale);
     let place = position_text(scan.any.position);
-    let shades = if has_light_on_dark(scan) {
+    let inverted = scan.is_inverted != scan.any.is_inverted;
+    let is_framed = scan.grid.is_none();
+    if is_json {
+        write!(
+            text,
+            "{{\"version\": \"{version}\", \"level\": \"{level:?}\", \"mask\": {mask}, \
+            \"modules\": {count}"
+        )?;
+        if is_framed {
+            write!(text, ", \"quiet_zone\": {zone}")?;
+        }
+        return write!(
+            text,
+            ", \"scale\": {scale}, \"position\": \"{place}\", \"inverted\": {inverted}, "
+        );
+    }
+    write!(
+        text,
+        "version {version}, level {level:?}, mask {mask}\n\
+        modules: {count} by {count}; pixels of a module: {scale}"
+    )?;
+    if is_framed {
+        write!(text, "; quiet zone: {zone}")?;
+    }
+    let shades = if inverted {
         ", dark and light exchanged"
     } else {
         ""
     };
-    write!(
-        text,
-        "modules: {count} by {count}; pixels of a module: {scale}"
-    )?;
-    if scan.grid.is_none() {
-        write!(text, "; quiet zone: {zone}")?;
-    }
     write!(text, "\nposition: {place}{shades}\n")
 }
 
-/// Whether dark modules are light in the picture.
-pub(crate) fn has_light_on_dark(scan: &Scan) -> bool {
-    scan.is_inverted != scan.any.is_inverted
+// How many codewords are wrong, and which, by their block and their place there.
+fn push_wrong(text: &mut String, wrong: &[WrongCodeword], is_json: bool) -> Result<(), AllocError> {
+    let count = wrong.len();
+    let mut sign = "";
+    if is_json {
+        text.push_str("\"wrong_codewords\": [")?;
+    } else {
+        write!(text, "wrong codewords: {count}")?;
+        sign = ", by block and place from 0: ";
+    }
+    for each in wrong {
+        let (block, place) = (each.block, each.place);
+        if is_json {
+            write!(text, "{sign}[{block}, {place}]")?;
+        } else {
+            write!(text, "{sign}{block}.{place}")?;
+        }
+        sign = ", ";
+    }
+    text.push_str(if is_json { "], \"parts\": [" } else { "\n" })
 }
 
-// A header or a segment, in a line.
-fn push_part(text: &mut String, part: Part) -> Result<(), AllocError> {
-    match part {
-        Part::Front(header) => push_header(text, header),
-        Part::Bytes(mode, count) => {
+// A header or a segment.
+fn push_part(text: &mut String, part: Part, is_json: bool) -> Result<(), AllocError> {
+    match (part, is_json) {
+        (Part::Bytes(mode, count), true) => {
+            let mode = mode_name(mode);
+            write!(text, "{{\"mode\": \"{mode}\", \"bytes\": {count}}}")
+        }
+        (Part::Bytes(mode, count), false) => {
             let mode = mode_name(mode);
             write!(text, "segment: {mode}, bytes: {count}\n")
         }
+        (Part::Front(header), true) => push_object(text, header),
+        (Part::Front(header), false) => push_header(text, header),
     }
 }
 
@@ -156,9 +216,38 @@ fn push_header(text: &mut String, header: Header) -> Result<(), AllocError> {
     }
 }
 
-/// The indicator of an application: two digits, or a letter, which stands as its code and 100.
+// What a header says, as an object.
+fn push_object(text: &mut String, header: Header) -> Result<(), AllocError> {
+    match header {
+        Header::Eci(number) => match CharacterSet(number).name() {
+            Some(name) => write!(text, "{{\"eci\": {number}, \"name\": \"{name}\"}}"),
+            None => write!(text, "{{\"eci\": {number}}}"),
+        },
+        Header::Fnc1First => text.push_str("{\"fnc1\": \"first\"}"),
+        Header::Fnc1Second(indicator) => {
+            let application = Application(indicator);
+            write!(
+                text,
+                "{{\"fnc1\": \"second\", \"application\": \"{application}\"}}"
+            )
+        }
+        Header::StructuredAppend {
+            place,
+            last,
+            parity,
+        } => {
+            let (number, count) = (place.saturating_add(1), last.saturating_add(1));
+            write!(
+                text,
+                "{{\"symbol\": {number}, \"of\": {count}, \"parity\": {parity}}}"
+            )
+        }
+    }
+}
+
+// The indicator of an application: two digits, or a letter, which stands as its code and 100.
 #[derive(Clone, Copy)]
-pub(crate) struct Application(pub(crate) u8);
+struct Application(u8);
 
 impl fmt::Display for Application {
     fn fmt<W: fmt::Write>(&self, f: &mut fmt::Formatter<W>) -> fmt::Result {
@@ -172,8 +261,8 @@ impl fmt::Display for Application {
     }
 }
 
-/// How a symbol stands in its picture.
-pub(crate) fn position_text(position: Position) -> &'static str {
+// How a symbol stands in its picture.
+fn position_text(position: Position) -> &'static str {
     match position {
         Position::Upright => "upright",
         Position::TurnedLeft => "turned by a quarter against the clock",
@@ -186,15 +275,39 @@ pub(crate) fn position_text(position: Position) -> &'static str {
     }
 }
 
-// How many codewords are wrong, and which.
-fn push_wrong(text: &mut String, wrong: &[WrongCodeword]) -> Result<(), AllocError> {
-    let count = wrong.len();
-    write!(text, "wrong codewords: {count}")?;
-    let mut sign = ", by block and place from 0: ";
-    for each in wrong {
-        let (block, place) = (each.block, each.place);
-        write!(text, "{sign}{block}.{place}")?;
-        sign = ", ";
+// The data as a text, where it is one.
+fn push_text(text: &mut String, data: &[u8]) -> Result<(), AllocError> {
+    if let Ok(known) = std::str::from_utf8(data) {
+        text.push_str("\"text\": \"")?;
+        for character in known.chars() {
+            push_escaped(text, character)?;
+        }
+        text.push_str("\", ")?;
     }
-    text.push_str("\n")
+    Ok(())
+}
+
+// The bytes of the data, to the base 16.
+fn push_bytes(text: &mut String, data: &[u8]) -> Result<(), AllocError> {
+    text.push_str("\"hex\": \"")?;
+    for byte in data {
+        let byte = *byte;
+        write!(text, "{byte:02x}")?;
+    }
+    text.push_str("\"}")
+}
+
+// A character in a string of JSON. What a terminal would not show is its number there, as in C.
+fn push_escaped(text: &mut String, character: char) -> Result<(), AllocError> {
+    match character {
+        '"' => text.push_str("\\\""),
+        '\\' => text.push_str("\\\\"),
+        _ if is_unseen(character) => {
+            for unit in character.encode_utf16(&mut [0; 2]) {
+                write!(text, "\\u{unit:04x}")?;
+            }
+            Ok(())
+        }
+        _ => text.push(character),
+    }
 }

@@ -26,7 +26,6 @@ pub(crate) const MOST_IN_SEVERAL: usize = MOST_SYMBOLS * MOST_DATA;
 /// Draws data in several symbols, each to the file of its number.
 pub(crate) fn draw_several(
     rt: &HostRuntime,
-    given: &ArgMatches<'_>,
     asked: &Asked<'_>,
     bytes: &[u8],
 ) -> Result<ExitCode, Failure> {
@@ -34,10 +33,10 @@ pub(crate) fn draw_several(
     check_one_behind_another(alloc, asked)?;
     check_names(rt, asked)?;
     check_empty(alloc, asked, bytes)?;
-    let versions = versions_of(alloc, given, asked.request.choice)?;
+    let versions = versions_of(alloc, asked.given, asked.request.choice)?;
     let level = asked.request.level;
     let manner = manner(alloc, asked, bytes)?;
-    let made = match given.get_one::<u8>("count") {
+    let made = match asked.given.get_one::<u8>("count") {
         None => encode_among(alloc, bytes, manner, versions, level),
         Some(count) => encode_counted(alloc, bytes, manner, versions, level, count as usize),
     };
@@ -115,23 +114,21 @@ pub(crate) fn join_pictures(rt: &HostRuntime, given: &ArgMatches<'_>) -> Result<
         }
     }
     match scans.as_slice() {
-        [only] if only.parts.iter().all(|part| !is_place(*part)) => {
-            write_data(rt, output, &only.any.reading.data)
-        }
+        [only] if part_of(only).is_none() => write_data(rt, output, &only.any.reading.data),
         scans => write_data(rt, output, &joined(rt.alloc(), &sources, scans)?),
     }
-}
-
-// Whether a header is the place of one of several symbols.
-fn is_place(part: spell::Part) -> bool {
-    matches!(part, spell::Part::Front(Header::StructuredAppend { .. }))
 }
 
 // The data of pictures of these names, one behind the other by their headers.
 fn joined(alloc: Global, names: &[&str], scans: &[Scan]) -> Result<Vec<u8>, Failure> {
     let mut parts = Vec::with_capacity(alloc, scans.len())?;
     for (name, scan) in names.iter().zip(scans) {
-        parts.push(part_of(alloc, name, scan)?)?;
+        let Some(part) = part_of(scan) else {
+            return Err(Failure::Refused(format!(in alloc;
+                "{name}: it is not part of a split; goqlanis read decodes it"
+            )?));
+        };
+        parts.push(part)?;
     }
     match join(alloc, &parts) {
         Ok(data) => Ok(data),
@@ -139,8 +136,8 @@ fn joined(alloc: Global, names: &[&str], scans: &[Scan]) -> Result<Vec<u8>, Fail
     }
 }
 
-// The part that a picture of a name shows.
-fn part_of<'a>(alloc: Global, name: &str, scan: &'a Scan) -> Result<Part<'a>, Failure> {
+// The part of a split that a picture shows, where it shows one.
+fn part_of(scan: &Scan) -> Option<Part<'_>> {
     for part in &scan.parts {
         if let spell::Part::Front(
             Header::StructuredAppend {
@@ -150,18 +147,15 @@ fn part_of<'a>(alloc: Global, name: &str, scan: &'a Scan) -> Result<Part<'a>, Fa
             },
         ) = *part
         {
-            let bytes = scan.any.reading.data.as_slice();
-            return Ok(Part {
+            return Some(Part {
                 place,
                 last,
                 parity,
-                bytes,
+                bytes: &scan.any.reading.data,
             });
         }
     }
-    Err(Failure::Refused(format!(in alloc;
-        "{name}: it is not part of a split; goqlanis read decodes it"
-    )?))
+    None
 }
 
 // Why pictures of these names, which show these parts, are not joined.

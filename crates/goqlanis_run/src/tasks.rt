@@ -127,10 +127,14 @@ fn make(rt: &HostRuntime, task: &Task, given: &ArgMatches<'_>) -> Result<ExitCod
     let logo = read_logo(rt, &asked)?;
     let asked = with_read(asked, &logo);
     match task.purpose {
-        Purpose::Several => draw_several(rt, given, &asked, &data(rt, given, MOST_IN_SEVERAL)?),
-        Purpose::Content(kind) => draw_content(rt, kind, given, &asked),
-        Purpose::Elements => draw_gs1(rt, given, &asked),
-        _ => draw_asked(rt, given, &asked),
+        Purpose::Several => draw_several(rt, &asked, &data(rt, given, MOST_IN_SEVERAL)?),
+        Purpose::Content(kind) => draw_content(rt, kind, &asked),
+        Purpose::Elements => draw_gs1(rt, &asked),
+        _ if asked.is_by_line() => draw_lines(rt, &asked),
+        _ => match given.get_strs("segment") {
+            Some(words) => draw_segments(rt, &asked, words),
+            None => draw_one(rt, &asked, &data(rt, given, MOST_DATA)?),
+        },
     }
 }
 
@@ -147,35 +151,20 @@ fn text_about(alloc: Global, given: &ArgMatches<'_>) -> Result<Option<String>, A
     }
 }
 
-// Draws data as it is asked for.
-fn draw_asked(
-    rt: &HostRuntime,
-    given: &ArgMatches<'_>,
-    asked: &Asked<'_>,
-) -> Result<ExitCode, Failure> {
-    if let Some(words) = given.get_strs("segment") {
-        let drawing = segments_drawing(rt.alloc(), asked, words)?;
-        return write_drawing(rt, asked, &drawing);
-    }
-    if asked.is_by_line() {
-        return draw_lines(rt, asked);
-    }
-    draw_one(rt, asked, &data(rt, given, MOST_DATA)?)
+// Draws segments by hand.
+fn draw_segments(rt: &HostRuntime, asked: &Asked<'_>, words: &[&str]) -> Result<ExitCode, Failure> {
+    let drawing = segments_drawing(rt.alloc(), asked, words)?;
+    write_drawing(rt, asked, &drawing)
 }
 
 // Draws the text of a kind, of the fields that are given.
-fn draw_content(
-    rt: &HostRuntime,
-    kind: Kind,
-    given: &ArgMatches<'_>,
-    asked: &Asked<'_>,
-) -> Result<ExitCode, Failure> {
-    let text = payload_of(rt.alloc(), kind, given)?;
+fn draw_content(rt: &HostRuntime, kind: Kind, asked: &Asked<'_>) -> Result<ExitCode, Failure> {
+    let text = payload_of(rt.alloc(), kind, asked.given)?;
     if matches!(kind, Kind::Bill) {
         return draw_bill(rt, asked, text.as_str());
     }
     if matches!(kind, Kind::Wifi) {
-        warn_of_password(rt, given);
+        warn_of_password(rt, asked.given);
     }
     draw_one(rt, asked, text.as_bytes())
 }
@@ -222,16 +211,11 @@ fn check_bill(alloc: Global, text: &str) -> Result<(), Failure> {
 }
 
 // Draws elements of GS1, or data of an application.
-fn draw_gs1(
-    rt: &HostRuntime,
-    given: &ArgMatches<'_>,
-    asked: &Asked<'_>,
-) -> Result<ExitCode, Failure> {
-    let alloc = rt.alloc();
-    let text = given.get_str("ELEMENTS").unwrap_or("");
-    let drawing = match given.get_str("application") {
-        None => elements_drawing(alloc, &asked.request, text)?,
-        Some(indicator) => application_drawing(alloc, &asked.request, indicator, text)?,
+fn draw_gs1(rt: &HostRuntime, asked: &Asked<'_>) -> Result<ExitCode, Failure> {
+    let text = asked.given.get_str("ELEMENTS").unwrap_or("");
+    let drawing = match asked.given.get_str("application") {
+        None => elements_drawing(rt.alloc(), &asked.request, text)?,
+        Some(indicator) => application_drawing(rt.alloc(), &asked.request, indicator, text)?,
     };
     write_drawing(rt, asked, &drawing)
 }

@@ -4,8 +4,7 @@ ghost use Rattle.std.specs.Prelude.{◌≡◌, ◌≢◌, [], ◌∷◌, ◌++�
 ghost use Rattle.qrcode_gs1.specs.Items.{item};
 ghost use Rattle.goqlanis_run.specs.Labels.{ends_with_backslash, items_of, label_text, read_text, value_text};
 
-use super::refusals::wrong;
-use goqlanis_files::failure::Failure;
+use goqlanis_files::failure::{Failure, refused};
 use qrcode_gs1::checks::cause_of;
 use qrcode_gs1::elements::Element;
 use qrcode_gs1::errors::Cause;
@@ -45,8 +44,8 @@ impl Elements {
             part = next(alloc, &mut items, part, character)?;
         }
         match part {
-            Part::Nothing => Err(no_bracket(alloc)),
-            Part::Identifier(_) => Err(not_closed(alloc)),
+            Part::Nothing => refused(alloc, NO_BRACKET),
+            Part::Identifier(_) => refused(alloc, NOT_CLOSED),
             Part::Value(identifier, value) => {
                 items.push((identifier, value))?;
                 Ok(Elements { items })
@@ -83,10 +82,22 @@ impl Elements {
         let number = index.saturating_add(1);
         let mut text = format!(in alloc; "element {number}, ({identifier}): ")?;
         match (cause, rule_of(identifier.as_bytes())) {
-            (Cause::Length, Some(rule)) => push_length(&mut text, rule.1, value.len())?,
+            (Cause::Length, Some(rule)) => {
+                let ((least, most), count) = (rule.1, value.len());
+                write!(text, "its value has {count} characters; it needs {least}")?;
+                if least < most {
+                    write!(text, " to {most}")?;
+                }
+            }
             (Cause::Character, Some(rule)) => push_character(&mut text, rule.2, value.as_str())?,
             (Cause::CheckDigit, Some(rule)) => {
-                push_digit(&mut text, identifier.as_str(), value.as_str(), rule.3)?;
+                let place = rule.3;
+                let digit = right_digit(alloc, identifier.as_str(), value.as_str(), place)?;
+                write!(
+                    text,
+                    "its check digit, at place {place}, would be {digit}; \
+                    look for a mistyped or swapped digit"
+                )?;
             }
             (Cause::Range, _) => text.push_str("its value is no date, YYMMDD (DD may be 00)")?,
             _ => text.push_str(
@@ -111,8 +122,8 @@ fn next(
 {
     match part {
         Part::Nothing if character == '(' => Ok(Part::Identifier(String::new(alloc))),
-        Part::Nothing => Err(no_bracket(alloc)),
-        Part::Identifier(_) if character == '(' => Err(not_closed(alloc)),
+        Part::Nothing => refused(alloc, NO_BRACKET),
+        Part::Identifier(_) if character == '(' => refused(alloc, NOT_CLOSED),
         Part::Identifier(identifier) if character == ')' => {
             Ok(Part::Value(identifier, String::new(alloc)))
         }
@@ -162,49 +173,11 @@ fn with_bracket(mut value: String) -> Result<String, Failure>
     Ok(value)
 }
 
-// The refusal of a text that does not begin with a bracket.
-fn no_bracket(alloc: Global) -> Failure {
-    wrong(
-        alloc,
-        "ELEMENTS",
-        "start with an identifier in round brackets",
-        ", e.g. (01)09521234543213",
-    )
-}
+// What is said of a text that does not begin with a bracket, and of a bracket that is not closed.
+const NO_BRACKET: &str =
+    "ELEMENTS: start with an identifier in round brackets, e.g. (01)09521234543213";
 
-// The refusal of a bracket that is not closed.
-fn not_closed(alloc: Global) -> Failure {
-    let what = "an opening bracket is never closed";
-    wrong(alloc, "ELEMENTS", what, "; write ( in a value as \\(")
-}
-
-// Appends how many characters a value has, and the least and the most that it may have.
-fn push_length(
-    text: &mut String,
-    (least, most): (usize, usize),
-    count: usize,
-) -> Result<(), AllocError> {
-    write!(text, "its value has {count} characters; it needs {least}")?;
-    if least < most {
-        write!(text, " to {most}")?;
-    }
-    Ok(())
-}
-
-// Appends the check digit that would be right at a place, from 1.
-fn push_digit(
-    text: &mut String,
-    identifier: &str,
-    value: &str,
-    place: usize,
-) -> Result<(), AllocError> {
-    let digit = right_digit(*text.allocator(), identifier, value, place)?;
-    write!(
-        text,
-        "its check digit, at place {place}, would be {digit}; \
-        look for a mistyped or swapped digit"
-    )
-}
+const NOT_CLOSED: &str = "ELEMENTS: an opening bracket is never closed; write ( in a value as \\(";
 
 // Appends the first character of a value that may not stand there, of which so many are digits.
 fn push_character(text: &mut String, digits: usize, value: &str) -> Result<(), AllocError> {

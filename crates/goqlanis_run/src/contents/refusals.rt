@@ -21,24 +21,15 @@ pub(crate) fn refusal_of(
         _ => cause_text(cause),
     };
     let entry = entry_of(kind, field);
-    if entry.long.is_empty() {
-        return Ok(wrong(alloc, "the whole text", what, ""));
-    }
     let (name, help) = (entry.long, entry.help);
-    let option = format!(in alloc; "--{name}")?;
-    if matches!(cause, Cause::ControlCharacter | Cause::CheckDigits) {
-        return Ok(wrong(alloc, option.as_str(), what, ""));
-    }
-    let help = format!(in alloc; "; expected: {help}")?;
-    Ok(wrong(alloc, option.as_str(), what, help.as_str()))
-}
-
-/// The refusal of an option, with what is wrong and what would help.
-pub(crate) fn wrong(alloc: Global, option: &str, what: &str, help: &str) -> Failure {
-    match format!(in alloc; "{option}: {what}{help}") {
-        Ok(text) => Failure::Refused(text),
-        Err(_) => Failure::OutOfMemory,
-    }
+    let text = if name.is_empty() {
+        format!(in alloc; "the whole text: {what}")
+    } else if matches!(cause, Cause::ControlCharacter | Cause::CheckDigits) {
+        format!(in alloc; "--{name}: {what}")
+    } else {
+        format!(in alloc; "--{name}: {what}; expected: {help}")
+    };
+    Ok(Failure::Refused(text?))
 }
 
 // What is wrong, by its cause.
