@@ -94,15 +94,15 @@ fn command_help(
         return Ok(None);
     }
     if word.starts_with('-') {
-        let later = words
-            .iter()
-            .find_map(|word| Some((word, task_named(word.as_str())?.word)));
-        return match later {
-            Some((word, name)) => Ok(Some(format!(in alloc;
-                "{word}: the command comes first, before options: goqlanis {name} .."
-            )?)),
-            None => Ok(None),
-        };
+        for word in words {
+            if let Some(task) = task_named(word.as_str()) {
+                let name = task.word;
+                return Ok(Some(format!(in alloc;
+                    "{word}: the command comes first, before options: goqlanis {name} .."
+                )?));
+            }
+        }
+        return Ok(None);
     }
     let names = TASKS
         .iter()

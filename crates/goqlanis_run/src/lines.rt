@@ -1,7 +1,7 @@
 //! A symbol of each line.
 
 use crate::drawing::draw_one;
-use crate::names::{Item, check_names, field_of, take_name};
+use crate::names::{check_names, field_of, name_of, take_name};
 use goqlanis_core::Grouped;
 use goqlanis_files::failure::{Failure, refused};
 use goqlanis_files::progress::Progress;
@@ -93,12 +93,8 @@ fn draw_line(
         return draw_one(rt, asked, data);
     };
     let text = String::from_utf8_lossy(rt.alloc(), line)?;
-    let item = Item {
-        number,
-        text: text.as_str(),
-        delimiter: asked.delimiter(),
-    };
-    let name = take_name(rt.alloc(), taken, path, item)?;
+    let name = name_of(rt.alloc(), path, number, text.as_str(), asked.delimiter())?;
+    take_name(rt.alloc(), taken, path, name.as_str())?;
     let target = Target::File(name.as_str());
     draw_one(rt, &Asked { target, ..*asked }, data)
 }

@@ -10,17 +10,6 @@ use std::collections::BTreeSet;
 // The most bytes of a file's name, as Linux has it.
 const MOST_IN_NAME: usize = 255;
 
-/// What the name of one of the files is made of.
-#[derive(Clone, Copy)]
-pub(crate) struct Item<'a> {
-    /// Counted from 1.
-    pub(crate) number: usize,
-    /// The text of the line.
-    pub(crate) text: &'a str,
-    /// What stands between its fields.
-    pub(crate) delimiter: &'a str,
-}
-
 // What a path has a place for.
 #[derive(Clone, Copy)]
 enum Place {
@@ -69,31 +58,36 @@ fn unknown_word(path: &str) -> Option<&str> {
     })
 }
 
-/// The file of an item, unless an earlier one has it whose text it was made of.
+/// Refuses a file that an earlier line has, where its name is made of their texts.
 pub(crate) fn take_name(
     alloc: Global,
     taken: &mut BTreeSet<String>,
     path: &str,
-    item: Item<'_>,
-) -> Result<String, Failure> {
-    let name = name_of(alloc, path, item)?;
-    if !has_text(path) || taken.insert(String::from_str(alloc, name.as_str())?)? {
-        return Ok(name);
+    name: &str,
+) -> Result<(), Failure> {
+    if !has_text(path) || taken.insert(String::from_str(alloc, name)?)? {
+        return Ok(());
     }
     Err(Failure::Refused(format!(in alloc;
         "{name} is the file of an earlier line; {{}} in --output is the number of the line"
     )?))
 }
 
-/// The file of an item: a path with the item in its places, or with its number before its file
-/// extension.
-pub(crate) fn name_of(alloc: Global, path: &str, item: Item<'_>) -> Result<String, Failure> {
+/// The file of a number, counted from 1, and of a line with its delimiter: a path with them in its
+/// places, or with the number before its file extension.
+pub(crate) fn name_of(
+    alloc: Global,
+    path: &str,
+    number: usize,
+    line: &str,
+    delimiter: &str,
+) -> Result<String, Failure> {
     if !path.contains("{}") && !has_text(path) {
-        return Ok(numbered(alloc, path, item.number)?);
+        return Ok(numbered(alloc, path, number)?);
     }
     let mut name = String::from_str(alloc, path.split('{').next().unwrap_or(""))?;
     for piece in path.split('{').skip(1) {
-        push_piece(&mut name, piece, item)?;
+        push_piece(&mut name, piece, number, line, delimiter)?;
     }
     check_name(alloc, name.as_str())?;
     Ok(name)
@@ -143,15 +137,21 @@ fn place_of(piece: &str) -> Option<(Place, &str)> {
 
 // Writes what stands in the place that a piece of a path begins with, and the rest of the piece; or,
 // if there is none, the piece after its bracket.
-fn push_piece(name: &mut String, piece: &str, item: Item<'_>) -> Result<(), Failure> {
+fn push_piece(
+    name: &mut String,
+    piece: &str,
+    number: usize,
+    line: &str,
+    delimiter: &str,
+) -> Result<(), Failure> {
     let Some((place, rest)) = place_of(piece) else {
         return Ok(write!(name, "{{{piece}")?);
     };
     match place {
-        Place::Number => write!(name, "{}", item.number)?,
-        Place::Text => push_clean(name, item.text)?,
+        Place::Number => write!(name, "{number}")?,
+        Place::Text => push_clean(name, line)?,
         Place::Field(number) => {
-            let field = field_of(*name.allocator(), item.text, item.delimiter, number)?;
+            let field = field_of(*name.allocator(), line, delimiter, number)?;
             push_clean(name, field.as_str())?;
         }
     }

@@ -18,7 +18,11 @@ pub(crate) fn read(rt: &HostRuntime, given: &ArgMatches<'_>) -> Result<ExitCode,
         }
     }
     for scan in scans {
-        warn_of_set(rt, scan);
+        if let Some(set) = other_set(&scan.parts) {
+            let _ = eprintln!(rt;
+                "goqlanis: warning: the data has text in {set}, which is written as its bytes"
+            );
+        }
     }
     let output = given.get_str("output");
     if given.get_flag("json") {
@@ -105,13 +109,4 @@ pub(crate) fn warn_of_missed(rt: &HostRuntime, codes: &Codes) -> bool {
         }
     }
     is_none
-}
-
-// Warns of a text in another character set than UTF-8 or ASCII.
-fn warn_of_set(rt: &HostRuntime, scan: &Scan) {
-    if let Some(set) = other_set(&scan.parts) {
-        let _ = eprintln!(rt;
-            "goqlanis: warning: the data has text in {set}, which is written as its bytes"
-        );
-    }
 }

@@ -103,7 +103,8 @@ fn push_scan(text: &mut String, scan: &Scan, is_json: bool) -> Result<(), AllocE
     if is_in_utf8(&scan.parts) {
         push_text(text, &reading.data)?;
     }
-    push_bytes(text, &reading.data)
+    let data = hex::encode(*text.allocator(), reading.data.as_slice())?;
+    write!(text, "\"hex\": \"{data}\"}}")
 }
 
 // What a symbol is, the square of modules, and how it stands in its picture.
@@ -285,16 +286,6 @@ fn push_text(text: &mut String, data: &[u8]) -> Result<(), AllocError> {
         text.push_str("\", ")?;
     }
     Ok(())
-}
-
-// The bytes of the data, to the base 16.
-fn push_bytes(text: &mut String, data: &[u8]) -> Result<(), AllocError> {
-    text.push_str("\"hex\": \"")?;
-    for byte in data {
-        let byte = *byte;
-        write!(text, "{byte:02x}")?;
-    }
-    text.push_str("\"}")
 }
 
 // A character in a string of JSON. What a terminal would not show is its number there, as in C.

@@ -1,7 +1,7 @@
 //! `goqlanis several`: data in several symbols; and `goqlanis join`: the data of such symbols.
 
 use crate::drawing::{check_empty, drawn, manner, write_drawing};
-use crate::names::{Item, check_names, name_of};
+use crate::names::{check_names, name_of};
 use crate::reading::codes_of;
 use clap::ArgMatches;
 use goqlanis_core::{Grouped, Scan};
@@ -57,7 +57,7 @@ fn draw_each(rt: &HostRuntime, asked: &Asked<'_>, codes: Vec<QrCode>) -> Result<
     for (index, code) in codes.into_iter().enumerate() {
         let drawing = drawn(rt.alloc(), &asked.request, code)?;
         if let Target::File(path) = asked.target {
-            let name = name_of(rt.alloc(), path, item(index.saturating_add(1)))?;
+            let name = name_of(rt.alloc(), path, index.saturating_add(1), "", "")?;
             let target = Target::File(name.as_str());
             write_drawing(rt, &Asked { target, ..*asked }, &drawing)?;
         } else {
@@ -70,20 +70,11 @@ fn draw_each(rt: &HostRuntime, asked: &Asked<'_>, codes: Vec<QrCode>) -> Result<
     Ok(ExitCode::SUCCESS)
 }
 
-// What the name of the file of a number is made of.
-fn item(number: usize) -> Item<'static> {
-    Item {
-        number,
-        text: "",
-        delimiter: "",
-    }
-}
-
 // Says which files of further numbers there are, as of an earlier run: they are of other data.
 fn warn_of_others(rt: &HostRuntime, path: &str, count: usize) -> Result<(), Failure> {
     let mut others = String::new(rt.alloc());
     for number in count.saturating_add(1)..MOST_SYMBOLS + 1 {
-        let name = name_of(rt.alloc(), path, item(number))?;
+        let name = name_of(rt.alloc(), path, number, "", "")?;
         if fs::exists(rt, name.as_str()).unwrap_or(false) {
             write!(others, " {name}")?;
         }

@@ -132,7 +132,10 @@ fn make(rt: &HostRuntime, task: &Task, given: &ArgMatches<'_>) -> Result<ExitCod
         Purpose::Elements => draw_gs1(rt, &asked),
         _ if asked.is_by_line() => draw_lines(rt, &asked),
         _ => match given.get_strs("segment") {
-            Some(words) => draw_segments(rt, &asked, words),
+            Some(words) => {
+                let drawing = segments_drawing(rt.alloc(), &asked, words)?;
+                write_drawing(rt, &asked, &drawing)
+            }
             None => draw_one(rt, &asked, &data(rt, given, MOST_DATA)?),
         },
     }
@@ -149,12 +152,6 @@ fn text_about(alloc: Global, given: &ArgMatches<'_>) -> Result<Option<String>, A
     } else {
         Ok(None)
     }
-}
-
-// Draws segments by hand.
-fn draw_segments(rt: &HostRuntime, asked: &Asked<'_>, words: &[&str]) -> Result<ExitCode, Failure> {
-    let drawing = segments_drawing(rt.alloc(), asked, words)?;
-    write_drawing(rt, asked, &drawing)
 }
 
 // Draws the text of a kind, of the fields that are given.
