@@ -2,7 +2,7 @@
 
 use crate::reading::{picture_of, warn_of_missed};
 use clap::ArgMatches;
-use goqlanis_core::{Checks, Unread, VersionName, check_codes};
+use goqlanis_core::{Unread, VersionName, check_codes};
 use goqlanis_files::failure::Failure;
 use goqlanis_files::streams::print;
 use goqlanis_options::warnings::Decimal;
@@ -19,7 +19,14 @@ use std::process::ExitCode;
 /// standard: status 1 where something does, or a code is not read.
 pub(crate) fn check(rt: &HostRuntime, given: &ArgMatches<'_>) -> Result<ExitCode, Failure> {
     let alloc = rt.alloc();
-    let found = checks_of(rt, given.get_str("PICTURE").unwrap_or("-"))?;
+    let (name, bytes) = picture_of(rt, given.get_str("PICTURE").unwrap_or("-"))?;
+    let found = match check_codes(alloc, &bytes) {
+        Ok(found) => found,
+        Err(Unread::OutOfMemory) => return Err(Failure::OutOfMemory),
+        Err(error) => {
+            return Err(Failure::Refused(format!(in alloc; "cannot check {name}: {error}")?));
+        }
+    };
     let checks = found.checks.as_slice();
     let text = report(alloc, checks, given.get_flag("json"))?;
     print(rt, text.as_bytes())?;
@@ -28,17 +35,6 @@ pub(crate) fn check(rt: &HostRuntime, given: &ArgMatches<'_>) -> Result<ExitCode
         Ok(ExitCode::SUCCESS)
     } else {
         Ok(ExitCode::FAILURE)
-    }
-}
-
-// What is said of a picture, which a file holds, or standard input where its name is -.
-fn checks_of(rt: &HostRuntime, path: &str) -> Result<Checks, Failure> {
-    let alloc = rt.alloc();
-    let (name, bytes) = picture_of(rt, path)?;
-    match check_codes(alloc, &bytes) {
-        Ok(found) => Ok(found),
-        Err(Unread::OutOfMemory) => Err(Failure::OutOfMemory),
-        Err(error) => { Err(Failure::Refused(format!(in alloc; "cannot check {name}: {error}")?)) }
     }
 }
 

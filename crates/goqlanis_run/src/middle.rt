@@ -34,10 +34,7 @@ pub(crate) const SWISS_CROSS: AskedLogo<'static> = AskedLogo {
 
 /// Whether the cross is drawn in a format.
 pub(crate) fn has_cross(format: Format) -> bool {
-    matches!(
-        format,
-        Format::Svg | Format::SvgPath | Format::Eps | Format::Pdf | Format::Png
-    )
+    format.has_colours() && format != Format::Ppm
 }
 
 /// The logo that is asked for, read once for all codes; none where none is.

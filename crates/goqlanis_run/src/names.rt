@@ -176,7 +176,8 @@ pub(crate) fn field_of(
             place = place.saturating_add(1);
         }
         field.push_str(piece)?;
-        is_open = field.starts_with('"') && has_odd_quotes(field.as_str());
+        let quotes = field.bytes().filter(|byte| *byte == b'"').count();
+        is_open = field.starts_with('"') && quotes % 2 == 1;
         if place == number && !is_open {
             return Ok(unquoted(alloc, field.as_str())?);
         }
@@ -187,11 +188,6 @@ pub(crate) fn field_of(
     Err(Failure::Refused(format!(in alloc;
         "it has no field {number}; --delimiter says what separates fields"
     )?))
-}
-
-// Whether the quotation marks of a text are an odd number.
-fn has_odd_quotes(text: &str) -> bool {
-    text.bytes().filter(|byte| *byte == b'"').count() % 2 == 1
 }
 
 // A field without the quotation marks about it, in which two stand for one.

@@ -4,6 +4,7 @@ use crate::segments::mode_name;
 use goqlanis_core::{Scan, VersionName};
 use goqlanis_files::streams::is_unseen;
 use qrcode::types::Mode;
+use qrcode_check::masks::place_of;
 use qrcode_reader::spell::{Header, Part};
 use qrcode_reader::{Position, WrongCodeword};
 use std::alloc::{AllocError, Global};
@@ -111,11 +112,7 @@ fn push_scan(text: &mut String, scan: &Scan, is_json: bool) -> Result<(), AllocE
 fn push_symbol(text: &mut String, scan: &Scan, is_json: bool) -> Result<(), AllocError> {
     let (square, reading) = (&scan.square, &scan.any.reading);
     let (version, level) = (VersionName(reading.version), reading.ec_level);
-    let mask = if reading.version.is_micro() {
-        reading.mask.micro_number()
-    } else {
-        reading.mask.number()
-    };
+    let mask = place_of(reading.version, reading.mask);
     let (count, zone, scale) = (square.count, square.zone, square.scale);
     let place = position_text(scan.any.position);
     let inverted = scan.is_inverted != scan.any.is_inverted;

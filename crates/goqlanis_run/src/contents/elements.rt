@@ -186,7 +186,8 @@ fn push_character(text: &mut String, digits: usize, value: &str) -> Result<(), A
         if index < digits && !character.is_ascii_digit() {
             return write!(text, "{character} at place {place} is no digit");
         }
-        if !is_known(character) {
+        // One of the 82 of GS1.
+        if !matches!(character, '!' | '"' | '%'..='?' | 'A'..='Z' | '_' | 'a'..='z') {
             return write!(
                 text,
                 "{character} at place {place} is not one of the digits, letters and \
@@ -195,11 +196,6 @@ fn push_character(text: &mut String, digits: usize, value: &str) -> Result<(), A
         }
     }
     Ok(())
-}
-
-// Whether a character is one of the 82 of GS1.
-fn is_known(character: char) -> bool {
-    matches!(character, '!' | '"' | '%'..='?' | 'A'..='Z' | '_' | 'a'..='z')
 }
 
 // The check digit that would be right at a place, from 1.
