@@ -38,11 +38,11 @@ pub enum Target<'a> {
 
 /// What is asked for.
 #[derive(Clone, Copy)]
-pub struct Asked<'a> {
+pub struct Asked<'a, 'm> {
     /// Its manner is that of data that is written as a text; the data decides.
     pub request: Request<'a>,
     /// The options that are given.
-    pub given: &'a ArgMatches<'a>,
+    pub given: &'m ArgMatches<'m>,
     pub target: Target<'a>,
     /// The side that is asked for in hundredths of millimetres, where it is.
     pub hundredths: Option<u64>,
@@ -52,14 +52,14 @@ pub struct Asked<'a> {
     pub logo: Option<AskedLogo<'a>>,
 }
 
-impl<'a> Asked<'a> {
+impl<'m> Asked<'_, 'm> {
     /// Whether each line is data of its own.
     pub fn is_by_line(&self) -> bool {
         self.given.get_flag("lines")
     }
 
     /// What stands between the fields of a line.
-    pub fn delimiter(&self) -> &'a str {
+    pub fn delimiter(&self) -> &'m str {
         self.given.get_str("delimiter").unwrap_or(",")
     }
 }
@@ -69,7 +69,7 @@ pub fn asked_for<'a>(
     rt: &HostRuntime,
     task: &Task,
     given: &'a ArgMatches<'a>,
-) -> Result<Asked<'a>, Failure> {
+) -> Result<Asked<'a, 'a>, Failure> {
     let alloc = rt.alloc();
     check_conflicts(alloc, given)?;
     let target = target_of(given);
@@ -97,7 +97,7 @@ pub fn asked_for<'a>(
 }
 
 /// Refuses several drawings that go to one place, unless they are lines of characters.
-pub fn check_one_behind_another(alloc: Global, asked: &Asked<'_>) -> Result<(), Failure> {
+pub fn check_one_behind_another(alloc: Global, asked: &Asked<'_, '_>) -> Result<(), Failure> {
     match (asked.target, asked.request.format) {
         (Target::File(_), _)
         | (_, Format::HalfBlocks | Format::Terminal | Format::Chars | Format::Ascii) => Ok(()),

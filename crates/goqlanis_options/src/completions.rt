@@ -126,7 +126,12 @@ fn push_option(
     entry: &Entry,
 ) -> Result<(), AllocError> {
     let long = entry.long;
-    let help = quoted_help(*text.allocator(), shell, entry.help)?;
+    let escapes = match shell {
+        Shell::Zsh => ZSH_ESCAPES,
+        _ => ESCAPES,
+    };
+    let mut help = String::new(*text.allocator());
+    push_escaped(&mut help, entry.help, escapes)?;
     let value = value_of(*text.allocator(), shell, entry.takes)?;
     let many = if matches!(entry.takes, Takes::Texts(_)) {
         "*"
@@ -169,17 +174,23 @@ fn value_of(alloc: Global, shell: Shell, takes: Takes) -> Result<String, AllocEr
     }
 }
 
-// What help says of an option, as a shell wants it between single quotes.
-fn quoted_help(alloc: Global, shell: Shell, help: &str) -> Result<String, AllocError> {
-    let mut text = String::new(alloc);
-    for character in help.chars() {
-        match (shell, character) {
-            (Shell::Zsh, '[' | ']' | ':') => text.push('\\')?,
-            // A quote stands between the end of the quotes and their new beginning.
-            (_, '\'') => text.push_str("'\\'")?,
-            _ => {}
+// What stands for characters between single quotes: a quote stands between their end and their new
+// beginning.
+const ESCAPES: &[(char, &str)] = &[('\'', "'\\''")];
+
+const ZSH_ESCAPES: &[(char, &str)] = &[('\'', "'\\''"), ('[', "\\["), (']', "\\]"), (':', "\\:")];
+
+/// Appends a text, in which other texts stand for some characters.
+pub(crate) fn push_escaped(
+    text: &mut String,
+    plain: &str,
+    escapes: &[(char, &str)],
+) -> Result<(), AllocError> {
+    for character in plain.chars() {
+        match escapes.iter().find(|(known, _)| *known == character) {
+            Some((_, escaped)) => text.push_str(escaped)?,
+            None => text.push(character)?,
         }
-        text.push(character)?;
     }
-    Ok(text)
+    Ok(())
 }

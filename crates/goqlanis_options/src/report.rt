@@ -31,7 +31,7 @@ struct Report {
 /// warns of a size that differs from the one that is asked for, and of one that printers may refuse.
 pub fn show_report(
     rt: &HostRuntime,
-    asked: &Asked<'_>,
+    asked: &Asked<'_, '_>,
     drawing: &Drawing,
     area: Option<Rectangle>,
 ) -> Result<(), AllocError> {

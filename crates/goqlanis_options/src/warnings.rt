@@ -9,7 +9,7 @@ use std::fmt;
 
 /// Warns of colours that readers hardly tell apart, and of a picture in a file whose extension is
 /// that of another format.
-pub fn warn(rt: &HostRuntime, asked: &Asked<'_>) {
+pub fn warn(rt: &HostRuntime, asked: &Asked<'_, '_>) {
     let request = &asked.request;
     if let Some((dark, light)) = close_colours(request) {
         let why = if is_brighter(dark, light) {
@@ -53,7 +53,7 @@ const MOST_FIELD: u32 = 99_999;
 /// millimetre, and of a label whose side has so many dots that printers that speak ZPL may refuse it.
 pub fn warn_of_sizes(
     rt: &HostRuntime,
-    asked: &Asked<'_>,
+    asked: &Asked<'_, '_>,
     modules: u32,
     scale: u32,
     dots: Option<u32>,

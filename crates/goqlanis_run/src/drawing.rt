@@ -32,7 +32,7 @@ use std::process::ExitCode;
 /// Draws one symbol, and writes it.
 pub(crate) fn draw_one(
     rt: &HostRuntime,
-    asked: &Asked<'_>,
+    asked: &Asked<'_, '_>,
     bytes: &[u8],
 ) -> Result<ExitCode, Failure> {
     let alloc = rt.alloc();
@@ -104,7 +104,11 @@ fn small<'a>(request: &Request<'a>) -> Request<'a>
 }
 
 /// Refuses data that is empty, unless that is allowed.
-pub(crate) fn check_empty(alloc: Global, asked: &Asked<'_>, bytes: &[u8]) -> Result<(), Failure> {
+pub(crate) fn check_empty(
+    alloc: Global,
+    asked: &Asked<'_, '_>,
+    bytes: &[u8],
+) -> Result<(), Failure> {
     if !bytes.is_empty() || asked.given.get_flag("allow-empty") {
         return Ok(());
     }
@@ -121,7 +125,7 @@ pub(crate) fn check_empty(alloc: Global, asked: &Asked<'_>, bytes: &[u8]) -> Res
 /// The drawing of segments by hand, of words MODE:TEXT or eci:NUMBER.
 pub(crate) fn segments_drawing(
     alloc: Global,
-    asked: &Asked<'_>,
+    asked: &Asked<'_, '_>,
     words: &[&str],
 ) -> Result<Drawing, Failure>
     ensures { IfOk result (IsShownIn asked.now.request) }
@@ -209,7 +213,7 @@ pub(crate) fn application_drawing(
 /// Writes a drawing.
 pub(crate) fn write_drawing(
     rt: &HostRuntime,
-    asked: &Asked<'_>,
+    asked: &Asked<'_, '_>,
     drawing: &Drawing,
 ) -> Result<ExitCode, Failure> {
     let covered = redrawn(rt.alloc(), asked, &drawing.code)?;
@@ -232,7 +236,11 @@ pub(crate) fn write_drawing(
 }
 
 /// How data is written.
-pub(crate) fn manner(alloc: Global, asked: &Asked<'_>, bytes: &[u8]) -> Result<Manner, Failure> {
+pub(crate) fn manner(
+    alloc: Global,
+    asked: &Asked<'_, '_>,
+    bytes: &[u8],
+) -> Result<Manner, Failure> {
     match manner_of(bytes) {
         _ if asked.given.get_flag("bytes") => Ok(Manner::Bytes),
         manner if !asked.given.get_flag("eci") => Ok(manner),

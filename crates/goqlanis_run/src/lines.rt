@@ -19,7 +19,7 @@ const MOST_IN_LINE: usize = 100_000;
 /// Draws each line as it comes, without its line feed, or carriage return and line feed. A line that
 /// is refused is reported with its number, and the others are drawn; where a drawing cannot be
 /// written, the lines behind it are not drawn.
-pub(crate) fn draw_lines(rt: &HostRuntime, asked: &Asked<'_>) -> Result<ExitCode, Failure> {
+pub(crate) fn draw_lines(rt: &HostRuntime, asked: &Asked<'_, '_>) -> Result<ExitCode, Failure> {
     let alloc = rt.alloc();
     check_names(rt, asked)?;
     match source_of(asked.given) {
@@ -38,7 +38,7 @@ pub(crate) fn draw_lines(rt: &HostRuntime, asked: &Asked<'_>) -> Result<ExitCode
 // Draws each line of what has a name.
 fn draw_from<R: Read + Drop>(
     rt: &HostRuntime,
-    asked: &Asked<'_>,
+    asked: &Asked<'_, '_>,
     name: &str,
     from: R,
 ) -> Result<ExitCode, Failure> {
@@ -53,7 +53,7 @@ fn draw_from<R: Read + Drop>(
 // Draws each line, and reports those that are refused.
 fn draw_each<R: BufRead>(
     rt: &HostRuntime,
-    asked: &Asked<'_>,
+    asked: &Asked<'_, '_>,
     name: &str,
     from: &mut R,
     progress: Progress,
@@ -82,7 +82,7 @@ fn draw_each<R: BufRead>(
 // Draws a line, to the file of its name where drawings go to files.
 fn draw_line(
     rt: &HostRuntime,
-    asked: &Asked<'_>,
+    asked: &Asked<'_, '_>,
     taken: &mut BTreeSet<String>,
     line: &[u8],
     number: usize,
@@ -100,7 +100,7 @@ fn draw_line(
 }
 
 // The field of a line that is asked for, if one is.
-fn field_in(alloc: Global, asked: &Asked<'_>, line: &[u8]) -> Result<Option<String>, Failure> {
+fn field_in(alloc: Global, asked: &Asked<'_, '_>, line: &[u8]) -> Result<Option<String>, Failure> {
     let Some(number) = asked.given.get_one::<u16>("field") else {
         return Ok(None);
     };

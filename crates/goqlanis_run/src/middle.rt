@@ -38,7 +38,7 @@ pub(crate) fn has_cross(format: Format) -> bool {
 }
 
 /// The logo that is asked for, read once for all codes; none where none is.
-pub(crate) fn read_logo(rt: &HostRuntime, asked: &Asked<'_>) -> Result<Option<Logo>, Failure> {
+pub(crate) fn read_logo(rt: &HostRuntime, asked: &Asked<'_, '_>) -> Result<Option<Logo>, Failure> {
     let Some(path) = asked.given.get_str("logo") else {
         return Ok(None);
     };
@@ -51,7 +51,7 @@ pub(crate) fn read_logo(rt: &HostRuntime, asked: &Asked<'_>) -> Result<Option<Lo
 }
 
 /// What is asked for, with the logo that was read.
-pub(crate) fn with_read<'a>(asked: Asked<'a>, read: &'a Option<Logo>) -> Asked<'a> {
+pub(crate) fn with_read<'a, 'm>(asked: Asked<'a, 'm>, read: &'a Option<Logo>) -> Asked<'a, 'm> {
     let (Some(logo), Some(read)) = (asked.logo, read) else {
         return asked;
     };
@@ -66,7 +66,7 @@ pub(crate) type Covered = (Rectangle, Vec<u8>);
 /// A code drawn with what is asked of its middle, where something is.
 pub(crate) fn redrawn(
     alloc: Global,
-    asked: &Asked<'_>,
+    asked: &Asked<'_, '_>,
     code: &QrCode,
 ) -> Result<Option<Covered>, Failure> {
     let Some(logo) = &asked.logo else {

@@ -20,7 +20,7 @@ enum Place {
 }
 
 /// Refuses a path of which no names of files can be made.
-pub(crate) fn check_names(rt: &HostRuntime, asked: &Asked<'_>) -> Result<(), Failure> {
+pub(crate) fn check_names(rt: &HostRuntime, asked: &Asked<'_, '_>) -> Result<(), Failure> {
     let Target::File(path) = asked.target else {
         return Ok(());
     };

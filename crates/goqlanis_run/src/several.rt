@@ -26,7 +26,7 @@ pub(crate) const MOST_IN_SEVERAL: usize = MOST_SYMBOLS * MOST_DATA;
 /// Draws data in several symbols, each to the file of its number.
 pub(crate) fn draw_several(
     rt: &HostRuntime,
-    asked: &Asked<'_>,
+    asked: &Asked<'_, '_>,
     bytes: &[u8],
 ) -> Result<ExitCode, Failure> {
     let alloc = rt.alloc();
@@ -52,7 +52,11 @@ pub(crate) fn draw_several(
 }
 
 // Draws symbols one after the other, each to the file of its number where drawings go to files.
-fn draw_each(rt: &HostRuntime, asked: &Asked<'_>, codes: Vec<QrCode>) -> Result<ExitCode, Failure> {
+fn draw_each(
+    rt: &HostRuntime,
+    asked: &Asked<'_, '_>,
+    codes: Vec<QrCode>,
+) -> Result<ExitCode, Failure> {
     let count = codes.len();
     for (index, code) in codes.into_iter().enumerate() {
         let drawing = drawn(rt.alloc(), &asked.request, code)?;

@@ -155,7 +155,7 @@ fn text_about(alloc: Global, given: &ArgMatches<'_>) -> Result<Option<String>, A
 }
 
 // Draws the text of a kind, of the fields that are given.
-fn draw_content(rt: &HostRuntime, kind: Kind, asked: &Asked<'_>) -> Result<ExitCode, Failure> {
+fn draw_content(rt: &HostRuntime, kind: Kind, asked: &Asked<'_, '_>) -> Result<ExitCode, Failure> {
     let text = payload_of(rt.alloc(), kind, asked.given)?;
     if matches!(kind, Kind::Bill) {
         return draw_bill(rt, asked, text.as_str());
@@ -167,7 +167,7 @@ fn draw_content(rt: &HostRuntime, kind: Kind, asked: &Asked<'_>) -> Result<ExitC
 }
 
 // Draws the text of a bill, with the Swiss cross where the format has one.
-fn draw_bill(rt: &HostRuntime, asked: &Asked<'_>, text: &str) -> Result<ExitCode, Failure> {
+fn draw_bill(rt: &HostRuntime, asked: &Asked<'_, '_>, text: &str) -> Result<ExitCode, Failure> {
     check_bill(rt.alloc(), text)?;
     if asked.logo.is_some() {
         return usage(
@@ -208,7 +208,7 @@ fn check_bill(alloc: Global, text: &str) -> Result<(), Failure> {
 }
 
 // Draws elements of GS1, or data of an application.
-fn draw_gs1(rt: &HostRuntime, asked: &Asked<'_>) -> Result<ExitCode, Failure> {
+fn draw_gs1(rt: &HostRuntime, asked: &Asked<'_, '_>) -> Result<ExitCode, Failure> {
     let text = asked.given.get_str("ELEMENTS").unwrap_or("");
     let drawing = match asked.given.get_str("application") {
         None => elements_drawing(rt.alloc(), &asked.request, text)?,
