@@ -11,8 +11,15 @@ use Rattle.qrcode_contents.specs.declared.fields.escapes.Escapes.TheVariants.{Ma
 use Rattle.qrcode_contents.specs.fields.Escapes.{escaped, unescaped, pieces}
 use Rattle.qrcode_contents.specs.fields.Entries.{Entry, filled, is_filled, parts_text, entry_text, marked_text, key_of, behind_key, read_entry, read_until_empty, read_entries, behind, part_of}
 use Rattle.qrcode_contents.specs.fields.EntryTests.{is_key, are_entries, are_distinct}
-use Rattle.qrcode_contents.proofs.EntryTexts.{marked_text-empty, marked_text-filled}
 use Rattle.qrcode_contents.proofs.Pieces.{IsPiece, IsEscaped, comma_escaped, semicolon_escaped, IsPiece-nil, IsPiece-cons, IsPiece-escaped, IsPiece-value, unescaped-escaped}
+
+-- an entry that says nothing
+marked_text-empty : (key : List ℕ) (parts : List (List ℕ)) → list_any is_filled parts ≡ false → marked_text (key, parts) ≡ []
+marked_text-empty key parts is = rw is refl
+
+-- an entry that says something
+marked_text-filled : (key : List ℕ) (parts : List (List ℕ)) → list_any is_filled parts ≡ true → marked_text (key, parts) ≡ entry_text Marks 44 (key, parts) ++ 59 ∷ []
+marked_text-filled key parts is = rw is refl
 
 -- two tests that hold
 pub both : (a b : Bool) → (a && b) ≡ true → (a ≡ true) × (b ≡ true)

@@ -14,14 +14,11 @@ pub mod Answering
 pub mod Carries
 pub mod ContentParts
 pub mod ContentReading
-pub mod ContentTexts
 pub mod EntryReading
-pub mod EntryTexts
 pub mod Escaping
 pub mod Folding
 pub mod LineReading
 pub mod LinkReading
-pub mod LinkTexts
 pub mod Passing
 pub mod PercentReading
 pub mod Pieces

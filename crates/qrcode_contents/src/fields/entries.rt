@@ -36,9 +36,16 @@ pub fn push_parts(
 
 /// Whether a part has bytes.
 pub fn any_filled(parts: &[&str]) -> bool
-    ensures { result ≡ list_any (λ part. is_filled part.now) parts.now }
+    ensures { result ≡ list_any is_filled (map (λ part. part.now) parts.now) }
 {
-    parts.iter().any(|part| !part.is_empty())
+    let mut rest = parts;
+    while let [part, more @ ..] = rest {
+        if !part.is_empty() {
+            return true;
+        }
+        rest = more;
+    }
+    false
 }
 
 /// Appends an entry with a semicolon behind it, and nothing where no part has bytes. After
@@ -52,9 +59,9 @@ pub fn push_entry(text: &mut String, key: &str, parts: &[&str]) -> ContentResult
         return Ok(());
     }
     text.push_str(key)?;
-    text.push(':')?;
+    text.push_str(":")?;
     push_parts(text, Escapes::Marks, ',', parts)?;
-    text.push(';')?;
+    text.push_str(";")?;
     Ok(())
 }
 

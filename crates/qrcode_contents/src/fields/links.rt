@@ -75,12 +75,13 @@ pub fn push_parameters(
         ++ query_text (mark_text begun) (map (λ pair. (pair.0.now, pair.1.now)) parameters.now)) }
     ensures memory { IsOkUnless result OutOfMemory }
 {
-    let mut begun = begun;
-    for (key, value) in parameters {
+    let (mut begun, mut rest) = (begun, parameters);
+    while let [(key, value), more @ ..] = rest {
         if !value.is_empty() {
             push_parameter(text, mark(begun), key, value)?;
             begun = true;
         }
+        rest = more;
     }
     Ok(())
 }

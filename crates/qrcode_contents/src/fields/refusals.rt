@@ -54,10 +54,12 @@ pub fn refuse_first(checks: &[Check]) -> ContentResult<()>
     ensures { result ≡ checked (first_refusal
         (map (λ check. refused_if check.0 check.1 check.2) checks.now)) }
 {
-    for (refused, field, cause) in checks {
+    let mut rest = checks;
+    while let [(refused, field, cause), more @ ..] = rest {
         if *refused {
             return Err(ContentError::Refused(*field, *cause));
         }
+        rest = more;
     }
     Ok(())
 }
