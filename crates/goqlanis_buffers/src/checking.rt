@@ -1,9 +1,8 @@
 //! Codes of pictures, and squares of modules, checked.
 
 ghost use Rattle.std.specs.Prelude.{◌≡◌, All, flat_map, IfErr, IfOk};
-ghost use Rattle.qrcode_check.specs.Checks.{IsCheck};
 ghost use Rattle.qrcode_render.specs.Shades.{colors_of};
-ghost use Rattle.goqlanis_buffers.specs.Checking.{flag, letter_of, told_content, wrong_in, AreToldChecks, ChecksPicture, ChecksSquare, HasLevel, IsChecked, IsSquareRefusal, IsToldCheck, IsUncheckedFor};
+ghost use Rattle.goqlanis_buffers.specs.Checking.{flag, letter_of, told_content, wrong_in, AreToldChecks, ChecksPicture, ChecksSquare, HasLevel, IsChecked, IsToldCheck, IsUncheckedFor};
 
 use crate::answers::Refusal;
 use crate::names::{level_number, version_number};

@@ -7,7 +7,7 @@ use crate::names::{level_named, version_named, version_number};
 use crate::symbols::{Symbol, write_symbol};
 use qrcode::QrCode;
 use qrcode::bits::{DATA_LIMIT, encode_auto};
-use qrcode::types::{QrError, Version};
+use qrcode::types::QrError;
 use std::alloc::Global;
 
 /// Writes the symbol of bytes at the level of a number, of the least Normal version that holds

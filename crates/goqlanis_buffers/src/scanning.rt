@@ -2,7 +2,7 @@
 
 ghost use Rattle.std.specs.Prelude.{◌≡◌, ◌++◌, All, flat_map, length, map, IfErr, IfNone, IfOk, IfSome, OnOk};
 ghost use Rattle.goqlanis_core.specs.Scans.{IsReadAs};
-ghost use Rattle.goqlanis_buffers.specs.Scanning.{bytes_in, differ, mode_kind, parts_in, picture_refusal, told_part, AreCodesOf, AreTold, ExceedsRoom, IsPut, IsToldOf, IsToldIn, IsUnreadFor};
+ghost use Rattle.goqlanis_buffers.specs.Scanning.{bytes_in, differ, mode_kind, parts_in, picture_refusal, told_part, AreCodesOf, ExceedsRoom, IsPut, IsToldOf, IsToldIn, IsUnreadFor};
 
 use crate::answers::Refusal;
 use crate::reading::{Reading, position_number, reported};

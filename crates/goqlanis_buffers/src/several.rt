@@ -2,7 +2,7 @@
 
 ghost use Rattle.std.specs.Prelude.{◌≡◌, ◌⊎◌, ◌<◌, ◌++◌, ℕ, List, length, IfOk, IfErr, OnOk, OnErr, IsOkUnless};
 ghost use Rattle.qrcode_types.specs.declared.types.QrError.TheVariants.{OutOfMemory};
-ghost use Rattle.goqlanis_buffers.specs.Outputs.{module_bytes, IsDescribed};
+ghost use Rattle.goqlanis_buffers.specs.Outputs.{module_bytes};
 ghost use Rattle.goqlanis_buffers.specs.Several.{modules_of, AreAsked, AreOf, AreSymbolsWith, AreUnheld, AreWritten, IsSeveralCause};
 
 use crate::answers::Refusal;

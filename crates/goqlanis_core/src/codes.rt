@@ -1,6 +1,6 @@
 //! All codes of a picture.
 
-ghost use Rattle.std.specs.Prelude.{◌≡◌, ◌≤◌, ◌⊎◌, ◌++◌, ◌∷◌, [], ℕ, All, true, insert, length, IsTrue, IfOk, IfErr, OnOk};
+ghost use Rattle.std.specs.Prelude.{◌≡◌, ◌≤◌, ◌⊎◌, ◌++◌, ◌∷◌, [], ℕ, All, insert, length, IsTrue, IfOk, IfErr, OnOk};
 ghost use Rattle.qrcode_reader.specs.declared.refusals.Unread.TheVariants.{OutOfMemory};
 ghost use Rattle.goqlanis_core.specs.Codes.{AreCodesIn, IsFoundAs, IsMissedOf};
 ghost use Rattle.goqlanis_core.specs.Scans.{IsNotClean, IsScanOf, IsUnreadPicture, IsUnreadIn};

@@ -1,7 +1,7 @@
 //! Colours as people write them: names of CSS, and digits to the base 16.
 
 ghost use Rattle.std.specs.Prelude.{◌≡◌, map, ◌<◌, IfSome};
-ghost use Rattle.goqlanis_core.specs.Colours.{clear, colour_named, is_clear, is_name, colour_of_digits, colour_of_parts, digit_of, names, number_among, opaque, pair, row_of, without_hash};
+ghost use Rattle.goqlanis_core.specs.Colours.{colour_named, is_clear, is_name, colour_of_digits, colour_of_parts, digit_of, names, number_among, opaque, pair, row_of, without_hash};
 
 /// A colour: red, green and blue, and how opaque it is, each from 0 to 255.
 #[derive(Clone, Copy, PartialEq, Eq)]

@@ -1,14 +1,13 @@
 //! Drawings with colours of parts: each is drawn over what is there.
 
-ghost use Rattle.std.specs.Prelude.{◌≡◌, ◌==◌, ◌^◌, ◌<◌, ◌≤◌, false, length, string_bytes, IsTrue, IfOk, OnOk, IsOkUnless};
+ghost use Rattle.std.specs.Prelude.{◌≡◌, ◌==◌, ◌<◌, false, length, string_bytes, IsTrue, IfOk, OnOk, IsOkUnless};
 ghost use Rattle.qrcode_types.specs.Versions.{is_valid, side};
 ghost use Rattle.qrcode_types.specs.declared.types.Color.TheVariants.{Dark};
 ghost use Rattle.qrcode_types.specs.declared.types.QrError.TheVariants.{OutOfMemory};
-ghost use Rattle.qrcode_render.specs.Drawn.{drawn, module_step};
+ghost use Rattle.qrcode_render.specs.Drawn.{drawn};
 ghost use Rattle.qrcode_render.specs.Eps.{eps_paint, eps_rect};
-ghost use Rattle.qrcode_render.specs.Layout.{layout};
 ghost use Rattle.goqlanis_core.specs.Formats.{eps_ink, layout_of, shade_of, sheet_of, tail, view_of};
-ghost use Rattle.goqlanis_core.specs.Layers.{is_painted, is_tone, layer, order, unit_layout, AreOver, HasTail, IsInserted, IsLayer, IsPaintedIn};
+ghost use Rattle.goqlanis_core.specs.Layers.{is_painted, layer, unit_layout, AreOver, HasTail, IsInserted, IsLayer, IsPaintedIn};
 
 use crate::formats::Format;
 use crate::parts::{Part, part_of};

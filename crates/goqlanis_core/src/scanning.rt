@@ -1,12 +1,12 @@
 //! Pictures, read.
 
-ghost use Rattle.std.specs.Prelude.{◌≡◌, ◌++◌, true, false, None, IfOk, IfErr, IfSome, OnOk};
+ghost use Rattle.std.specs.Prelude.{◌≡◌, ◌++◌, true, false, None, IfOk, IfErr, OnOk};
 ghost use Rattle.qrcode_gs1.specs.symbol.Characters.{undoubled};
 ghost use Rattle.qrcode_reader.specs.scan.Squares.{inverted};
 ghost use Rattle.qrcode_reader.specs.Positions.{IsFirstPartsReading};
 ghost use Rattle.goqlanis_core.specs.declared.scanning.Unread.TheVariants.{OutOfMemory};
 ghost use Rattle.goqlanis_core.specs.HandedOn.{byte_count, is_fnc1, part_on, handed_on};
-ghost use Rattle.goqlanis_core.specs.Scans.{IsFoundIn, IsPictureOf, IsReadAs, IsSampledIn, IsScanOf, IsSeenAs, IsShownBy, IsSquareOf, IsUnreadPicture, IsUnreadIn, IsUnseen, is_png, is_jpeg, unread_as};
+ghost use Rattle.goqlanis_core.specs.Scans.{IsPictureOf, IsReadAs, IsSeenAs, IsShownBy, IsSquareOf, IsUnreadIn, IsUnseen, is_png, is_jpeg, unread_as};
 
 use qrcode::types::Mode;
 use qrcode_reader::scan::{

@@ -5,7 +5,7 @@ ghost use Rattle.qrcode_types.specs.Colors.{select_of};
 ghost use Rattle.qrcode_types.specs.Versions.{is_valid, side};
 ghost use Rattle.qrcode_types.specs.declared.types.QrError.TheVariants.{OutOfMemory};
 ghost use Rattle.qrcode_render.specs.Layout.{pixels_across};
-ghost use Rattle.goqlanis_core.specs.Formats.{dark_of, layout_of, light_of, shade_of, view_of};
+ghost use Rattle.goqlanis_core.specs.Formats.{dark_of, layout_of, light_of, view_of};
 ghost use Rattle.goqlanis_core.specs.Layers.{module_bytes, module_shade, pixel_bytes, pixel_in, shade_bytes, IsPaintedFile};
 
 use crate::layers::{PartInk, is_painted};

@@ -1,9 +1,8 @@
 //! Elements of GS1, in a buffer.
 
-ghost use Rattle.std.specs.Prelude.{◌≡◌, ℕ, length, map, IfOk, IfErr, OnOk, OnErr, OnSome, IfSome, IfNone};
+ghost use Rattle.std.specs.Prelude.{◌≡◌, length, map, IfOk, IfErr, OnOk, OnErr, OnSome, IfSome, IfNone};
 ghost use Rattle.qrcode_gs1.specs.Items.{item};
-ghost use Rattle.goqlanis_buffers.specs.contents.Elements.{item_of, items_of, IsText, AreTexts, IsFirstNoText, IsString, IsStringIn, IsElementsCause, IsElementsSymbol, IsElementsSymbolCause, AreMadeAs};
-ghost use Rattle.goqlanis_buffers.specs.Options.{IsAsked};
+ghost use Rattle.goqlanis_buffers.specs.contents.Elements.{item_of, items_of, IsText, AreTexts, IsFirstNoText, IsStringIn, IsElementsCause, IsElementsSymbol, IsElementsSymbolCause};
 ghost use Rattle.goqlanis_buffers.specs.declared.options.Options.{Options};
 ghost use Rattle.goqlanis_buffers.specs.Outputs.{IsWrittenAs};
 

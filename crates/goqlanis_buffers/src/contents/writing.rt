@@ -1,9 +1,9 @@
 //! The text of fields, in a buffer.
 
-ghost use Rattle.std.specs.Prelude.{◌≡◌, ℕ, length, string_bytes, IfOk, IfErr, OnErr};
+ghost use Rattle.std.specs.Prelude.{◌≡◌, length, string_bytes, IfOk, IfErr, OnErr};
 ghost use Rattle.qrcode_contents.specs.fields.Refusals.{Answers};
 ghost use Rattle.qrcode_payloads.specs.Texts.{payload_text, IsReadAs};
-ghost use Rattle.goqlanis_buffers.specs.contents.Contents.{refusal_for, IsCause, IsContent, IsContentIn};
+ghost use Rattle.goqlanis_buffers.specs.contents.Contents.{refusal_for, IsCause, IsContentIn};
 ghost use Rattle.goqlanis_buffers.specs.contents.Given.{texts_of};
 
 use crate::contents::answers::Refusal;

@@ -1,4 +1,4 @@
-use Rattle.std.proofs.Common.{◌≡◌, length, refl, sym, ap, subst, ◌∙◌}
+use Rattle.std.proofs.Common.{length, refl, sym, ap, subst, ◌∙◌}
 use Rattle.qrcode_bits.specs.BitList.{BitList}
 use Rattle.qrcode_types.specs.Versions.{has_level}
 use Rattle.goqlanis_buffers.specs.Answers.{IsSegmentsCause}

@@ -1,4 +1,4 @@
-use Rattle.std.proofs.Common.{length, inr}
+use Rattle.std.proofs.Common.{inr}
 use Rattle.goqlanis_buffers.proofs.contents.elements.encode_elements.Goals as goal
 
 pub returns-in-Err-clause-causes : goal.returns-in-Err-clause-causes
