@@ -38,11 +38,11 @@ pub enum Target<'a> {
 
 /// What is asked for.
 #[derive(Clone, Copy)]
-pub struct Asked<'a, 'm> {
+pub struct Asked<'a, 'w> {
     /// Its manner is that of data that is written as a text; the data decides.
     pub request: Request<'a>,
     /// The options that are given.
-    pub given: &'m ArgMatches<'m>,
+    pub given: &'a ArgMatches<'w>,
     pub target: Target<'a>,
     /// The side that is asked for in hundredths of millimetres, where it is.
     pub hundredths: Option<u64>,
@@ -52,24 +52,24 @@ pub struct Asked<'a, 'm> {
     pub logo: Option<AskedLogo<'a>>,
 }
 
-impl<'m> Asked<'_, 'm> {
+impl<'w> Asked<'_, 'w> {
     /// Whether each line is data of its own.
     pub fn is_by_line(&self) -> bool {
         self.given.get_flag("lines")
     }
 
     /// What stands between the fields of a line.
-    pub fn delimiter(&self) -> &'m str {
+    pub fn delimiter(&self) -> &'w str {
         self.given.get_str("delimiter").unwrap_or(",")
     }
 }
 
 /// What is asked for by the options that are given. What is doubtful is said on standard error.
-pub fn asked_for<'a>(
+pub fn asked_for<'a, 'w>(
     rt: &HostRuntime,
     task: &Task,
-    given: &'a ArgMatches<'a>,
-) -> Result<Asked<'a, 'a>, Failure> {
+    given: &'a ArgMatches<'w>,
+) -> Result<Asked<'a, 'w>, Failure> {
     let alloc = rt.alloc();
     check_conflicts(alloc, given)?;
     let target = target_of(given);

@@ -1,5 +1,6 @@
 //! The manual page.
 
+use crate::completions::push_escaped;
 use crate::options::{DRAWING, EXAMPLES, Entry, TASKS, Takes, Task};
 use std::alloc::{AllocError, Global};
 
@@ -99,13 +100,5 @@ fn push_value(text: &mut String, takes: Takes) -> Result<(), AllocError> {
 
 // Text whose hyphens are hyphens, and no line of which is a request.
 fn push_plain(text: &mut String, plain: &str) -> Result<(), AllocError> {
-    for character in plain.chars() {
-        match character {
-            '-' => text.push_str("\\-")?,
-            '\\' => text.push_str("\\e")?,
-            '.' => text.push_str("\\&.")?,
-            _ => text.push(character)?,
-        }
-    }
-    Ok(())
+    push_escaped(text, plain, &[('-', "\\-"), ('\\', "\\e"), ('.', "\\&.")])
 }

@@ -50,14 +50,18 @@ pub(crate) fn read_logo(rt: &HostRuntime, asked: &Asked<'_, '_>) -> Result<Optio
     }
 }
 
-/// What is asked for, with the logo that was read.
-pub(crate) fn with_read<'a, 'm>(asked: Asked<'a, 'm>, read: &'a Option<Logo>) -> Asked<'a, 'm> {
-    let (Some(logo), Some(read)) = (asked.logo, read) else {
-        return asked;
-    };
-    let middle = Middle::Logo(read);
-    let logo = Some(AskedLogo { middle, ..logo });
-    Asked { logo, ..asked }
+/// What is asked of the middle of a code, with the logo that was read.
+pub(crate) fn with_read<'a>(
+    asked: Option<AskedLogo<'a>>,
+    read: &'a Option<Logo>,
+) -> Option<AskedLogo<'a>> {
+    match (asked, read) {
+        (Some(logo), Some(read)) => {
+            let middle = Middle::Logo(read);
+            Some(AskedLogo { middle, ..logo })
+        }
+        (logo, _) => logo,
+    }
 }
 
 /// An area of a code, and the code drawn with what stands there.

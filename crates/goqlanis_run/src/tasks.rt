@@ -124,19 +124,30 @@ fn perform(rt: &HostRuntime, task: &Task, given: &ArgMatches<'_>) -> Result<Exit
 // Makes codes.
 fn make(rt: &HostRuntime, task: &Task, given: &ArgMatches<'_>) -> Result<ExitCode, Failure> {
     let asked = asked_for(rt, task, given)?;
-    let logo = read_logo(rt, &asked)?;
-    let asked = with_read(asked, &logo);
+    make_asked(rt, task, &asked)
+}
+
+// Makes what is asked for, with the logo of its file.
+fn make_asked(rt: &HostRuntime, task: &Task, asked: &Asked<'_, '_>) -> Result<ExitCode, Failure> {
+    let file = read_logo(rt, asked)?;
+    let logo = with_read(asked.logo, &file);
+    draw(rt, task, &Asked { logo, ..*asked })
+}
+
+// Makes what is asked for.
+fn draw(rt: &HostRuntime, task: &Task, asked: &Asked<'_, '_>) -> Result<ExitCode, Failure> {
+    let given = asked.given;
     match task.purpose {
-        Purpose::Several => draw_several(rt, &asked, &data(rt, given, MOST_IN_SEVERAL)?),
-        Purpose::Content(kind) => draw_content(rt, kind, &asked),
-        Purpose::Elements => draw_gs1(rt, &asked),
-        _ if asked.is_by_line() => draw_lines(rt, &asked),
+        Purpose::Several => draw_several(rt, asked, &data(rt, given, MOST_IN_SEVERAL)?),
+        Purpose::Content(kind) => draw_content(rt, kind, asked),
+        Purpose::Elements => draw_gs1(rt, asked),
+        _ if asked.is_by_line() => draw_lines(rt, asked),
         _ => match given.get_strs("segment") {
             Some(words) => {
-                let drawing = segments_drawing(rt.alloc(), &asked, words)?;
-                write_drawing(rt, &asked, &drawing)
+                let drawing = segments_drawing(rt.alloc(), asked, words)?;
+                write_drawing(rt, asked, &drawing)
             }
-            None => draw_one(rt, &asked, &data(rt, given, MOST_DATA)?),
+            None => draw_one(rt, asked, &data(rt, given, MOST_DATA)?),
         },
     }
 }
