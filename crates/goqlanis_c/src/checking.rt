@@ -10,8 +10,8 @@ use std::alloc::Global;
 /// What of the codes of a picture, in the order of `goq_read_picture`, departs from the standard:
 /// what is said of each, at the beginning of `checks`; how many codewords of each of its blocks are
 /// wrong, behind those of the code before, at the beginning of `wrong`; and how many of these there
-/// are, to `counts`, of which only its size is read. Where no code is read, and the bits of a square
-/// in a margin are no headers and segments, that square is checked.
+/// are, to `counts`, of which only its size is read. Where no code is read, and the bits of a
+/// square in a margin are no headers and segments, that square is checked.
 ///
 /// 0, or the number of a `Refusal`, of which the first that applies is reported: `NoSuchStruct`;
 /// `LargePicture`; `NotPicture` or `BrokenPicture`; `NoSquare`; `NoSuchSide`, `NoFormat` or

@@ -54,8 +54,8 @@ pub enum LogoError {
     OutOfMemory,
 }
 
-/// The area of a logo in each symbol of a version and level. Whatever it shows, the symbol is read as
-/// its bytes.
+/// The area of a logo in each symbol of a version and level. Whatever it shows, the symbol is read
+/// as its bytes.
 ///
 /// `LogoError`: why there is none, `OutOfMemory` among them.
 pub fn logo_area(

@@ -71,9 +71,9 @@ pub static NAMES: &[(&str, u32)] = &[
     ("yellow", 0xffff00), ("yellowgreen", 0x9acd32),
 ];
 
-/// The colour that a text names, in capitals or not: `transparent` or `none`, a name of CSS, or 3, 4, 6 or 8
-/// digits to the base 16, with or without `#` before them, as `#rgb`, `#rgba`, `rrggbb` and
-/// `#rrggbbaa`. `None`: it names no colour.
+/// The colour that a text names, in capitals or not: `transparent` or `none`, a name of CSS, or 3,
+/// 4, 6 or 8 digits to the base 16, with or without `#` before them, as `#rgb`, `#rgba`, `rrggbb`
+/// and `#rrggbbaa`. `None`: it names no colour.
 pub fn colour_named(text: &str) -> Option<Colour>
     ensures { result ≡ colour_named text.now }
 {

@@ -14,8 +14,8 @@ use std::alloc::Global;
 
 /// The symbol of elements that a choice asks for at a level, which is kept.
 ///
-/// `Elements`: which element is refused first, and why. `Symbol(DataTooLong)`: no version that may be
-/// taken holds them. `OutOfMemory`, in either: memory was refused.
+/// `Elements`: which element is refused first, and why. `Symbol(DataTooLong)`: no version that may
+/// be taken holds them. `OutOfMemory`, in either: memory was refused.
 #[tactic(auto, using(crate::proofs::Choices::elements_alone))]
 pub fn symbol_of_elements(
     alloc: Global,

@@ -183,8 +183,8 @@ impl Format {
         }
     }
 
-    /// The units of a module of so many pixels, in which what stands over a drawing is placed: a unit
-    /// of SVG of one path and of PDF is a module.
+    /// The units of a module of so many pixels, in which what stands over a drawing is placed: a
+    /// unit of SVG of one path and of PDF is a module.
     pub fn units(self, pixels: u32) -> u32
         requires { 1 ≤ pixels }
         ensures value { result ≡ units self pixels }

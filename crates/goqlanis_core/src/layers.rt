@@ -29,12 +29,12 @@ pub struct PartInk<'a> {
     pub ink: Ink<'a>,
 }
 
-/// A picture of a symbol of a version in a format, with colours of parts in PNG, SVG, EPS and PDF, and
-/// in the last three with something over all. Of two colours for the same modules the later one is
-/// taken.
+/// A picture of a symbol of a version in a format, with colours of parts in PNG, SVG, EPS and PDF,
+/// and in the last three with something over all. Of two colours for the same modules the later one
+/// is taken.
 ///
-/// `OutOfMemory`: memory was refused, or a PNG file would have no pixel, or more than 65,535 along a
-/// side; with colours of parts, more than 8,192.
+/// `OutOfMemory`: memory was refused, or a PNG file would have no pixel, or more than 65,535 along
+/// a side; with colours of parts, more than 8,192.
 pub(crate) fn painted(
     alloc: Global,
     format: Format,

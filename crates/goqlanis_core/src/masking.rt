@@ -9,8 +9,8 @@ use qrcode::types::{Color, QrError, QrResult};
 use qrcode_layout::masks::{mask_count, nth_mask};
 use std::alloc::Global;
 
-/// The modules of a symbol under the mask of a number, 0 to 7, of Micro 0 to 3; where none is given,
-/// as they are.
+/// The modules of a symbol under the mask of a number, 0 to 7, of Micro 0 to 3; where none is
+/// given, as they are.
 ///
 /// `InvalidVersion`: the version has no mask of the number. `OutOfMemory`: memory was refused.
 pub fn modules_under(alloc: Global, code: &QrCode, mask: Option<usize>) -> QrResult<Vec<Color>>

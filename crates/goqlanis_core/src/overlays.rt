@@ -61,8 +61,8 @@ fn cross(alloc: Global, request: &Request<'_>, code: &QrCode) -> Result<String, 
     cross_text(alloc, request.format, unit, side, 1656 * zone + 702 * side)
 }
 
-// The cross in a format, of the units of a module, the modules along a side, and where it begins, in
-// parts of which a module has 1656: 0.000603864734 is one of them.
+// The cross in a format, of the units of a module, the modules along a side, and where it begins,
+// in parts of which a module has 1656: 0.000603864734 is one of them.
 fn cross_text(
     alloc: Global,
     format: Format,
@@ -149,13 +149,13 @@ pub enum Inside<'a> {
     Nothing,
     /// The Swiss cross of a bill in SVG, EPS and PDF, black with a white frame, in the middle.
     Cross,
-    /// An `svg` element in the area less a margin of so many modules at each side, by what follows its
-    /// place and size and ends it.
+    /// An `svg` element in the area less a margin of so many modules at each side, by what follows
+    /// its place and size and ends it.
     Element(u8, &'a str),
 }
 
-/// A symbol with the modules of a rectangle light, drawn as a request asks for, and what stands there,
-/// over all that is drawn. `None`: it is an element, and its margin leaves no module, or the
+/// A symbol with the modules of a rectangle light, drawn as a request asks for, and what stands
+/// there, over all that is drawn. `None`: it is an element, and its margin leaves no module, or the
 /// rectangle is not inside the symbol.
 ///
 /// `InvalidVersion`: its version has no mask of the number. `OutOfMemory`: memory was refused.

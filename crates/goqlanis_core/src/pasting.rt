@@ -23,7 +23,8 @@ use std::alloc::{AllocError, Global};
 /// The most pixels along the side of a drawing with a picture in its middle.
 pub const GREATEST_SIDE: u32 = 8192;
 
-/// The red, green, blue and opacity of pixels, row by row, and the pixels of a drawing that show them.
+/// The red, green, blue and opacity of pixels, row by row, and the pixels of a drawing that show
+/// them.
 #[derive(Clone, Copy)]
 pub struct Inset<'a> {
     pub pixels: &'a [[u8; 4]],
@@ -32,8 +33,8 @@ pub struct Inset<'a> {
     pub place: Place,
 }
 
-/// A PNG file of a symbol with the modules of a rectangle light, drawn as a request asks for, and there
-/// with a picture over it, of which each pixel shows what lies at its middle.
+/// A PNG file of a symbol with the modules of a rectangle light, drawn as a request asks for, and
+/// there with a picture over it, of which each pixel shows what lies at its middle.
 ///
 /// `InvalidVersion`: its version has no mask of the number. `OutOfMemory`: memory was refused, or a
 /// side has more than `GREATEST_SIDE` pixels, which is tested before memory is taken for them.
@@ -75,9 +76,9 @@ pub fn pasted(
     Ok(full_color(alloc, &pixels, side, side, density)?)
 }
 
-// A drawing without its picture: a byte for each pixel, 0 for a dark one; the pixels along a side; the
-// modules of the quiet zone; the pixels of a module; the area; and the shades of dark and of light
-// pixels.
+// A drawing without its picture: a byte for each pixel, 0 for a dark one; the pixels along a side;
+// the modules of the quiet zone; the pixels of a module; the area; and the shades of dark and of
+// light pixels.
 #[derive(Clone, Copy)]
 struct Ground<'a> {
     marks: &'a [u8],

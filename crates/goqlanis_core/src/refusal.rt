@@ -103,8 +103,8 @@ fn version_of<E: Drop>(made: Result<QrCode, E>) -> Option<Version> {
     made.ok().map(|code| code.version())
 }
 
-// The text of a refusal of what stands behind FNC1, by the least version that holds it from the one that
-// is asked for on.
+// The text of a refusal of what stands behind FNC1, by the least version that holds it from the one
+// that is asked for on.
 fn marked_refusal_text(
     alloc: Global,
     request: &Request<'_>,
@@ -122,8 +122,8 @@ fn marked_refusal_text(
     }
 }
 
-// The text of a refusal of what no version that may be taken has room for, by the least version that holds
-// it from the one that is asked for on.
+// The text of a refusal of what no version that may be taken has room for, by the least version
+// that holds it from the one that is asked for on.
 fn room_refusal_text(
     alloc: Global,
     request: &Request<'_>,

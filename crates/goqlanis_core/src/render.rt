@@ -236,8 +236,8 @@ fn sized_eps(alloc: Global, picture: &Picture<'_>, dots: u32) -> QrResult<Vec<u8
     Ok(eps::with_density(alloc, &renderer, dots)?.into_bytes())
 }
 
-/// A PDF file, of so many pixels to an inch where they are given, with operators over the modules, and
-/// a title unless it is empty.
+/// A PDF file, of so many pixels to an inch where they are given, with operators over the modules,
+/// and a title unless it is empty.
 pub(crate) fn pdf_file(
     alloc: Global,
     picture: &Picture<'_>,

@@ -20,8 +20,8 @@ use std::fmt;
 /// A picture, read.
 #[derive(Drop)]
 pub struct Scan {
-    /// The square of modules that it shows. Of one in a grid `scale` is the whole pixels of a module,
-    /// and `zone` is 0.
+    /// The square of modules that it shows. Of one in a grid `scale` is the whole pixels of a
+    /// module, and `zone` is 0.
     pub square: Square,
     /// Where the modules stand, if the picture is not a square in a margin that is read.
     pub grid: Option<Grid>,
@@ -105,8 +105,8 @@ fn is_jpeg(bytes: &[u8]) -> bool
     bytes.starts_with(&[0xff, 0xd8, 0xff])
 }
 
-// The pixels of a picture, with dark and light exchanged where the first row is dark; and whether they
-// are.
+// The pixels of a picture, with dark and light exchanged where the first row is dark; and whether
+// they are.
 pub(crate) fn seen_in(alloc: Global, bytes: &[u8]) -> Result<(Pixels, bool), Unread>
     ensures value { IfOk result (λ seen. IsSeenAs bytes.now seen.0 seen.1) }
     ensures causes { IfErr result (IsUnseen bytes.now) }

@@ -15,12 +15,14 @@ use qrcode::types::{Color, QrError, QrResult, Version};
 use qrcode_png::full_color;
 use std::alloc::{AllocError, Global};
 
-/// The most pixels along a side of a PNG file with colours of parts: each takes four bytes of memory.
+/// The most pixels along a side of a PNG file with colours of parts: each takes four bytes of
+/// memory.
 pub const GREATEST_PAINTED: u32 = 8_192;
 
 /// A PNG file of a picture of a symbol of a version, with colours of parts.
 ///
-/// `OutOfMemory`: memory was refused, or the file would have no pixel, or more than 8,192 along a side.
+/// `OutOfMemory`: memory was refused, or the file would have no pixel, or more than 8,192 along a
+/// side.
 pub(crate) fn png_file(
     alloc: Global,
     version: Version,

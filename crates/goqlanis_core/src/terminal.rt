@@ -7,8 +7,8 @@ ghost use Rattle.goqlanis_core.specs.Terminal.{coloured_byte, coloured_text};
 use qrcode::types::QrResult;
 use std::alloc::Global;
 
-// The control sequences of a terminal that set black on white, that take the colours back, and these
-// round a newline.
+// The control sequences of a terminal that set black on white, that take the colours back, and
+// these round a newline.
 static BLACK_ON_WHITE: &[u8] = b"\x1b[38;5;16;48;5;231m";
 
 static DEFAULT_COLOURS: &[u8] = b"\x1b[0m\n";

@@ -33,8 +33,8 @@ impl<T: Drop> From<AllocFailed<T>> for Failure {
     }
 }
 
-/// The exit status of a run, whose failure is reported in a line on standard error, unless it is that
-/// nobody reads.
+/// The exit status of a run, whose failure is reported in a line on standard error, unless it is
+/// that nobody reads.
 pub fn status(rt: &HostRuntime, run: Result<ExitCode, Failure>) -> ExitCode {
     let (code, why) = match &run {
         Ok(code) => return *code,

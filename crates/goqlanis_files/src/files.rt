@@ -144,9 +144,9 @@ fn followed(rt: &HostRuntime, link: &str, folder: &str) -> Result<String, Unwrit
     Ok(format!(in rt.alloc(); "{folder}{target}")?)
 }
 
-// Whether what was found in a folder is neither this user's nor its owner's, where everybody can make
-// files and nobody can remove another's (sticky). Linux refuses to open such links, pipes and files
-// for whoever would make one, but here it is not asked to.
+// Whether what was found in a folder is neither this user's nor its owner's, where everybody can
+// make files and nobody can remove another's (sticky). Linux refuses to open such links, pipes and
+// files for whoever would make one, but here it is not asked to.
 fn is_strange(rt: &HostRuntime, folder: &str, found: &Metadata) -> io::Result<bool> {
     let folder = fs::metadata(rt, if folder.is_empty() { "." } else { folder })?;
     if folder.mode() & 0o1002 != 0o1002 || found.uid() == folder.uid() {
@@ -180,8 +180,8 @@ fn write_straight(
     Ok(file.write_all(bytes)?)
 }
 
-// Writes a new file in a folder, under the first name that is free, and renames it to the path, where
-// an old file may stand.
+// Writes a new file in a folder, under the first name that is free, and renames it to the path,
+// where an old file may stand.
 fn replace(
     rt: &HostRuntime,
     folder: &Folder,

@@ -8,8 +8,8 @@ use std::io::{ErrorKind, IsTerminal, Read, Write};
 use std::process::ExitCode;
 use std::{env, fmt, fs, io};
 
-/// The most bytes of data that are read: those of the longest data that a symbol holds, 7,089 digits,
-/// and a newline.
+/// The most bytes of data that are read: those of the longest data that a symbol holds, 7,089
+/// digits, and a newline.
 pub const MOST_DATA: usize = 7_090;
 
 /// The most bytes of a picture that are read, 64 MiB.

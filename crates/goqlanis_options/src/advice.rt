@@ -7,8 +7,8 @@ use clap::error::Error;
 use goqlanis_core::Grouped;
 use std::alloc::{AllocError, Global};
 
-/// What is wrong with words of a task that `clap` refuses, and what to write instead, where `clap` does
-/// not say so itself.
+/// What is wrong with words of a task that `clap` refuses, and what to write instead, where `clap`
+/// does not say so itself.
 pub fn advice(
     alloc: Global,
     task: &Task,

@@ -8,7 +8,8 @@ use goqlanis_core::{Format, Ink, PartInk, Request};
 use goqlanis_files::failure::{Failure, usage};
 use std::alloc::{AllocError, Global};
 
-/// The colours of parts that the command line gives: what is dark is light where both are exchanged.
+/// The colours of parts that the command line gives: what is dark is light where both are
+/// exchanged.
 pub fn part_inks<'a>(alloc: Global, given: &ArgMatches<'a>) -> Result<Vec<PartInk<'a>>, Failure> {
     let mut inks = Vec::new(alloc);
     for colour in PART_COLOURS {

@@ -55,7 +55,7 @@ case $words[2] in
 
 static FISH: (&str, &str) = (
     "complete -c goqlanis -f
-complete -c goqlanis -n '__fish_seen_subcommand_from read join' -F
+complete -c goqlanis -n '__fish_seen_subcommand_from read check join' -F
 complete -c goqlanis -n __fish_use_subcommand -a '",
     "'\n",
 );

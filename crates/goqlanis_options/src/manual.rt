@@ -15,16 +15,17 @@ goqlanis \\- Make QR and Micro QR codes, and read them back
 COMMAND [OPTIONS]
 .SH DESCRIPTION
 Makes a QR code of TEXT, of a file, or of standard input, and shows it in the terminal or writes it
-to a file. Input is encoded byte for byte.
+to a file. Input is encoded unchanged.
 .SH OPTIONS
 ";
 
 static WORDS: &str = ".SH COMMANDS
-The commands from wifi on make payloads; most options above work with them too.
+The commands from wifi to event take fields as options; most options above work with them too.
 ";
 
 static END: &str = ".SH EXIT STATUS
-0: success. 1: something was refused, or a code that is checked departs from the standard. 2: the command line is wrong.
+0: success. 1: something was refused, or check found a code that departs from the standard. 2: the
+command line is wrong.
 .SH EXAMPLES
 .nf
 ";

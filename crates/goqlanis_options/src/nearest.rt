@@ -6,8 +6,8 @@ use strsim::damerau_levenshtein;
 // Longer words are no misspelt names.
 const LONGEST: usize = 32;
 
-/// The name in small letters that is nearest to a word, where one is near: with one letter wrong, or
-/// two of a word of more than four, in capitals or not.
+/// The name in small letters that is nearest to a word, where one is near: with one letter wrong,
+/// or two of a word of more than four, in capitals or not.
 pub fn nearest(
     alloc: Global,
     word: &str,

@@ -130,16 +130,18 @@ impl Task {
             ),
             Purpose::Read | Purpose::Check => (
                 "PICTURE",
-                "A PNG, PBM, PGM or half-blocks file; standard input if none is given",
+                "A PNG, PBM or PGM file, or a text file of half blocks; standard input if none is \
+                given",
             ),
             Purpose::Join => (
                 "PICTURE",
-                "Pictures of all the codes, in any order, in the formats of goqlanis read",
+                "Pictures of all codes, in any order, in the formats of goqlanis read; - is \
+                standard input",
             ),
             Purpose::Elements => (
                 "ELEMENTS",
-                "Application identifiers (AI) in round brackets, each followed by its value; write \
-                ( in a value as \\(. With --application: plain data",
+                "Application identifiers (AI) in round brackets, each with its value, e.g. \
+                (01)09521234543213(10)AB; write ( in a value as \\(. With --application: plain data",
             ),
             Purpose::Content(_) => return None,
         })
@@ -230,7 +232,10 @@ fn push_under(
 // Appends the colours of parts.
 fn push_part_colours(all: &mut Vec<Headed>) -> Result<(), AllocError> {
     for colour in PART_COLOURS {
-        all.push(("Colours of parts, in PNG, SVG, EPS and PDF", colour.entry))?;
+        all.push((
+            "Colours of patterns, in PNG, SVG, EPS and PDF",
+            colour.entry,
+        ))?;
     }
     Ok(())
 }

@@ -28,7 +28,8 @@ struct Report {
 }
 
 /// Says on standard error what was made, where that is asked for, with the area in its middle, and
-/// warns of a size that differs from the one that is asked for, and of one that printers may refuse.
+/// warns of a size that differs from the one that is asked for, and of one that printers may
+/// refuse.
 pub fn show_report(
     rt: &HostRuntime,
     asked: &Asked<'_, '_>,

@@ -50,7 +50,8 @@ const MOST_FIELD: u32 = 99_999;
 /// Warns of the sizes of a code of so many modules a side with its quiet zone, of so many pixels
 /// each, and of so many pixels to an inch where that is known: of a side in millimetres that
 /// differs from the one that is asked for by a tenth or more, of modules under a quarter of a
-/// millimetre, and of a label whose side has so many dots that printers that speak ZPL may refuse it.
+/// millimetre, and of a label whose side has so many dots that printers that speak ZPL may refuse
+/// it.
 pub fn warn_of_sizes(
     rt: &HostRuntime,
     asked: &Asked<'_, '_>,
@@ -118,8 +119,8 @@ fn name_of(ink: Ink<'_>) -> &str {
 // contrast of a symbol D or F.
 const CONTRAST: u32 = 102;
 
-// The brightest colour of dark modules and the darkest of light ones, where these are too close. Where
-// both are exchanged because that was asked for, all dark ones may be the brighter ones.
+// The brightest colour of dark modules and the darkest of light ones, where these are too close.
+// Where both are exchanged because that was asked for, all dark ones may be the brighter ones.
 fn close_colours<'a>(request: &Request<'a>) -> Option<(Ink<'a>, Ink<'a>)> {
     let dark = extreme(request, Color::Dark, true);
     let light = extreme(request, Color::Light, false);

@@ -16,8 +16,8 @@ use std::process::ExitCode;
 // The most bytes of a line that is read, far more than a symbol holds.
 const MOST_IN_LINE: usize = 100_000;
 
-/// Draws each line as it comes, without its line feed, or carriage return and line feed. A line that
-/// is refused is reported with its number, and the others are drawn; where a drawing cannot be
+/// Draws each line as it comes, without its line feed, or carriage return and line feed. A line
+/// that is refused is reported with its number, and the others are drawn; where a drawing cannot be
 /// written, the lines behind it are not drawn.
 pub(crate) fn draw_lines(rt: &HostRuntime, asked: &Asked<'_, '_>) -> Result<ExitCode, Failure> {
     let alloc = rt.alloc();

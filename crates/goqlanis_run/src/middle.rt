@@ -81,7 +81,8 @@ pub(crate) fn redrawn(
     if is_png && !request.parts.is_empty() && !matches!(logo.middle, Middle::Light) {
         return usage(
             alloc,
-            "a PNG file has colours of parts or a picture in the middle; add --format svg for both",
+            "a PNG file has colours of patterns or a picture in the middle; add --format svg for \
+            both",
         );
     }
     let area = area_of(alloc, code, wish_of(logo, code))?;

@@ -135,8 +135,8 @@ fn place_of(piece: &str) -> Option<(Place, &str)> {
     Some((place, rest))
 }
 
-// Writes what stands in the place that a piece of a path begins with, and the rest of the piece; or,
-// if there is none, the piece after its bracket.
+// Writes what stands in the place that a piece of a path begins with, and the rest of the piece;
+// or, if there is none, the piece after its bracket.
 fn push_piece(
     name: &mut String,
     piece: &str,
@@ -206,8 +206,8 @@ fn unquoted(alloc: Global, field: &str) -> Result<String, AllocError> {
     Ok(text)
 }
 
-// Writes a text, in which what a file name cannot have on some system is a _, and so is a point that
-// would hide the file.
+// Writes a text, in which what a file name cannot have on some system is a _, and so is a point
+// that would hide the file.
 fn push_clean(name: &mut String, text: &str) -> Result<(), AllocError> {
     for character in text.chars() {
         let is_hidden = character == '.' && (name.is_empty() || name.ends_with('/'));

@@ -45,8 +45,8 @@ fn write_all(rt: &HostRuntime, output: Option<&str>, scans: &[Scan]) -> Result<E
     write_data(rt, output, &lines)
 }
 
-/// What is read of a picture, which a file holds, or standard input where its name is -. It warns of
-/// codes that are not read.
+/// What is read of a picture, which a file holds, or standard input where its name is -. It warns
+/// of codes that are not read.
 pub(crate) fn codes_of(rt: &HostRuntime, path: &str) -> Result<Codes, Failure> {
     let alloc = rt.alloc();
     let (name, bytes) = picture_of(rt, path)?;
@@ -66,7 +66,8 @@ const MOST_SURE: usize = 64;
 // The most bytes of a PBM file of packed pixels: a PNG file may have as many pixels, 67,108,864.
 const MOST_PACKED: usize = 8_389_632;
 
-/// The bytes of a picture, and what a refusal calls it: a file, or standard input where its name is -.
+/// The bytes of a picture, and what a refusal calls it: a file, or standard input where its name is
+/// -.
 pub(crate) fn picture_of<'a>(
     rt: &HostRuntime,
     path: &'a str,

@@ -45,7 +45,8 @@ impl fmt::Display for CharacterSet {
     }
 }
 
-/// The first character set among headers that is neither UTF-8 nor ASCII, nor says that there is no text.
+/// The first character set among headers that is neither UTF-8 nor ASCII, nor says that there is no
+/// text.
 pub(crate) fn other_set(parts: &[Part]) -> Option<CharacterSet> {
     for part in parts {
         if let Part::Front(Header::Eci(number)) = *part {
@@ -57,7 +58,8 @@ pub(crate) fn other_set(parts: &[Part]) -> Option<CharacterSet> {
     None
 }
 
-// Whether data is UTF-8 by headers and modes: they name no other character set, and nothing is Kanji.
+// Whether data is UTF-8 by headers and modes: they name no other character set, and nothing is
+// Kanji.
 fn is_in_utf8(parts: &[Part]) -> bool {
     parts.iter().all(|part| match *part {
         Part::Front(Header::Eci(number)) => matches!(number, 26 | 27 | 170),
@@ -139,11 +141,7 @@ fn push_symbol(text: &mut String, scan: &Scan, is_json: bool) -> Result<(), Allo
     if is_framed {
         write!(text, "; quiet zone: {zone}")?;
     }
-    let shades = if inverted {
-        ", dark and light exchanged"
-    } else {
-        ""
-    };
+    let shades = if inverted { ", inverted" } else { "" };
     write!(text, "\nposition: {place}{shades}\n")
 }
 
@@ -263,13 +261,13 @@ impl fmt::Display for Application {
 fn position_text(position: Position) -> &'static str {
     match position {
         Position::Upright => "upright",
-        Position::TurnedLeft => "turned by a quarter against the clock",
+        Position::TurnedLeft => "rotated left",
         Position::UpsideDown => "upside down",
-        Position::TurnedRight => "turned by a quarter with the clock",
-        Position::Mirrored => "left and right exchanged",
-        Position::Flipped => "top and bottom exchanged",
-        Position::Transposed => "columns and rows exchanged",
-        Position::Antitransposed => "columns and rows exchanged, from the other corner",
+        Position::TurnedRight => "rotated right",
+        Position::Mirrored => "mirrored",
+        Position::Flipped => "flipped",
+        Position::Transposed => "transposed",
+        Position::Antitransposed => "antitransposed",
     }
 }
 

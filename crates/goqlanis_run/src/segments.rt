@@ -6,8 +6,8 @@ use hex::FromHexError;
 use qrcode::types::Mode;
 use std::alloc::Global;
 
-// The segment of a word MODE:TEXT, of which the text of Kanji is Shift JIS in digits to the base 16,
-// in a list that is not freed; or of eci:NUMBER, the number of a character set.
+// The segment of a word MODE:TEXT, of which the text of Kanji is Shift JIS in digits to the base
+// 16, in a list that is not freed; or of eci:NUMBER, the number of a character set.
 fn segment_of<'a>(alloc: Global, word: &'a str) -> Result<Segment<'a>, Failure> {
     let (name, text) = word.split_once(':').unwrap_or(("", ""));
     let why = match mode_named(name) {

@@ -51,8 +51,8 @@ pub(crate) fn encode_as(alloc: Global, bytes: &[u8], wanted: Wanted) -> QrResult
     Err(QrError::DataTooLong)
 }
 
-/// The symbols of data in a manner: of as few even parts as symbols of any of the versions hold, and of
-/// the least version that holds so many. A marked text is written as an unmarked one.
+/// The symbols of data in a manner: of as few even parts as symbols of any of the versions hold,
+/// and of the least version that holds so many. A marked text is written as an unmarked one.
 ///
 /// It is refused by the causes of `encode_several_within`, `OutOfMemory` among them.
 pub fn encode_among(
@@ -88,11 +88,11 @@ pub fn encode_among(
     Err(QrError::DataTooLong)
 }
 
-/// The symbols of data in a manner: of so many even parts, of the least of the versions of which so many
-/// symbols hold them.
+/// The symbols of data in a manner: of so many even parts, of the least of the versions of which so
+/// many symbols hold them.
 ///
-/// `DataTooLong`: so many symbols, or more than 16, of none of the versions do. `OutOfMemory`: memory
-/// was refused.
+/// `DataTooLong`: so many symbols, or more than 16, of none of the versions do. `OutOfMemory`:
+/// memory was refused.
 pub fn encode_counted(
     alloc: Global,
     bytes: &[u8],

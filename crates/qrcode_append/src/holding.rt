@@ -27,7 +27,8 @@ pub(crate) struct Wanted {
 
 // The fewest bits that segments of the data take.
 //
-// `UnsupportedCharacterSet`: the version's modes cannot write it. `OutOfMemory`: memory was refused.
+// `UnsupportedCharacterSet`: the version's modes cannot write it. `OutOfMemory`: memory was
+// refused.
 fn measure(alloc: Global, bytes: &[u8], manner: Manner, version: Version) -> QrResult<usize>
     requires valid { IsTrue (is_valid version) }
     requires length_at_most { length bytes.now ≤ data_limit }

@@ -8,8 +8,8 @@ use crate::division::parity_of;
 use crate::errors::JoinError;
 use std::alloc::Global;
 
-/// The part of one of several symbols, with what the header in front of it says: its place from 0 on,
-/// that of the last, and the exclusive or of all bytes of the data.
+/// The part of one of several symbols, with what the header in front of it says: its place from 0
+/// on, that of the last, and the exclusive or of all bytes of the data.
 #[derive(Copy, Clone, Debug)]
 pub struct Part<'a> {
     /// The place of the symbol.
@@ -24,9 +24,9 @@ pub struct Part<'a> {
 
 /// The data of parts, in whatever order they come: those of all places, one behind the other.
 ///
-/// `Stranger`: the first part that is of other data than the first one. `Missing`, `Twice`: the first
-/// place of which there is no part, or more than one. `Parity`: the parts are not those of the data that
-/// they name. `OutOfMemory`: memory was refused.
+/// `Stranger`: the first part that is of other data than the first one. `Missing`, `Twice`: the
+/// first place of which there is no part, or more than one. `Parity`: the parts are not those of
+/// the data that they name. `OutOfMemory`: memory was refused.
 #[tactic(auto, using(crate::proofs::Shares::shares_joined, crate::proofs::Shares::shares_taken))]
 pub fn join(alloc: Global, parts: &[Part<'_>]) -> Result<Vec<u8>, JoinError>
     ensures joined { IfOk result (λ bytes. IsJoined parts.now bytes.items) }

@@ -30,9 +30,9 @@ use std::alloc::Global;
 /// segments of the fewest bits, behind the header that says which of how many it is, and the
 /// exclusive or of all bytes; a single symbol has no header.
 ///
-/// `InvalidVersion`: there is no such version, it lacks the level, or it is one of Micro QR, which has
-/// no such headers. `DataTooLong`: 16 such symbols do not hold the parts, or the bytes are more than
-/// 1,048,576. `OutOfMemory`: memory was refused.
+/// `InvalidVersion`: there is no such version, it lacks the level, or it is one of Micro QR, which
+/// has no such headers. `DataTooLong`: 16 such symbols do not hold the parts, or the bytes are more
+/// than 1,048,576. `OutOfMemory`: memory was refused.
 pub fn encode_several(
     alloc: Global,
     bytes: &[u8],
@@ -83,12 +83,12 @@ pub fn encode_text_several(
     )
 }
 
-/// The symbols of bytes in the fewest symbols of any of some versions at a level, and among these in the
-/// least version of which as many hold the bytes: parted and written as `encode_several` does for one
-/// version.
+/// The symbols of bytes in the fewest symbols of any of some versions at a level, and among these
+/// in the least version of which as many hold the bytes: parted and written as `encode_several`
+/// does for one version.
 ///
-/// `InvalidVersion`: there is none of the versions. `DataTooLong`: 16 symbols of none of them hold the
-/// parts, or the bytes are more than 1,048,576. `OutOfMemory`: memory was refused.
+/// `InvalidVersion`: there is none of the versions. `DataTooLong`: 16 symbols of none of them hold
+/// the parts, or the bytes are more than 1,048,576. `OutOfMemory`: memory was refused.
 pub fn encode_several_within(
     alloc: Global,
     bytes: &[u8],

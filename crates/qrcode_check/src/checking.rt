@@ -128,8 +128,8 @@ fn content_of(alloc: Global, version: Version, bits: &[bool]) -> Result<Option<C
 /// What is said of a square of modules, row by row from the top left corner, dark ones dark: it is
 /// read as bits, and compared with the standard.
 ///
-/// `NoSuchSide`, `NoFormat`, `Damaged`: it is read as no bits (`read_bits`). `OutOfMemory` is the only
-/// other error.
+/// `NoSuchSide`, `NoFormat`, `Damaged`: it is read as no bits (`read_bits`). `OutOfMemory` is the
+/// only other error.
 pub fn check_square(alloc: Global, modules: &[Color]) -> Result<Check, Unread>
     ensures value { IfOk result (IsCheck modules.now) }
     ensures causes { IfErr result (IsBitCause modules.now) }

@@ -76,9 +76,9 @@ fn unused_in_block(allowed: usize, wrong: usize) -> usize
     100 * allowed.saturating_sub(wrong) / allowed
 }
 
-/// The unused error correction of a symbol (ISO/IEC 15415, 7.8.8) in hundredths, rounded down: of its
-/// blocks, in which so many codewords are wrong, the least 1 - 2 e / capacity, where the capacity is
-/// twice the codewords that are allowed to be wrong. Where none are, it is 1 or 0.
+/// The unused error correction of a symbol (ISO/IEC 15415, 7.8.8) in hundredths, rounded down: of
+/// its blocks, in which so many codewords are wrong, the least 1 - 2 e / capacity, where the
+/// capacity is twice the codewords that are allowed to be wrong. Where none are, it is 1 or 0.
 pub fn unused_correction(allowed: usize, counts: &[usize]) -> usize
     requires { allowed ≤ 1000 }
     ensures value { result ≡ unused_correction allowed counts.now }

@@ -143,8 +143,8 @@ fn wrong_remainder(
     Ok(ones(behind(&bits, capacity + 8 * blocks.total_ec_length())))
 }
 
-/// How many modules of each kind are wrong in a square of a version, by the level and the mask of its
-/// symbol.
+/// How many modules of each kind are wrong in a square of a version, by the level and the mask of
+/// its symbol.
 ///
 /// `AllocError`: memory was refused.
 pub fn wrong_modules(

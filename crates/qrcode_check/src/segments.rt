@@ -117,8 +117,8 @@ fn are_comparable(parts: &[Part]) -> bool
     true
 }
 
-// The fewest bits that segments of bytes take in the modes of a set; nothing where these cannot write
-// them.
+// The fewest bits that segments of bytes take in the modes of a set; nothing where these cannot
+// write them.
 fn least_bits(
     alloc: Global,
     version: Version,
@@ -138,9 +138,9 @@ fn least_bits(
     }
 }
 
-/// The bits that the segments of a symbol take, and those of a least cut of their bytes: of all modes
-/// where one of them is in Kanji, and else of those that write texts. Nothing is said where a header
-/// stands behind a segment, or one is FNC1: there the bytes cannot be cut as one likes.
+/// The bits that the segments of a symbol take, and those of a least cut of their bytes: of all
+/// modes where one of them is in Kanji, and else of those that write texts. Nothing is said where a
+/// header stands behind a segment, or one is FNC1: there the bytes cannot be cut as one likes.
 ///
 /// `AllocError`: memory was refused.
 pub fn bits_taken(

@@ -49,8 +49,8 @@ use crate::times::{Day, Moment};
 use crate::upi::Upi;
 use crate::wifi::{Security, Wifi};
 
-/// Two values are equal by `==` exactly when they are the same; two contents of texts, when their fields
-/// are.
+/// Two values are equal by `==` exactly when they are the same; two contents of texts, when their
+/// fields are.
 pub fn equality<'a>()
     ensures days { (a b : Day) → IsTrue (⟦<Day as PartialEq>⟧.eq a b) ↔ (a ≡ b) }
     ensures moments { (a b : Moment) → IsTrue (⟦<Moment as PartialEq>⟧.eq a b) ↔ (a ≡ b) }

@@ -15,8 +15,8 @@ use std::alloc::Global;
 // The number of ISO 8859-7.
 const GREEK: u32 = 9;
 
-/// A Greek text, in ISO 8859-7, as a Normal 1 symbol that says so, in rows of `#` and `.`. It holds 16
-/// characters.
+/// A Greek text, in ISO 8859-7, as a Normal 1 symbol that says so, in rows of `#` and `.`. It holds
+/// 16 characters.
 ///
 /// `DataTooLong`: the text has more bytes than it holds. `OutOfMemory`: memory was refused.
 pub fn greek_symbol(alloc: Global, text: &[u8]) -> QrResult<String>

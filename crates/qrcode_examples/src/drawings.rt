@@ -1,5 +1,5 @@
-//! Six ways to draw a symbol: texts of characters, pairs and half blocks, SVG, PIC and grey pixels. Each
-//! refuses with `OutOfMemory` alone.
+//! Six ways to draw a symbol: texts of characters, pairs and half blocks, SVG, PIC and grey pixels.
+//! Each refuses with `OutOfMemory` alone.
 
 ghost use Rattle.std.specs.Prelude.{◌≡◌, string_bytes, IfOk, IsOkUnless};
 ghost use Rattle.qrcode_types.specs.declared.types.QrError.TheVariants.{OutOfMemory};

@@ -37,8 +37,8 @@ impl Bar {
     }
 }
 
-/// The bars of the symbol of data, each module being 4 dots across and down. Adjoining dark modules of
-/// a row are one bar.
+/// The bars of the symbol of data, each module being 4 dots across and down. Adjoining dark modules
+/// of a row are one bar.
 ///
 /// `DataTooLong`: no Normal version holds the data. `OutOfMemory`: memory was refused.
 pub fn label_bars(alloc: Global, bytes: &[u8]) -> QrResult<Vec<Bar>>

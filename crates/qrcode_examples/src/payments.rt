@@ -1,6 +1,6 @@
-//! Symbols of payments: a value with named fields, its text, and the symbol in which readers show that
-//! text, no larger than the format allows. Symbols of the other formats are made so too, without a
-//! bound.
+//! Symbols of payments: a value with named fields, its text, and the symbol in which readers show
+//! that text, no larger than the format allows. Symbols of the other formats are made so too,
+//! without a bound.
 
 ghost use Rattle.std.specs.Prelude.{◌≡◌, ℕ, ◌≤◌, pos, chars, None, IfOk, IfErr, IsTrue};
 ghost use Rattle.qrcode_types.specs.Versions.{is_valid, side};
@@ -64,10 +64,11 @@ fn bounded(alloc: Global, text: &str, ec_level: EcLevel, largest: Version) -> Re
     Ok(code)
 }
 
-/// The symbol of a payment, at most Normal 13: 69 modules along a side. Each payment that its format
-/// does not refuse has one.
+/// The symbol of a payment, at most Normal 13: 69 modules along a side. Each payment that its
+/// format does not refuse has one.
 ///
-/// `Content`: the format cannot say the payment. `OutOfMemory`, in it or in `Code`: memory was refused.
+/// `Content`: the format cannot say the payment. `OutOfMemory`, in it or in `Code`: memory was
+/// refused.
 pub fn payment(alloc: Global, payment: &Payment) -> Result<QrCode, Unmade>
     ensures accepts { payment_refusal (payment_fields payment.now) ≡ None → IfErr result IsWant }
     ensures shown { IfOk result (λ code. IsShownAs code.version M

@@ -1,5 +1,5 @@
-//! Plain calls, as the README shows them, and others whose bodies are checked with no contract of the caller.
-//! All data is fixed and fits, so that each call can fail only with `OutOfMemory`.
+//! Plain calls, as the README shows them, and others whose bodies are checked with no contract of
+//! the caller. All data is fixed and fits, so that each call can fail only with `OutOfMemory`.
 
 use qrcode::bits::Bits;
 use qrcode::render::image::{ImageBuffer, Luma, Rgb};

@@ -1,5 +1,5 @@
-//! A text in several symbols, of one version or of the best of a range, as the pages on calls and on
-//! contents show it.
+//! A text in several symbols, of one version or of the best of a range, as the pages on calls and
+//! on contents show it.
 
 ghost use Rattle.std.specs.Prelude.{◌≤◌, pos, length, IfOk};
 ghost use Rattle.qrcode_types.specs.declared.types.Version.TheVariants.{Normal};
@@ -13,8 +13,8 @@ use qrcode::{EcLevel, QrCode, Version};
 use qrcode_append::{Versions, encode_text_several, encode_text_several_within};
 use std::alloc::Global;
 
-/// A long text in symbols of Normal 5, as few as hold its even parts, and 16 at most: the parts that
-/// readers find in them, in order, are the text.
+/// A long text in symbols of Normal 5, as few as hold its even parts, and 16 at most: the parts
+/// that readers find in them, in order, are the text.
 ///
 /// `DataTooLong`: 16 symbols do not hold the text. `OutOfMemory`: memory was refused.
 pub fn pages(alloc: Global, text: &str) -> QrResult<Vec<QrCode>>

@@ -12,8 +12,8 @@ use qrcode::types::QrResult;
 use qrcode::{EcLevel, QrCode, Version};
 use std::alloc::Global;
 
-/// The number of a ticket as a Micro 2 symbol in half blocks: 9 lines of 17 characters, for light text
-/// on a dark ground. Each number fits.
+/// The number of a ticket as a Micro 2 symbol in half blocks: 9 lines of 17 characters, for light
+/// text on a dark ground. Each number fits.
 ///
 /// `OutOfMemory`: memory was refused.
 pub fn ticket_blocks(alloc: Global, number: u32) -> QrResult<String>

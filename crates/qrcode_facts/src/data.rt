@@ -15,8 +15,8 @@ ghost use Rattle.qrcode_bits.specs.Spelling.{Spells};
 ghost use Rattle.qrcode_bits.specs.StructuredAppend.{parity, append_front};
 ghost use Rattle.qrcode_facts.specs.Data.{segment, piece, digits, normal_bits, micro_bits, normal_data, hello_data, first_of_pi, second_of_pi, eleventh_of_pi, part_of_pi};
 
-/// Digits before a letter are joined with it in Normal 1 and not in Micro 2, and lone bytes that could
-/// begin a pair are runs of their own.
+/// Digits before a letter are joined with it in Normal 1 and not in Micro 2, and lone bytes that
+/// could begin a pair are runs of their own.
 pub fn runs_and_groups()
     ensures digits { runs (codes "1234567A") ≡ segment Numeric 0 7 ∷ segment Alphanumeric 7 8 ∷ [] }
     ensures joined { grouping (Normal (pos 1)) (runs (codes "1234567A"))
@@ -74,8 +74,8 @@ pub fn written_text()
         ≡ 0x22 ∷ 0x44 ∷ 0x00 ∷ [] }
 {}
 
-/// Sixty digits of pi in two symbols and in sixteen, and a parity, as segno writes them; a symbol that
-/// is the only one has nothing in front.
+/// Sixty digits of pi in two symbols and in sixteen, and a parity, as segno writes them; a symbol
+/// that is the only one has nothing in front.
 pub fn parts_of_digits()
     ensures parity { parity (codes "0123456789" ++ (0x93 ∷ 0xFA ∷ 0x96 ∷ 0x7B ∷ [])) ≡ 0x85 }
     ensures first { bytes_of (part_of_pi 0 1 (codes "314159265358979323846264338327"))

@@ -1,4 +1,5 @@
-//! Worked rows, computed over the definitions by the checker: each function does nothing, and its contract is a row.
+//! Worked rows, computed over the definitions by the checker: each function does nothing, and its
+//! contract is a row.
 #![tactic(auto)]
 
 pub mod data;

@@ -43,22 +43,24 @@ pub fn penalties()
         ≡ 132 ∷ 68 ∷ 68 ∷ 136 ∷ [] }
 {}
 
-/// The printed symbol of digits in Normal 1 is the symbol of their bits under the first mask of least
-/// penalty, and is read as these bits.
+/// The printed symbol of digits in Normal 1 is the symbol of their bits under the first mask of
+/// least penalty, and is read as these bits.
 pub fn normal_symbol()
     ensures symbol { IsSymbol (Normal (pos 1)) M normal_bits VerticalLines normal_square }
     ensures first_least { IsFirstLeast (Normal (pos 1)) M VerticalLines normal_square }
     ensures read { ReadsBits normal_square (Normal (pos 1)) M normal_bits }
 {}
 
-/// A square that differs from that symbol in five codewords, in three bits of each copy of the format
-/// word and in all finder patterns is one of its damaged squares, and is read as the same bits.
+/// A square that differs from that symbol in five codewords, in three bits of each copy of the
+/// format word and in all finder patterns is one of its damaged squares, and is read as the same
+/// bits.
 pub fn damaged_symbol()
     ensures damaged { IsDamaged (Normal (pos 1)) M VerticalLines normal_square damaged_square }
     ensures read { ReadsBits damaged_square (Normal (pos 1)) M normal_bits }
 {}
 
-/// With a sixth wrong codeword, one more than half of its error correction codewords, it is none of them.
+/// With a sixth wrong codeword, one more than half of its error correction codewords, it is none of
+/// them.
 pub fn too_damaged_symbol()
     ensures { ¬ IsDamaged (Normal (pos 1)) M VerticalLines normal_square too_damaged_square }
 {}

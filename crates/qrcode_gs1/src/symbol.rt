@@ -1,5 +1,5 @@
-//! Symbols with FNC1 (ISO/IEC 18004:2006, 6.4.8): elements of GS1 in first position, and data of other
-//! applications in second.
+//! Symbols with FNC1 (ISO/IEC 18004:2006, 6.4.8): elements of GS1 in first position, and data of
+//! other applications in second.
 
 ghost use Rattle.std.specs.Prelude.{ℕ, ◌≤◌, map, IfOk, IfErr, IsOkUnless};
 ghost use Rattle.qrcode_types.specs.declared.types.QrError.TheVariants.{OutOfMemory};
@@ -37,9 +37,9 @@ pub enum Position {
     Second(u8),
 }
 
-/// The symbol of elements of GS1 at a level, of the least version of Normal that holds them: FNC1 in
-/// first position and their element string, in segments of the fewest bits. In the mode Alphanumeric a
-/// separator stands as a percent sign, and a percent sign as two.
+/// The symbol of elements of GS1 at a level, of the least version of Normal that holds them: FNC1
+/// in first position and their element string, in segments of the fewest bits. In the mode
+/// Alphanumeric a separator stands as a percent sign, and a percent sign as two.
 ///
 /// `Elements`: which element is refused first, and why. `Symbol(DataTooLong)`: no version of Normal
 /// holds them. `OutOfMemory`, in either: memory was refused.
@@ -50,7 +50,8 @@ pub fn gs1(alloc: Global, elements: &[Element], ec_level: EcLevel) -> SymbolResu
     gs1_from(alloc, elements, ec_level, 0)
 }
 
-/// The same, of the least version of Normal, from the one of this number on, that holds the elements.
+/// The same, of the least version of Normal, from the one of this number on, that holds the
+/// elements.
 ///
 /// `Elements`: which element is refused first, and why. `Symbol(DataTooLong)`: no version of Normal
 /// from it on holds them. `OutOfMemory`, in either: memory was refused.
@@ -88,7 +89,8 @@ pub fn for_application(
 
 /// The same, of the least version of Normal, from the one of this number on, that holds the data.
 ///
-/// `DataTooLong`: no version of Normal from it on holds the data. `OutOfMemory`: memory was refused.
+/// `DataTooLong`: no version of Normal from it on holds the data. `OutOfMemory`: memory was
+/// refused.
 pub fn for_application_from(
     alloc: Global,
     application: u8,

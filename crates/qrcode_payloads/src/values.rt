@@ -154,8 +154,8 @@ fn whole(text: &str, most: u64, field: Field) -> ContentResult<u64>
     }
 }
 
-/// What passwords change with: a counter where one is given, and no period, and else the time, every
-/// 30 seconds or as many as are given.
+/// What passwords change with: a counter where one is given, and no period, and else the time,
+/// every 30 seconds or as many as are given.
 pub(crate) fn factor(counter: &str, period: &str) -> ContentResult<Factor>
     ensures value { result ≡ factor_in counter.now period.now }
 {

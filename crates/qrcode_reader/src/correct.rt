@@ -76,9 +76,9 @@ impl Corrector {
         corrected(block, &locator, &syndromes)
     }
 
-    /// Corrects a block of at most 255 bytes, of which at most half as many may be wrong as are error
-    /// correction bytes, wherever they stand. The answer is how many were wrong. A block that is
-    /// refused is left as it was.
+    /// Corrects a block of at most 255 bytes, of which at most half as many may be wrong as are
+    /// error correction bytes, wherever they stand. The answer is how many were wrong. A block that
+    /// is refused is left as it was.
     ///
     /// `Damaged`: no list of bytes corrects the block.
     pub fn correct(&self, block: &mut [u8]) -> Result<usize, Damaged>

@@ -93,8 +93,8 @@ pub fn wrong_of(version: Version, modules: &[Color], figures: &[Figure]) -> usiz
     count
 }
 
-/// How many modules are wrong of the finder patterns and their separators, of the timing patterns, and
-/// of what is always dark.
+/// How many modules are wrong of the finder patterns and their separators, of the timing patterns,
+/// and of what is always dark.
 pub fn wrong_figures(version: Version, modules: &[Color]) -> (usize, usize, usize)
     requires valid { IsTrue (is_valid version) }
     requires square { length modules.now ≡ side version * side version }
@@ -120,8 +120,8 @@ pub fn wrong_figures(version: Version, modules: &[Color]) -> (usize, usize, usiz
 }
 
 // The most modules of the finder patterns and their separators that may be wrong where a symbol is
-// looked for first: a quarter of one pattern. Where another part of a symbol, or nothing, lies in the
-// place of one, about half of its 64 modules are wrong.
+// looked for first: a quarter of one pattern. Where another part of a symbol, or nothing, lies in
+// the place of one, about half of its 64 modules are wrong.
 const MOST_WRONG: usize = 16;
 
 /// Whether the finder patterns of a symbol are where it has them, but for sixteen modules.

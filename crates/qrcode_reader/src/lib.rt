@@ -1,5 +1,5 @@
-//! Squares of modules read: version, level and mask, data bits, bytes or a text, and which codewords
-//! were wrong.
+//! Squares of modules read: version, level and mask, data bits, bytes or a text, and which
+//! codewords were wrong.
 #![tactic(auto)]
 
 mod bits;

@@ -138,8 +138,8 @@ struct View {
     modules: Vec<Color>,
 }
 
-// The square in the position whose turn it is: first come those in which it has finder patterns, and
-// then the others. `None` where none has this turn.
+// The square in the position whose turn it is: first come those in which it has finder patterns,
+// and then the others. `None` where none has this turn.
 fn view_at(
     alloc: Global,
     version: Version,
@@ -177,11 +177,11 @@ fn is_memory(error: Unread) -> bool
     matches!(error, Unread::OutOfMemory)
 }
 
-/// Reads a square whose symbol may be turned or mirrored, and its colours exchanged: in the first of
-/// the positions in which there is something to read. First come those in which the finder patterns
-/// and their separators are where the symbol has them, but for sixteen modules, and then the others;
-/// of both, first those with the colours as they are and then those with the colours exchanged, in
-/// the order in which `Position` names them. `None`: it is read in none of them.
+/// Reads a square whose symbol may be turned or mirrored, and its colours exchanged: in the first
+/// of the positions in which there is something to read. First come those in which the finder
+/// patterns and their separators are where the symbol has them, but for sixteen modules, and then
+/// the others; of both, first those with the colours as they are and then those with the colours
+/// exchanged, in the order in which `Position` names them. `None`: it is read in none of them.
 ///
 /// It fails only where memory runs out.
 pub fn read_any(alloc: Global, modules: &[Color]) -> Result<Option<AnyReading>, AllocError>
@@ -220,8 +220,8 @@ pub fn read_any(alloc: Global, modules: &[Color]) -> Result<Option<AnyReading>, 
     Ok(None)
 }
 
-/// Reads the headers and segments of a square in any of the positions of `read_any`: in the first one
-/// in which there are some.
+/// Reads the headers and segments of a square in any of the positions of `read_any`: in the first
+/// one in which there are some.
 ///
 /// An error is why the square as it stands is read as none (`read_parts`), where there is no such
 /// position, or `OutOfMemory`.

@@ -74,8 +74,8 @@ impl From<Unspelled> for Unread {
 pub enum UnreadText {
     /// No bits are read, for this reason.
     NoBits(Unread),
-    /// The data bits are shown as no text: a segment is Kanji or no UTF-8, or there is another header
-    /// than the number 26 of UTF-8, or they are not segments and an end.
+    /// The data bits are shown as no text: a segment is Kanji or no UTF-8, or there is another
+    /// header than the number 26 of UTF-8, or they are not segments and an end.
     NotShown,
 }
 

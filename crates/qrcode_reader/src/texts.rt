@@ -34,8 +34,9 @@ pub struct TextReading {
 }
 
 /// The text of a square of modules, as a reader shows it that takes the bytes of each segment by
-/// themselves as UTF-8, behind nothing or the number 26 of UTF-8 (ISO/IEC 18004:2006, 6.4.2 to 6.4.5):
-/// modules row by row from the top left corner, dark ones dark. As much may be wrong as for `read`.
+/// themselves as UTF-8, behind nothing or the number 26 of UTF-8 (ISO/IEC 18004:2006, 6.4.2 to
+/// 6.4.5): modules row by row from the top left corner, dark ones dark. As much may be wrong as for
+/// `read`.
 ///
 /// `NoBits` has the cause for which `read_bits` reads no bits, and `OutOfMemory` where memory was
 /// refused later too. `NotShown`: the bits that are read are shown as no text.

@@ -51,11 +51,12 @@ fn bit_of(color: Color, is_turned: bool) -> bool
     }
 }
 
-// Room for the bits of a pair of columns, so that a bit is written without a look at the room that is left.
+// Room for the bits of a pair of columns, so that a bit is written without a look at the room that
+// is left.
 const ROOM: usize = 354;
 
-// Writes the bit at column `x` and row `y` behind the first bits, where the canvas of the patterns is empty there, and
-// answers how many bits there are then.
+// Writes the bit at column `x` and row `y` behind the first bits, where the canvas of the patterns
+// is empty there, and answers how many bits there are then.
 #[inline(always)]
 fn put_module(
     bits: &mut [bool; ROOM],

@@ -113,9 +113,9 @@ fn push_bytes(bytes: &mut Vec<u8>, bits: &[bool]) -> Result<(), AllocError>
     Ok(())
 }
 
-/// The codewords of a stream, which is the bits of the free places with the mask taken off: the data
-/// codewords, the last one filled with zeros where it has four bits, and then the error correction
-/// codewords (ISO/IEC 18004:2006, 6.7.3).
+/// The codewords of a stream, which is the bits of the free places with the mask taken off: the
+/// data codewords, the last one filled with zeros where it has four bits, and then the error
+/// correction codewords (ISO/IEC 18004:2006, 6.7.3).
 pub fn codewords(
     alloc: Global,
     bits: &[bool],

@@ -116,8 +116,8 @@ pub fn with_density(alloc: Global, renderer: &Renderer<Color>, dots: u32) -> QrR
     Ok(text.into_string())
 }
 
-// What stands before the first dark rectangle of a picture of so many pixels across and down, and to
-// an inch.
+// What stands before the first dark rectangle of a picture of so many pixels across and down, and
+// to an inch.
 fn sized_head(
     alloc: Global,
     sides: (u32, u32),

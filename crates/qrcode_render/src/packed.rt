@@ -176,7 +176,8 @@ fn push_packed_rows<F: Packing>(
     Ok(())
 }
 
-/// A row of cells of so many pixels across, eight pixels in a byte. Refuses with `OutOfMemory` alone.
+/// A row of cells of so many pixels across, eight pixels in a byte. Refuses with `OutOfMemory`
+/// alone.
 pub(crate) fn packed_row(
     alloc: Global,
     marks: &[bool],

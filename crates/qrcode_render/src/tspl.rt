@@ -44,8 +44,8 @@ impl Packing for Bitmap {
     }
 }
 
-/// The label that `build` makes of a renderer, but with the picture so many dots from the left and from
-/// the top.
+/// The label that `build` makes of a renderer, but with the picture so many dots from the left and
+/// from the top.
 ///
 /// `OutOfMemory`: memory ran out.
 pub fn at_place(alloc: Global, renderer: &Renderer<Dot>, place: (u32, u32)) -> QrResult<Vec<u8>>

@@ -13,8 +13,9 @@ use std::alloc::Global;
 const THREE: &[Module] = &[Dark, Light, Dark, Light, Light, Dark, Dark, Dark, Light];
 
 /// The length of a file and its CRC-32: of so many pixels across and down, of which each third or
-/// the like is dark, or blue in full colour; or of a square of modules of so many pixels across and down, with so many on a
-/// metre, where that is given. Or what a file shows: how many pixels across, and the CRC-32 of all.
+/// the like is dark, or blue in full colour; or of a square of modules of so many pixels across and
+/// down, with so many on a metre, where that is given. Or what a file shows: how many pixels
+/// across, and the CRC-32 of all.
 pub fn run(alloc: Global, asked: &Asked<'_>) -> QrResult<Digest> {
     match asked.kind {
         "grey" | "colors" => of_file(&of_pixels(alloc, asked)?),

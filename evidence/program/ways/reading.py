@@ -7,17 +7,17 @@ import checked
 import png
 from room import FILES, SYMBOLS, figures, file_of, run, squares
 
-EXCHANGED = ", dark and light exchanged"
+EXCHANGED = ", inverted"
 NOT_HEADERS = ("segment: ", "goqlanis: warning: ")
 POSITIONS = (
     ("upright", lambda rows: rows),
-    ("turned by a quarter against the clock", lambda rows: [list(it) for it in zip(*rows)][::-1]),
+    ("rotated left", lambda rows: [list(it) for it in zip(*rows)][::-1]),
     ("upside down", lambda rows: [it[::-1] for it in rows[::-1]]),
-    ("turned by a quarter with the clock", lambda rows: [list(it) for it in zip(*rows[::-1])]),
-    ("left and right exchanged", lambda rows: [it[::-1] for it in rows]),
-    ("top and bottom exchanged", lambda rows: rows[::-1]),
-    ("columns and rows exchanged", lambda rows: [list(it) for it in zip(*rows)]),
-    ("columns and rows exchanged, from the other corner",
+    ("rotated right", lambda rows: [list(it) for it in zip(*rows[::-1])]),
+    ("mirrored", lambda rows: [it[::-1] for it in rows]),
+    ("flipped", lambda rows: rows[::-1]),
+    ("transposed", lambda rows: [list(it) for it in zip(*rows)]),
+    ("antitransposed",
      lambda rows: [list(it)[::-1] for it in zip(*rows)][::-1]),
 )
 

@@ -25,7 +25,6 @@ def examples_of_the_help_run(program):
     with empty() as folder:
         put(folder, "ticket.txt", b"seat 12\n")
         put(folder, "seats.txt", b"1\n2\n")
-        put(folder, "ticket.pbm", written(program, "-f pbm 'seat 12'"))
         shown = run(program, ["--help"], folder).stdout.decode()
         found = re.findall(r"^  (goqlanis .*)$", shown, re.MULTILINE)
         ran = [by_shell(program, it, folder) for it in found]

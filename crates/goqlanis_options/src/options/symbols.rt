@@ -39,18 +39,18 @@ pub static DATA: &[Entry] = &[
     entry!("input", 'i', Path, "Encode the contents of a file"),
     entry!("trim", Nothing, "Drop one trailing newline"),
     entry!("allow-empty", Nothing, "Accept empty input"),
-    entry!("bytes", Nothing, "Treat input as bytes: fewest bits, but some readers show UTF-8 wrongly"),
+    entry!("bytes", Nothing, "Use the fewest bits, even if some readers then show UTF-8 wrongly"),
 ];
 
 /// What gives the data of plain codes alone.
 #[rattlefmt::skip]
 pub static ONE_CODE: &[Entry] = &[
     entry!("segment", Texts("MODE:DATA"),
-        "Choose the segments yourself: numeric, alphanumeric, byte (text), kanji (Shift JIS in \
-        hex) or eci:NUMBER; repeat as needed"),
+        "Choose the segments: numeric:DIGITS, alphanumeric:TEXT, byte:TEXT, kanji:HEX (Shift JIS) \
+        or eci:NUMBER; repeat as needed"),
     entry!("lines", Nothing,
-        "Make one code per line, in numbered files; --output may contain {} (line number), \
-        {text} (the line), {1}, {2} .. (its fields)"),
+        "Make one code per line, in numbered files; or name them in --output with {} (line \
+        number), {text} (the line), {1}, {2} .. (its fields)"),
     entry!("field", Number("N", 1, 65535), "With --lines: encode only field N of each line"),
     entry!("delimiter", Text("TEXT"),
         "Separator of the fields in a line [default: ,]"),
@@ -62,7 +62,8 @@ const LEVEL: Takes = Word("LEVEL", &["L", "M", "Q", "H"]);
 /// The level and the version.
 #[rattlefmt::skip]
 pub static LEVELS: &[Entry] = &[
-    entry!("level", 'l', LEVEL, "Error correction level [default: M; L in version M1]"),
+    entry!("level", 'l', LEVEL,
+        "Error correction level [default: M, with a logo H, in version M1 L]"),
     entry!("symbol-version", 'v', Text("VERSION"),
         "Version, 1 to 40 or M1 to M4 [default: the smallest of 1 to 40 that fits]"),
     entry!("min-version", Text("VERSION"),
@@ -72,7 +73,7 @@ pub static LEVELS: &[Entry] = &[
 /// The level and the version of what Micro QR cannot say.
 #[rattlefmt::skip]
 pub static NORMAL_LEVELS: &[Entry] = &[
-    entry!("level", 'l', LEVEL, "Error correction level [default: M]"),
+    entry!("level", 'l', LEVEL, "Error correction level [default: M, with a logo H]"),
     entry!("symbol-version", 'v', Text("VERSION"),
         "Version, 1 to 40 [default: the smallest that fits]"),
     entry!("min-version", Text("VERSION"), "Smallest version to try, 1 to 40"),
@@ -82,13 +83,14 @@ pub static NORMAL_LEVELS: &[Entry] = &[
 #[rattlefmt::skip]
 pub static TEXTS: &[Entry] = &[
     entry!("micro", Nothing, "Allow Micro QR (--min-version M1)"),
-    entry!("boost", Nothing, "Raise the level as far as the version allows; add -l L for the smallest version"),
+    entry!("boost", Nothing,
+        "Raise the level, starting from --level, while the code gets no larger; not with -v"),
 ];
 
 /// How a text in one code is marked.
 #[rattlefmt::skip]
 pub static MARKS: &[Entry] = &[
-    entry!("eci", Nothing, "Mark the data as UTF-8 (ECI 26), for readers that guess wrong"),
+    entry!("eci", Nothing, "Mark the data as UTF-8 (ECI 26), if readers show it wrongly"),
 ];
 
 /// The mask.
@@ -102,23 +104,24 @@ pub static MASKS: &[Entry] = &[
 pub static LOOKS: &[Entry] = &[
     entry!("output", 'o', Path, "Write to FILE, atomically; - is standard output"),
     entry!("format", 'f', Word("FORMAT", FORMATS),
-        "Output format [default: by file extension, else terminal]"),
+        "Output format; zpl, tspl and escpos are for printers [default: by file extension (.txt: \
+        half-blocks), else terminal]"),
     entry!("quiet-zone", 'q', Number("MODULES", 0, 255),
         "Quiet zone on each side, 0 to 255 [default: 4, Micro QR 2]"),
     entry!("scale", 's', Number("PIXELS", 1, 1000),
-        "Pixels per module, 1 to 1,000 [default: 8; 1 for text and PIC]"),
+        "Pixels per module, 1 to 1,000 [default: 8; 1 in PIC, half-blocks, terminal, text, ascii]"),
     entry!("size", Text("SIZE"),
-        "Maximum side of the picture, in pixels or mm, cm, in, pt, e.g. 300 or 30mm; exact in SVG, \
-        EPS and PDF, whole pixels per module elsewhere"),
+        "Maximum side of the picture, in pixels or mm, cm, in, pt, e.g. 300 or 30mm; lengths are \
+        exact in SVG, EPS and PDF, and need --dpi elsewhere"),
     entry!("module", Text("LENGTH"),
-        "Side of a module, e.g. 0.5mm, exact in SVG, EPS and PDF, elsewhere to the nearest pixel"),
+        "Side of a module, e.g. 0.5mm; exact in SVG, EPS and PDF, elsewhere whole pixels of --dpi"),
     entry!("dpi", Number("N", 1, 65535), "Pixels per inch, 1 to 65,535"),
     entry!("at", Text("X,Y"),
-        "Position on the label, in dots from the left and top, in ZPL and TSPL [default: 0,0]"),
+        "Position on a printed label (ZPL, TSPL), in dots from the left and top [default: 0,0]"),
     entry!("no-size", Nothing, "Omit width and height in SVG, so that it fills its container"),
     entry!("svg-title", Text("TEXT"), "Title in SVG, for screen readers"),
     entry!("svg-desc", Text("TEXT"), "Description in SVG, for screen readers"),
-    entry!("svg-id", Text("NAME"), "Name of the SVG element"),
+    entry!("svg-id", Text("NAME"), "ID of the SVG element"),
     entry!("svg-class", Text("NAMES"), "Classes of the SVG element, for style sheets"),
     entry!("pdf-title", Text("TEXT"), "Title of a PDF file"),
     entry!("dark", Text("COLOUR"),
@@ -127,22 +130,24 @@ pub static LOOKS: &[Entry] = &[
         "Colour of light modules, or transparent (PNG, SVG) [default: white]"),
     entry!("invert", Nothing, "Swap dark and light"),
     entry!("logo", Path,
-        "Put a logo in the middle: an SVG or PNG file in SVG, a PNG file in PNG; the code stays readable"),
+        "Put a logo in the middle: into SVG an SVG or PNG file, into PNG a PNG file; the code \
+        stays readable"),
     entry!("logo-area", Nothing, "Leave an empty area for a logo, in any format"),
     entry!("logo-size", Text("SIZE"),
         "Side of the area, in modules or percent of the code's side, e.g. 9 or 20% [default: the \
-        largest that uses half of what error correction can repair]"),
+        largest that uses at most half of the error correction]"),
     entry!("logo-margin", Number("MODULES", 0, 20), "Light modules around the logo [default: 1]"),
-    entry!("keep-alignment", Nothing, "Do not cover alignment patterns, which some readers need"),
+    entry!("keep-alignment", Nothing,
+        "Keep the logo off alignment patterns, which some readers need"),
     entry!("verbose", Nothing, "Report version, level, mask and sizes on standard error"),
-    entry!("json", Nothing, "Write this report as a line of JSON"),
+    entry!("json", Nothing, "Report like --verbose, as a line of JSON"),
 ];
 
 /// Texts about the program.
 #[rattlefmt::skip]
 pub static ABOUT: &[Entry] = &[
     entry!("completions", Word("SHELL", &["bash", "zsh", "fish"]), "Write shell completions"),
-    entry!("manual", Nothing, "Write the manual page, for man -l"),
+    entry!("manual", Nothing, "Write the manual page: goqlanis --manual | man -l -"),
     entry!("version", 'V', Nothing, "Print the version"),
 ];
 
@@ -152,13 +157,13 @@ pub const EXAMPLES: &str = "Examples:
       show a code in the terminal
   goqlanis -o ticket.png --scale 8 -i ticket.txt
       encode the bytes of a file, as PNG
-  goqlanis --level Q -v M4 --format svg 1234567
+  goqlanis --micro -o code.svg 1234567
       make a Micro QR code
   goqlanis --lines -o seat.svg < seats.txt
       write seat-000001.svg, seat-000002.svg and so on
   goqlanis split --count 4 -o part.pbm -i ticket.txt
       split data over 4 codes; goqlanis join part-*.pbm reads them back
-  goqlanis read ticket.pbm
+  goqlanis read ticket.png
       decode a picture
   goqlanis wifi --ssid Guests --password \"pass;word\"
       make a code that joins a network

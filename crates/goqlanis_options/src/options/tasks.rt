@@ -22,25 +22,26 @@ macro_rules! task {
 /// What commands ask for.
 #[rattlefmt::skip]
 pub static TASKS: &[Task] = &[
-    task!("read", Purpose::Read, "Decode the QR codes of a picture",
+    task!("read", Purpose::Read, "Decode the QR codes in a picture",
         entry!("output", 'o', Path, "Write the data to FILE, atomically; - is standard output"),
         entry!("verbose", 'v', Nothing,
             "Report version, level, mask, position, corrected errors, headers and segments on \
             standard error"),
-        entry!("json", Nothing, "Write the data and this report as a JSON list instead")),
+        entry!("json", Nothing, "Write the data and the --verbose report as a JSON list")),
     task!("check", Purpose::Check, "Report where the QR codes in a picture depart from the standard",
         entry!("json", Nothing, "Write a JSON list instead of text")),
-    task!("split", Purpose::Several, "Split data over up to 16 codes (structured append)",
+    task!("split", Purpose::Several, "Split data over up to 16 numbered files (structured append)",
         entry!("count", Number("N", 1, 16),
-            "Number of codes, 1 to 16, in the smallest version that fits [default: as few as fit]"),
+            "Number of codes, 1 to 16, in the smallest version that fits [default: fewest]"),
         entry!("max-version", Text("VERSION"), "Largest version to use, 1 to 40 [default: 40]")),
-    task!("join", Purpose::Join, "Decode the codes of a split and join their data",
+    task!("join", Purpose::Join, "Decode the codes that split made, and join their data",
         entry!("output", 'o', Path, "Write the data to FILE, atomically; - is standard output")),
     task!("wifi", Purpose::Content(Kind::Wifi), "Wi-Fi network"),
     task!("mecard", Purpose::Content(Kind::Mecard), "Contact (MECARD)"),
     task!("vcard", Purpose::Content(Kind::Vcard), "Contact (vCard 3.0)"),
     task!("epc", Purpose::Content(Kind::Payment), "SEPA credit transfer (EPC QR code)"),
-    task!("bill", Purpose::Content(Kind::Bill), "Swiss QR-bill, with its cross in SVG, PNG, EPS and PDF; 46 mm wide without quiet zone"),
+    task!("bill", Purpose::Content(Kind::Bill),
+        "Swiss QR-bill, with its cross in SVG, PNG, EPS and PDF; print it with -q 0 --size 46mm"),
     task!("upi", Purpose::Content(Kind::Upi), "Payment by UPI (India)"),
     task!("pix", Purpose::Content(Kind::Pix), "Static payment by Pix (Brazil)"),
     task!("promptpay", Purpose::Content(Kind::Promptpay), "Payment by PromptPay (Thailand)"),
@@ -52,8 +53,8 @@ pub static TASKS: &[Task] = &[
     task!("event", Purpose::Content(Kind::Event), "Calendar event"),
     task!("gs1", Purpose::Elements, "GS1 element string",
         entry!("application", Text("INDICATOR"),
-            "Application indicator (FNC1 in second position): two digits or a letter, assigned by \
-            AIM")),
+            "Encode data of an industry other than GS1 (FNC1 in second position), by its indicator \
+            from AIM: two digits or a letter")),
 ];
 
 /// The options of a kind of payload, in the order of its fields, unless memory runs out.
@@ -134,7 +135,7 @@ fn own_help(kind: Kind, field: Field) -> Option<(&'static str, &'static str)> {
         (Kind::Pix, Field::City) => ("TEXT", "Payee's city, up to 15 ASCII characters"),
         (Kind::Pix, Field::Reference) => ("TEXT", "Reference (txid), up to 25 letters and digits"),
         (Kind::Pix, Field::Description) =>
-            ("TEXT", "Description; up to 73 ASCII characters including the key"),
+            ("TEXT", "Description; with the key, up to 73 ASCII characters"),
         (Kind::Promptpay, Field::Payee) => ("NUMBER",
             "Payee's phone number (081 234 5678), national or tax ID (13 digits), or e-wallet (15)"),
         _ => return None,

@@ -48,8 +48,8 @@ pub fn too_long(field: Field, text: &str, most: usize) -> Check
     (character_count(text) > most, field, Cause::TooLong)
 }
 
-/// Refuses the field of the first check that refuses one; the error is `Refused`, with that field and its
-/// cause.
+/// Refuses the field of the first check that refuses one; the error is `Refused`, with that field
+/// and its cause.
 pub fn refuse_first(checks: &[Check]) -> ContentResult<()>
     ensures { result ≡ checked (first_refusal
         (map (λ check. refused_if check.0 check.1 check.2) checks.now)) }

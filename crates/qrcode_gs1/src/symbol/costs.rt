@@ -31,8 +31,8 @@ impl Headers {
     }
 }
 
-// How the rest goes on behind an open segment: the bits of all that is left, and how many bytes more
-// the segment takes.
+// How the rest goes on behind an open segment: the bits of all that is left, and how many bytes
+// more the segment takes.
 #[derive(Copy, Clone)]
 pub(crate) struct Way {
     bits: usize,
@@ -64,8 +64,8 @@ impl Way {
     }
 }
 
-// The segment with which a rest begins so that it takes the fewest bits: its mode, and how many bytes
-// it takes.
+// The segment with which a rest begins so that it takes the fewest bits: its mode, and how many
+// bytes it takes.
 #[derive(Copy, Clone)]
 pub(crate) struct Start {
     pub(crate) bits: usize,
@@ -108,9 +108,9 @@ impl Start {
     }
 }
 
-// The fewest bits that a rest takes, by what stands before it: a segment begins here, or one is open
-// to which the rest may add. An open segment of digits counts by how many of them are behind its last
-// group of three, one of letters by whether they are odd.
+// The fewest bits that a rest takes, by what stands before it: a segment begins here, or one is
+// open to which the rest may add. An open segment of digits counts by how many of them are behind
+// its last group of three, one of letters by whether they are odd.
 #[derive(Copy, Clone)]
 pub(crate) struct Costs {
     pub(crate) start: Start,

@@ -74,8 +74,8 @@ fn marked_bits(
     ended_bits(alloc, &written, segments, position, version, ec_level)
 }
 
-// The symbol of bytes behind FNC1 at a level, of the least version of Normal, from one on, that holds
-// them.
+// The symbol of bytes behind FNC1 at a level, of the least version of Normal, from one on, that
+// holds them.
 //
 // `DataTooLong`: none does. `OutOfMemory`: memory was refused.
 pub(crate) fn symbol(

@@ -1,5 +1,5 @@
-//! The shortest linear recurrence that a sequence of bytes follows, by the algorithm of Berlekamp and
-//! Massey.
+//! The shortest linear recurrence that a sequence of bytes follows, by the algorithm of Berlekamp
+//! and Massey.
 
 ghost use Rattle.std.specs.Prelude.{◌≡◌, ℕ, ◌+◌, ◌<◌, ◌≤◌, slice_index, bit_xor};
 ghost use Rattle.qrcode_ec.specs.Field.{product};

@@ -204,7 +204,8 @@ fn greys(alloc: Global, file: &[u8]) -> Result<Pixels, Unscanned>
     Ok(Pixels::new(across, down, marks))
 }
 
-// The greatest grey behind the sides of a head, and what follows it. `None`: it is not one of 1 to 255.
+// The greatest grey behind the sides of a head, and what follows it. `None`: it is not one of 1 to
+// 255.
 fn greatest_grey(rest: &[u8]) -> Option<(usize, &[u8])>
     ensures value { IfSome result (λ found.
         (found.0, found.1.now) ≡ digits_from 0 (after_space false rest.now)) }

@@ -136,8 +136,8 @@ fn finder_at(pixels: &Pixels, x: usize, y: usize, width: usize) -> Option<Finder
     })
 }
 
-// Where the finder pattern whose middle holds a place of a line starts and ends. Only so many pixels
-// before and behind it are looked at, so that time is linear.
+// Where the finder pattern whose middle holds a place of a line starts and ends. Only so many
+// pixels before and behind it are looked at, so that time is linear.
 fn finder_through(pixels: &Pixels, line: Line, place: usize, reach: usize) -> Option<(usize, usize)>
     requires inside { (place ≤ line.length) × (line.first < 2 ^ 32) }
     requires reach { reach ≤ 131070 }

@@ -175,8 +175,8 @@ fn likely_grid(corner: &Corner, count: usize) -> Option<Grid>
     })
 }
 
-// Whether so many modules a side, of which seven have so many pixels, set two finder patterns apart by
-// so many halves of a pixel, but for a fifth.
+// Whether so many modules a side, of which seven have so many pixels, set two finder patterns apart
+// by so many halves of a pixel, but for a fifth.
 fn is_size(apart: usize, seven: usize, count: usize) -> bool
     requires modules { (21 ≤ count) × (count ≤ 177) }
     requires pixels { (apart ≤ 131070) × (seven ≤ 65535) }

@@ -9,8 +9,8 @@ ghost use Rattle.qrcode_reader.specs.declared.scan.halves.Half.{Half};
 use crate::scan::pixels::{Pixels, Unscanned};
 use std::alloc::{AllocError, Global};
 
-// The most pixels along a side of a text of half blocks: 22 for each module of the largest symbol in
-// its quiet zone. It bounds the memory that is taken for lines that end early.
+// The most pixels along a side of a text of half blocks: 22 for each module of the largest symbol
+// in its quiet zone. It bounds the memory that is taken for lines that end early.
 const GREATEST_HALVES: usize = 4096;
 
 // What a text of half blocks consists of.
@@ -180,8 +180,8 @@ fn mark_of(row: &[bool], x: usize) -> bool
     }
 }
 
-// Rows without the last one, where there is one more than columns and its pixels are all light or all
-// dark.
+// Rows without the last one, where there is one more than columns and its pixels are all light or
+// all dark.
 fn square_rows(marks: Vec<bool>, across: usize) -> Vec<bool>
     requires { across ≤ 4096 }
     ensures { result.items ≡ without_last across marks.items }

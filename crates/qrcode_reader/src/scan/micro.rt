@@ -64,8 +64,8 @@ fn outer_line(centre: usize, seven: usize, is_last: bool) -> usize
     (place / 14).min(GREATEST_SIDE)
 }
 
-// The modules along the outer line of a finder pattern, of which twice the centre and the pixels are
-// given: its seven, and those of the timing pattern before or behind it.
+// The modules along the outer line of a finder pattern, of which twice the centre and the pixels
+// are given: its seven, and those of the timing pattern before or behind it.
 fn span_of(pixels: &Pixels, line: Line, centre: usize, seven: usize, is_before: bool) -> Span
     requires { (centre ≤ 131070) × (seven ≤ 65535) × (line.length ≤ 65535) }
 {
@@ -88,8 +88,8 @@ fn span_of(pixels: &Pixels, line: Line, centre: usize, seven: usize, is_before: 
     }
 }
 
-// Where the timing pattern ends that begins behind the dark pixels at a place of a line, or starts before
-// them, and its modules with those of the finder pattern.
+// Where the timing pattern ends that begins behind the dark pixels at a place of a line, or starts
+// before them, and its modules with those of the finder pattern.
 fn timing_end(
     pixels: &Pixels,
     line: Line,

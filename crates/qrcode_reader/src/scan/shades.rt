@@ -12,8 +12,8 @@ const WHITE: usize = 65_025_000;
 /// The pixels of a picture of so many colours across and down, row by row, each of red, green, blue
 /// and opacity. Over white, those darker than the middle of the darkest and the lightest are dark.
 ///
-/// `NoSide`: there are more than 65,535 along a side. `TooShort`: they are not as many. `OutOfMemory`
-/// is the only other error.
+/// `NoSide`: there are more than 65,535 along a side. `TooShort`: they are not as many.
+/// `OutOfMemory` is the only other error.
 pub fn pixels_of_colours(
     alloc: Global,
     across: usize,

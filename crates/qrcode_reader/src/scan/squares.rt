@@ -27,9 +27,9 @@ pub struct Square {
     pub modules: Vec<Color>,
 }
 
-/// The square of modules that a picture shows inside a margin of light, as wide at each side: of the
-/// least number of modules along a side, where it shows several. `None`: it shows no square of at
-/// most `GREATEST_COUNT` modules a side whose first row has a dark one.
+/// The square of modules that a picture shows inside a margin of light, as wide at each side: of
+/// the least number of modules along a side, where it shows several. `None`: it shows no square of
+/// at most `GREATEST_COUNT` modules a side whose first row has a dark one.
 ///
 /// It fails only where memory runs out.
 pub fn square_of(alloc: Global, pixels: &Pixels) -> Result<Option<Square>, AllocError>
@@ -193,8 +193,8 @@ fn is_shown(pixels: &Pixels, square: &Square) -> bool
     true
 }
 
-// Whether a row of pixels is that of the picture of a square, where those above it are: the one above,
-// but where a row of modules begins.
+// Whether a row of pixels is that of the picture of a square, where those above it are: the one
+// above, but where a row of modules begins.
 fn is_row_shown(marks: &[bool], square: &Square, side: usize, y: usize) -> bool
     requires scale { 1 ≤ square.now.scale }
     requires at_most { (square.now.count ≤ 177) × (square.now.zone ≤ 65535) }

@@ -148,8 +148,8 @@ fn push_group(bytes: &mut Vec<u8>, mode: Mode, group: &[bool]) -> Result<(), Uns
     }
 }
 
-// Appends the characters that the mode writes as these bits, group by group. Inlined, it is made anew
-// for a mode that is known where it is called.
+// Appends the characters that the mode writes as these bits, group by group. Inlined, it is made
+// anew for a mode that is known where it is called.
 #[inline(always)]
 fn push_groups(bytes: &mut Vec<u8>, mode: Mode, bits: &[bool]) -> Result<(), Unspelled>
     ensures { AppendsCharacters mode bits.now bytes.old.items bytes.new.items result }
@@ -163,8 +163,8 @@ fn push_groups(bytes: &mut Vec<u8>, mode: Mode, bits: &[bool]) -> Result<(), Uns
     Ok(())
 }
 
-// Appends the characters that the mode writes as these bits: bytes, of which there are most, by a loop
-// of their own.
+// Appends the characters that the mode writes as these bits: bytes, of which there are most, by a
+// loop of their own.
 pub(crate) fn push_characters(
     bytes: &mut Vec<u8>,
     mode: Mode,

@@ -4,7 +4,8 @@ ghost use Rattle.std.specs.Prelude.{◌≡◌, ℕ, ◌<◌, ◌≤◌, ◌^◌,
 ghost use Rattle.qrcode_types.specs.Bits.{number_bits};
 ghost use Rattle.qrcode_reader.specs.spell.Steps.{BeginsWithNumber};
 
-// The number with these bits, the highest first. Inlined, so that a known number of bits needs no loop.
+// The number with these bits, the highest first. Inlined, so that a known number of bits needs no
+// loop.
 #[inline(always)]
 pub(crate) fn number_of(bits: &[bool]) -> u32
     requires { length bits.now ≤ 32 }

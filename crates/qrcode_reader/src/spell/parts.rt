@@ -34,7 +34,8 @@ pub struct Parts {
     pub end: usize,
 }
 
-// Appends the bytes of the part that stands in front of the bits, and answers the part and the rest.
+// Appends the bytes of the part that stands in front of the bits, and answers the part and the
+// rest.
 fn push_part<'a>(
     bytes: &mut Vec<u8>,
     bits: &'a [bool],
@@ -51,11 +52,12 @@ fn push_part<'a>(
     Ok((Part::Bytes(mode, bytes.len() - begin), rest))
 }
 
-/// The headers and segments of a symbol's data bits in order (ISO/IEC 18004:2006, 6.4 and 8), up to the
-/// terminator, or to the end where that is cut off: what `spell` reads, and headers too. Which header may
-/// stand where is not looked at.
+/// The headers and segments of a symbol's data bits in order (ISO/IEC 18004:2006, 6.4 and 8), up to
+/// the terminator, or to the end where that is cut off: what `spell` reads, and headers too. Which
+/// header may stand where is not looked at.
 ///
-/// `NotSpelled`: the bits are not headers, segments and an end. `OutOfMemory` is the only other error.
+/// `NotSpelled`: the bits are not headers, segments and an end. `OutOfMemory` is the only other
+/// error.
 pub fn pieces(alloc: Global, bits: &[bool], version: Version) -> Result<Parts, Unspelled>
     requires { IsTrue (is_valid version) }
     ensures value { IfOk result (λ found.

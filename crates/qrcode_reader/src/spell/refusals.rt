@@ -54,8 +54,8 @@ impl<T: Drop> From<AllocFailed<T>> for Unspelled {
 /// Why bits are shown as no text.
 #[derive(Debug, PartialEq, Eq, Copy, Clone)]
 pub enum Unshown {
-    /// A segment is Kanji or no UTF-8, or there is another header than the number 26 of UTF-8, or the
-    /// bits are not segments and an end.
+    /// A segment is Kanji or no UTF-8, or there is another header than the number 26 of UTF-8, or
+    /// the bits are not segments and an end.
     NotShown,
     /// Memory was refused.
     OutOfMemory,

@@ -52,11 +52,12 @@ fn push_shown<'a>(
     Ok(rest)
 }
 
-/// The text that a reader shows of the data bits of a symbol, which takes the bytes of each segment by
-/// themselves as UTF-8, behind nothing or the number 26 of UTF-8 (ISO/IEC 18004:2006, 6.4.2 to 6.4.5).
+/// The text that a reader shows of the data bits of a symbol, which takes the bytes of each segment
+/// by themselves as UTF-8, behind nothing or the number 26 of UTF-8 (ISO/IEC 18004:2006, 6.4.2 to
+/// 6.4.5).
 ///
-/// `NotShown`: a segment is Kanji, of which nothing is said, or no UTF-8; or there is another header;
-/// or the bits are not segments and an end. `OutOfMemory` is the only other error.
+/// `NotShown`: a segment is Kanji, of which nothing is said, or no UTF-8; or there is another
+/// header; or the bits are not segments and an end. `OutOfMemory` is the only other error.
 pub fn text_of(alloc: Global, bits: &[bool], version: Version) -> Result<String, Unshown>
     requires { IsTrue (is_valid version) }
     ensures value { IfOk result (λ text. ShowsOnly version bits.now (chars (string_bytes text))) }

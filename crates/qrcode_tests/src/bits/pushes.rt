@@ -111,8 +111,8 @@ fn pushes_are_refused(rt: HostRuntime) {
     check(&rt, rt.alloc(), &REFUSED);
 }
 
-// Whether data that is pushed in the segments of fewest bits to a list of Normal 1, ended for a level,
-// is answered so, and gives a list.
+// Whether data that is pushed in the segments of fewest bits to a list of Normal 1, ended for a
+// level, is answered so, and gives a list.
 fn data_gives(
     alloc: Global,
     data: &[u8],

@@ -69,8 +69,8 @@ fn of_sevens(
     }
 }
 
-// By the standard's Tables 3 and 9, in even parts behind headers of 20 bits. No version is below 1 or
-// above 40.
+// By the standard's Tables 3 and 9, in even parts behind headers of 20 bits. No version is below 1
+// or above 40.
 #[test]
 fn the_fewest_of_some_versions(rt: HostRuntime) {
     let alloc = rt.alloc();

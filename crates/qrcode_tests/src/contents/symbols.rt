@@ -1,5 +1,5 @@
-//! Symbols with FNC1 in second position. Those of elements are asked of the library for C, and those
-//! of one letter in front of the program.
+//! Symbols with FNC1 in second position. Those of elements are asked of the library for C, and
+//! those of one letter in front of the program.
 
 use crate::common::{Push, Row, check, check_row, of_pushes};
 use qrcode::types::{EcLevel, Version};

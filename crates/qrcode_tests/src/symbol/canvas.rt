@@ -206,7 +206,8 @@ static DRAWN: [Drawn; 7] = [
     ),
 ];
 
-// Whether a canvas of a version has letters with this checksum, which its colours and modules follow.
+// Whether a canvas of a version has letters with this checksum, which its colours and modules
+// follow.
 fn shows(alloc: Global, drawn: (&Canvas, &[Color], &[bool]), version: Version, sum: u32) -> bool
     requires valid { IsTrue (is_valid version) }
     requires version { drawn.0.now.version ≡ version }
@@ -245,7 +246,8 @@ static BEST: [Drawn; 3] = [
     // All modules are light and stay so under each mask: all penalties are 170, and the first mask
     // is taken, with the format word 0x4445.
     Drawn(Drawing(Micro(1), EcLevel::L, Start::Light, EMPTY, [None, None]), 0x956d_d1f3),
-    // Of nothing the masks have the penalties 80, 85, 68 and 85: the third has the format word 0x4e2b.
+    // Of nothing the masks have the penalties 80, 85, 68 and 85: the third has the format word
+    // 0x4e2b.
     Drawn(Drawing(Micro(1), EcLevel::L, Start::Nothing, EMPTY, [None, None]), 0xcb02_1188),
 ];
 

@@ -1,5 +1,5 @@
-//! Blocks damaged and corrected. That printed blocks are corrected wherever five bytes are wrong, the
-//! judge asks of symbols (`evidence/judge`).
+//! Blocks damaged and corrected. That printed blocks are corrected wherever five bytes are wrong,
+//! the judge asks of symbols (`evidence/judge`).
 
 ghost use Rattle.std.specs.Prelude.{◌≤◌};
 

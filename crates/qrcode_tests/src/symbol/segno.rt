@@ -29,8 +29,9 @@ pub static MASKED: [(Version, EcLevel, &'static [u32]); 14] = [
     (Micro(4), Q, &[0xe55d_473d, 0xd7b7_6c0b, 0x6e78_c4e5, 0x2a96_aa34]),
 ];
 
-/// Versions and levels, and what is drawn over their patterns of the three bytes 0x6e, 0x5d and 0xe2,
-/// which come again and again as codewords of data and of error correction; and of 0x92, 0x49, 0x24.
+/// Versions and levels, and what is drawn over their patterns of the three bytes 0x6e, 0x5d and
+/// 0xe2, which come again and again as codewords of data and of error correction; and of 0x92,
+/// 0x49, 0x24.
 #[rattlefmt::skip]
 pub static CODEWORDS: [(Version, EcLevel, [u32; 2]); 8] = [
     (Micro(1), L, [0x938e_3da0, 0xd6ae_3a24]),

@@ -156,8 +156,8 @@ const PUBLISHED: [u32; 21] = [
     0x12f15d, 0x1a2d41, 0x10f07f,
 ];
 
-// Light except for its last row and column, whose 9 and 9 light modules behind the first cost 18 and
-// 150 in Micro.
+// Light except for its last row and column, whose 9 and 9 light modules behind the first cost 18
+// and 150 in Micro.
 #[rattlefmt::skip]
 const SIDES: [u32; 17] = [
     0x10000, 0x10000, 0x10000, 0, 0, 0x10000, 0x10000, 0, 0x10000, 0, 0x10000, 0, 0x10000, 0, 0,
@@ -165,8 +165,8 @@ const SIDES: [u32; 17] = [
 ];
 
 // Kinds of squares, their sides, and their penalties of Normal and of Micro. They were counted by
-// the judge (evidence/judge/penalty.py) on the same squares; those of one colour by hand too, and the
-// published ones are the published.
+// the judge (evidence/judge/penalty.py) on the same squares; those of one colour by hand too, and
+// the published ones are the published.
 struct Counted(Kind, u32, (u32, u32));
 
 #[rattlefmt::skip]
