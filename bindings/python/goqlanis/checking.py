@@ -44,7 +44,7 @@ class Rank(NamedTuple):
 
 class Check(NamedTuple):
     """What of a code departs from the standard, as `goqlanis check --json` says it, and by str() as
-    `goqlanis check`. What is not known is None: bits and fewest_bits behind FNC1 or with a header
+    `goqlanis check`. What is not known is None: bits and fewest_bits after FNC1 or with a header
     between segments, and all of the data where its bits are not segments and an end.
 
     >>> from goqlanis import encode_segments

@@ -66,18 +66,18 @@ M holds them
     octets, is_text = _checks.data(data)
     manner, versions = _manner(is_text, marked, eci), _versions(version, least_version, micro)
     if _checks.flag("boost", boost) and version is not None:
-        raise ValueError("version and boost: take least_version in place of version")
+        raise ValueError("version and boost: use least_version instead of version")
     number = _mask(mask)
     if eci is None or is_text:
         return _one(_asked.Data(octets, _checks.level(level), manner, *versions, boost, number),
                     f"{len(octets):,} bytes")
     if least_version is not None or micro or boost or number:
-        raise ValueError("bytes behind eci: give no more than level and version beside it")
+        raise ValueError("bytes with eci: only level and version may be given too")
     return encode_segments([("eci", eci), ("byte", octets)], level, version)
 
 
 def _manner(is_text: bool, marked: bool, eci: Optional[int]) -> int:
-    """How data is written that is no bytes behind a number."""
+    """How data without an ECI number is encoded."""
     if _checks.flag("marked", marked) and not is_text:
         raise TypeError("marked is of a str; of bytes eci=26 says that they are UTF-8")
     number = None if eci is None else _checks.whole("eci", eci, 0, MOST_SET, NoSuchNumber)
@@ -129,7 +129,7 @@ def encode_sequence(data: Data, level: str = "M", version: Optional[Version] = N
     """
     octets, is_text = _checks.data(data)
     if version is not None and (least_version is not None or greatest_version is not None):
-        raise ValueError("version beside least_version or greatest_version: give one of them")
+        raise ValueError("version with least_version or greatest_version: give one of them")
     least, most = (1 if least_version is None else least_version,
                    40 if greatest_version is None else greatest_version)
     first, last = (_checks.version(it if version is None else version) for it in (least, most))
@@ -145,7 +145,7 @@ def encode_sequence(data: Data, level: str = "M", version: Optional[Version] = N
 @_checks.named
 def encode_segments(segments: Segments, level: str = "M",
                     version: Optional[Version] = None) -> Symbol:
-    """The symbol of segments, one behind the other: of a version, or of the least version of Normal
+    """The symbol of segments, one after another: of a version, or of the least version of Normal
     QR that holds them. A segment is a mode with its bytes, `("numeric", b"..")`, `"alphanumeric"`,
     `"byte"` or `"kanji"` (pairs of bytes of Shift JIS); or a header: `("eci", 26)`,
     `("fnc1_first", None)`, `("fnc1_second", 37)`. A segment without bytes is left out.
@@ -182,7 +182,7 @@ def _segment(name: str, given: Any) -> Segment:
         raise ValueError(f"{name}: no kind {_checks.shown(kind)}: take one of {', '.join(KINDS)}")
     at = KINDS[kind]
     if kind in MODES:
-        data = _checks.binary(f"{name}: what is behind {_checks.shown(kind)}", value)
+        data = _checks.binary(f"{name}: the data of {_checks.shown(kind)}", value)
         return Segment(at, 0, data, len(data))
     if at in (ECI, FNC1_SECOND):
         most = MOST_SET if at == ECI else 255

@@ -80,7 +80,7 @@ class Unread(Error, ValueError):
 
 
 class NoSuchSide(Unread):
-    """No version has so many modules."""
+    """No version has that many modules."""
 
 
 class NoFormat(Unread):

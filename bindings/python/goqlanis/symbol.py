@@ -30,7 +30,7 @@ class Symbol:
     What draws it takes the same arguments everywhere:
 
     - `scale`: the pixels of a module, 8 unless you say otherwise, and 1 in texts and PIC;
-    - `size`, in place of it: pixels that a side may have, or millimetres, as "30mm", of EPS, of PDF
+    - `size`, instead of it: pixels that a side may have, or millimetres, as "30mm", of EPS, of PDF
       and, with `dpi`, of PNG. Modules are as large as there is room for: the picture is at most so
       wide;
     - `border`, or `quiet_zone`: its light modules at each side, 4 unless you say otherwise, and 2
