@@ -27,7 +27,7 @@ Picture = Union[str, bytes, bytearray, memoryview, "os.PathLike[str]", IO[bytes]
 # The kinds of parts by their numbers.
 PARTS = {**{number: name for name, number in KINDS.items()}, goq.ONE_OF_SEVERAL: "one_of_several"}
 # The positions in the order of their numbers.
-POSITIONS = ("upright", "turned left", "upside down", "turned right", "mirrored", "flipped",
+POSITIONS = ("upright", "rotated left", "upside down", "rotated right", "mirrored", "flipped",
              "transposed", "antitransposed")
 JOINS = {goq.NOT_SEVERAL: "square {place} has no header of one of several symbols",
          goq.STRANGER: "square {place} is a part of other data than the first",
@@ -51,10 +51,10 @@ class Reading(NamedTuple):
 
 
 class AnyReading(NamedTuple):
-    """The same of a square in any position: "upright", "turned left" (by a quarter, against the
-    clock), "upside down", "turned right", "mirrored" (left and right exchanged), "flipped" (top and
-    bottom exchanged), "transposed" (columns and rows exchanged) or "antitransposed" (the same from
-    the other corner), and whether dark and light are exchanged.
+    """The same of a square in any position: "upright", "rotated left" (by 90 degrees), "upside
+    down", "rotated right", "mirrored" (left and right swapped), "flipped" (top and bottom swapped),
+    "transposed" (columns and rows swapped) or "antitransposed" (the same from the other corner),
+    and whether dark and light are swapped.
 
     >>> from goqlanis import encode
     >>> read_any([[not dark for dark in row] for row in encode("01234567").matrix])[5:]
@@ -215,7 +215,7 @@ def _file_of(given: Any) -> Optional[bytes]:
 
 
 def read_any(square: Modules) -> AnyReading:
-    """What a square of modules says that may be turned, mirrored or inverted.
+    """What a square of modules says that may be rotated, mirrored or inverted.
 
     >>> from goqlanis import encode
     >>> found = read_any([row[::-1] for row in encode("01234567").matrix])
