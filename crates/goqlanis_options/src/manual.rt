@@ -20,7 +20,7 @@ to a file. Input is encoded unchanged.
 ";
 
 static WORDS: &str = ".SH COMMANDS
-The commands from wifi to event take fields as options; most options above work with them too.
+Commands that make codes take most options above; those from wifi to event also fields.
 ";
 
 static END: &str = ".SH EXIT STATUS

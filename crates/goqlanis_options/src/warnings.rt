@@ -21,6 +21,12 @@ pub fn warn(rt: &HostRuntime, asked: &Asked<'_, '_>) {
         let _ = eprintln!(rt;
             "goqlanis: warning: dark modules {dark} on light modules {light} {why}"
         );
+    } else if let Some((ink, better)) = stray_colour(request) {
+        let name = name_of(ink);
+        let _ = eprintln!(rt;
+            "goqlanis: warning: {name} is on the wrong side of halfway between the darkest and the \
+            lightest colour, so readers may misread it; use a {better} one"
+        );
     }
     if let Target::File(path) = asked.target {
         if is_named_otherwise(path, request.format) {
@@ -137,6 +143,31 @@ fn close_colours<'a>(request: &Request<'a>) -> Option<(Ink<'a>, Ink<'a>)> {
     } else {
         Some((dark, light))
     }
+}
+
+// A colour that is not on its own side of halfway between the darkest and the brightest colour, where
+// readers of pictures part dark from light, and what a better one is.
+fn stray_colour<'a>(request: &Request<'a>) -> Option<(Ink<'a>, &'static str)> {
+    let dark = extreme(request, Color::Dark, true);
+    let light = extreme(request, Color::Light, false);
+    let (below, above) = if is_brighter(light, dark) {
+        (Color::Dark, Color::Light)
+    } else {
+        (Color::Light, Color::Dark)
+    };
+    let darkest = brightness(extreme(request, below, false));
+    let both = darkest.saturating_add(brightness(extreme(request, above, true)));
+    let (below, above) = (
+        extreme(request, below, true),
+        extreme(request, above, false),
+    );
+    if brightness(below).saturating_mul(2) >= both {
+        return Some((below, "darker"));
+    }
+    if brightness(above).saturating_mul(2) <= both {
+        return Some((above, "lighter"));
+    }
+    None
 }
 
 // Of the colours of dark or of light modules the brightest one, or the darkest.

@@ -39,15 +39,15 @@ pub static DATA: &[Entry] = &[
     entry!("input", 'i', Path, "Encode the contents of a file"),
     entry!("trim", Nothing, "Drop one trailing newline"),
     entry!("allow-empty", Nothing, "Accept empty input"),
-    entry!("bytes", Nothing, "Use the fewest bits, even if some readers then show UTF-8 wrongly"),
+    entry!("bytes", Nothing, "Fewest bits in any mode, even if some readers show UTF-8 wrongly"),
 ];
 
 /// What gives the data of plain codes alone.
 #[rattlefmt::skip]
 pub static ONE_CODE: &[Entry] = &[
     entry!("segment", Texts("MODE:DATA"),
-        "Choose the segments: numeric:DIGITS, alphanumeric:TEXT, byte:TEXT, kanji:HEX (Shift JIS) \
-        or eci:NUMBER; repeat as needed"),
+        "Choose the segments: numeric:DIGITS, alphanumeric:TEXT, byte:TEXT (UTF-8), kanji:HEX (Shift \
+        JIS) or eci:NUMBER; repeat as needed"),
     entry!("lines", Nothing,
         "Make one code per line, in numbered files; or name them in --output with {} (line \
         number), {text} (the line), {1}, {2} .. (its fields)"),
@@ -104,8 +104,8 @@ pub static MASKS: &[Entry] = &[
 pub static LOOKS: &[Entry] = &[
     entry!("output", 'o', Path, "Write to FILE, atomically; - is standard output"),
     entry!("format", 'f', Word("FORMAT", FORMATS),
-        "Output format; zpl, tspl and escpos are for printers [default: by file extension (.txt: \
-        half-blocks), else terminal]"),
+        "Output format; zpl, tspl, escpos: printers [default: FILE's extension (.txt: half-blocks); in \
+        terminals terminal, else half-blocks]"),
     entry!("quiet-zone", 'q', Number("MODULES", 0, 255),
         "Quiet zone on each side, 0 to 255 [default: 4, Micro QR 2]"),
     entry!("scale", 's', Number("PIXELS", 1, 1000),
