@@ -71,6 +71,7 @@ fn check_side(alloc: Global, request: &Request<'_>, code: &QrCode) -> Result<(),
     let most = match request.format {
         Format::Png if !request.parts.is_empty() => GREATEST_PAINTED,
         Format::Pbm | Format::Pgm | Format::Ppm => GREATEST_WHOLE,
+        Format::Tspl | Format::EscPos | Format::Xbm => GREATEST_WHOLE,
         format => format.greatest_side(),
     };
     let why = match request.size {

@@ -1,7 +1,7 @@
 //! A symbol of each line.
 
 use crate::drawing::draw_one;
-use crate::names::{check_names, field_of, name_of, take_name};
+use crate::names::{check_made, check_names, field_of, name_of, take_name};
 use goqlanis_core::Grouped;
 use goqlanis_files::failure::{Failure, refused};
 use goqlanis_files::progress::Progress;
@@ -95,6 +95,7 @@ fn draw_line(
     let text = String::from_utf8_lossy(rt.alloc(), line)?;
     let name = name_of(rt.alloc(), path, number, text.as_str(), asked.delimiter())?;
     take_name(rt.alloc(), taken, path, name.as_str())?;
+    check_made(rt, name.as_str())?;
     let target = Target::File(name.as_str());
     draw_one(rt, &Asked { target, ..*asked }, data)
 }

@@ -73,6 +73,16 @@ pub(crate) fn take_name(
     )?))
 }
 
+/// Refuses a name that was made if it is no file of its own.
+pub(crate) fn check_made(rt: &HostRuntime, name: &str) -> Result<(), Failure> {
+    if is_stream(rt, name) {
+        return Err(Failure::Refused(format!(in rt.alloc();
+            "{name} is a pipe, device or folder; each code gets its own file"
+        )?));
+    }
+    Ok(())
+}
+
 /// The file of a number, counted from 1, and of a line with its delimiter: a path with them in its
 /// places, or with the number before its file extension.
 pub(crate) fn name_of(
@@ -167,17 +177,19 @@ pub(crate) fn field_of(
     number: usize,
 ) -> Result<String, Failure> {
     let mut field = String::new(alloc);
-    let (mut place, mut is_open) = (0usize, false);
+    let (mut place, mut is_open, mut is_odd) = (0usize, false, false);
     for piece in line.split(delimiter) {
         if is_open {
             field.push_str(delimiter)?;
+            is_odd = is_odd != has_odd_quotes(delimiter);
         } else {
             field.clear();
             place = place.saturating_add(1);
+            is_odd = false;
         }
         field.push_str(piece)?;
-        let quotes = field.bytes().filter(|byte| *byte == b'"').count();
-        is_open = field.starts_with('"') && quotes % 2 == 1;
+        is_odd = is_odd != has_odd_quotes(piece);
+        is_open = is_odd && field.starts_with('"');
         if place == number && !is_open {
             return Ok(unquoted(alloc, field.as_str())?);
         }
@@ -188,6 +200,11 @@ pub(crate) fn field_of(
     Err(Failure::Refused(format!(in alloc;
         "it has no field {number}; --delimiter says what separates fields"
     )?))
+}
+
+// Whether the number of quotation marks in a text is odd.
+fn has_odd_quotes(text: &str) -> bool {
+    text.bytes().filter(|byte| *byte == b'"').count() % 2 == 1
 }
 
 // A field without the quotation marks about it, in which two stand for one.

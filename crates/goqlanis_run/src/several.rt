@@ -1,7 +1,7 @@
 //! `goqlanis several`: data in several symbols; and `goqlanis join`: the data of such symbols.
 
 use crate::drawing::{check_empty, drawn, manner, write_drawing};
-use crate::names::{check_names, name_of};
+use crate::names::{check_made, check_names, name_of};
 use crate::reading::codes_of;
 use clap::ArgMatches;
 use goqlanis_core::{Grouped, Scan};
@@ -62,6 +62,7 @@ fn draw_each(
         let drawing = drawn(rt.alloc(), &asked.request, code)?;
         if let Target::File(path) = asked.target {
             let name = name_of(rt.alloc(), path, index.saturating_add(1), "", "")?;
+            check_made(rt, name.as_str())?;
             let target = Target::File(name.as_str());
             write_drawing(rt, &Asked { target, ..*asked }, &drawing)?;
         } else {
