@@ -132,10 +132,8 @@ path_element frame w h columns rows dark light runs =
 abbrev pub xml_head : List ℕ
 xml_head = codes "<?xml version=\"1.0\" standalone=\"yes\"?>"
 
--- a text whose path, read so, shows the picture: each cell of its box is so many pixels across and down, and the pixels of the filled ones are dark
-pub record IsPathOf (head : List ℕ) (frame : Frame) (dark light : List ℕ) (b : Bitmap) (svg : List ℕ) : Type 0 where
-  pub columns : ℕ
-  pub rows : ℕ
+-- a text whose box has so many columns and rows of cells, and whose path, read so, shows the picture: each cell is so many pixels across and down, and the pixels of the filled ones are dark
+pub record IsPathIn (columns rows : ℕ) (head : List ℕ) (frame : Frame) (dark light : List ℕ) (b : Bitmap) (svg : List ℕ) : Type 0 where
   pub across : ℕ
   pub down : ℕ
   pub runs : List Run
@@ -143,6 +141,10 @@ pub record IsPathOf (head : List ℕ) (frame : Frame) (dark light : List ℕ) (b
   pub high : b.down ≡ rows * down
   pub written : svg ≡ head ++ path_element frame b.across b.down columns rows (attribute dark) (attribute light) runs
   pub shown : b.marks ≡ map (λ i. is_filled runs (i % b.across / across) (i / b.across / down)) (range_with_len 0 (b.across * b.down))
+
+-- the same, whatever the columns and rows of its box
+abbrev pub IsPathOf : List ℕ → Frame → List ℕ → List ℕ → Bitmap → List ℕ → Type 0
+IsPathOf head frame dark light b svg = (columns : ℕ) × ((rows : ℕ) × IsPathIn columns rows head frame dark light b svg)
 
 -- the run of so many cells that ends before a column
 abbrev pub ended : ℕ → ℕ → ℕ → List Run

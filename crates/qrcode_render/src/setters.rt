@@ -1,7 +1,7 @@
 //! What a renderer is set to: its colours, its quiet zone and the sizes of its modules.
 
 ghost use Rattle.std.specs.Prelude.{◌≡◌, ◌+◌, ◌-◌, ◌*◌, ◌^◌, ◌<◌, ◌≤◌, IsTrue, max, if◌then◌else◌};
-ghost use Rattle.qrcode_render.specs.Grid.{pixels_of};
+ghost use Rattle.qrcode_render.specs.Grid.{all_columns, all_rows, pixels_of};
 ghost use Rattle.qrcode_render.specs.Setting.{side_of, fits, picture_of, square_of, least_size, greatest_size, IsLeastSize, IsGreatestSize};
 
 use crate::grid::Grid;
@@ -173,7 +173,9 @@ impl<'a, P: Pixel> Renderer<'a, P> {
     /// The modules as cells, with the quiet zone where it is on.
     pub fn grid(&self) -> Grid
         requires { IsTrue (fits self.now) }
-        ensures { pixels_of result ≡ picture_of self.now }
+        ensures pixels { pixels_of result ≡ picture_of self.now }
+        ensures across { all_columns result ≡ side_of self.now }
+        ensures down { all_rows result ≡ side_of self.now }
     {
         Grid::new(
             self.content,

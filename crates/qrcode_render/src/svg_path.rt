@@ -5,8 +5,8 @@ ghost use Rattle.std.specs.Prelude.{◌≡◌, ◌*◌, ◌++◌, [], encode_utf
 ghost use Rattle.qrcode_types.specs.declared.types.QrError.TheVariants.{OutOfMemory};
 ghost use Rattle.qrcode_types.specs.Colors.{select_of};
 ghost use Rattle.qrcode_render.specs.Grid.{all_columns, all_rows, pixels_of};
-ghost use Rattle.qrcode_render.specs.Setting.{fits, picture_of};
-ghost use Rattle.qrcode_render.specs.Paths.{attribute, between, box_end, box_text, frame_of, frame_text, path_ground, plain, side_text, size_text, xml_head, IsPathOf};
+ghost use Rattle.qrcode_render.specs.Setting.{fits, picture_of, side_of};
+ghost use Rattle.qrcode_render.specs.Paths.{attribute, between, box_end, box_text, frame_of, frame_text, path_ground, plain, side_text, size_text, xml_head, IsPathIn, IsPathOf};
 
 use crate::grid::Grid;
 use crate::ink::Script;
@@ -151,13 +151,14 @@ impl<'a> Frame<'a> {
     }
 }
 
-/// The text that `build` makes of a renderer, but in a frame.
+/// The text that `build` makes of a renderer, but in a frame. A module is a unit of its box.
 ///
 /// `OutOfMemory`: memory ran out.
 pub fn framed(alloc: Global, renderer: &Renderer<Path<'_>>, frame: &Frame<'_>) -> QrResult<String>
     requires fits { IsTrue (fits renderer.now) }
-    ensures shows { IfOk result (λ text. IsPathOf xml_head (frame_of frame.now) renderer.now.dark.0.now
-        renderer.now.light.0.now (picture_of renderer.now) (string_bytes text)) }
+    ensures shows { IfOk result (λ text. IsPathIn (side_of renderer.now) (side_of renderer.now)
+        xml_head (frame_of frame.now) renderer.now.dark.0.now renderer.now.light.0.now
+        (picture_of renderer.now) (string_bytes text)) }
     ensures memory { IsOkUnless result OutOfMemory }
 {
     let (dark, light) = renderer.colors();
@@ -174,8 +175,9 @@ fn with_element(
     dark: &str,
     light: &str,
 ) -> QrResult<String>
-    ensures value { IfOk result (λ whole. IsPathOf (string_bytes text) (frame_of frame.now)
-        dark.now light.now (pixels_of grid.now) (string_bytes whole)) }
+    ensures value { IfOk result (λ whole. IsPathIn (all_columns grid.now) (all_rows grid.now)
+        (string_bytes text) (frame_of frame.now) dark.now light.now (pixels_of grid.now)
+        (string_bytes whole)) }
     ensures memory { IsOkUnless result OutOfMemory }
 {
     let mut text = text;

@@ -34,8 +34,6 @@ returns-clause-value c =
     let begun = c.in_ok-push_str-2.ensures.bytes ∙ ap (λ t. t ++ path) inked in
     let drawn = c.in_ok-push_runs.ensures.appends ∙ ap (λ t. t ++ runs) (c.in_ok-script.ensures.value ∙ c.deref.ensures ∙ begun) in
     record {
-      columns = all_columns grid;
-      rows = all_rows grid;
       across = grid.across;
       down = grid.down;
       runs = runs_of grid;
