@@ -5,8 +5,8 @@ use Rattle.std.specs.Str.{str_eq_ignore_ascii_case}
 use Rattle.qrcode_types.specs.declared.types.Color.{Color}
 use Rattle.qrcode_render.specs.Eps.{eps_sized_text, eps_text}
 use Rattle.qrcode_render.specs.Files.{pgm_file, pbm_file, ppm_file}
-use Rattle.qrcode_render.specs.Layout.{Layout, layout}
-use Rattle.qrcode_render.specs.Paths.{Frame, frame_of, plain, xml_head, IsPathOf}
+use Rattle.qrcode_render.specs.Layout.{Layout, layout, modules_across}
+use Rattle.qrcode_render.specs.Paths.{Frame, frame_of, plain, xml_head, IsPathIn}
 use Rattle.qrcode_render.specs.Pdf.{IsPdfOf}
 use Rattle.qrcode_render.specs.Picture.{picture}
 use Rattle.qrcode_render.specs.Printers.{escpos_file, tspl_file, tspl_file_at, xbm_file}
@@ -206,9 +206,10 @@ abbrev pub IsPdfOn : Option ℕ → List ℕ → View → Layout → List Color 
 IsPdfOn dots title v at s over bytes =
     IsPdfOf (pdf_dots (option_or dots v.dpi)) (dark_of v (rgb v.dark) (rgb v.light)) (light_of v (rgb v.dark) (rgb v.light)) (picture at s) over title bytes
 
--- bytes are an SVG text of one path in the colours of a view, in a frame
-abbrev pub IsPathIn : Frame → View → Layout → List Color → List ℕ → Type 0
-IsPathIn frame v at s bytes = IsPathOf xml_head frame (dark_of v v.dark.name v.light.name) (light_of v v.dark.name v.light.name) (picture at s) bytes
+-- bytes are an SVG text of one path in the colours of a view, in a frame, where a module is a unit of the box
+abbrev pub IsFramed : Frame → View → Layout → List Color → List ℕ → Type 0
+IsFramed frame v at s bytes =
+    IsPathIn (modules_across at) (modules_across at) xml_head frame (dark_of v v.dark.name v.light.name) (light_of v v.dark.name v.light.name) (picture at s) bytes
 
 abbrev pub per_metre : ℕ → ℕ  -- dots per inch as dots per metre, to the nearest: an inch is 0.0254 metres
 per_metre dpi = (10000 * dpi + 127) / 254
@@ -233,7 +234,7 @@ IsDrawnIn Chars v at s bytes = bytes ≡ ended v (char_text v (encode_utf8 0x258
 IsDrawnIn Png v at s bytes =
     IsFileOf (picture at s) (dark_of v (png_ink v.dark) (png_ink v.light)) (light_of v (png_ink v.dark) (png_ink v.light)) (option_map per_metre v.dpi) bytes
 IsDrawnIn Svg v at s bytes = bytes ≡ svg_text at s (dark_of v v.dark.name v.light.name) (light_of v v.dark.name v.light.name)
-IsDrawnIn SvgPath v at s bytes = IsPathIn plain v at s bytes
+IsDrawnIn SvgPath v at s bytes = IsFramed plain v at s bytes
 IsDrawnIn Eps v at s bytes = bytes ≡ eps_on None v at s
 IsDrawnIn Pic v at s bytes = bytes ≡ pic_text at s
 IsDrawnIn Pbm v at s bytes = bytes ≡ pbm_file (dark_of v true false) (light_of v true false) (picture at s)
@@ -249,7 +250,7 @@ IsDrawnIn Ppm v at s bytes = bytes ≡ ppm_file (dark_of v (rgb v.dark) (rgb v.l
 
 -- what each format draws on a sheet
 abbrev pub IsDrawnOn : Format → Sheet → View → Layout → List Color → List ℕ → Type 0
-IsDrawnOn SvgPath t v at s bytes = IsPathIn t.frame v at s bytes
+IsDrawnOn SvgPath t v at s bytes = IsFramed t.frame v at s bytes
 IsDrawnOn Eps t v at s bytes = bytes ≡ eps_on t.dots v at s
 IsDrawnOn Pdf t v at s bytes = IsPdfOn t.dots t.frame.title v at s [] bytes
 IsDrawnOn Zpl t v at s bytes = IsZplOf t.place (dark_of v true false) (light_of v true false) (picture at s) bytes

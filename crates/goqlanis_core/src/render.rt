@@ -3,11 +3,12 @@
 ghost use Rattle.std.specs.Prelude.{◌≡◌, ◌^◌, ◌<◌, ◌≤◌, Some, true, false, string_bytes, IsTrue, IfOk, IsOkUnless};
 ghost use Rattle.std.specs.Option.{option_or};
 ghost use Rattle.qrcode_types.specs.declared.types.QrError.TheVariants.{OutOfMemory};
+ghost use Rattle.qrcode_render.specs.Paths.{frame_of};
 ghost use Rattle.qrcode_render.specs.Picture.{picture};
 ghost use Rattle.qrcode_render.specs.Printers.{packed_file};
 ghost use Rattle.qrcode_render.specs.Setting.{fits};
-ghost use Rattle.goqlanis_core.specs.Formats.{IsDrawnIn, IsDrawnOn, IsPdfOn, dark_of, ended, eps_ink, eps_on, half_block_text, layout_of, light_of, per_metre, png_ink, rgb, setting_of, shade_of, sheet_of, view_of};
-ghost use Rattle.goqlanis_core.specs.declared.formats.Format.TheVariants.{Png, SvgPath, Tspl, Zpl};
+ghost use Rattle.goqlanis_core.specs.Formats.{IsDrawnIn, IsDrawnOn, IsFramed, IsPdfOn, dark_of, ended, eps_ink, eps_on, half_block_text, layout_of, light_of, per_metre, png_ink, rgb, setting_of, shade_of, sheet_of, view_of};
+ghost use Rattle.goqlanis_core.specs.declared.formats.Format.TheVariants.{Png, Tspl, Zpl};
 
 use crate::formats::Format;
 use crate::picture::{Ink, Picture, Sheet};
@@ -47,10 +48,7 @@ pub fn draw_in(alloc: Global, format: Format, picture: &Picture<'_>) -> QrResult
             let (dark, light) = (svg::Color(dark.name), svg::Color(light.name));
             Ok(drawn(alloc, picture, dark, light)?.into_bytes())
         }
-        Format::SvgPath => {
-            let (dark, light) = (svg::Path(dark.name), svg::Path(light.name));
-            Ok(drawn(alloc, picture, dark, light)?.into_bytes())
-        }
+        Format::SvgPath => path(alloc, picture, &svg::Frame::plain()),
         Format::Eps => eps(alloc, picture, None),
         Format::Pic => Ok(drawn(alloc, picture, pic::Color, pic::Color)?.into_bytes()),
         Format::Pbm => drawn(alloc, picture, Bit::Black, Bit::White),
@@ -87,7 +85,7 @@ pub fn draw_on(
     ensures memory { IsOkUnless result OutOfMemory }
 {
     match format {
-        Format::SvgPath => path(alloc, picture, sheet),
+        Format::SvgPath => path(alloc, picture, &sheet.frame),
         Format::Eps => eps(alloc, picture, sheet.dots),
         Format::Pdf => pdf_file(alloc, picture, sheet.dots, &[], sheet.frame.title),
         Format::Zpl => zpl(alloc, picture, sheet),
@@ -174,15 +172,15 @@ fn dots_of(picture: &Picture<'_>, given: Option<u32>) -> Option<u32>
     }
 }
 
-// An SVG text of one path.
-fn path(alloc: Global, picture: &Picture<'_>, sheet: &Sheet<'_>) -> QrResult<Vec<u8>>
-    ensures shows { IfOk result (λ text. IsDrawnOn SvgPath (sheet_of sheet.now)
-        (view_of picture.now) (layout_of picture.now) picture.now.modules.now text.items) }
+// An SVG text of one path, in a frame.
+fn path(alloc: Global, picture: &Picture<'_>, frame: &svg::Frame<'_>) -> QrResult<Vec<u8>>
+    ensures shows { IfOk result (λ text. IsFramed (frame_of frame.now) (view_of picture.now)
+        (layout_of picture.now) picture.now.modules.now text.items) }
     ensures memory { IsOkUnless result OutOfMemory }
 {
     let (dark, light) = (picture.dark, picture.light);
     let renderer = renderer(picture, svg::Path(dark.name), svg::Path(light.name));
-    Ok(svg::framed(alloc, &renderer, &sheet.frame)?.into_bytes())
+    Ok(svg::framed(alloc, &renderer, frame)?.into_bytes())
 }
 
 // What a label printer takes that speaks ZPL II.
