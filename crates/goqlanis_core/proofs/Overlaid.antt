@@ -4,7 +4,7 @@ use Rattle.std.specs.Prelude.{codes, Option, None, Some}
 use Rattle.std.specs.Option.{option_or}
 use Rattle.std.proofs.lemmas.List.{append_assoc}
 use Rattle.qrcode_types.specs.declared.types.Color.{Color}
-use Rattle.qrcode_render.specs.Layout.{Layout}
+use Rattle.qrcode_render.specs.Layout.{Layout, modules_across}
 use Rattle.qrcode_render.specs.Paths.{Frame, Run, attribute, frame_text, path_element, path_ground, path_text, xml_head}
 use Rattle.qrcode_render.specs.Picture.{picture}
 use Rattle.qrcode_render.specs.declared.eps.Color as eps
@@ -59,7 +59,8 @@ path_end t w at s bytes drawn =
     let b = picture at s in
     let dark = attribute (dark_of w w.dark.name w.light.name) in
     let light = attribute (light_of w w.dark.name w.light.name) in
-    subst (HasTail tail) (sym drawn.written) (behind tail xml_head _ (path_ends t.frame b.across b.down drawn.columns drawn.rows dark light drawn.runs))
+    let side = modules_across at in
+    subst (HasTail tail) (sym drawn.written) (behind tail xml_head _ (path_ends t.frame b.across b.down side side dark light drawn.runs))
 
 -- an EPS text ends so, in points and in dots
 eps_ends : (dpi : Option ℕ) (at : Layout) (s : List Color) (dark light : eps.Color) → HasTail (codes "showpage\n%%EOF\n") (eps_in dpi at s dark light)
