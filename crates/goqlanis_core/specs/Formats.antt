@@ -211,6 +211,10 @@ abbrev pub IsFramed : Frame → View → Layout → List Color → List ℕ → 
 IsFramed frame v at s bytes =
     IsPathIn (modules_across at) (modules_across at) xml_head frame (dark_of v v.dark.name v.light.name) (light_of v v.dark.name v.light.name) (picture at s) bytes
 
+-- bytes are what a label printer takes that speaks ZPL II, of black and white pixels at a place
+abbrev pub IsZplAt : ℕ × ℕ → View → Layout → List Color → List ℕ → Type 0
+IsZplAt place v at s bytes = IsZplOf place (dark_of v true false) (light_of v true false) (picture at s) bytes
+
 abbrev pub per_metre : ℕ → ℕ  -- dots per inch as dots per metre, to the nearest: an inch is 0.0254 metres
 per_metre dpi = (10000 * dpi + 127) / 254
 
@@ -241,7 +245,7 @@ IsDrawnIn Pbm v at s bytes = bytes ≡ pbm_file (dark_of v true false) (light_of
 IsDrawnIn Pgm v at s bytes = bytes ≡ pgm_file (dark_of v 0 255) (light_of v 0 255) (picture at s)
 IsDrawnIn Grey v at s bytes = bytes ≡ raw_bytes (dark_of v (0 ∷ []) (255 ∷ [])) (light_of v (0 ∷ []) (255 ∷ [])) (picture at s)
 IsDrawnIn Pdf v at s bytes = IsPdfOn None [] v at s [] bytes
-IsDrawnIn Zpl v at s bytes = IsZplOf (0, 0) (dark_of v true false) (light_of v true false) (picture at s) bytes
+IsDrawnIn Zpl v at s bytes = IsZplAt (0, 0) v at s bytes
 IsDrawnIn Tspl v at s bytes = bytes ≡ tspl_file (dark_of v true false) (light_of v true false) (picture at s)
 IsDrawnIn EscPos v at s bytes = bytes ≡ escpos_file (dark_of v true false) (light_of v true false) (picture at s)
 IsDrawnIn Xbm v at s bytes = bytes ≡ xbm_file (dark_of v true false) (light_of v true false) (picture at s)
@@ -253,6 +257,6 @@ abbrev pub IsDrawnOn : Format → Sheet → View → Layout → List Color → L
 IsDrawnOn SvgPath t v at s bytes = IsFramed t.frame v at s bytes
 IsDrawnOn Eps t v at s bytes = bytes ≡ eps_on t.dots v at s
 IsDrawnOn Pdf t v at s bytes = IsPdfOn t.dots t.frame.title v at s [] bytes
-IsDrawnOn Zpl t v at s bytes = IsZplOf t.place (dark_of v true false) (light_of v true false) (picture at s) bytes
+IsDrawnOn Zpl t v at s bytes = IsZplAt t.place v at s bytes
 IsDrawnOn Tspl t v at s bytes = bytes ≡ tspl_file_at t.place (dark_of v true false) (light_of v true false) (picture at s)
 IsDrawnOn f t v at s bytes = IsDrawnIn f v at s bytes

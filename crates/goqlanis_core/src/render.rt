@@ -7,8 +7,8 @@ ghost use Rattle.qrcode_render.specs.Paths.{frame_of};
 ghost use Rattle.qrcode_render.specs.Picture.{picture};
 ghost use Rattle.qrcode_render.specs.Printers.{packed_file};
 ghost use Rattle.qrcode_render.specs.Setting.{fits};
-ghost use Rattle.goqlanis_core.specs.Formats.{IsDrawnIn, IsDrawnOn, IsFramed, IsPdfOn, dark_of, ended, eps_ink, eps_on, half_block_text, layout_of, light_of, per_metre, png_ink, rgb, setting_of, shade_of, sheet_of, view_of};
-ghost use Rattle.goqlanis_core.specs.declared.formats.Format.TheVariants.{Png, Tspl, Zpl};
+ghost use Rattle.goqlanis_core.specs.Formats.{IsDrawnIn, IsDrawnOn, IsFramed, IsPdfOn, IsZplAt, dark_of, ended, eps_ink, eps_on, half_block_text, layout_of, light_of, per_metre, png_ink, rgb, setting_of, shade_of, sheet_of, view_of};
+ghost use Rattle.goqlanis_core.specs.declared.formats.Format.TheVariants.{Png, Tspl};
 
 use crate::formats::Format;
 use crate::picture::{Ink, Picture, Sheet};
@@ -61,10 +61,7 @@ pub fn draw_in(alloc: Global, format: Format, picture: &Picture<'_>) -> QrResult
             ppm::Color(rgb(dark)),
             ppm::Color(rgb(light)),
         ),
-        Format::Zpl => {
-            let (dark, light) = (zpl::Dot::of(Bit::Black), zpl::Dot::of(Bit::White));
-            drawn(alloc, picture, dark, light)
-        }
+        Format::Zpl => zpl(alloc, picture, (0, 0)),
         Format::Tspl => bits::<tspl::Bitmap>(alloc, picture),
         Format::EscPos => bits::<escpos::Raster>(alloc, picture),
         Format::Xbm => bits::<xbm::Text>(alloc, picture),
@@ -88,7 +85,7 @@ pub fn draw_on(
         Format::SvgPath => path(alloc, picture, &sheet.frame),
         Format::Eps => eps(alloc, picture, sheet.dots),
         Format::Pdf => pdf_file(alloc, picture, sheet.dots, &[], sheet.frame.title),
-        Format::Zpl => zpl(alloc, picture, sheet),
+        Format::Zpl => zpl(alloc, picture, sheet.place),
         Format::Tspl => tspl(alloc, picture, sheet),
         _ => draw_in(alloc, format, picture),
     }
@@ -165,11 +162,7 @@ fn png(alloc: Global, picture: &Picture<'_>) -> QrResult<Vec<u8>>
 fn dots_of(picture: &Picture<'_>, given: Option<u32>) -> Option<u32>
     ensures { result ≡ option_or given picture.now.dpi }
 {
-    match (given, picture.dpi) {
-        (Some(dots), _) => Some(dots),
-        (None, Some(dpi)) => Some(dpi as u32),
-        (None, None) => None,
-    }
+    given.or(picture.dpi.map(|dpi| dpi as u32))
 }
 
 // An SVG text of one path, in a frame.
@@ -183,14 +176,14 @@ fn path(alloc: Global, picture: &Picture<'_>, frame: &svg::Frame<'_>) -> QrResul
     Ok(svg::framed(alloc, &renderer, frame)?.into_bytes())
 }
 
-// What a label printer takes that speaks ZPL II.
-fn zpl(alloc: Global, picture: &Picture<'_>, sheet: &Sheet<'_>) -> QrResult<Vec<u8>>
-    ensures shows { IfOk result (λ file. IsDrawnOn Zpl (sheet_of sheet.now)
-        (view_of picture.now) (layout_of picture.now) picture.now.modules.now file.items) }
+// What a label printer takes that speaks ZPL II, with the picture at a place.
+fn zpl(alloc: Global, picture: &Picture<'_>, place: (u32, u32)) -> QrResult<Vec<u8>>
+    ensures shows { IfOk result (λ file. IsZplAt place (view_of picture.now)
+        (layout_of picture.now) picture.now.modules.now file.items) }
     ensures memory { IsOkUnless result OutOfMemory }
 {
     let (dark, light) = (zpl::Dot::of(Bit::Black), zpl::Dot::of(Bit::White));
-    zpl::at_place(alloc, &renderer(picture, dark, light), sheet.place)
+    zpl::at_place(alloc, &renderer(picture, dark, light), place)
 }
 
 // What a label printer takes that speaks TSPL.
