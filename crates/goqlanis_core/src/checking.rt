@@ -47,10 +47,8 @@ fn only(alloc: Global, check: Check) -> Result<Checks, AllocError>
     ensures scans { IfOk result (λ found. found.codes.scans.items ≡ []) }
     ensures missed { IfOk result (λ found. found.codes.missed.items ≡ []) }
 {
-    let mut checks = Vec::new(alloc);
-    checks.push(check)?;
     Ok(Checks {
-        checks,
+        checks: vec![in alloc; check]?,
         codes: Codes {
             scans: Vec::new(alloc),
             missed: Vec::new(alloc),

@@ -97,10 +97,8 @@ fn only(alloc: Global, scan: Scan) -> Result<Codes, AllocError>
     ensures scans { IfOk result (λ codes. codes.scans.items ≡ scan ∷ []) }
     ensures missed { IfOk result (λ codes. codes.missed.items ≡ []) }
 {
-    let mut scans = Vec::new(alloc);
-    scans.push(scan)?;
     Ok(Codes {
-        scans,
+        scans: vec![in alloc; scan]?,
         missed: Vec::new(alloc),
     })
 }
@@ -188,7 +186,9 @@ fn insert_code(scans: &mut Vec<Scan>, scan: Scan, grid: &Grid) -> Result<(), All
     let place = place_of(grid);
     let number = scans
         .iter()
-        .position(|other| precedes(place, place_of_scan(other)))
+        .position(|other| other
+            .grid
+            .is_some_and(|other| precedes(place, place_of(&other))))
         .unwrap_or(scans.len());
     scans.insert(number, scan)?;
     Ok(())
@@ -213,22 +213,9 @@ impl Codes {
     /// Whether a code is read where a grid stands.
     pub fn has_read(&self, grid: &Grid) -> bool {
         let place = place_of(grid);
-        self.scans
-            .iter()
-            .any(|scan| overlap(place, place_of_scan(scan)))
-    }
-}
-
-// Where a code stands among others.
-fn place_of_scan(scan: &Scan) -> Place {
-    match scan.grid {
-        Some(grid) => place_of(&grid),
-        None => Place {
-            left: 0,
-            top: 0,
-            right: 0,
-            bottom: 0,
-        },
+        self.scans.iter().any(|scan| scan
+            .grid
+            .is_some_and(|other| overlap(place, place_of(&other))))
     }
 }
 
