@@ -9,10 +9,8 @@ use Rattle.qrcode_bits.specs.Manners.{IsLeastFrom}
 use Rattle.qrcode_bits.specs.declared.bits.manner.Manner.{Manner}
 use Rattle.qrcode.specs.Code.{Code}
 use Rattle.qrcode.specs.Texts.{IsSymbolAs, IsBoostedAs}
-use Rattle.goqlanis_core.specs.Masks.{IsMaskless}
 use Rattle.goqlanis_core.specs.declared.request.Choice.{Choice}
 use Rattle.goqlanis_core.specs.declared.request.Choice.TheVariants.{From, Boosted, At}
-use Rattle.goqlanis_core.specs.declared.request.Request.{Request}
 
 -- the symbol of data in a manner, of a choice at a level: of the least version, from one on, that holds the data; of that version at the
 -- highest level, from the given one on, at which it does; or of the version that is asked for
@@ -20,9 +18,6 @@ abbrev pub IsSymbolIn : Choice → Manner → EcLevel → List ℕ → Code → 
 IsSymbolIn (From from) m l bytes code = IsLeastFrom m from l bytes code.version × ((code.level ≡ l) × IsSymbolAs m code.version l bytes code.modules)
 IsSymbolIn (Boosted from) m l bytes code = IsBoostedAs m from l bytes code
 IsSymbolIn (At version) m l bytes code = (code.version ≡ version) × ((code.level ≡ l) × IsSymbolAs m version l bytes code.modules)
-
-abbrev pub IsSymbolOf : Request → List ℕ → Code → Type 0  -- the symbol that a request asks for
-IsSymbolOf r bytes code = IsSymbolIn r.choice r.manner r.level bytes code
 
 -- why no version from one on is taken: there is no such version, or none from it on holds the data, or memory was refused
 abbrev pub IsRefusalFrom : Choice → Manner → EcLevel → List ℕ → QrError → Type 0
@@ -33,7 +28,3 @@ IsRefusalFrom (At version) m l bytes e = IsRefusedIn m version l bytes e
 -- why there is no symbol: memory was refused, or no version that may be taken holds the data
 abbrev pub IsRefusedFor : Choice → Manner → EcLevel → List ℕ → QrError → Type 0
 IsRefusedFor choice m l bytes e = (e ≡ OutOfMemory) ⊎ IsRefusalFrom choice m l bytes e
-
--- why there is no drawing: there is no symbol, or its version has no mask of the number that is asked for
-abbrev pub IsRefusalOf : Request → List ℕ → QrError → Type 0
-IsRefusalOf r bytes e = IsRefusedFor r.choice r.manner r.level bytes e ⊎ ((e ≡ InvalidVersion) × IsMaskless r.mask (IsSymbolOf r bytes))

@@ -1,19 +1,17 @@
 //! Drawings for requests.
 
-ghost use Rattle.std.specs.Prelude.{◌≡◌, ◌≤◌, ◌⊎◌, length, map, unwrap_or, IfOk, IfErr, IsOkUnless};
+ghost use Rattle.std.specs.Prelude.{◌≡◌, ◌≤◌, ◌⊎◌, length, unwrap_or, IfOk, IfErr, IsOkUnless};
 ghost use Rattle.qrcode_types.specs.declared.types.QrError.TheVariants.{InvalidVersion, OutOfMemory};
 ghost use Rattle.qrcode.specs.Pictures.{quiet_zone};
-ghost use Rattle.qrcode_gs1.specs.Items.{item};
-ghost use Rattle.qrcode_gs1.specs.declared.symbol.errors.SymbolError.TheVariants.{Symbol};
 ghost use Rattle.goqlanis_core.specs.Drawings.{IsShownIn, dots_for, layout_for, scale_for, sheet_for, unit_for, view_for};
-ghost use Rattle.goqlanis_core.specs.Elements.{IsElementsIn, IsElementsRefused, IsApplicationIn, IsApplicationRefused};
+ghost use Rattle.goqlanis_core.specs.Elements.{IsApplicationIn, IsApplicationRefused};
 ghost use Rattle.goqlanis_core.specs.Formats.{sheet_of};
 ghost use Rattle.goqlanis_core.specs.Layers.{IsPaintedIn};
 ghost use Rattle.goqlanis_core.specs.Masks.{IsMaskless, LacksMask};
 ghost use Rattle.goqlanis_core.specs.Segments.{AreRefused, IsLeastHeld, IsSymbolOfSegments};
-ghost use Rattle.goqlanis_core.specs.Symbols.{IsSymbolIn, IsSymbolOf, IsRefusedFor, IsRefusalOf};
+ghost use Rattle.goqlanis_core.specs.Symbols.{IsSymbolIn, IsRefusedFor};
 
-use crate::elements::{symbol_for_application, symbol_of_elements};
+use crate::elements::symbol_for_application;
 use crate::layers::painted;
 use crate::masking::modules_under;
 use crate::picture::{Picture, Sheet};
@@ -23,8 +21,6 @@ use qrcode::QrCode;
 use qrcode::bits::Manner;
 use qrcode::render::svg::{Frame, Size};
 use qrcode::types::{Color, EcLevel, QrResult};
-use qrcode_gs1::elements::Element;
-use qrcode_gs1::symbol::errors::SymbolResult;
 use std::alloc::Global;
 
 /// A symbol, and the bytes that show it under the mask that is asked for.
@@ -33,20 +29,6 @@ pub struct Drawing {
     /// The symbol under the mask of least penalty.
     pub code: QrCode,
     pub bytes: Vec<u8>,
-}
-
-/// The drawing of data that a request asks for.
-///
-/// It is refused where no version that may be taken holds the data, by the causes of
-/// `QrCode::at_least`, `QrCode::at_least_boosted` or `QrCode::in_version`; `InvalidVersion`: the
-/// version has no mask of the number that is asked for; `OutOfMemory`: memory was refused.
-pub fn draw(alloc: Global, request: &Request<'_>, bytes: &[u8]) -> QrResult<Drawing>
-    ensures symbol { IfOk result (λ drawing. IsSymbolOf request.now bytes.now drawing.code) }
-    ensures shown { IfOk result (IsShownIn request.now) }
-    ensures causes { IfErr result (IsRefusalOf request.now bytes.now) }
-{
-    let code = symbol_in(alloc, request.choice, request.manner, request.level, bytes)?;
-    drawing_of(alloc, request, code)
 }
 
 /// The drawing of segments by hand that a request asks for, of the least version that may be taken
@@ -78,29 +60,6 @@ pub fn draw_segments(
     drawing_of(alloc, request, code)
 }
 
-/// The drawing of elements of GS1 that a request asks for; its manner is not looked at, and a
-/// choice with levels to be raised keeps the level.
-///
-/// `Elements`: which element is refused first, and why. `Symbol(DataTooLong)`: no version that may
-/// be taken holds them; none of Micro does. `Symbol(InvalidVersion)`: there is no mask of the
-/// number. `OutOfMemory`, in either: memory was refused.
-pub fn draw_elements(
-    alloc: Global,
-    request: &Request<'_>,
-    elements: &[Element<'_>],
-) -> SymbolResult<Drawing>
-    ensures symbol { IfOk result (λ drawing. IsElementsIn request.now.choice request.now.level
-        (map item elements.now) drawing.code) }
-    ensures shown { IfOk result (IsShownIn request.now) }
-    ensures causes { IfErr result (λ e.
-        IsElementsRefused request.now.choice request.now.level (map item elements.now) e
-        ⊎ ((e ≡ Symbol InvalidVersion) × IsMaskless request.now.mask
-        (IsElementsIn request.now.choice request.now.level (map item elements.now)))) }
-{
-    let code = symbol_of_elements(alloc, request.choice, request.level, elements)?;
-    Ok(drawing_of(alloc, request, code)?)
-}
-
 /// The drawing of data of an application, behind FNC1 in second position and the application's
 /// indicator, that a request asks for; its manner is not looked at, and a choice with levels to be
 /// raised keeps the level. Byte 29 is the separator.
@@ -128,7 +87,8 @@ pub fn draw_for_application(
 
 /// The symbol of data in a manner, of a choice at a level.
 ///
-/// It is refused by the causes of `draw`, `OutOfMemory` among them.
+/// It is refused where no version that may be taken holds the data, by the causes of
+/// `QrCode::at_least`, `QrCode::at_least_boosted` or `QrCode::in_version`, `OutOfMemory` among them.
 pub fn symbol_in(
     alloc: Global,
     choice: Choice,

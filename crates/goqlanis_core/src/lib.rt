@@ -28,7 +28,7 @@ mod terminal;
 pub use checking::{Checks, check_codes};
 pub use codes::{Codes, Missed, read_codes};
 pub use drawing::{
-    Drawing, dots, draw, draw_elements, draw_for_application, draw_segments, drawing_of,
+    Drawing, dots, draw_for_application, draw_segments, drawing_of,
     quiet_zone, scale, symbol_in,
 };
 pub use elements::symbol_of_elements;
