@@ -71,10 +71,13 @@ names =
     (codes "whitesmoke", 0xf5f5f5) ∷ (codes "yellow", 0xffff00) ∷
     (codes "yellowgreen", 0x9acd32) ∷ []
 
--- the number of the first of some names that a text is, in capitals or not
+abbrev pub is_name : List ℕ → List ℕ → Bool  -- a text is a name, in capitals or not
+is_name name text = str_eq_ignore_ascii_case name text
+
+-- the number of the first of some names that a text is
 abbrev pub number_among : List (List ℕ × ℕ) → List ℕ → Option ℕ
 number_among [] text = None
-number_among (row ∷ rows) text = if str_eq_ignore_ascii_case row.0 text then Some row.1 else number_among rows text
+number_among (row ∷ rows) text = if is_name row.0 text then Some row.1 else number_among rows text
 
 abbrev pub row_of : (Bor (List ℕ) × ℕ) → (List ℕ × ℕ)  -- a row of the code's table
 row_of row = (row.0.now, row.1)

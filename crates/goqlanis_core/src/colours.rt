@@ -1,7 +1,7 @@
 //! Colours as people write them: names of CSS, and digits to the base 16.
 
 ghost use Rattle.std.specs.Prelude.{◌≡◌, map, ◌<◌, IfSome};
-ghost use Rattle.goqlanis_core.specs.Colours.{colour_named, is_clear, colour_of_digits, colour_of_parts, digit_of, names, number_among, opaque, pair, row_of, without_hash};
+ghost use Rattle.goqlanis_core.specs.Colours.{colour_named, is_clear, is_name, colour_of_digits, colour_of_parts, digit_of, names, number_among, opaque, pair, row_of, without_hash};
 
 /// A colour: red, green and blue, and how opaque it is, each from 0 to 255.
 #[derive(Clone, Copy, PartialEq, Eq)]
@@ -100,12 +100,19 @@ fn number_named(text: &str) -> Option<u32>
     number_among(NAMES, text)
 }
 
+// Whether a text is a name, in capitals or not.
+fn is_name(name: &str, text: &str) -> bool
+    ensures { result ≡ is_name name.now text.now }
+{
+    name.eq_ignore_ascii_case(text)
+}
+
 // The number of the first of some names that a text is, in capitals or not.
 fn number_among(names: &[(&str, u32)], text: &str) -> Option<u32>
     ensures { result ≡ number_among (map row_of names.now) text.now }
 {
     for row in names {
-        if row.0.eq_ignore_ascii_case(text) {
+        if is_name(row.0, text) {
             return Some(row.1);
         }
     }
