@@ -4,19 +4,15 @@ ghost use Rattle.std.specs.Prelude.{◌≡◌, ◌≤◌, ◌⊎◌, length, unw
 ghost use Rattle.qrcode_types.specs.declared.types.QrError.TheVariants.{InvalidVersion, OutOfMemory};
 ghost use Rattle.qrcode.specs.Pictures.{quiet_zone};
 ghost use Rattle.goqlanis_core.specs.Drawings.{IsShownIn, dots_for, layout_for, scale_for, sheet_for, unit_for, view_for};
-ghost use Rattle.goqlanis_core.specs.Elements.{IsApplicationIn, IsApplicationRefused};
 ghost use Rattle.goqlanis_core.specs.Formats.{sheet_of};
 ghost use Rattle.goqlanis_core.specs.Layers.{IsPaintedIn};
-ghost use Rattle.goqlanis_core.specs.Masks.{IsMaskless, LacksMask};
-ghost use Rattle.goqlanis_core.specs.Segments.{AreRefused, IsLeastHeld, IsSymbolOfSegments};
+ghost use Rattle.goqlanis_core.specs.Masks.{LacksMask};
 ghost use Rattle.goqlanis_core.specs.Symbols.{IsSymbolIn, IsRefusedFor};
 
-use crate::elements::symbol_for_application;
 use crate::layers::painted;
 use crate::masking::modules_under;
 use crate::picture::{Picture, Sheet};
 use crate::request::{Choice, Request};
-use crate::segments::{Segment, symbol_of};
 use qrcode::QrCode;
 use qrcode::bits::Manner;
 use qrcode::render::svg::{Frame, Size};
@@ -29,60 +25,6 @@ pub struct Drawing {
     /// The symbol under the mask of least penalty.
     pub code: QrCode,
     pub bytes: Vec<u8>,
-}
-
-/// The drawing of segments by hand that a request asks for, of the least version that may be taken
-/// and holds them; its manner is not looked at, and a choice with levels to be raised keeps the
-/// level.
-///
-/// `InvalidVersion`: the choice names no version, or the version has no mask of the number. Where
-/// none that may be taken holds the segments, the error is the first cause in the last of these:
-/// `InvalidCharacter`, a mode cannot write its segment; `InvalidEciDesignator`, the number of a
-/// character set is above 999,999; `UnsupportedCharacterSet`, the version lacks a mode, or
-/// character sets; `InvalidVersion`, it lacks the level; `DataTooLong`, it has no room.
-/// `OutOfMemory`: memory was refused.
-pub fn draw_segments(
-    alloc: Global,
-    request: &Request<'_>,
-    segments: &[Segment<'_>],
-) -> QrResult<Drawing>
-    ensures version { IfOk result (λ drawing.
-        IsLeastHeld request.now.choice request.now.level segments.now drawing.code.version) }
-    ensures symbol { IfOk result (λ drawing.
-        IsSymbolOfSegments request.now.level segments.now drawing.code) }
-    ensures shown { IfOk result (IsShownIn request.now) }
-    ensures causes { IfErr result (λ e.
-        AreRefused request.now.choice request.now.level segments.now e
-        ⊎ ((e ≡ InvalidVersion) × IsMaskless request.now.mask (λ code.
-        IsLeastHeld request.now.choice request.now.level segments.now code.version))) }
-{
-    let code = symbol_of(alloc, request.choice, request.level, segments)?;
-    drawing_of(alloc, request, code)
-}
-
-/// The drawing of data of an application, behind FNC1 in second position and the application's
-/// indicator, that a request asks for; its manner is not looked at, and a choice with levels to be
-/// raised keeps the level. Byte 29 is the separator.
-///
-/// `DataTooLong`: no version that may be taken holds the data; none of Micro does.
-/// `InvalidVersion`: there is no mask of the number. `OutOfMemory`: memory was refused.
-pub fn draw_for_application(
-    alloc: Global,
-    request: &Request<'_>,
-    application: u8,
-    bytes: &[u8],
-) -> QrResult<Drawing>
-    ensures symbol { IfOk result (λ drawing. IsApplicationIn request.now.choice application
-        request.now.level bytes.now drawing.code) }
-    ensures shown { IfOk result (IsShownIn request.now) }
-    ensures causes { IfErr result (λ e.
-        IsApplicationRefused request.now.choice application request.now.level bytes.now e
-        ⊎ ((e ≡ InvalidVersion) × IsMaskless request.now.mask
-        (IsApplicationIn request.now.choice application request.now.level bytes.now))) }
-{
-    let (choice, level) = (request.choice, request.level);
-    let code = symbol_for_application(alloc, choice, level, application, bytes)?;
-    drawing_of(alloc, request, code)
 }
 
 /// The symbol of data in a manner, of a choice at a level.

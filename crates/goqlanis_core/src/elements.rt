@@ -45,7 +45,7 @@ pub fn symbol_of_elements(
 ///
 /// `DataTooLong`: no version that may be taken holds the data. `OutOfMemory`: memory was refused.
 #[tactic(auto, using(crate::proofs::Choices::alone))]
-pub(crate) fn symbol_for_application(
+pub fn symbol_for_application(
     alloc: Global,
     choice: Choice,
     level: EcLevel,

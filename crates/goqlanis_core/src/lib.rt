@@ -27,11 +27,8 @@ mod terminal;
 
 pub use checking::{Checks, check_codes};
 pub use codes::{Codes, Missed, read_codes};
-pub use drawing::{
-    Drawing, dots, draw_for_application, draw_segments, drawing_of,
-    quiet_zone, scale, symbol_in,
-};
-pub use elements::symbol_of_elements;
+pub use drawing::{Drawing, dots, drawing_of, quiet_zone, scale, symbol_in};
+pub use elements::{symbol_for_application, symbol_of_elements};
 pub use formats::Format;
 pub use layers::PartInk;
 pub use parts::Part;
@@ -42,5 +39,5 @@ pub use refusal::{
 };
 pub use request::{Choice, Length, Request, manner_of};
 pub use scanning::{Scan, Unread};
-pub use segments::{Segment, unwritable};
+pub use segments::{Segment, symbol_of, unwritable};
 pub use shades::GREATEST_PAINTED;

@@ -11,9 +11,9 @@ use crate::contents::Elements;
 use crate::middle::redrawn;
 use crate::segments::{characters_of, is_empty, segments_of};
 use goqlanis_core::{
-    Drawing, Format, GREATEST_PAINTED, Request, Segment, application_refusal_text,
-    draw_for_application, draw_segments, drawing_of, elements_refusal_text, manner_of, quiet_zone,
-    refusal_text, scale, segments_refusal_text, symbol_in, symbol_of_elements, unwritable,
+    Drawing, Format, GREATEST_PAINTED, Request, Segment, application_refusal_text, drawing_of,
+    elements_refusal_text, manner_of, quiet_zone, refusal_text, scale, segments_refusal_text,
+    symbol_for_application, symbol_in, symbol_of, symbol_of_elements, unwritable,
 };
 use goqlanis_files::failure::{Failure, refused};
 use goqlanis_files::streams::{print, write_file};
@@ -91,19 +91,6 @@ fn check_side(alloc: Global, request: &Request<'_>, code: &QrCode) -> Result<(),
     Err(Failure::Refused(why))
 }
 
-// The same request for a small picture, to know the symbol before it is drawn.
-fn small<'a>(request: &Request<'a>) -> Request<'a>
-    ensures choice { result.choice ≡ request.now.choice }
-    ensures level { result.level ≡ request.now.level }
-{
-    Request {
-        format: Format::Pgm,
-        scale: 1,
-        size: None,
-        ..*request
-    }
-}
-
 /// Refuses data that is empty, unless that is allowed.
 pub(crate) fn check_empty(
     alloc: Global,
@@ -143,10 +130,11 @@ pub(crate) fn segments_drawing(
         let number = place.saturating_add(1);
         return Err(Failure::Refused(format!(in alloc; "segment {number}: {why}")?));
     }
-    match draw_segments(alloc, &small(&asked.request), &segments) {
-        Ok(drawing) => drawn(alloc, &asked.request, drawing.code),
+    let request = &asked.request;
+    match symbol_of(alloc, request.choice, request.level, &segments) {
+        Ok(code) => drawn(alloc, request, code),
         Err(error) => {
-            let why = segments_refusal_text(alloc, &asked.request, &segments, error)?;
+            let why = segments_refusal_text(alloc, request, &segments, error)?;
             Err(Failure::Refused(why))
         }
     }
@@ -201,8 +189,8 @@ pub(crate) fn application_drawing(
         );
     }
     let bytes = data.as_bytes();
-    match draw_for_application(alloc, &small(request), application, bytes) {
-        Ok(drawing) => drawn(alloc, request, drawing.code),
+    match symbol_for_application(alloc, request.choice, request.level, application, bytes) {
+        Ok(code) => drawn(alloc, request, code),
         Err(QrError::OutOfMemory) => Err(Failure::OutOfMemory),
         Err(_) => {
             let why = application_refusal_text(alloc, request, application, bytes)?;
