@@ -131,8 +131,14 @@ impl<'a> Ground<'a> {
         ensures { rgba result ≡ slice_index_or (map (byte_shade (rgba self.now.dark)
             (rgba self.now.light)) self.now.marks.now) i no_shade }
     {
-        let is_dark = self.marks[i] == 0;
-        if is_dark { self.dark } else { self.light }
+        self.shade(self.marks[i])
+    }
+
+    // The shade of a byte.
+    fn shade(&self, byte: u8) -> [u8; 4]
+        ensures { rgba result ≡ byte_shade (rgba self.now.dark) (rgba self.now.light) byte }
+    {
+        if byte == 0 { self.dark } else { self.light }
     }
 
     // Whether the area has the module of a pixel.
