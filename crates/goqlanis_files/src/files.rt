@@ -1,6 +1,6 @@
 //! Files: data whole, and drawings whole or not at all.
 
-use std::alloc::{AllocError, Global};
+use std::alloc::AllocError;
 use std::fs::{File, Metadata, OpenOptions, Permissions};
 use std::io::{ErrorKind, Write};
 use std::os::fd::AsRawFd;
@@ -17,6 +17,9 @@ pub enum Unwritten {
     /// No file can be made in this folder, which is to hold it.
     #[error("no file can be made in its folder {0}: {1}")]
     Folder(String, io::Error),
+    /// This folder, which is to hold it, may not be read.
+    #[error("its folder {0} cannot be read by this user: name another one, or allow it with chmod +r")]
+    Closed(String),
     /// What stands under its name is a folder.
     #[error("it is a folder; name a file in it")]
     IsFolder,
@@ -42,23 +45,25 @@ const LINKS: u32 = 40;
 struct Folder {
     // As it is written, with the slash behind it.
     name: String,
-    // The way to it: by the number of what is open; or its name, where it may not be read, or where
-    // there is no /proc.
+    // The way to it: by the number of what is open; where there is no /proc, its name, so that what
+    // takes its place is seen.
     way: String,
-    _open: Option<File>,
+    _open: File,
 }
 
-// A folder of a name.
-fn opened(rt: &HostRuntime, name: &str) -> Result<Folder, AllocError> {
-    let name = String::from_str(rt.alloc(), name)?;
-    let place = if name.is_empty() { "." } else { name.as_str() };
-    let open = File::open(rt, place).ok();
-    let way = match &open {
-        Some(file) => format!(in rt.alloc(); "/proc/self/fd/{}/", file.as_raw_fd())?,
-        None => String::new(rt.alloc()),
+// A folder of a name. One that cannot be opened is refused: by its name alone, whoever takes its
+// place would be given what is written.
+fn opened(rt: &HostRuntime, name: &str) -> Result<Folder, Unwritten> {
+    let name = format!(in rt.alloc(); "{name}/")?;
+    let open = match File::open(rt, name.as_str()) {
+        Ok(open) => open,
+        Err(error) if error.kind() == ErrorKind::PermissionDenied => {
+            return Err(Unwritten::Closed(name));
+        }
+        Err(error) => return Err(Unwritten::Folder(name, error)),
     };
-    let way = if fs::metadata(rt, way.as_str()).is_ok() {
-        way
+    let way = if fs::metadata(rt, "/proc/self/fd").is_ok() {
+        format!(in rt.alloc(); "/proc/self/fd/{}/", open.as_raw_fd())?
     } else {
         String::from_str(rt.alloc(), name.as_str())?
     };
@@ -75,13 +80,13 @@ fn opened(rt: &HostRuntime, name: &str) -> Result<Folder, AllocError> {
 pub fn write_whole(rt: &HostRuntime, path: &str, bytes: &[u8]) -> Result<(), Unwritten> {
     let mut place = String::from_str(rt.alloc(), path)?;
     for _ in 0..LINKS {
-        let (folder, name) = parts_of(place.as_str());
-        let folder = opened(rt, folder)?;
+        let (within, name) = parts_of(place.as_str());
+        let folder = opened(rt, within)?;
         let inside = format!(in rt.alloc(); "{}{name}", folder.way.as_str())?;
         let found = match fs::symlink_metadata(rt, inside.as_str()) {
             Ok(found) => found,
             Err(error) if error.kind() == ErrorKind::NotFound => {
-                return replace(rt, &folder, inside.as_str(), None, bytes);
+                return replace(rt, folder, inside.as_str(), None, bytes);
             }
             Err(error) => return Err(Unwritten::File(error)),
         };
@@ -92,7 +97,7 @@ pub fn write_whole(rt: &HostRuntime, path: &str, bytes: &[u8]) -> Result<(), Unw
             return Err(Unwritten::Strange);
         }
         if found.is_file() {
-            return replace(rt, &folder, inside.as_str(), Some(found), bytes);
+            return replace(rt, folder, inside.as_str(), Some(found), bytes);
         }
         if found.is_dir() {
             return Err(Unwritten::IsFolder);
@@ -100,7 +105,7 @@ pub fn write_whole(rt: &HostRuntime, path: &str, bytes: &[u8]) -> Result<(), Unw
         if !found.is_symlink() {
             return write_straight(rt, inside.as_str(), false, bytes);
         }
-        place = followed(rt, inside.as_str(), folder.name.as_str())?;
+        place = followed(rt, inside.as_str(), within)?;
     }
     // As Linux says of as many links.
     write_straight(rt, place.as_str(), false, bytes)
@@ -140,26 +145,26 @@ pub fn is_stream(rt: &HostRuntime, path: &str) -> bool {
 fn followed(rt: &HostRuntime, link: &str, folder: &str) -> Result<String, Unwritten> {
     let named = fs::read_link(rt, link)?;
     let target = named.as_path().as_str();
-    let folder = if target.starts_with('/') { "" } else { folder };
-    Ok(format!(in rt.alloc(); "{folder}{target}")?)
+    if target.starts_with('/') {
+        return Ok(String::from_str(rt.alloc(), target)?);
+    }
+    Ok(format!(in rt.alloc(); "{folder}/{target}")?)
 }
 
 // Whether what was found in a folder is neither this user's nor its owner's, where everybody can
 // make files and nobody can remove another's (sticky). Linux refuses to open such links, pipes and
 // files for whoever would make one, but here it is not asked to.
 fn is_strange(rt: &HostRuntime, folder: &str, found: &Metadata) -> io::Result<bool> {
-    let folder = fs::metadata(rt, if folder.is_empty() { "." } else { folder })?;
+    let folder = fs::metadata(rt, folder)?;
     if folder.mode() & 0o1002 != 0o1002 || found.uid() == folder.uid() {
         return Ok(false);
     }
     Ok(found.uid() != fs::metadata(rt, "/proc/self")?.uid())
 }
 
-// The folder of a path, with the slash behind it, and the name there; no folder where the path has
-// none.
+// The folder of a path, without the slash behind it, and the name there.
 fn parts_of(path: &str) -> (&str, &str) {
-    let end = path.rfind('/').map_or(0, |place| place.saturating_add(1));
-    (path.get(..end).unwrap_or(""), path.get(end..).unwrap_or(""))
+    path.rsplit_once('/').unwrap_or((".", path))
 }
 
 // Writes what is no regular file, or after what is in a file that is open already. A regular file
@@ -184,7 +189,7 @@ fn write_straight(
 // where an old file may stand.
 fn replace(
     rt: &HostRuntime,
-    folder: &Folder,
+    folder: Folder,
     path: &str,
     old: Option<Metadata>,
     bytes: &[u8],
@@ -197,16 +202,10 @@ fn replace(
                 return settle(rt, filled, beside.as_str(), path);
             }
             Err(error) if error.kind() == ErrorKind::AlreadyExists => {}
-            Err(error) => return Err(no_file_in(rt.alloc(), folder.name.as_str(), error)?),
+            Err(error) => return Err(Unwritten::Folder(folder.name, error)),
         }
     }
     Err(Unwritten::File(io::Error::from(ErrorKind::AlreadyExists)))
-}
-
-// Why no file can be made in a folder.
-fn no_file_in(alloc: Global, folder: &str, error: io::Error) -> Result<Unwritten, AllocError> {
-    let name = if folder.is_empty() { "./" } else { folder };
-    Ok(Unwritten::Folder(String::from_str(alloc, name)?, error))
 }
 
 // A new file of its owner alone, and the permissions that it gets once it has the data.

@@ -4,7 +4,7 @@ import os
 import re
 import struct
 
-from room import FILES, empty, held, room, run
+from room import FILES, empty, held, put, room, run
 
 NOBODY = 65534
 
@@ -119,3 +119,31 @@ def a_folder_that_takes_no_file_is_named(program):
                       (f"{folder}/old.svg".encode(), f"{folder}/".encode()))]
         is_said = all(re.fullmatch(it, one.stderr) for it, one in zip(wanted, ran))
         return is_said and held(folder, "old.svg") == b"old"
+
+
+def a_folder_that_cannot_be_read_is_refused(program):
+    """Though files can be made there: whoever exchanged it meanwhile would be given them. A link
+    that leads there is refused too, and so is the folder that the program stands in."""
+    with room() as folder:
+        os.chmod(folder, 0o755)
+        os.mkdir(f"{folder}/in")
+        put(f"{folder}/in", "old.svg", b"old")
+        os.chmod(f"{folder}/in/old.svg", 0o666)
+        os.symlink("in/a.svg", f"{folder}/far.svg")
+        os.chmod(f"{folder}/in", 0o333)
+        as_nobody = AS_NOBODY if os.getuid() == 0 else {}
+        ran = [(run(program, words, f"{folder}/{here}", **as_nobody), path, name)
+               for here, words, path, name in (
+                   ("", ["-o", "in/a.svg", "1"], "in/a.svg", "in/"),
+                   ("", ["-o", "in/old.svg", "1"], "in/old.svg", "in/"),
+                   ("", ["-o", "far.svg", "1"], "far.svg", "./in/"),
+                   ("", ["read", "one.pbm", "-o", "in/a"], "in/a", "in/"),
+                   ("", ["--lines", "-i", "kept", "-o", "in/{text}.svg"], "in/one.svg", "in/"),
+                   ("in", ["-o", "a.svg", "1"], "a.svg", "./"))]
+        os.chmod(f"{folder}/in", 0o755)
+        said = [(1, b"", f"goqlanis: cannot write {path}: its folder {name} cannot be read by this "
+                         "user: name another one, or allow it with chmod +r\n".encode())
+                for _, path, name in ran]
+        is_refused = [(it.returncode, it.stdout, it.stderr) for it, _, _ in ran] == said
+        is_left = os.listdir(f"{folder}/in") == ["old.svg"] and held(folder, "in/old.svg") == b"old"
+        return is_refused and is_left
