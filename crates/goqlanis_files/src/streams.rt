@@ -149,24 +149,23 @@ impl fmt::Display for Escaped<'_> {
     }
 }
 
-/// Whether a character may hide, or hide or reorder others: a control or format character (the
-/// categories Cc and Cf of Unicode 15), or a separator of lines.
+/// Whether a character may be hidden, or hide or reorder others: in Unicode 18 it has the category
+/// Cc or Cf, or the property Default_Ignorable_Code_Point, or separates lines. Some emoji have such
+/// characters.
 pub fn is_unseen(character: char) -> bool {
     let code = character as u32;
-    let is_format = FORMATS
-        .iter()
-        .any(|(first, last)| *first <= code && code <= *last);
-    character.is_control() || is_format
+    let mut ranges = UNSEEN.iter();
+    character.is_control() || ranges.any(|(first, last)| *first <= code && code <= *last)
 }
 
-// The ranges of format characters, and of the separators U+2028 and U+2029.
+// The ranges of these characters but for Cc; the separators are U+2028 and U+2029.
 #[rattlefmt::skip]
-static FORMATS: &[(u32, u32)] = &[
-    (0xad, 0xad), (0x600, 0x605), (0x61c, 0x61c), (0x6dd, 0x6dd), (0x70f, 0x70f),
-    (0x890, 0x891), (0x8e2, 0x8e2), (0x180e, 0x180e), (0x200b, 0x200f), (0x2028, 0x202e),
-    (0x2060, 0x2064), (0x2066, 0x206f), (0xfeff, 0xfeff), (0xfff9, 0xfffb), (0x110bd, 0x110bd),
-    (0x110cd, 0x110cd), (0x13430, 0x1343f), (0x1bca0, 0x1bca3), (0x1d173, 0x1d17a),
-    (0xe0001, 0xe0001), (0xe0020, 0xe007f),
+static UNSEEN: &[(u32, u32)] = &[
+    (0xad, 0xad), (0x34f, 0x34f), (0x600, 0x605), (0x61c, 0x61c), (0x6dd, 0x6dd), (0x70f, 0x70f),
+    (0x890, 0x891), (0x8e2, 0x8e2), (0x115f, 0x1160), (0x17b4, 0x17b5), (0x180b, 0x180f),
+    (0x200b, 0x200f), (0x2028, 0x202e), (0x2060, 0x206f), (0x3164, 0x3164), (0xfe00, 0xfe0f),
+    (0xfeff, 0xfeff), (0xffa0, 0xffa0), (0xfff0, 0xfffb), (0x110bd, 0x110bd), (0x110cd, 0x110cd),
+    (0x13430, 0x1343f), (0x1bca0, 0x1bca3), (0x1d173, 0x1d17a), (0xe0000, 0xe0fff),
 ];
 
 // Writes a text with its unseen characters as escapes.

@@ -83,26 +83,35 @@ def a_line_says_how_many_lines_are_done(program):
         return is_shown and dumb == (refusal, 1) and b" lines" not in drawn
 
 
+# The ends of the ranges of Unicode's Default_Ignorable_Code_Point (DerivedCoreProperties) that are
+# no format characters: fillers, selectors of variants, and what has no character yet.
+IGNORED = ("\u034f\u115f\u1160\u17b4\u17b5\u180b\u180f\u2065\u3164\ufe00\ufe0f\uffa0\ufff0\ufff8"
+           "\U000e0000\U000e0002\U000e001f\U000e0080\U000e0fff")
+
+
 def _unseen():
-    """All characters of format and control characters, by the tables of Python, and separators of
-    lines; without line breaks and tabs."""
+    """All format and control characters, by the tables of Python, separators of lines, and those
+    that are ignored; without line breaks and tabs."""
     kinds = ("Cc", "Cf", "Zl", "Zp")
     found = [chr(it) for it in range(sys.maxunicode) if unicodedata.category(chr(it)) in kinds]
-    return [it for it in found if it not in "\t\n"]
+    return [it for it in found if it not in "\t\n"] + [*IGNORED]
 
 
 def strangers_turn_nothing_round_on_a_terminal(program):
-    """No character that hides or moves others is shown as it is, by `read`, `join` or a message."""
+    """No character that hides or moves others is shown as it is, by `read`, `join` or a message; a
+    pipe and a file get all of them."""
     text = "".join(_unseen()).replace("\0", "")
     with empty() as folder:
         put(folder, "data", text.encode())
         run(program, ["-i", "data", "-o", "a.pbm"], folder)
-        raw = run(program, ["join", "a.pbm"], folder).stdout
+        run(program, ["read", "a.pbm", "-o", "read"], folder)
+        raw = {run(program, [it, "a.pbm"], folder).stdout for it in ("read", "join")}
+        raw.add(held(folder, "read"))
         shown = [in_terminal(program, [it, f"{folder}/a.pbm"]) for it in ("read", "join")]
-    said = run(program, ["-i", "a" + "\u202e".join(text[-9:])], "/").stderr.decode()
+    said = run(program, ["-i", "a" + text], "/").stderr.decode()
     is_plain = all(it.isascii() for it in (*(one.decode() for one, _ in shown), said))
     is_shown = all(b"\\u{202e}" in one and status == 0 for one, status in shown)
-    return len(text) > 200 and raw == text.encode() and is_plain and is_shown
+    return len(text) > 200 and raw == {text.encode()} and is_plain and is_shown
 
 
 def strangers_send_no_control_characters_to_a_terminal(program):
