@@ -278,10 +278,7 @@ fn settle(
     beside: &str,
     path: &str,
 ) -> Result<(), Unwritten> {
-    let done = match filled {
-        Ok(()) => fs::rename(rt, beside, path).map_err(Unwritten::Place),
-        Err(error) => Err(error),
-    };
+    let done = filled.and_then(|()| fs::rename(rt, beside, path).map_err(Unwritten::Place));
     if done.is_err() {
         let _ = fs::remove_file(rt, beside);
     }
