@@ -125,6 +125,10 @@ fn leads_to_open_file(rt: &HostRuntime, path: &str) -> Result<bool, Unwritten> {
     let mut place = String::from_str(rt.alloc(), path)?;
     for _ in 0..LINKS {
         let (folder, name) = parts_of(place.as_str());
+        if folder == "/proc/self/fd" {
+            // Also where there is no /proc.
+            return Ok(true);
+        }
         let found = fs::symlink_metadata(rt, place.as_str())?;
         if !found.is_symlink() || is_open_file(rt, name, &found) {
             return Ok(found.is_symlink());
@@ -196,9 +200,9 @@ fn replace(
 ) -> Result<(), Unwritten> {
     for number in 0..u32::MAX {
         let beside = format!(in rt.alloc(); "{}goqlanis-{number}.new", folder.way.as_str())?;
-        match private_file(rt, beside.as_str(), old.as_ref()) {
-            Ok((file, rights)) => {
-                let filled = fill(file, rights, old.as_ref(), bytes);
+        match private_file(rt, beside.as_str()) {
+            Ok((file, usual)) => {
+                let filled = fill(file, usual, old.as_ref(), bytes);
                 return settle(rt, filled, beside.as_str(), path);
             }
             Err(error) if error.kind() == ErrorKind::AlreadyExists => {}
@@ -208,13 +212,10 @@ fn replace(
     Err(Unwritten::File(io::Error::from(ErrorKind::AlreadyExists)))
 }
 
-// A new file of its owner alone, and the permissions that it gets once it has the data.
-fn private_file(rt: &HostRuntime, path: &str, old: Option<&Metadata>) -> io::Result<(File, u32)> {
-    let rights = match old {
-        Some(old) => kept_rights(old.mode()),
-        None => usual_rights(rt, path)?,
-    };
-    Ok((created(rt, path, 0o600)?, rights))
+// A new file of its owner alone, and the permissions that a file gets there by itself.
+fn private_file(rt: &HostRuntime, path: &str) -> io::Result<(File, u32)> {
+    let usual = usual_rights(rt, path)?;
+    Ok((created(rt, path, 0o600)?, usual))
 }
 
 // The permissions of an old file that are kept: those of its owner, and what group and others both
@@ -242,30 +243,28 @@ fn created(rt: &HostRuntime, path: &str, mode: u32) -> io::Result<File> {
 
 // Writes all of a new file, and waits until it is on the disk. Between opening and renaming nothing
 // is done by its name, which others may have given to another file.
-fn fill(
-    mut file: File,
-    rights: u32,
-    old: Option<&Metadata>,
-    bytes: &[u8],
-) -> Result<(), Unwritten> {
-    if let Some(old) = old {
-        keep_owner(&file, old)?;
-    }
+fn fill(mut file: File, usual: u32, old: Option<&Metadata>, bytes: &[u8]) -> Result<(), Unwritten> {
+    let rights = match old {
+        Some(old) => rights_after(&file, usual, old)?,
+        None => usual,
+    };
     file.write_all(bytes)?;
     file.set_permissions(Permissions::from_mode(rights))?;
     Ok(file.sync_all()?)
 }
 
-// Gives a new file the owner and the group of the old one, where that is allowed. If it is not, the
-// owner of the old one has to be able to read the new one.
-fn keep_owner(file: &File, old: &Metadata) -> Result<(), Unwritten> {
-    if fchown(file, Some(old.uid()), Some(old.gid())).is_ok()
-        || kept_rights(old.mode()) & 0o4 != 0
-    {
-        return Ok(());
+// Gives a new file the owner and the group of the old one, where that is allowed, and returns its
+// permissions. A file that stays this user's in the place of another's has no more of them than any
+// new file, and the owner of the old one has to be able to read it.
+fn rights_after(file: &File, usual: u32, old: &Metadata) -> Result<u32, Unwritten> {
+    let kept = kept_rights(old.mode());
+    let is_given = fchown(file, Some(old.uid()), Some(old.gid())).is_ok();
+    if is_given || file.metadata()?.uid() == old.uid() {
+        return Ok(kept);
     }
-    if file.metadata()?.uid() == old.uid() {
-        Ok(())
+    let rights = kept & usual;
+    if rights & 0o4 != 0 {
+        Ok(rights)
     } else {
         Err(Unwritten::Owner)
     }
