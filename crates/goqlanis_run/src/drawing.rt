@@ -16,7 +16,7 @@ use goqlanis_core::{
     symbol_for_application, symbol_in, symbol_of, symbol_of_elements, unwritable,
 };
 use goqlanis_files::failure::{Failure, refused};
-use goqlanis_files::streams::{print, write_file};
+use goqlanis_files::streams::{print, write_data, write_file};
 use goqlanis_options::asked::{Asked, Target};
 use goqlanis_options::report::show_report;
 use qrcode::QrCode;
@@ -220,6 +220,8 @@ pub(crate) fn write_drawing(
                 add --output FILE, or --output - to write it there anyway",
             )
         }
+        // Its title may have characters that hide or reorder others.
+        Target::Terminal if asked.request.format == Format::SvgPath => write_data(rt, None, bytes),
         Target::Terminal | Target::StandardOutput => print(rt, bytes),
     }
 }

@@ -1,43 +1,39 @@
 //! Files of logos.
 
-ghost use Rattle.std.specs.Prelude.{◌+◌, ◌<◌, length};
-
 use base64::engine::general_purpose::STANDARD;
 use goqlanis_files::failure::Failure;
 use goqlanis_options::logos::Logo;
-use qrcode_png::{Unread, read};
+use qrcode_png::{Picture, Unread, read};
 use std::alloc::{AllocError, Global};
 
 /// The pixels of a logo in a PNG file of a path, in which these bytes stand.
 pub(crate) fn pixels_of(alloc: Global, path: &str, file: &[u8]) -> Result<Logo, Failure> {
-    let picture = match read(alloc, file) {
-        Ok(picture) => picture,
-        Err(Unread::OutOfMemory) => return Err(Failure::OutOfMemory),
-        Err(Unread::NotPng) => return Err(Failure::Refused(format!(in alloc;
-            "--logo {path}: a PNG file takes a PNG logo; save it as PNG, or use --format svg"
-        )?)),
-        Err(why) => return Err(Failure::Refused(format!(in alloc; "--logo {path}: {why}")?)),
-    };
+    let why = "a PNG file takes a PNG logo; save it as PNG, or use --format svg";
+    let picture = picture_of(alloc, path, file, why)?;
     let (across, down) = picture.sides();
     Ok(Logo::Pixels(picture.pixels(alloc)?, across as u16, down as u16))
 }
 
 /// The logo of the file of a path, in which these bytes stand, as an element of SVG.
 pub(crate) fn element_of(alloc: Global, path: &str, file: &[u8]) -> Result<Logo, Failure> {
-    let sides = match str::from_utf8(file) {
-        Ok(text) => svg_sides(text).map(|(across, down)| (across, down, "svg+xml")),
-        // Its sides stand behind sixteen bytes, each in four.
-        Err(_) if file.len() >= 24 && file.starts_with(b"\x89PNG") => {
-            Ok((
-                number_at(file, 18).max(1),
-                number_at(file, 22).max(1),
-                "png",
-            ))
-        }
-        Err(_) => Err(UNKNOWN),
+    let Ok(text) = str::from_utf8(file) else {
+        let (across, down) = picture_of(alloc, path, file, UNKNOWN)?.sides();
+        return Ok(image(alloc, across as u32, down as u32, "png", file)?);
     };
-    match sides {
-        Ok((across, down, kind)) => Ok(image(alloc, across, down, kind, file)?),
+    match svg_sides(text) {
+        Ok((across, down)) => Ok(image(alloc, across, down, "svg+xml", file)?),
+        Err(why) => Err(Failure::Refused(format!(in alloc; "--logo {path}: {why}")?)),
+    }
+}
+
+// The picture of a PNG file of a path; `other` says what is wrong with any other file.
+fn picture_of(alloc: Global, path: &str, file: &[u8], other: &str) -> Result<Picture, Failure> {
+    match read(alloc, file) {
+        Ok(picture) => Ok(picture),
+        Err(Unread::OutOfMemory) => Err(Failure::OutOfMemory),
+        Err(Unread::NotPng) => {
+            Err(Failure::Refused(format!(in alloc; "--logo {path}: {other}")?))
+        }
         Err(why) => Err(Failure::Refused(format!(in alloc; "--logo {path}: {why}")?)),
     }
 }
@@ -51,13 +47,6 @@ const SIZELESS: &str = "its svg element needs a viewBox, or width and height in 
 // No browser draws it as an image then.
 const NAMELESS: &str =
     "its svg element needs xmlns=\"http://www.w3.org/2000/svg\", as every SVG file has";
-
-// The number of two bytes.
-fn number_at(file: &[u8], at: usize) -> u32
-    requires { at + 1 < length file.now }
-{
-    file[at] as u32 * 256 + file[at + 1] as u32
-}
 
 // The logo of the bytes of a picture of so many units across and down. As an image it draws nothing
 // outside, and its styles hold for itself alone.
@@ -169,13 +158,17 @@ fn next_attribute(text: &str) -> Option<(&str, &str, &str)> {
 
 // How wide and how high a root element is, in proportion: by its sides in pixels, or by its units.
 fn sides(root: &Root<'_>) -> Result<(u32, u32), &'static str> {
-    let mut units = root.view.split_whitespace().skip(2);
+    let mut units = root
+        .view
+        .split(|c: char| c == ',' || c.is_ascii_whitespace())
+        .filter(|number| !number.is_empty())
+        .skip(2);
     let found = pixels(root.width).zip(pixels(root.height));
-    match found.or(units.next().zip(units.next())) {
-        None => Err(SIZELESS),
-        Some(_) if root.space != "http://www.w3.org/2000/svg" => Err(NAMELESS),
-        Some((across, down)) => Ok((whole(across), whole(down))),
+    let (across, down) = found.or(units.next().zip(units.next())).ok_or(SIZELESS)?;
+    if root.space != "http://www.w3.org/2000/svg" {
+        return Err(NAMELESS);
     }
+    whole(across).zip(whole(down)).ok_or(SIZELESS)
 }
 
 // The text of a number of pixels, without their name, where it is one.
@@ -190,11 +183,11 @@ fn pixels(text: &str) -> Option<&str> {
     (is_number && !number.is_empty()).then_some(number)
 }
 
-// The whole part of a number, at least 1.
-fn whole(number: &str) -> u32 {
+// The whole part of a number, at least 1, where it is written with digits and a point.
+fn whole(number: &str) -> Option<u32> {
     let digits = match number.split_once('.') {
         Some((digits, _)) => digits,
         None => number,
     };
-    digits.parse::<u32>().unwrap_or(1).max(1)
+    Some(digits.parse::<u32>().ok()?.max(1))
 }

@@ -98,8 +98,8 @@ def _unseen():
 
 
 def strangers_turn_nothing_round_on_a_terminal(program):
-    """No character that hides or moves others is shown as it is, by `read`, `join` or a message; a
-    pipe and a file get all of them."""
+    """No character that hides or moves others is shown as it is, by `read`, `join`, a drawing or a
+    message; a pipe and a file get all of them."""
     text = "".join(_unseen()).replace("\0", "")
     with empty() as folder:
         put(folder, "data", text.encode())
@@ -107,7 +107,9 @@ def strangers_turn_nothing_round_on_a_terminal(program):
         run(program, ["read", "a.pbm", "-o", "read"], folder)
         raw = {run(program, [it, "a.pbm"], folder).stdout for it in ("read", "join")}
         raw.add(held(folder, "read"))
-        shown = [in_terminal(program, [it, f"{folder}/a.pbm"]) for it in ("read", "join")]
+        shown = [in_terminal(program, it) for it in (
+            ["read", f"{folder}/a.pbm"], ["join", f"{folder}/a.pbm"],
+            ["-f", "svg", "--svg-title", "\u202e", "1"])]
     said = run(program, ["-i", "a" + text], "/").stderr.decode()
     is_plain = all(it.isascii() for it in (*(one.decode() for one, _ in shown), said))
     is_shown = all(b"\\u{202e}" in one and status == 0 for one, status in shown)
