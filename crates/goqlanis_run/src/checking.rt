@@ -7,8 +7,6 @@ use goqlanis_files::failure::Failure;
 use goqlanis_files::streams::print;
 use goqlanis_options::warnings::Decimal;
 use qrcode_check::correction::grade_of;
-use qrcode_check::ending::Ending;
-use qrcode_check::masks::Rank;
 use qrcode_check::modules::WrongModules;
 use qrcode_check::segments::Taken;
 use qrcode_check::{Check, Content};
@@ -46,59 +44,125 @@ fn report(alloc: Global, checks: &[Check], is_json: bool) -> Result<String, Allo
         let number = place.saturating_add(1);
         if is_json {
             text.push_str(if place == 0 { "\n" } else { ",\n" })?;
-        } else if count > 1 {
-            write!(text, "code {number} of {count}\n")?;
+            push_object(&mut text, check)?;
+        } else {
+            if count > 1 {
+                write!(text, "code {number} of {count}\n")?;
+            }
+            push_lines(&mut text, check)?;
         }
-        push_check(&mut text, check, is_json)?;
     }
     text.push_str(if is_json { "\n]\n" } else { "" })?;
     Ok(text)
 }
 
-// What is said of a code: as an object in a line, or in lines.
-fn push_check(text: &mut String, check: &Check, is_json: bool) -> Result<(), AllocError> {
-    let is_standard = check.is_standard();
-    if !is_json {
-        let verdict = if is_standard { "yes" } else { "no" };
-        write!(text, "meets the standard: {verdict}\n")?;
-    }
-    push_symbol(text, check, is_json)?;
-    push_modules(text, check.modules, is_json)?;
-    push_content(text, &check.content, is_json)?;
-    let names = if is_json {
-        ["masks", "masks_here"]
-    } else {
-        ["masks", "masks by the balance of goqlanis"]
+// What is said of a code, as an object of JSON in a line.
+fn push_object(text: &mut String, check: &Check) -> Result<(), AllocError> {
+    let (version, level, mask) = (
+        VersionName(check.version),
+        check.ec_level,
+        check.mask_number(),
+    );
+    let (wrong, allowed) = (numbers(*text.allocator(), &check.wrong)?, check.allowed);
+    let (unused, grade) = (Decimal(check.unused as u64), grade_of(check.unused));
+    write!(
+        text,
+        "{{\"version\": \"{version}\", \"level\": \"{level:?}\", \"mask\": {mask}, \
+        \"wrong_by_block\": [{wrong}], \"allowed_by_block\": {allowed}, \
+        \"unused_correction\": {unused}, \"grade\": \"{grade:?}\", \"wrong_modules\": {{"
+    )?;
+    push_modules(text, check.modules, "\"", "\":")?;
+    text.push_str("}, ")?;
+    push_members(text, &check.content)?;
+    let (stepped, own, is_standard) = (check.stepped, check.own, check.is_standard());
+    write!(
+        text,
+        ", \"masks\": {{\"lower\": {}, \"same_before\": {}}}, \
+        \"masks_here\": {{\"lower\": {}, \"same_before\": {}}}, \"standard\": {is_standard}}}",
+        stepped.lower, stepped.equal, own.lower, own.equal
+    )
+}
+
+// What is said of the data, as members of an object.
+fn push_members(text: &mut String, content: &Option<Content>) -> Result<(), AllocError> {
+    let Some(content) = content else {
+        return text.push_str("\"segments\": false");
     };
-    push_rank(text, names[0], check.stepped, is_json)?;
-    push_rank(text, names[1], check.own, is_json)?;
-    if is_json {
-        write!(text, ", \"standard\": {is_standard}}}")?;
+    text.push_str("\"segments\": true")?;
+    if let Some(Taken { bits, least }) = content.taken {
+        write!(text, ", \"bits\": {bits}, \"fewest_bits\": {least}")?;
+    }
+    let (ending, guesses) = (content.ending, content.guesses);
+    write!(
+        text,
+        ", \"wrong_terminator\": {}, \"wrong_padding\": {}, \"guessed_segments\": {}, \
+        \"guessed_utf8\": {}",
+        ending.terminator, ending.padding, guesses.segments, guesses.are_utf8
+    )
+}
+
+// What is said of a code, in lines. Where modules are wrong, so are the penalties of masks.
+fn push_lines(text: &mut String, check: &Check) -> Result<(), AllocError> {
+    let (version, level, mask) = (
+        VersionName(check.version),
+        check.ec_level,
+        check.mask_number(),
+    );
+    let (wrong, allowed) = (numbers(*text.allocator(), &check.wrong)?, check.allowed);
+    let (unused, grade) = (check.unused, grade_of(check.unused));
+    push_verdict(text, check)?;
+    write!(
+        text,
+        "version {version}, level {level:?}, mask {mask}\n\
+        wrong codewords in each block: {wrong}; the standard allows {allowed}\n\
+        unused error correction: {unused} %, grade {grade:?}\n\
+        wrong modules outside the data: "
+    )?;
+    push_modules(text, check.modules, "", "")?;
+    push_content(text, &check.content)?;
+    if is_whole(check) {
+        push_ranks(text, check.stepped.lower, check.own.lower)?;
     }
     Ok(())
 }
 
-// The symbol, its codewords and its error correction.
-fn push_symbol(text: &mut String, check: &Check, is_json: bool) -> Result<(), AllocError> {
-    let (version, level) = (VersionName(check.version), check.ec_level);
-    let mask = check.mask_number();
-    let wrong = numbers(*text.allocator(), &check.wrong)?;
-    let (allowed, unused) = (check.allowed, Decimal(check.unused as u64));
-    let grade = grade_of(check.unused);
-    if is_json {
-        write!(
-            text,
-            "{{\"version\": \"{version}\", \"level\": \"{level:?}\", \"mask\": {mask}, \
-            \"wrong_by_block\": [{wrong}], \"allowed_by_block\": {allowed}, \
-            \"unused_correction\": {unused}, \"grade\": \"{grade:?}\""
-        )
-    } else {
-        write!(
-            text,
-            "version {version}, level {level:?}, mask {mask}\nwrong codewords by block: {wrong}; \
-            {allowed} may be wrong in each\nunused error correction: {unused}, grade {grade:?}\n"
-        )
+// Whether a code meets the standard, and if not, why.
+fn push_verdict(text: &mut String, check: &Check) -> Result<(), AllocError> {
+    if check.is_standard() {
+        return text.push_str("meets the standard: yes\n");
     }
+    let (is_longer, is_ended) = match &check.content {
+        Some(Content { taken, ending, .. }) => (
+            taken.is_some_and(|taken| taken.bits > taken.least),
+            ending.terminator == 0 && ending.padding == 0,
+        ),
+        None => (false, true),
+    };
+    let is_least = check.own.lower == 0 || check.stepped.lower == 0;
+    let reasons = [
+        (
+            !is_whole(check),
+            "some modules are wrong, e.g. damaged or under a logo, but corrected",
+        ),
+        (check.content.is_none(), "the data cannot be decoded"),
+        (is_longer, "the data takes more bits than needed"),
+        (!is_ended, "bits after the data are wrong"),
+        (
+            is_whole(check) && !is_least,
+            "another mask has a lower penalty",
+        ),
+    ];
+    let mut sign = "meets the standard: no: ";
+    for (_, reason) in reasons.iter().filter(|(is_so, _)| *is_so) {
+        write!(text, "{sign}{reason}")?;
+        sign = "; ";
+    }
+    text.push_str("\n")
+}
+
+// Whether no codeword is wrong, and no module outside of them.
+fn is_whole(check: &Check) -> bool {
+    check.modules.are_right() && check.wrong.iter().all(|count| *count == 0)
 }
 
 // Numbers, with commas between them.
@@ -111,8 +175,14 @@ fn numbers(alloc: Global, numbers: &[usize]) -> Result<String, AllocError> {
     Ok(text)
 }
 
-// What is wrong of the patterns.
-fn push_modules(text: &mut String, modules: WrongModules, is_json: bool) -> Result<(), AllocError> {
+// How many modules are wrong, each number behind its name, which has something before and behind
+// it.
+fn push_modules(
+    text: &mut String,
+    modules: WrongModules,
+    before: &str,
+    behind: &str,
+) -> Result<(), AllocError> {
     let counts = [
         ("finder", modules.finder),
         ("alignment", modules.alignment),
@@ -121,88 +191,48 @@ fn push_modules(text: &mut String, modules: WrongModules, is_json: bool) -> Resu
         ("version", modules.version),
         ("remainder", modules.remainder),
     ];
-    let (mut sign, quote, colon, end) = if is_json {
-        (", \"wrong_modules\": {", "\"", ":", "}")
-    } else {
-        ("wrong modules: ", "", "", "\n")
-    };
+    let mut sign = "";
     for (name, count) in &counts {
-        write!(text, "{sign}{quote}{name}{quote}{colon} {count}")?;
+        write!(text, "{sign}{before}{name}{behind} {count}")?;
         sign = ", ";
     }
-    text.push_str(end)
+    Ok(())
 }
 
-// What is said of the data, where there is something.
-fn push_content(
-    text: &mut String,
-    content: &Option<Content>,
-    is_json: bool,
-) -> Result<(), AllocError> {
+// What is said of the data, in lines behind a line that is not ended.
+fn push_content(text: &mut String, content: &Option<Content>) -> Result<(), AllocError> {
     let Some(content) = content else {
-        return text.push_str(if is_json {
-            ", \"segments\": false"
-        } else {
-            "segments: none, since the data bits are no segments and an end\n"
-        });
+        return text.push_str("\ndata: its bits are not segments and a terminator\n");
     };
-    push_taken(text, content.taken, is_json)?;
-    let (
-        Ending {
-            terminator,
-            padding,
-        },
-        guesses,
-    ) = (content.ending, content.guesses);
-    let (count, is_utf8) = (guesses.segments, guesses.are_utf8);
-    let set = match (count, is_utf8) {
+    if let Some(Taken { bits, least }) = content.taken {
+        let more = bits.saturating_sub(least);
+        write!(text, "\ndata: {bits} bits, {more} more than needed\n")?;
+    } else {
+        text.push_str("\ndata: with headers such as FNC1, not compared with the fewest bits\n")?;
+    }
+    let (ending, guesses) = (content.ending, content.guesses);
+    let set = match (guesses.segments, guesses.are_utf8) {
         (0, _) => "",
-        (_, true) => ", as UTF-8",
-        (_, false) => ", not all as UTF-8",
+        (_, true) => ", UTF-8",
+        (_, false) => ", not all UTF-8",
     };
-    if is_json {
-        write!(
-            text,
-            ", \"wrong_terminator\": {terminator}, \"wrong_padding\": {padding}, \
-            \"guessed_segments\": {count}, \"guessed_utf8\": {is_utf8}"
-        )
-    } else {
-        write!(
-            text,
-            "wrong bits: terminator {terminator}, padding {padding}\n\
-            segments whose character set is guessed: {count}{set}\n"
-        )
-    }
+    write!(
+        text,
+        "wrong bits after the data: terminator {}, padding {}\n\
+        segments whose character set readers guess: {}{set}\n",
+        ending.terminator, ending.padding, guesses.segments
+    )
 }
 
-// How many bits the segments take.
-fn push_taken(text: &mut String, taken: Option<Taken>, is_json: bool) -> Result<(), AllocError> {
-    match (taken, is_json) {
-        (Some(Taken { bits, least }), true) => write!(
-            text,
-            ", \"segments\": true, \"bits\": {bits}, \"fewest_bits\": {least}"
-        ),
-        (Some(Taken { bits, least }), false) => {
-            let more = bits.saturating_sub(least);
-            write!(text, "segments: {bits} bits, {more} more than the fewest\n")
-        }
-        (None, true) => text.push_str(", \"segments\": true"),
-        (None, false) => text.push_str("segments: not compared with others, for their headers\n"),
-    }
-}
-
-// How the mask stands among all, by a balance of this name.
-fn push_rank(text: &mut String, name: &str, rank: Rank, is_json: bool) -> Result<(), AllocError> {
-    let Rank { lower, equal } = rank;
-    if is_json {
+// How many masks have a lower penalty: by the standard's balance, and by that of this project,
+// where it differs.
+fn push_ranks(text: &mut String, stepped: usize, own: usize) -> Result<(), AllocError> {
+    write!(text, "masks with a lower penalty: {stepped}")?;
+    if own != stepped {
         write!(
             text,
-            ", \"{name}\": {{\"lower\": {lower}, \"same_before\": {equal}}}"
-        )
-    } else {
-        write!(
-            text,
-            "{name} of a lower penalty: {lower}; of the same, before it: {equal}\n"
-        )
+            "; {own} if the share of dark modules is not rounded to 5 %"
+        )?;
     }
+    text.push_str("\n")
 }

@@ -153,7 +153,7 @@ fn push_wrong(text: &mut String, wrong: &[WrongCodeword], is_json: bool) -> Resu
         text.push_str("\"wrong_codewords\": [")?;
     } else {
         write!(text, "wrong codewords: {count}")?;
-        sign = ", by block and place from 0: ";
+        sign = ", all corrected; block.place, from 0: ";
     }
     for each in wrong {
         let (block, place) = (each.block, each.place);
@@ -176,7 +176,7 @@ fn push_part(text: &mut String, part: Part, is_json: bool) -> Result<(), AllocEr
         }
         (Part::Bytes(mode, count), false) => {
             let mode = mode_name(mode);
-            write!(text, "segment: {mode}, bytes: {count}\n")
+            write!(text, "segment: {mode} mode, bytes: {count}\n")
         }
         (Part::Front(header), true) => push_object(text, header),
         (Part::Front(header), false) => push_header(text, header),
@@ -206,7 +206,7 @@ fn push_header(text: &mut String, header: Header) -> Result<(), AllocError> {
             let (number, count) = (place.saturating_add(1), last.saturating_add(1));
             write!(
                 text,
-                "header: symbol {number} of {count}; all data has parity {parity}\n"
+                "header: structured append, symbol {number} of {count}, parity {parity}\n"
             )
         }
     }
