@@ -224,12 +224,12 @@ fn unquoted(alloc: Global, field: &str) -> Result<String, AllocError> {
 }
 
 // Writes a text, in which what a file name cannot have on some system is a _, and so is a point
-// that would hide the file.
+// that would hide the file, and a hyphen that would make it an option of other programs.
 fn push_clean(name: &mut String, text: &str) -> Result<(), AllocError> {
     for character in text.chars() {
-        let is_hidden = character == '.' && (name.is_empty() || name.ends_with('/'));
+        let is_first = name.is_empty() || name.ends_with('/');
         let is_clean = !is_unseen(character)
-            && !is_hidden
+            && !(is_first && matches!(character, '.' | '-'))
             && !matches!(
                 character,
                 '/' | '\\' | ':' | '*' | '?' | '"' | '<' | '>' | '|'
