@@ -12,17 +12,14 @@ from .reading import Modules, Picture, _file_of, _modules_of
 
 LINES = """\
 version {0.version}, level {0.level}, mask {0.mask}
-wrong codewords by block: {wrong}; {0.allowed_by_block} may be wrong in each
-unused error correction: {0.unused_correction:.2f}, grade {0.grade}
-wrong modules: {modules}
-{data}
-masks of a lower penalty: {0.masks.lower}; of the same, before it: {0.masks.same_before}
-masks by the balance of goqlanis of a lower penalty: {0.masks_here.lower}; of the same, before it: \
-{0.masks_here.same_before}"""
+wrong codewords in each block: {wrong}; the standard allows {0.allowed_by_block}
+unused error correction: {unused} %, grade {0.grade}
+wrong modules outside the data: {modules}
+{data}"""
 DATA = """\
-segments: {segments}
-wrong bits: terminator {0.wrong_terminator}, padding {0.wrong_padding}
-segments whose character set is guessed: {0.guessed_segments}{guess}"""
+data: {bits}
+wrong bits after the data: terminator {0.wrong_terminator}, padding {0.wrong_padding}
+segments whose character set readers guess: {0.guessed_segments}{guess}"""
 
 
 class WrongModules(NamedTuple):
@@ -72,16 +69,22 @@ class Check(NamedTuple):
     is_standard: bool
 
     def __str__(self) -> str:
-        data = "segments: none, since the data bits are no segments and an end"
+        data = "data: its bits are not segments and a terminator"
         if self.segments:
-            more = "not compared with others, for their headers" if self.bits is None else \
-                f"{self.bits} bits, {self.bits - (self.fewest_bits or 0)} more than the fewest"
-            guess = ", as UTF-8" if self.guessed_utf8 else ", not all as UTF-8"
-            data = DATA.format(self, segments=more, guess=guess if self.guessed_segments else "")
+            bits = "with headers such as FNC1, not compared with the fewest bits" \
+                if self.bits is None else \
+                f"{self.bits} bits, {self.bits - (self.fewest_bits or 0)} more than needed"
+            guess = ", UTF-8" if self.guessed_utf8 else ", not all UTF-8"
+            data = DATA.format(self, bits=bits, guess=guess if self.guessed_segments else "")
         wrong = self.wrong_modules._asdict().items()
         modules = ", ".join(f"{name} {count}" for name, count in wrong)
-        return LINES.format(self, wrong=", ".join(map(str, self.wrong_by_block)), modules=modules,
-                            data=data)
+        text = LINES.format(self, wrong=", ".join(map(str, self.wrong_by_block)), modules=modules,
+                            data=data, unused=round(self.unused_correction * 100))
+        if any(self.wrong_by_block) or any(self.wrong_modules):
+            return text
+        own, lower = self.masks_here.lower, self.masks.lower
+        more = f"; {own} if the share of dark modules is not rounded to 5 %" if own != lower else ""
+        return f"{text}\nmasks with a lower penalty: {lower}{more}"
 
 
 @overload

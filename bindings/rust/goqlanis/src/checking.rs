@@ -162,24 +162,24 @@ impl fmt::Display for Check {
         let wrong: Vec<String> = self.wrong_by_block.iter().map(usize::to_string).collect();
         let (unused, modules) = (self.unused_correction, self.wrong_modules);
         writeln!(out, "version {version}, level {:?}, mask {}", self.ec_level, self.mask)?;
-        write!(out, "wrong codewords by block: {}", wrong.join(", "))?;
-        writeln!(out, "; {} may be wrong in each", self.allowed_by_block)?;
-        write!(out, "unused error correction: {}.{:02}", unused / 100, unused % 100)?;
-        writeln!(out, ", grade {}", self.grade)?;
-        write!(out, "wrong modules: finder {}, ", modules.finder)?;
+        write!(out, "wrong codewords in each block: {}", wrong.join(", "))?;
+        writeln!(out, "; the standard allows {}", self.allowed_by_block)?;
+        writeln!(out, "unused error correction: {unused} %, grade {}", self.grade)?;
+        write!(out, "wrong modules outside the data: finder {}, ", modules.finder)?;
         write!(out, "alignment {}, timing {}, ", modules.alignment, modules.timing)?;
         write!(out, "format {}, version {}, ", modules.format, modules.version)?;
         writeln!(out, "remainder {}", modules.remainder)?;
         match self.data {
-            Some(data) => writeln!(out, "{data}")?,
-            None => {
-                writeln!(out, "segments: none, since the data bits are no segments and an end")?;
-            }
+            Some(data) => write!(out, "{data}")?,
+            None => write!(out, "data: its bits are not segments and a terminator")?,
         }
-        for (name, rank) in [("", self.masks), (" by the balance of goqlanis", self.masks_here)] {
-            write!(out, "masks{name} of a lower penalty: {}; ", rank.lower)?;
-            let end = if name.is_empty() { "\n" } else { "" };
-            write!(out, "of the same, before it: {}{end}", rank.equal)?;
+        let (lower, own) = (self.masks.lower, self.masks_here.lower);
+        if modules != WrongModules::default() || self.wrong_by_block.iter().any(|&it| it > 0) {
+            return Ok(());
+        }
+        write!(out, "\nmasks with a lower penalty: {lower}")?;
+        if own != lower {
+            write!(out, "; {own} if the share of dark modules is not rounded to 5 %")?;
         }
         Ok(())
     }
@@ -189,17 +189,20 @@ impl fmt::Display for DataCheck {
     fn fmt(&self, out: &mut fmt::Formatter<'_>) -> fmt::Result {
         match self.bits {
             Some((bits, fewest)) => {
-                writeln!(out, "segments: {bits} bits, {} more than the fewest", bits - fewest)?;
+                writeln!(out, "data: {bits} bits, {} more than needed", bits - fewest)?;
             }
-            None => writeln!(out, "segments: not compared with others, for their headers")?,
+            None => {
+                let with = "data: with headers such as FNC1";
+                writeln!(out, "{with}, not compared with the fewest bits")?;
+            }
         }
         let (terminator, padding) = (self.wrong_terminator, self.wrong_padding);
-        writeln!(out, "wrong bits: terminator {terminator}, padding {padding}")?;
+        writeln!(out, "wrong bits after the data: terminator {terminator}, padding {padding}")?;
         let guess = match (self.guessed_segments, self.guessed_utf8) {
             (0, _) => "",
-            (_, true) => ", as UTF-8",
-            (_, false) => ", not all as UTF-8",
+            (_, true) => ", UTF-8",
+            (_, false) => ", not all UTF-8",
         };
-        write!(out, "segments whose character set is guessed: {}{guess}", self.guessed_segments)
+        write!(out, "segments whose character set readers guess: {}{guess}", self.guessed_segments)
     }
 }

@@ -230,19 +230,21 @@ fn checks() {
     assert_eq!((found.unused_correction, found.grade, found.is_standard), (50, 'B', false));
     let wanted = WrongModules { finder: 1, timing: 1, format: 2, ..WrongModules::default() };
     assert_eq!((found.wrong_modules, found.data.unwrap().bits), (wanted, Some((57, 57))));
-    assert!(found.to_string().starts_with(
-        "version 1, level M, mask 0\nwrong codewords by block: 2; 4 may be wrong in each\n\
-         unused error correction: 0.50, grade B\nwrong modules: finder 1, alignment 0, timing 1, \
-         format 2, version 0, remainder 0\nsegments: 57 bits, 0 more than the fewest\n\
-         wrong bits: terminator 0, padding 0\nsegments whose character set is guessed: 0\nmasks of "
-    ));
+    assert_eq!(
+        found.to_string(),
+        "version 1, level M, mask 0\nwrong codewords in each block: 2; the standard allows 4\n\
+         unused error correction: 50 %, grade B\nwrong modules outside the data: finder 1, \
+         alignment 0, timing 1, format 2, version 0, remainder 0\ndata: 57 bits, 0 more than needed\n\
+         wrong bits after the data: terminator 0, padding 0\n\
+         segments whose character set readers guess: 0"
+    );
     let code = QrCode::new("Größe").unwrap();
     let found = check(code.render::<unicode::Dense1x2>().build().as_bytes()).unwrap();
     assert!(found.len() == 1 && found[0].is_standard && found[0].masks_here == Rank::default());
-    assert!(found[0].to_string().contains("guessed: 1, as UTF-8\n"));
+    assert!(found[0].to_string().contains("guess: 1, UTF-8\nmasks with a lower penalty: 0"));
     let joined = check_square(&square_of(&JOINED)).unwrap();
     assert_eq!((joined.data, joined.is_standard), (None, false));
-    assert!(joined.to_string().contains("\nsegments: none, since the data bits are no segments and an end\n"));
+    assert!(joined.to_string().contains("\ndata: its bits are not segments and a terminator\nmasks with "));
     assert_eq!(check(b"hello").unwrap_err(), Unread::NotPicture);
     assert_eq!(check_square(&[Color::Dark; 441]).unwrap_err(), Unread::NoFormat);
 }
