@@ -64,15 +64,13 @@ pub(crate) fn with_read<'a>(
     }
 }
 
-/// An area of a code, and the code drawn with what stands there.
-pub(crate) type Covered = (Rectangle, Vec<u8>);
-
-/// A code drawn with what is asked of its middle, where something is.
+/// The area in the middle of a code, and the code drawn with what is asked of it, where something
+/// is.
 pub(crate) fn redrawn(
     alloc: Global,
     asked: &Asked<'_, '_>,
     code: &QrCode,
-) -> Result<Option<Covered>, Failure> {
+) -> Result<Option<(Rectangle, Vec<u8>)>, Failure> {
     let Some(logo) = &asked.logo else {
         return Ok(None);
     };

@@ -1,6 +1,6 @@
 //! `goqlanis read`: the codes of a picture, read back.
 
-use crate::readings::{described, listed, other_set};
+use crate::readings::{other_set, report};
 use clap::ArgMatches;
 use goqlanis_core::{Codes, Scan, Unread, read_codes};
 use goqlanis_files::failure::Failure;
@@ -12,10 +12,8 @@ pub(crate) fn read(rt: &HostRuntime, given: &ArgMatches<'_>) -> Result<ExitCode,
     let codes = codes_of(rt, given.get_str("PICTURE").unwrap_or("-"))?;
     let scans = codes.scans.as_slice();
     if given.get_flag("verbose") {
-        for scan in scans {
-            let text = described(rt.alloc(), scan)?;
-            let _ = eprint!(rt; "{text}");
-        }
+        let text = report(rt.alloc(), scans, false)?;
+        let _ = eprint!(rt; "{text}");
     }
     for scan in scans {
         if let Some(set) = other_set(&scan.parts) {
@@ -26,7 +24,7 @@ pub(crate) fn read(rt: &HostRuntime, given: &ArgMatches<'_>) -> Result<ExitCode,
     }
     let output = given.get_str("output");
     if given.get_flag("json") {
-        write_data(rt, output, listed(rt.alloc(), scans)?.as_bytes())
+        write_data(rt, output, report(rt.alloc(), scans, true)?.as_bytes())
     } else {
         write_all(rt, output, scans)
     }

@@ -68,23 +68,16 @@ fn is_in_utf8(parts: &[Part]) -> bool {
     })
 }
 
-/// What was read of codes, as a list of JSON.
-pub(crate) fn listed(alloc: Global, scans: &[Scan]) -> Result<String, AllocError> {
-    let mut text = String::from_str(alloc, "[")?;
-    let mut sign = "\n";
-    for scan in scans {
-        text.push_str(sign)?;
-        push_scan(&mut text, scan, true)?;
-        sign = ",\n";
+/// What was read of codes: as a list of JSON, or in lines.
+pub(crate) fn report(alloc: Global, scans: &[Scan], is_json: bool) -> Result<String, AllocError> {
+    let mut text = String::from_str(alloc, if is_json { "[" } else { "" })?;
+    for (place, scan) in scans.iter().enumerate() {
+        if is_json {
+            text.push_str(if place == 0 { "\n" } else { ",\n" })?;
+        }
+        push_scan(&mut text, scan, is_json)?;
     }
-    text.push_str("\n]\n")?;
-    Ok(text)
-}
-
-/// What was read, in lines.
-pub(crate) fn described(alloc: Global, scan: &Scan) -> Result<String, AllocError> {
-    let mut text = String::new(alloc);
-    push_scan(&mut text, scan, false)?;
+    text.push_str(if is_json { "\n]\n" } else { "" })?;
     Ok(text)
 }
 

@@ -121,17 +121,12 @@ fn perform(rt: &HostRuntime, task: &Task, given: &ArgMatches<'_>) -> Result<Exit
     }
 }
 
-// Makes codes.
+// Makes codes, with the logo of its file where one is asked for.
 fn make(rt: &HostRuntime, task: &Task, given: &ArgMatches<'_>) -> Result<ExitCode, Failure> {
     let asked = asked_for(rt, task, given)?;
-    make_asked(rt, task, &asked)
-}
-
-// Makes what is asked for, with the logo of its file.
-fn make_asked(rt: &HostRuntime, task: &Task, asked: &Asked<'_, '_>) -> Result<ExitCode, Failure> {
-    let file = read_logo(rt, asked)?;
+    let file = read_logo(rt, &asked)?;
     let logo = with_read(asked.logo, &file);
-    draw(rt, task, &Asked { logo, ..*asked })
+    draw(rt, task, &Asked { logo, ..asked })
 }
 
 // Makes what is asked for.
