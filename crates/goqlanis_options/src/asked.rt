@@ -283,11 +283,12 @@ fn check_format(alloc: Global, given: &ArgMatches<'_>, format: Format) -> Result
 }
 
 // The level that is asked for. Where none is, it is M, of version M1 L, and with a logo H, which
-// leaves room for a larger one, unless the format of a payload says the level.
+// leaves room for a larger one, unless the format of a payload says the level. M1 to M4 have no H.
 fn level_of(task: &Task, given: &ArgMatches<'_>, choice: Choice) -> EcLevel {
     let has_middle = given.contains_id("logo") || given.get_flag("logo-area");
     match (given.get_str("level"), choice) {
         (Some("L" | "l"), _) | (None, Choice::At(Version::Micro(1))) => EcLevel::L,
+        (None, Choice::At(Version::Micro(_))) => EcLevel::M,
         (Some("Q" | "q"), _) => EcLevel::Q,
         (Some("H" | "h"), _) => EcLevel::H,
         (None, _) if has_middle && !task.has_its_level() => EcLevel::H,

@@ -42,47 +42,66 @@ pub fn sizes_of(alloc: Global, given: &ArgMatches<'_>, format: Format) -> Result
         let Some(text) = given.get_str(option) else {
             continue;
         };
-        let length = parts_of(text);
-        if is_exact && length.is_some() {
-            return exact(alloc, option, text, length.unwrap_or(0), is_side);
-        }
-        let pixels = pixels_of(alloc, option, text, sizes.dots, is_side)?;
-        if is_side {
-            sizes.side = Some(pixels);
-            sizes.hundredths = length.map(|length| length / 18_000);
-        } else {
-            sizes.scale = pixels;
+        if let Err(why) = take_size(&mut sizes, text, is_exact, is_side) {
+            return Err(Failure::Usage(format!(in alloc; "--{option} {text}: {why}")?));
         }
     }
     Ok(sizes)
 }
 
-// The sizes of a drawing that has a length, or whose modules have it: in micrometres, or in ten or
-// a hundred of them where it is long.
-fn exact(
-    alloc: Global,
-    option: &str,
+// Takes the size of a side or of a module, or says what to write instead.
+fn take_size(
+    sizes: &mut Sizes,
     text: &str,
-    length: u64,
+    is_exact: bool,
     is_side: bool,
-) -> Result<Sizes, Failure> {
+) -> Result<(), &'static str> {
+    let length = parts_of(text);
+    let pixels = match (length, sizes.dots) {
+        (Some(parts), _) if is_exact => return take_length(sizes, parts, is_side),
+        (Some(parts), Some(dots)) => pixels_of(parts, dots, is_side)?,
+        (Some(_), None) => return Err(
+            "lengths need --dpi, e.g. --dpi 300 of a PNG, or --format svg, eps or pdf",
+        ),
+        (None, _) => match text.parse::<u16>() {
+            Ok(pixels) if is_side && pixels > 0 => pixels,
+            _ => return Err(size_help(is_exact, is_side)),
+        },
+    };
+    if is_side {
+        sizes.side = Some(pixels);
+        sizes.hundredths = length.map(|parts| parts / 18_000);
+    } else {
+        sizes.scale = pixels;
+    }
+    Ok(())
+}
+
+// Takes a length that a drawing has, or its modules: in micrometres, or in ten or a hundred of them
+// where it is long.
+fn take_length(sizes: &mut Sizes, parts: u64, is_side: bool) -> Result<(), &'static str> {
     for (unit, dots) in [(1_800, 25_400), (18_000, 2_540), (180_000, 254)] {
-        match u16::try_from(length.saturating_add(unit / 2) / unit) {
+        match u16::try_from(parts.saturating_add(unit / 2) / unit) {
             Ok(scale) if scale > 0 => {
-                return Ok(Sizes {
-                    scale,
-                    side: None,
-                    hundredths: None,
-                    dots: None,
-                    length: Some(Length { dots, is_side }),
-                });
+                sizes.scale = scale;
+                sizes.dots = None;
+                sizes.length = Some(Length { dots, is_side });
+                return Ok(());
             }
             _ => {}
         }
     }
-    Err(Failure::Usage(format!(in alloc;
-        "--{option} {text}: use a length of 0.001mm to 6500mm, e.g. 30mm"
-    )?))
+    Err(size_help(true, is_side))
+}
+
+// What to write for a size that is no such.
+fn size_help(is_exact: bool, is_side: bool) -> &'static str {
+    match (is_exact, is_side) {
+        (true, true) => "use pixels, 1 to 65,535, or a length, 0.001mm to 6553.5mm, e.g. 30mm",
+        (true, false) => "use a length, 0.001mm to 6553.5mm, e.g. 0.5mm",
+        (false, true) => "use pixels, 1 to 65,535, or a length with --dpi, e.g. 30mm",
+        (false, false) => "use a length with --dpi, e.g. 0.5mm",
+    }
 }
 
 // The parts of an inch in which lengths are counted: whole numbers of them are a micrometre, a
@@ -103,36 +122,14 @@ fn parts_of(text: &str) -> Option<u64> {
     Some(decimal(number, places)?.saturating_mul(parts))
 }
 
-// The pixels that an option says, by the dots of an inch: of a side a number of them or a length,
-// rounded down, and of a module a length, to the nearest.
-fn pixels_of(
-    alloc: Global,
-    option: &str,
-    text: &str,
-    dots: Option<u16>,
-    is_side: bool,
-) -> Result<u16, Failure> {
+// The pixels of a length, of which an inch has so many: of a side rounded down, and of a module to
+// the nearest.
+fn pixels_of(parts: u64, dots: u16, is_side: bool) -> Result<u16, &'static str> {
+    let parts = parts.saturating_mul(dots as u64);
     let more = if is_side { 0 } else { INCH / 2 };
-    let why = match (parts_of(text), dots) {
-        (Some(length), Some(dots)) => {
-            let parts = length.saturating_mul(dots as u64);
-            match u16::try_from(parts.saturating_add(more) / INCH) {
-                Ok(pixels) if parts >= INCH => return Ok(pixels),
-                Ok(_) if is_side => SIDE,
-                Ok(_) => "less than a dot; use a longer one, or a higher --dpi",
-                Err(_) => "more than 65,535 pixels; use a lower --dpi",
-            }
-        }
-        (Some(_), None) =>
-            "lengths need --dpi, e.g. --dpi 300 of a PNG, or --format svg, eps or pdf",
-        (None, _) if is_side => match text.parse::<u16>() {
-            Ok(pixels) if pixels > 0 => return Ok(pixels),
-            _ => SIDE,
-        },
-        _ => "use a length with --dpi, e.g. 0.5mm",
-    };
-    Err(Failure::Usage(format!(in alloc; "--{option} {text}: {why}")?))
+    match u16::try_from(parts.saturating_add(more) / INCH) {
+        Ok(pixels) if parts >= INCH => Ok(pixels),
+        Ok(_) => Err("less than a dot; use a longer one, or a higher --dpi"),
+        Err(_) => Err("more than 65,535 pixels; use a lower --dpi"),
+    }
 }
-
-// What a side is.
-const SIDE: &str = "use pixels, 1 to 65,535, or a length with --dpi, e.g. 30mm";

@@ -7,8 +7,8 @@ use goqlanis_files::streams::shown;
 use qrcode::types::Color;
 use std::fmt;
 
-/// Warns of colours that readers hardly tell apart, and of a picture in a file whose extension is
-/// that of another format.
+/// Warns of colours that readers hardly tell apart, of text in another character set than the one
+/// that is named, and of a picture in a file whose extension is that of another format.
 pub fn warn(rt: &HostRuntime, asked: &Asked<'_, '_>) {
     let request = &asked.request;
     if let Some((dark, light)) = close_colours(request) {
@@ -28,12 +28,34 @@ pub fn warn(rt: &HostRuntime, asked: &Asked<'_, '_>) {
             lightest colour, so readers may misread it; use a {better} one"
         );
     }
+    if let Some(words) = asked.given.get_strs("segment") {
+        warn_of_character_set(rt, words);
+    }
     if let Target::File(path) = asked.target {
         if is_named_otherwise(path, request.format) {
             let path = shown(path);
             let _ = eprintln!(rt;
                 "goqlanis: warning: {path} has the file extension of another format than --format"
             );
+        }
+    }
+}
+
+// Warns of the first text of segments by hand that follows the number of another character set
+// (ECI): words are UTF-8. Numbers from 899 on name no character set.
+fn warn_of_character_set(rt: &HostRuntime, words: &[&str]) {
+    let mut set = 26;
+    for word in words {
+        let (name, text) = word.split_once(':').unwrap_or(("", ""));
+        if name.eq_ignore_ascii_case("eci") {
+            set = text.parse::<u32>().unwrap_or(26);
+        } else if set != 26 && set < 899 && name.eq_ignore_ascii_case("byte") && !text.is_ascii() {
+            let word = shown(word);
+            let _ = eprintln!(rt;
+                "goqlanis: warning: --segment {word}: this text is UTF-8, but eci:{set} names \
+                another character set, so readers show it wrongly; use eci:26"
+            );
+            return;
         }
     }
 }
@@ -87,8 +109,8 @@ pub fn warn_of_sizes(
     let bytes = side.div_ceil(8).saturating_mul(side);
     if asked.request.format == Format::Zpl && bytes > MOST_FIELD {
         let _ = eprintln!(rt;
-            "goqlanis: warning: ZPL takes at most {MOST_FIELD} bytes of a picture, and this one has \
-            {bytes}; use a smaller --scale, --module or --dpi"
+            "goqlanis: warning: ZPL takes at most 99,999 bytes of a picture, and this one has more; use \
+            a smaller --scale, --size, --module or --dpi"
         );
     }
 }

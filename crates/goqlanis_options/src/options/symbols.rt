@@ -82,7 +82,7 @@ pub static NORMAL_LEVELS: &[Entry] = &[
 /// What goes with a text in one code.
 #[rattlefmt::skip]
 pub static TEXTS: &[Entry] = &[
-    entry!("micro", Nothing, "Allow Micro QR (--min-version M1)"),
+    entry!("micro", Nothing, "Allow Micro QR (--min-version M1); M1 needs --level L"),
     entry!("boost", Nothing,
         "Raise the level, starting from --level, while the code gets no larger; not with -v"),
 ];
@@ -96,13 +96,13 @@ pub static MARKS: &[Entry] = &[
 /// The mask.
 #[rattlefmt::skip]
 pub static MASKS: &[Entry] = &[
-    entry!("mask", Number("0-7", 0, 7), "Mask pattern; 0 to 3 for Micro QR [default: lowest penalty]"),
+    entry!("mask", Number("0-7", 0, 7), "Mask pattern [default: lowest penalty]"),
 ];
 
 /// How a code is drawn, and where it goes.
 #[rattlefmt::skip]
 pub static LOOKS: &[Entry] = &[
-    entry!("output", 'o', Path, "Write to FILE, atomically; - is standard output"),
+    entry!("output", 'o', Path, "Write to FILE, atomically, or several codes to numbered files; - is standard output"),
     entry!("format", 'f', Word("FORMAT", FORMATS),
         "Output format; zpl, tspl, escpos: printers [default: FILE's extension (.txt: half-blocks); in \
         terminals terminal, else half-blocks]"),
@@ -140,7 +140,7 @@ pub static LOOKS: &[Entry] = &[
     entry!("keep-alignment", Nothing,
         "Keep the logo off alignment patterns, which some readers need"),
     entry!("verbose", Nothing, "Report version, level, mask and sizes on standard error"),
-    entry!("json", Nothing, "Report like --verbose, as a line of JSON"),
+    entry!("json", Nothing, "Report like --verbose, as a line of JSON on standard error"),
 ];
 
 /// Texts about the program.
