@@ -2,7 +2,7 @@
 //! of 80 characters.
 
 use crate::nearest::nearest;
-use crate::options::{ADVICE, TASKS, Takes, Task, task_named};
+use crate::options::{ADVICE, Takes, Task, task_named, task_words};
 use clap::error::Error;
 use goqlanis_core::Grouped;
 use std::alloc::{AllocError, Global};
@@ -104,11 +104,7 @@ fn command_help(
         }
         return Ok(None);
     }
-    let names = TASKS
-        .iter()
-        .map(|task| task.word)
-        .collect::<Vec<&str>>(alloc)?;
-    match nearest(alloc, word, &names)? {
+    match nearest(alloc, word, &task_words(alloc)?)? {
         Some(name) => Ok(Some(format!(in alloc;
             "{word}: no such command; did you mean goqlanis {name}?"
         )?)),

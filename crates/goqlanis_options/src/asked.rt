@@ -15,7 +15,7 @@ use goqlanis_files::streams::has_colours;
 use qrcode::bits::Manner;
 use qrcode::types::{EcLevel, Version};
 use qrcode_append::Versions;
-use std::alloc::{AllocError, Global};
+use std::alloc::Global;
 use std::fs;
 
 /// Where the data comes from.
@@ -166,12 +166,11 @@ fn choice_of(alloc: Global, given: &ArgMatches<'_>) -> Result<Choice, Failure> {
     if let Some(version) = version_of(alloc, given, "symbol-version")? {
         return Ok(Choice::At(version));
     }
-    let first = if given.get_flag("micro") {
+    let least = if given.get_flag("micro") {
         Version::Micro(1)
     } else {
-        Version::Normal(1)
+        version_of(alloc, given, "min-version")?.unwrap_or(Version::Normal(1))
     };
-    let least = version_of(alloc, given, "min-version")?.unwrap_or(first);
     if given.get_flag("boost") {
         Ok(Choice::Boosted(least))
     } else {
@@ -327,20 +326,15 @@ fn format(rt: &HostRuntime, name: Option<&str>, target: Target<'_>) -> Result<Fo
             "--output {path}: it is a folder; name a file in it"
         )?));
     }
-    let endings = all_endings(rt.alloc())?;
+    let known = FORMATS
+        .iter()
+        .filter_map(|row| row.ending)
+        .collect::<Vec<&str>>(rt.alloc())?;
+    let endings = known.join(rt.alloc(), " .")?;
     Err(Failure::Usage(format!(in rt.alloc();
-        "--output {path}: the file extension is none of{endings}; use one of these and convert \
+        "--output {path}: the file extension is none of .{endings}; use one of these and convert \
         the file, or add --format"
     )?))
-}
-
-// The file extensions, each after a space and a point.
-fn all_endings(alloc: Global) -> Result<String, AllocError> {
-    let mut text = String::new(alloc);
-    for ending in FORMATS.iter().filter_map(|row| row.ending) {
-        write!(text, " .{ending}")?;
-    }
-    Ok(text)
 }
 
 /// The format of the file extension of a path.

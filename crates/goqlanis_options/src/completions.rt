@@ -1,6 +1,6 @@
 //! The completions of shells, made from the tables of options.
 
-use crate::options::{DRAWING, Entry, TASKS, Takes, Task};
+use crate::options::{DRAWING, Entry, TASKS, Takes, Task, task_words};
 use std::alloc::{AllocError, Global};
 
 /// A shell.
@@ -33,7 +33,7 @@ static BASH: (&str, &str) = (
 _goqlanis() {
   local word=${COMP_WORDS[COMP_CWORD]} before=${COMP_WORDS[COMP_CWORD-1]} names=--help values
   unset values
-  [[ $COMP_CWORD -gt 1 ]] || names+='",
+  [[ $COMP_CWORD -gt 1 ]] || names+=' ",
     "'
   case ${COMP_WORDS[1]} in
 ",
@@ -67,7 +67,7 @@ pub fn completions_of(alloc: Global, shell: Shell) -> Result<String, AllocError>
         Shell::Zsh => (ZSH, "esac\n"),
         Shell::Fish => (FISH, ""),
     };
-    let words = all_words(alloc)?;
+    let words = task_words(alloc)?.join(alloc, " ")?;
     let mut text = format!(in alloc; "{start}{words}{middle}")?;
     for task in TASKS {
         push_task(&mut text, shell, task, task.word)?;
@@ -75,16 +75,6 @@ pub fn completions_of(alloc: Global, shell: Shell) -> Result<String, AllocError>
     push_task(&mut text, shell, &DRAWING, words.as_str())?;
     text.push_str(end)?;
     Ok(text)
-}
-
-// The commands.
-fn all_words(alloc: Global) -> Result<String, AllocError> {
-    let mut words = String::new(alloc);
-    for task in TASKS {
-        let word = task.word;
-        write!(words, " {word}")?;
-    }
-    Ok(words)
 }
 
 // The options of a task, which these commands ask for. Plain codes stand last, for all other words.

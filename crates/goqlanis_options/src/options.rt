@@ -2,7 +2,7 @@
 //! command line, the manual page and the completions of shells are made. (A command of `clap` tells
 //! neither the names of values nor which values are paths, so they cannot be made from it.)
 
-use qrcode_payloads::kinds::Kind;
+use qrcode_payloads::kinds::{Kind, fields_of};
 use std::alloc::{AllocError, Global};
 
 // A row of a table of options: its name, its letter where it has one, what it takes and what help
@@ -36,7 +36,6 @@ pub use habits::{ADVICE, OTHER_NAMES, OTHER_WORDS};
 pub use parts::{PART_COLOURS, PartColour};
 use symbols::{ABOUT, DATA, LEVELS, LOOKS, MARKS, MASKS, NORMAL_LEVELS, ONE_CODE, TEXTS};
 pub use symbols::{DRAWING, EXAMPLES};
-use tasks::options_of;
 pub use tasks::{TASKS, entry_of};
 
 /// What an option takes.
@@ -107,6 +106,11 @@ pub struct Task {
     pub options: &'static [Entry],
 }
 
+/// The commands, unless memory runs out.
+pub fn task_words(alloc: Global) -> Result<Vec<&'static str>, AllocError> {
+    TASKS.iter().map(|task| task.word).collect(alloc)
+}
+
 /// The task of a command, by its name or by an older one, where there is such a command.
 pub fn task_named(word: &str) -> Option<&'static Task> {
     let older = OTHER_WORDS.iter().find(|(older, _)| *older == word);
@@ -150,7 +154,10 @@ impl Task {
     /// Its own options, unless memory runs out.
     pub fn own_options(&self, alloc: Global) -> Result<Vec<Entry>, AllocError> {
         match self.purpose {
-            Purpose::Content(kind) => options_of(alloc, kind),
+            Purpose::Content(kind) => {
+                let fields = fields_of(kind).iter();
+                fields.map(|field| entry_of(kind, *field)).collect(alloc)
+            }
             _ => Vec::from_slice(alloc, self.options),
         }
     }
@@ -165,7 +172,13 @@ impl Task {
             push_under(&mut all, heading, options)?;
         }
         if self.draws() {
-            push_part_colours(&mut all)?;
+            let colours = PART_COLOURS.iter().map(|colour| colour.entry);
+            let colours = colours.collect::<Vec<Entry>>(alloc)?;
+            push_under(
+                &mut all,
+                "Colours of patterns, in PNG, SVG, EPS and PDF",
+                &colours,
+            )?;
         }
         if self.word.is_empty() {
             push_under(&mut all, "Other", ABOUT)?;
@@ -175,15 +188,15 @@ impl Task {
 
     // Its own options and those of drawing, each group under its heading.
     fn groups<'a>(&self, own: &'a [Entry]) -> [(&'static str, &'a [Entry]); 8] {
-        let (data, mark, level, text, one) = match self.purpose {
-            Purpose::Draw => (DATA, MARKS, LEVELS, TEXTS, ONE_CODE),
-            Purpose::Several => (DATA, NONE, NORMAL_LEVELS, NONE, NONE),
-            Purpose::Content(Kind::Payment | Kind::Bill)
-            | Purpose::Read
-            | Purpose::Check
-            | Purpose::Join => (NONE, NONE, NONE, NONE, NONE),
-            Purpose::Content(_) => (NONE, MARKS, LEVELS, TEXTS, NONE),
-            Purpose::Elements => (NONE, NONE, NORMAL_LEVELS, NONE, NONE),
+        let (place, data, mark, level, text, one) = match self.purpose {
+            Purpose::Draw => ("Code", DATA, MARKS, LEVELS, TEXTS, ONE_CODE),
+            Purpose::Several => ("Code", DATA, NONE, NORMAL_LEVELS, NONE, NONE),
+            Purpose::Content(_) if self.has_its_level() => ("Input", NONE, NONE, NONE, NONE, NONE),
+            Purpose::Content(_) => ("Input", NONE, MARKS, LEVELS, TEXTS, NONE),
+            Purpose::Elements => ("Input", NONE, NONE, NORMAL_LEVELS, NONE, NONE),
+            Purpose::Read | Purpose::Check | Purpose::Join => {
+                ("Output", NONE, NONE, NONE, NONE, NONE)
+            }
         };
         let (code, output) = if self.draws() {
             (MASKS, LOOKS)
@@ -192,7 +205,7 @@ impl Task {
         };
         [
             ("Input", data),
-            (self.heading(), own),
+            (place, own),
             ("Input", mark),
             ("Input", one),
             ("Code", level),
@@ -206,15 +219,6 @@ impl Task {
     pub fn has_its_level(&self) -> bool {
         matches!(self.purpose, Purpose::Content(Kind::Payment | Kind::Bill))
     }
-
-    // The heading of its own options.
-    fn heading(&self) -> &'static str {
-        match self.purpose {
-            Purpose::Draw | Purpose::Several => "Code",
-            Purpose::Read | Purpose::Check | Purpose::Join => "Output",
-            Purpose::Content(_) | Purpose::Elements => "Input",
-        }
-    }
 }
 
 // Appends options under a heading.
@@ -225,17 +229,6 @@ fn push_under(
 ) -> Result<(), AllocError> {
     for entry in options {
         all.push((heading, *entry))?;
-    }
-    Ok(())
-}
-
-// Appends the colours of parts.
-fn push_part_colours(all: &mut Vec<Headed>) -> Result<(), AllocError> {
-    for colour in PART_COLOURS {
-        all.push((
-            "Colours of patterns, in PNG, SVG, EPS and PDF",
-            colour.entry,
-        ))?;
     }
     Ok(())
 }

@@ -150,61 +150,59 @@ const CONTRAST: u32 = 102;
 // The brightest colour of dark modules and the darkest of light ones, where these are too close.
 // Where both are exchanged because that was asked for, all dark ones may be the brighter ones.
 fn close_colours<'a>(request: &Request<'a>) -> Option<(Ink<'a>, Ink<'a>)> {
-    let dark = extreme(request, Color::Dark, true);
-    let light = extreme(request, Color::Light, false);
-    if is_brighter(light, dark) {
-        return None;
-    }
-    if !request.is_inverted {
-        return Some((dark, light));
-    }
-    let dark = extreme(request, Color::Dark, false);
-    let light = extreme(request, Color::Light, true);
-    if is_brighter(dark, light) {
+    let (dark, light) = (
+        extremes(request, Color::Dark),
+        extremes(request, Color::Light),
+    );
+    if is_brighter(light.0, dark.1) {
         None
+    } else if !request.is_inverted {
+        Some((dark.1, light.0))
     } else {
-        Some((dark, light))
+        (!is_brighter(dark.0, light.1)).then_some((dark.0, light.1))
     }
 }
 
 // A colour that is not on its own side of halfway between the darkest and the brightest colour, where
 // readers of pictures part dark from light, and what a better one is.
 fn stray_colour<'a>(request: &Request<'a>) -> Option<(Ink<'a>, &'static str)> {
-    let dark = extreme(request, Color::Dark, true);
-    let light = extreme(request, Color::Light, false);
-    let (below, above) = if is_brighter(light, dark) {
-        (Color::Dark, Color::Light)
-    } else {
-        (Color::Light, Color::Dark)
-    };
-    let darkest = brightness(extreme(request, below, false));
-    let both = darkest.saturating_add(brightness(extreme(request, above, true)));
-    let (below, above) = (
-        extreme(request, below, true),
-        extreme(request, above, false),
+    let (dark, light) = (
+        extremes(request, Color::Dark),
+        extremes(request, Color::Light),
     );
-    if brightness(below).saturating_mul(2) >= both {
-        return Some((below, "darker"));
+    let (below, above) = if is_brighter(light.0, dark.1) {
+        (dark, light)
+    } else {
+        (light, dark)
+    };
+    let both = brightness(below.0).saturating_add(brightness(above.1));
+    if brightness(below.1).saturating_mul(2) >= both {
+        Some((below.1, "darker"))
+    } else if brightness(above.0).saturating_mul(2) <= both {
+        Some((above.0, "lighter"))
+    } else {
+        None
     }
-    if brightness(above).saturating_mul(2) <= both {
-        return Some((above, "lighter"));
-    }
-    None
 }
 
-// Of the colours of dark or of light modules the brightest one, or the darkest.
-fn extreme<'a>(request: &Request<'a>, tone: Color, is_brightest: bool) -> Ink<'a> {
-    let mut found = match tone {
+// Of the colours of dark or of light modules the darkest one and the brightest.
+fn extremes<'a>(request: &Request<'a>, tone: Color) -> (Ink<'a>, Ink<'a>) {
+    let ink = match tone {
         Color::Dark => request.dark,
         Color::Light => request.light,
     };
+    let (mut darkest, mut brightest) = (ink, ink);
     for part in request.parts {
-        let is_tone = (part.tone == tone) != request.is_inverted;
-        if is_tone && (brightness(part.ink) > brightness(found)) == is_brightest {
-            found = part.ink;
+        if (part.tone == tone) != request.is_inverted {
+            if brightness(part.ink) <= brightness(darkest) {
+                darkest = part.ink;
+            }
+            if brightness(part.ink) > brightness(brightest) {
+                brightest = part.ink;
+            }
         }
     }
-    found
+    (darkest, brightest)
 }
 
 // Whether a colour is brighter than another one by enough.

@@ -4,8 +4,7 @@ use super::Takes::{Nothing, Number, Path, Text, Wanted};
 use super::fields::option_of;
 use super::{Entry, Purpose, Task};
 use qrcode_contents::fields::errors::Field;
-use qrcode_payloads::kinds::{Kind, fields_of};
-use std::alloc::{AllocError, Global};
+use qrcode_payloads::kinds::Kind;
 
 // A row of the table: its command, what is done, what help says of it, and its own options.
 macro_rules! task {
@@ -56,15 +55,6 @@ pub static TASKS: &[Task] = &[
             "Encode data of an industry other than GS1 (FNC1 in second position), by its indicator \
             from AIM: two digits or a letter")),
 ];
-
-/// The options of a kind of payload, in the order of its fields, unless memory runs out.
-pub(crate) fn options_of(alloc: Global, kind: Kind) -> Result<Vec<Entry>, AllocError> {
-    let mut options = Vec::new(alloc);
-    for field in fields_of(kind) {
-        options.push(entry_of(kind, *field))?;
-    }
-    Ok(options)
-}
 
 /// The option of a field of a kind.
 pub fn entry_of(kind: Kind, field: Field) -> Entry {
