@@ -39,7 +39,7 @@ pub static DATA: &[Entry] = &[
     entry!("input", 'i', Path, "Encode the contents of a file"),
     entry!("trim", Nothing, "Drop one trailing newline"),
     entry!("allow-empty", Nothing, "Accept empty input"),
-    entry!("bytes", Nothing, "Fewest bits in any mode, even if some readers show UTF-8 wrongly"),
+    entry!("bytes", Nothing, "Use the fewest bits, even if some readers then show UTF-8 wrongly"),
 ];
 
 /// What gives the data of plain codes alone.
@@ -63,7 +63,7 @@ const LEVEL: Takes = Word("LEVEL", &["L", "M", "Q", "H"]);
 #[rattlefmt::skip]
 pub static LEVELS: &[Entry] = &[
     entry!("level", 'l', LEVEL,
-        "Error correction level [default: M, with a logo H, in version M1 L]"),
+        "Error correction level [default: M; H with a logo; L in version M1]"),
     entry!("symbol-version", 'v', Text("VERSION"),
         "Version, 1 to 40 or M1 to M4 [default: the smallest of 1 to 40 that fits]"),
     entry!("min-version", Text("VERSION"),
@@ -73,7 +73,7 @@ pub static LEVELS: &[Entry] = &[
 /// The level and the version of what Micro QR cannot say.
 #[rattlefmt::skip]
 pub static NORMAL_LEVELS: &[Entry] = &[
-    entry!("level", 'l', LEVEL, "Error correction level [default: M, with a logo H]"),
+    entry!("level", 'l', LEVEL, "Error correction level [default: M; H with a logo]"),
     entry!("symbol-version", 'v', Text("VERSION"),
         "Version, 1 to 40 [default: the smallest that fits]"),
     entry!("min-version", Text("VERSION"), "Smallest version to try, 1 to 40"),
@@ -90,7 +90,7 @@ pub static TEXTS: &[Entry] = &[
 /// How a text in one code is marked.
 #[rattlefmt::skip]
 pub static MARKS: &[Entry] = &[
-    entry!("eci", Nothing, "Mark the data as UTF-8 (ECI 26), if readers show it wrongly"),
+    entry!("eci", Nothing, "Mark the data as UTF-8 (ECI 26); helps if readers show it wrongly"),
 ];
 
 /// The mask.
@@ -102,10 +102,11 @@ pub static MASKS: &[Entry] = &[
 /// How a code is drawn, and where it goes.
 #[rattlefmt::skip]
 pub static LOOKS: &[Entry] = &[
-    entry!("output", 'o', Path, "Write to FILE, atomically, or several codes to numbered files; - is standard output"),
+    entry!("output", 'o', Path,
+        "Write to FILE, atomically; several codes to numbered files; - is standard output"),
     entry!("format", 'f', Word("FORMAT", FORMATS),
-        "Output format; zpl, tspl, escpos: printers [default: FILE's extension (.txt: half-blocks); in \
-        terminals terminal, else half-blocks]"),
+        "Output format; zpl, tspl, escpos: printers [default: FILE's extension (.txt: half-blocks); \
+        terminal in terminals, else half-blocks]"),
     entry!("quiet-zone", 'q', Number("MODULES", 0, 255),
         "Quiet zone on each side, 0 to 255 [default: 4, Micro QR 2]"),
     entry!("scale", 's', Number("PIXELS", 1, 1000),
@@ -114,7 +115,7 @@ pub static LOOKS: &[Entry] = &[
         "Maximum side of the picture, in pixels or mm, cm, in, pt, e.g. 300 or 30mm; lengths are \
         exact in SVG, EPS and PDF, and need --dpi elsewhere"),
     entry!("module", Text("LENGTH"),
-        "Side of a module, e.g. 0.5mm; exact in SVG, EPS and PDF, elsewhere whole pixels of --dpi"),
+        "Side of a module, e.g. 0.5mm; exact in SVG, EPS and PDF without --dpi, else whole pixels"),
     entry!("dpi", Number("N", 1, 65535), "Pixels per inch, 1 to 65,535"),
     entry!("at", Text("X,Y"),
         "Position on a printed label (ZPL, TSPL), in dots from the left and top [default: 0,0]"),
@@ -130,8 +131,8 @@ pub static LOOKS: &[Entry] = &[
         "Colour of light modules, or transparent (PNG, SVG) [default: white]"),
     entry!("invert", Nothing, "Swap dark and light"),
     entry!("logo", Path,
-        "Put a logo in the middle: into SVG an SVG or PNG file, into PNG a PNG file; the code \
-        stays readable"),
+        "Put a logo in the middle: an SVG or PNG file for SVG, a PNG file for PNG; the code stays \
+        readable"),
     entry!("logo-area", Nothing, "Leave an empty area for a logo, in any format"),
     entry!("logo-size", Text("SIZE"),
         "Side of the area, in modules or percent of the code's side, e.g. 9 or 20% [default: the \

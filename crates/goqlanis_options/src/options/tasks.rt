@@ -52,7 +52,7 @@ pub static TASKS: &[Task] = &[
     task!("event", Purpose::Content(Kind::Event), "Calendar event"),
     task!("gs1", Purpose::Elements, "GS1 element string",
         entry!("application", Text("INDICATOR"),
-            "Encode data of an industry other than GS1 (FNC1 in second position), by its indicator \
+            "Encode data in an industry's own format (FNC1 in second position), by its indicator \
             from AIM: two digits or a letter")),
 ];
 
