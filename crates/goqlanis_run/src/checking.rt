@@ -153,9 +153,11 @@ fn push_verdict(text: &mut String, check: &Check) -> Result<(), AllocError> {
         ),
     ];
     let mut sign = "meets the standard: no: ";
-    for (_, reason) in reasons.iter().filter(|(is_so, _)| *is_so) {
-        write!(text, "{sign}{reason}")?;
-        sign = "; ";
+    for (is_so, reason) in &reasons {
+        if *is_so {
+            write!(text, "{sign}{reason}")?;
+            sign = "; ";
+        }
     }
     text.push_str("\n")
 }
