@@ -3,8 +3,6 @@
 #![tactic(auto)]
 
 #[cfg(test)]
-mod areas;
-#[cfg(test)]
 mod bits;
 #[cfg(test)]
 mod calls;
