@@ -2,7 +2,7 @@
 
 ghost use Rattle.std.specs.Prelude.{◌≡◌};
 
-use qrcode::bits::{Bits, ExtendedMode};
+use qrcode::bits::Bits;
 use qrcode::optimize::Segment;
 use qrcode::types::QrError::InvalidVersion;
 use qrcode::types::{Mode, QrResult};
@@ -39,7 +39,6 @@ pub fn range(mode: Mode, begin: usize, end: usize) -> Segment
 /// A call that appends to a list of bits, or ends it.
 #[derive(Clone, Copy)]
 pub enum Push<'a> {
-    Indicator(ExtendedMode),
     Designator(u32),
     Numeric(&'a [u8]),
     Alphanumeric(&'a [u8]),
@@ -55,7 +54,6 @@ pub enum Push<'a> {
 /// Makes a call.
 pub fn make_push(bits: &mut Bits, push: Push<'_>) -> QrResult<()> {
     match push {
-        Push::Indicator(mode) => bits.push_mode_indicator(mode),
         Push::Designator(number) => bits.push_eci_designator(number),
         Push::Numeric(digits) => bits.push_numeric_data(digits),
         Push::Alphanumeric(text) => bits.push_alphanumeric_data(text),

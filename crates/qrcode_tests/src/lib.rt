@@ -1,5 +1,5 @@
-//! The tests of public calls that neither the library for C nor the program makes, each with what
-//! other encoders or the standard's examples have; and each call that makes a symbol, once.
+//! The tests of public calls that neither the library for C nor a program makes, each with what
+//! other encoders or the standard's examples have.
 #![tactic(auto)]
 
 #[cfg(test)]
@@ -12,8 +12,6 @@ mod canvases;
 mod common;
 #[cfg(test)]
 mod contents;
-#[cfg(test)]
-mod pictures;
 #[cfg(test)]
 mod render;
 #[cfg(test)]

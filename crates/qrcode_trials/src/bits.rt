@@ -96,7 +96,9 @@ fn mode_of(name: &str) -> ExtendedMode {
     match name {
         "eci" => ExtendedMode::Eci,
         "fnc1" => ExtendedMode::Fnc1First,
+        "fnc1-second" => ExtendedMode::Fnc1Second,
         "append" => ExtendedMode::StructuredAppend,
+        "numeric" => ExtendedMode::Data(Mode::Numeric),
         "alphanumeric" => ExtendedMode::Data(Mode::Alphanumeric),
         "byte" => ExtendedMode::Data(Mode::Byte),
         _ => ExtendedMode::Data(Mode::Kanji),

@@ -140,18 +140,6 @@ fn data_is_cut(rt: HostRuntime) {
     check(&rt, rt.alloc(), &CUTS);
 }
 
-// Whether the longest data that is taken, all letters, is one segment.
-fn letters_are_one_segment(alloc: Global) -> QrResult<bool> {
-    let letters = vec![in alloc; b'a'; 1_048_576]?;
-    let segments = segments(alloc, &letters, Normal(40), Least)?;
-    Ok(are_cuts(&segments, &[(Byte, 0, 1_048_576)]))
-}
-
-#[test]
-fn the_longest_data_is_cut(rt: HostRuntime) {
-    assert!(rt; letters_are_one_segment(rt.alloc()) == Ok(true));
-}
-
 // Whether segments are joined into these in Normal 1.
 fn joins(alloc: Global, given: &[Segment], cuts: &[Cut]) -> bool
     requires joinable { IsJoinable given.now }

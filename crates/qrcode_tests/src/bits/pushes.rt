@@ -1,15 +1,13 @@
-//! Pushes to a list of bits, and why they are refused. Those that the library for C makes too are
-//! asked there.
+//! Pushes to a list of bits that are refused, and of ranges. `evidence/memory/cases` has what others
+//! write.
 
 ghost use Rattle.std.specs.Prelude.{length, IsTrue};
 ghost use Rattle.qrcode_types.specs.Versions.{is_valid};
 ghost use Rattle.qrcode_bits.specs.Segments.{AreInside};
 
-use crate::common::Push::{
-    Alphanumeric, Byte, FirstPosition, Indicator, Kanji, MarkedText, Numeric, Terminator, Text,
-};
+use crate::common::Push::{Byte, FirstPosition, Kanji, MarkedText, Numeric, Terminator, Text};
 use crate::common::{Push, Row, check, list, make_push, range};
-use qrcode_bits::bits::{Bits, ExtendedMode};
+use qrcode_bits::bits::Bits;
 use qrcode_bits::optimize::Segment;
 use qrcode_types::types::QrError::{self, DataTooLong, InvalidVersion, UnsupportedCharacterSet};
 use qrcode_types::types::Version::{self, Micro, Normal};
@@ -23,25 +21,6 @@ const LONG: &str =
     "aaaaaaaaaaaaaaaaaaaaaaaaaaaaaaaaaaaaaaaaaaaaaaaaaaaaaaaaaaaaaaaaaaaaaaaaaaaaaaaaaaaaaaaaaa\
     aaaaaaaaaaaaaaaaaaaaaaaaaaaaaaaaaaaaaaaaaaaaaaaaaaaaaaaaaaaaaaaaaaaaaaaaaaaaaaaaaaaaaaaaaa\
     aaaaaaaaaaaaaaaaaaaaaaaaaaaaaaaaaaaaaaaaaaaaaaaaaaaaaaaaaaaaaaaaaaaaaaaaaaaa";
-
-// A version, the pushes to a new list of it, the bytes of the list and how many bits.
-struct Given(Version, &'static [Push<'static>], &'static [u8], usize);
-
-#[rattlefmt::skip]
-static GIVEN: [Given; 10] = [
-    Given(Normal(1), &[Indicator(ExtendedMode::Eci)], &[0x70], 4),
-    Given(Normal(1), &[Indicator(ExtendedMode::Data(Mode::Kanji))], &[0x80], 4),
-    Given(Normal(1), &[Indicator(ExtendedMode::Fnc1First)], &[0x50], 4),
-    Given(Normal(1), &[Indicator(ExtendedMode::Fnc1Second)], &[0x90], 4),
-    Given(Normal(1), &[Indicator(ExtendedMode::StructuredAppend)], &[0x30], 4),
-    Given(Micro(1), &[Indicator(ExtendedMode::Data(Mode::Numeric))], &[], 0),
-    Given(Normal(1), &[MarkedText("\u{e9}")], b"\x71\xa4\x02\xc3\xa9", 40),
-    // The Rust crate takes small letters, by the number of no character.
-    Given(Normal(1), &[Alphanumeric(b"a")], b"\x20\x08\x00", 19),
-    Given(Micro(1), &[Numeric(b""), END], &[0x00, 0xec, 0x00], 20),
-    // A list that has ended stays so.
-    Given(Micro(1), &[Numeric(b"1"), Numeric(b"1"), END, END], &[0x22, 0x44, 0x00], 20),
-];
 
 // A version, the pushes to a new list of it, another push that is refused and its error, the bytes
 // of the list and how many bits.
@@ -78,21 +57,6 @@ fn is_list(bits: Bits, version: Version, bytes: &[u8], length: usize) -> bool {
         && bits.into_bytes().as_slice() == bytes
 }
 
-impl Row for Given {
-    fn holds(&self, alloc: Global) -> bool {
-        let Given(version, pushes, bytes, length) = self;
-        match list(alloc, *version, pushes) {
-            Ok(bits) => is_list(bits, *version, bytes, *length),
-            Err(_) => false,
-        }
-    }
-}
-
-#[test]
-fn pushes_give_lists(rt: HostRuntime) {
-    check(&rt, rt.alloc(), &GIVEN);
-}
-
 impl Row for Refused {
     fn holds(&self, alloc: Global) -> bool {
         let Refused(version, pushes, push, error, bytes, length) = self;
@@ -109,32 +73,6 @@ impl Row for Refused {
 #[test]
 fn pushes_are_refused(rt: HostRuntime) {
     check(&rt, rt.alloc(), &REFUSED);
-}
-
-// Whether data that is pushed in the segments of fewest bits to a list of Normal 1, ended for a
-// level, is answered so, and gives a list.
-fn data_gives(
-    alloc: Global,
-    data: &[u8],
-    ec_level: EcLevel,
-    answer: QrResult<()>,
-    held: (&[u8], usize),
-) -> bool {
-    let mut bits = Bits::new(alloc, Normal(1));
-    let answered = match bits.push_optimal_data(data) {
-        Ok(()) => bits.push_terminator(ec_level),
-        refused => refused,
-    };
-    is_list(bits, Normal(1), held.0, held.1) && answered == answer
-}
-
-#[test]
-fn data_gives_lists(rt: HostRuntime) {
-    let alloc = rt.alloc();
-    let hello = b"\x20\x5b\x0b\x78\xd1\x72\xdc\x4d\x43\x40\xec\x11\xec".as_slice();
-    assert!(rt; data_gives(alloc, b"HELLO WORLD", EcLevel::Q, Ok(()), (hello, 104)));
-    let long = b"\x40\x83\xe3\xe3\xe3\xe3\xe3\xe3\xe3\xe0".as_slice();
-    assert!(rt; data_gives(alloc, b">>>>>>>>", EcLevel::H, Err(DataTooLong), (long, 76)));
 }
 
 // Appends ranges of bytes, each in its mode.
@@ -203,11 +141,4 @@ fn lists_are_limited(rt: HostRuntime) {
     assert!(rt; is_full(&mut bits, 16_253_300, Byte(&data)));
     push_times(&mut bits, rest, 1).expect(&rt, "room");
     assert!(rt; is_full(&mut bits, 16_777_216, FirstPosition));
-}
-
-#[test]
-fn the_longest_data_is_refused(rt: HostRuntime) {
-    let long = Vec::from_elem(rt.alloc(), b'1', 1_048_577).expect(&rt, "memory");
-    let mut bits = Bits::new(rt.alloc(), Normal(1));
-    assert!(rt; bits.push_optimal_data(&long) == Err(DataTooLong) && bits.len() == 0);
 }

@@ -1,24 +1,16 @@
-//! Data in several symbols. Most rows are asked of the library for C.
+//! Data in several symbols. Most rows are asked of the library for C, or in
+//! `evidence/memory/cases`.
 
 use crate::common::checksum_of;
 use qrcode::types::{QrError, QrResult};
 use qrcode::{EcLevel, QrCode, Version};
-use qrcode_append::{
-    Versions, encode_several, encode_several_within, encode_text_several,
-    encode_text_several_within,
-};
+use qrcode_append::{Versions, encode_several_within, encode_text_several_within};
 use qrcode_examples::several::{leaflets, pages};
 use std::alloc::Global;
-
-// Digits of pi.
-const DIGITS: &str = "314159265358979323846264338327950288419716939937510582097494";
 
 // Three even parts of its 32 bytes would divide the character of bytes 20 and 21: the second ends
 // before.
 const WORDS: &str = "pijamalı hasta yağız şoföre";
-
-// By segno's `make_sequence`, under the masks of least penalty, 0 and 7.
-const PI: &[u32] = &[0xbc14_e59f, 0x00d5_8ac8];
 
 // Whether there are so many symbols, of a version, of which the first have these checksums.
 fn are_symbols(
@@ -37,20 +29,6 @@ fn are_symbols(
         }
     }
     codes.len() == count
-}
-
-// The symbols of segno; of the words under masks 6, 6 and 2. A single one has no header.
-#[test]
-fn sequences_of_segno(rt: HostRuntime) {
-    let (alloc, first) = (rt.alloc(), Version::Normal(1));
-    let codes = encode_several(alloc, DIGITS.as_bytes(), first, EcLevel::L);
-    assert!(rt; are_symbols(alloc, codes, 2, 1, PI));
-    let codes = encode_text_several(alloc, DIGITS, first, EcLevel::L);
-    assert!(rt; are_symbols(alloc, codes, 2, 1, PI));
-    let codes = encode_text_several(alloc, WORDS, first, EcLevel::L);
-    assert!(rt; are_symbols(alloc, codes, 3, 1, &[0x89eb_c193, 0x368a_0069, 0x6d2c_88bc]));
-    let codes = encode_text_several(alloc, "HELLO WORLD", first, EcLevel::Q);
-    assert!(rt; are_symbols(alloc, codes, 1, 1, &[0x8aad_339a]));
 }
 
 // How many symbols there are of which version, for so many sevens at L.

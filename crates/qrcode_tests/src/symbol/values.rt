@@ -1,27 +1,8 @@
-//! Texts of refusals, and entries of tables.
+//! Entries of tables.
 
-use crate::common::check_row;
 use qrcode_types::tables::capacity;
 use qrcode_types::types::Version::{Micro, Normal};
 use qrcode_types::types::{EcLevel, QrError};
-
-#[rattlefmt::skip]
-static REFUSALS: [(QrError, &str); 6] = [
-    (QrError::DataTooLong, "data too long"),
-    (QrError::InvalidVersion, "invalid version"),
-    (QrError::UnsupportedCharacterSet, "unsupported character set"),
-    (QrError::InvalidEciDesignator, "invalid ECI designator"),
-    (QrError::InvalidCharacter, "invalid character"),
-    (QrError::OutOfMemory, "out of memory"),
-];
-
-#[test]
-fn refusals_are_written(rt: HostRuntime) {
-    for (row, (error, text)) in REFUSALS.iter().enumerate() {
-        let written = format!(in rt.alloc(); "{error}").expect(&rt, "a text");
-        check_row(&rt, row, written.as_str() == *text);
-    }
-}
 
 #[test]
 fn entries_are_fetched(rt: HostRuntime) {
