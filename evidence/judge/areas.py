@@ -1,6 +1,5 @@
-"""The largest square of each pair, which may show anything, and one codeword more."""
-from random import Random
-
+"""The largest square of each pair, all of it turned, and with one codeword more. What else it may
+show, `bindings/c/areas.c` asks."""
 import goqlanis
 from forms import pairs
 from looks import answered, square_of
@@ -11,14 +10,14 @@ BOUNDED = [("1", "Q"), ("1", "H"), ("13", "H")]
 OUTSIDE = 99
 
 
-def is_read(square, width, area, show):
-    """Whether a symbol of the digit 1 is read where the modules of an area show something."""
-    found = bytearray(square)
+def is_read(symbol, area):
+    """Whether a symbol of the digit 1 is read with all modules of an area turned."""
+    square = bytearray(square_of(symbol))
     for left, top, across, down in area:
-        for y in range(top, top + down):
-            for place in range(y * width + left, y * width + left + across):
-                found[place] = show(square[place])
-    return answered(found)[-1] == b"1"
+        for begin in range(top * symbol.width + left, (top + down) * symbol.width, symbol.width):
+            for place in range(begin, begin + across):
+                square[place] ^= 1
+    return answered(square)[-1] == b"1"
 
 
 def grown(area, more):
@@ -46,27 +45,26 @@ def too_large(symbol, area):
     return grown(area, many)
 
 
-def area_complaint(version, level, chance):
-    """What is wrong with the largest square of a symbol. With so many modules more that it touches
-    a codeword too many, the symbol is not read if all of it is turned."""
+def area_complaint(version, level):
+    """What is wrong with the largest square of a symbol: all of it may be turned; with so many
+    modules more that it touches a codeword too many, the symbol is not read."""
     symbol = goqlanis.encode(b"1", level, version)
-    square, width, area = square_of(symbol), symbol.width, symbol.largest_area(reserve=0)
-    shows = (lambda it: 0, lambda it: 1, lambda it: chance.randrange(2), lambda it: 1 - it)
-    if not all(is_read(square, width, [area], show) for show in shows):
-        return "the symbol is not read, whatever the square shows"
+    area = symbol.largest_area(reserve=0)
+    if not is_read(symbol, [area]):
+        return "the symbol is not read"
     larger = too_large(symbol, area)
     most = excess(symbol, larger)
     if most != (OUTSIDE if (version, level) in BOUNDED else 1):
         return f"a larger area has {most} codewords too many"
-    is_damaged = most == OUTSIDE or not is_read(square, width, larger, shows[-1])
+    is_damaged = most == OUTSIDE or not is_read(symbol, larger)
     return "" if is_damaged else "the symbol is read, although a larger area is turned"
 
 
 def largest_squares():
-    """The largest squares may show anything, but with a codeword more the symbol is not read"""
-    chance, normal = Random(177), [it for it in pairs() if not it[0].startswith("M")]
+    """All of the largest squares may be turned, but not a codeword more"""
+    normal = [it for it in pairs() if not it[0].startswith("M")]
     found = [f"{version}-{level}: {it}" for version, level in normal
-             if (it := area_complaint(version, level, chance))]
+             if (it := area_complaint(version, level))]
     return found, f"{len(normal)} pairs"
 
 
