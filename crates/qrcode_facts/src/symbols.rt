@@ -23,6 +23,7 @@ pub fn free_places()
 {}
 
 /// Published error correction: data, and then the bytes with which it vanishes.
+#[tactic(auto, using(crate::proofs::CodeRows::ten, crate::proofs::CodeRows::thirteen))]
 pub fn corrections()
     ensures ten { Vanishes
         (hello_data ++ (0x11 ∷ 0xEC ∷ 0x11
@@ -45,6 +46,7 @@ pub fn penalties()
 
 /// The printed symbol of digits in Normal 1 is the symbol of their bits under the first mask of
 /// least penalty, and is read as these bits.
+#[tactic(auto, using(crate::proofs::SymbolRows::normal_symbol, crate::proofs::LeastRows::normal, crate::proofs::SymbolRows::normal_read))]
 pub fn normal_symbol()
     ensures symbol { IsSymbol (Normal (pos 1)) M normal_bits VerticalLines normal_square }
     ensures first_least { IsFirstLeast (Normal (pos 1)) M VerticalLines normal_square }
@@ -54,6 +56,7 @@ pub fn normal_symbol()
 /// A square that differs from that symbol in five codewords, in three bits of each copy of the
 /// format word and in all finder patterns is one of its damaged squares, and is read as the same
 /// bits.
+#[tactic(auto, using(crate::proofs::DamageRows::damaged, crate::proofs::DamageRows::read))]
 pub fn damaged_symbol()
     ensures damaged { IsDamaged (Normal (pos 1)) M VerticalLines normal_square damaged_square }
     ensures read { ReadsBits damaged_square (Normal (pos 1)) M normal_bits }
@@ -61,16 +64,19 @@ pub fn damaged_symbol()
 
 /// With a sixth wrong codeword, one more than half of its error correction codewords, it is none of
 /// them.
+#[tactic(auto, using(crate::proofs::DamageRows::too_damaged))]
 pub fn too_damaged_symbol()
     ensures { ¬ IsDamaged (Normal (pos 1)) M VerticalLines normal_square too_damaged_square }
 {}
 
 /// Nor with a fourth wrong bit in a copy of the format word.
+#[tactic(auto, using(crate::proofs::DamageRows::wrong_format))]
 pub fn wrong_format()
     ensures { ¬ IsDamaged (Normal (pos 1)) M VerticalLines normal_square wrong_format_square }
 {}
 
 /// The printed symbol of the same digits in Micro 2.
+#[tactic(auto, using(crate::proofs::SymbolRows::micro_symbol, crate::proofs::LeastRows::micro, crate::proofs::SymbolRows::micro_read))]
 pub fn micro_symbol()
     ensures symbol { IsSymbol (Micro (pos 2)) L micro_bits LargeCheckerboard micro_square }
     ensures first_least { IsFirstLeast (Micro (pos 2)) L LargeCheckerboard micro_square }
