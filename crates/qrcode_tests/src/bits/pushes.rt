@@ -1,5 +1,5 @@
-//! Pushes to a list of bits that are refused, and of ranges. What others write, `evidence/memory/cases`
-//! asks.
+//! Pushes to a list of bits that are refused, and of ranges. What others write,
+//! `evidence/memory/cases` asks.
 
 ghost use Rattle.std.specs.Prelude.{length, IsTrue};
 ghost use Rattle.qrcode_types.specs.Versions.{is_valid};
