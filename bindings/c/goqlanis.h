@@ -443,6 +443,10 @@ enum {
     GOQ_INVERTED = 8
 };
 
+/* The same in the words of the program. */
+#define GOQ_ROTATED_LEFT GOQ_TURNED_LEFT
+#define GOQ_ROTATED_RIGHT GOQ_TURNED_RIGHT
+
 /* What is read of a square in any position, apart from its bytes. */
 typedef struct {
     goq_reading reading;

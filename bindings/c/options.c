@@ -160,7 +160,7 @@ static void positions(void)
     for (int i = 0; i < 441; i++)
         other[i] = !modules[i % 21 * 21 + 20 - i / 21]; /* the row from above is a column */
     expect(goq_read_any(other, 441, bytes, 8, &any) == GOQ_OK, "turned and inverted");
-    expect(any.position == GOQ_TURNED_LEFT + GOQ_INVERTED && any.reading.length == 8, "how");
+    expect(any.position == GOQ_ROTATED_LEFT + GOQ_INVERTED && any.reading.length == 8, "how");
     expect(!memcmp(bytes, "01234567", 8) && any.reading.level == GOQ_M, "what it is");
     expect(goq_read_any(modules, 441, bytes, 8, &any) == GOQ_OK && any.position == 0, "upright");
     goq_encode_marked_text(text, 2, GOQ_M, modules, sizeof modules, &symbol);

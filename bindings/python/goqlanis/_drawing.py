@@ -10,7 +10,7 @@ from . import _checks
 from . import _numbers as goq
 from ._checks import shown
 from ._colours import are_close, colour
-from ._formats import FORMATS
+from ._formats import FORMATS, SIDES
 from ._library import Drawing, library
 from .errors import NoSuchSize, NotInFormat, OutOfMemory, refuse
 
@@ -51,9 +51,10 @@ def drawn(modules: bytes, width: int, usual_zone: int, name: str, look: Look) ->
     scale = _scale(look, kind) if look.size is None else _fitted(look, name, across)
     dark, light, dpi = _ink(look, name, kind.has_colours)
     side = across * scale
-    if name == "png" and side > MOST_SIDE:
-        raise NoSuchSize(f"a PNG file of {side:,} pixels a side has more than {MOST_SIDE:,}: take "
-                         f"scale={MOST_SIDE // across} or less")
+    most = SIDES.get(kind.number, side)
+    if side > most:
+        helps = "a smaller border" if across > most else f"scale={most // across} or less"
+        raise NoSuchSize(f"a side of {side:,} pixels: this format has at most {most:,}: take {helps}")
     drawing = Drawing(ctypes.sizeof(Drawing), kind.number, zone, scale, dark, light, dpi)
     given, count = (modules, len(modules), width, ctypes.byref(drawing)), ctypes.c_size_t()
     refuse(library.goq_draw_with_length(*given, ctypes.byref(count)))
@@ -107,7 +108,7 @@ def _pixels(look: Look, dots: Any) -> int:
                          "EPS or PDF, in points")
     if found:
         size = int(Fraction(found[1]) * _checks.whole("dpi", dots, 1, MOST_SIDE) * 10 / 254)
-    return _checks.whole("size in pixels", size, 1, MOST_SIDE, NoSuchSize)
+    return _checks.whole("size in pixels, or as '30mm',", size, 1, MOST_SIDE, NoSuchSize)
 
 
 def _ink(look: Look, name: str, has_colours: bool) -> Tuple[int, int, int]:

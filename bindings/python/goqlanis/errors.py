@@ -132,8 +132,7 @@ _CAUSES: Dict[int, Tuple[Type[Error], str]] = {
                   "all"),
     goq.NO_ROOM: (NoRoom, "no symbol of the asked kind holds the data"),
     goq.OUT_OF_MEMORY: (OutOfMemory, "memory was refused"),
-    goq.NO_SUCH_SIZE: (NoSuchSize, "the picture would have more than 65,535 modules along a side, "
-                       "or half blocks more than 4,096 pixels: take a smaller scale or border"),
+    goq.NO_SUCH_SIZE: (NoSuchSize, "the picture would be too large: take a smaller scale or border"),
     goq.NOT_IN_MODE: (NotInMode, "the mode of a segment lacks one of its bytes"),
     goq.NO_SUCH_NUMBER: (NoSuchNumber, "character sets have numbers up to 999,999, applications up "
                          "to 255"),

@@ -53,7 +53,8 @@ impl Wish {
             size: std::mem::size_of::<sys::goq_wish>() as u32,
             across: self.ratio.0,
             down: self.ratio.1,
-            reserve: self.reserve.unwrap_or(sys::GOQ_HALF),
+            // No block has so many codewords as the number that asks the library for half of them.
+            reserve: self.reserve.map_or(sys::GOQ_HALF, |count| count.min(sys::GOQ_HALF - 1)),
             keep_alignment: u32::from(self.keep_alignment),
         }
     }

@@ -234,11 +234,24 @@ fn codes_of(codes: &[sys::goq_code], parts: &[sys::goq_part], bytes: &[u8]) -> V
     codes.iter().map(&mut of).collect()
 }
 
-/// How a symbol stands in a square: by a quarter turned to the left so many times, up to 3; 4 with left
-/// and right, 5 with top and bottom, 6 with columns and rows exchanged, 7 with these from the other
-/// corner; and 8 more where dark and light are exchanged.
+/// How a symbol stands in a square: by a quarter rotated to the left so many times, up to 3; 4 with
+/// left and right, 5 with top and bottom, 6 with columns and rows exchanged, 7 with these from the
+/// other corner; and 8 more where dark and light are exchanged. `Display` says it in words.
 #[derive(Clone, Copy, Debug, PartialEq, Eq)]
 pub struct Position(pub u32);
+
+// The positions by their numbers.
+const POSITIONS: [&str; 8] = [
+    "upright", "rotated left", "upside down", "rotated right", "mirrored", "flipped", "transposed",
+    "antitransposed",
+];
+
+impl fmt::Display for Position {
+    fn fmt(&self, out: &mut fmt::Formatter<'_>) -> fmt::Result {
+        let inverted = if self.0 & sys::GOQ_INVERTED == 0 { "" } else { ", inverted" };
+        write!(out, "{}{inverted}", POSITIONS[(self.0 % 8) as usize])
+    }
+}
 
 impl Reading {
     fn named(mut data: Vec<u8>, known: sys::goq_reading) -> Reading {

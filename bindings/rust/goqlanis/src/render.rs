@@ -10,7 +10,7 @@ mod sealed {
 /// Why a picture is not drawn.
 #[derive(Clone, Copy, Debug, PartialEq, Eq)]
 pub enum RenderError {
-    /// A PNG file would have more than 65,535 pixels a side, half blocks more than 4,096, or any picture more than 65,535 modules a side.
+    /// A PNG file would have more than 65,535 pixels a side, rows of pixels and of dots more than 16,384, half blocks and characters more than 4,096, or any picture more than 65,535 modules a side.
     TooLarge,
     /// Memory was refused.
     OutOfMemory,
@@ -128,8 +128,17 @@ impl<'a, P: Pixel> Renderer<'a, P> {
         P::picture(self)
     }
 
+    // Refuses a picture that has more pixels along a side than there may be in a format: those of PPM
+    // take 0.8 GB.
+    fn check_side(&self, format: u32) -> Result<(), RenderError> {
+        let pixels = u64::from(self.side()) * u64::from(self.across.max(self.down));
+        let is_too_large = SIDES.iter().any(|row| row.0 == format && u64::from(row.1) < pixels);
+        if is_too_large { Err(RenderError::TooLarge) } else { Ok(()) }
+    }
+
     // The bytes of the picture in a format of the library, in these colours.
     fn drawn(&self, format: u32, dark: u32, light: u32) -> Result<Vec<u8>, RenderError> {
+        self.check_side(format)?;
         let drawing = sys::goq_drawing { format, zone: self.zone, scale: self.across, dark, light, dpi: self.dpi, ..sys::GOQ_DRAWING };
         let (modules, length, width) = (self.modules.as_ptr(), self.modules.len(), self.width as u32);
         let mut count = 0;
@@ -207,9 +216,6 @@ file_format!("The bytes of a PBM file.", pbm::Bit, Vec<u8>, 8, GOQ_PBM, plain);
 file_format!("The bytes of a PGM file.", pgm::Grey, Vec<u8>, 8, GOQ_PGM, plain);
 file_format!("Rows of pixels, a byte each: 0 for a dark one, 255 for a light one.", grey::Luma, Vec<u8>, 8, GOQ_GREY, plain);
 
-// From goqlanis.h, by bindings/same:
-// Up to here.
-
 pub use grey::Luma;
 
 // Black or white.
@@ -242,6 +248,9 @@ macro_rules! colour_format {
 }
 
 // From goqlanis.h, by bindings/same:
+// The most pixels along a side by the numbers of formats, where there is a limit.
+const SIDES: [(u32, u32); 11] = [(0, 4096), (1, 4096), (4, 16384), (5, 65535), (7, 16384),
+    (9, 16384), (12, 16384), (13, 16384), (14, 16384), (15, 16384), (16, 4096)];
 colour_format!("A PDF file of one page, a point a pixel.", pdf, GOQ_PDF);
 file_format!("ZPL II text for label printers, a dot a pixel.", zpl::Dot, String, 8, GOQ_ZPL, text);
 file_format!("TSPL commands for label printers, a dot a pixel.", tspl::Dot, Vec<u8>, 8, GOQ_TSPL, plain);
@@ -369,7 +378,8 @@ pixel! {
     char: String, 1,
     |is_dark| if is_dark { '\u{2588}' } else { ' ' },
     |renderer| {
-        let pixels = Renderer { across: 1, ..*renderer }.plain(sys::GOQ_GREY)?;
+        renderer.check_side(sys::GOQ_ASCII)?;
+        let pixels = Renderer { across: 1, down: 1, ..*renderer }.plain(sys::GOQ_GREY)?;
         let wide = |grey: &u8| std::iter::repeat(if *grey == 0 { renderer.dark } else { renderer.light }).take(renderer.across as usize);
         let line = |row: &[u8]| row.iter().flat_map(wide).collect::<String>();
         let lines = pixels.chunks(renderer.side() as usize).map(line);

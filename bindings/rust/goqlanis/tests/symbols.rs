@@ -90,6 +90,12 @@ fn too_large() {
     assert_eq!(code.render::<png::Color>().module_size(2260).try_build(), Err(RenderError::TooLarge));
     assert_eq!(code.render::<unicode::Dense1x2>().module_size(142).try_build(), Err(RenderError::TooLarge));
     assert_eq!(code.render::<unicode::Dense1x2>().module_size(141).try_build().unwrap().lines().count(), 2045);
+    let characters = |width, height| code.render::<char>().module_dimensions(width, height).try_build();
+    assert_eq!(code.render::<char>().module_size(3000).try_build(), Err(RenderError::TooLarge));
+    assert_eq!((characters(142, 1), characters(1, 142)), (Err(RenderError::TooLarge), Err(RenderError::TooLarge)));
+    assert_eq!(characters(2, 141).unwrap().lines().count(), 29 * 141);
+    assert_eq!(code.render::<pbm::Bit>().module_size(565).try_build(), Err(RenderError::TooLarge));
+    assert_eq!(code.render::<pbm::Bit>().module_size(564).build().len(), 15 + 16356 * 2045);
 }
 
 #[test]
@@ -196,6 +202,7 @@ fn codes_of_pictures() {
     let data: Vec<_> = codes.iter().map(|code| code.reading.data.as_slice()).collect();
     assert_eq!(data, [&b"left"[..], b"right", b"below"]);
     assert!(codes.iter().all(|code| code.position == Position(0) && code.reading.wrong == 0));
+    assert_eq!((codes[0].position.to_string(), Position(9).to_string()), ("upright".into(), "rotated left, inverted".into()));
     assert_eq!(codes[1].parts, [Part::Byte(5)]);
     assert!(check(&file).unwrap().iter().all(|it| it.is_standard && it.wrong_by_block == [0]));
     assert_eq!(read_picture(b"hello").unwrap_err(), Unread::NotPicture);
@@ -278,6 +285,8 @@ fn logos() {
     assert_eq!(read(&covered.to_colors()).unwrap().data, b"01234567");
     assert!(code.with_logo(b"\x89PNG\r\n\x1a\n\0\0\0\x0dIHDR\0\0\0\x10\0\0\0\x09\x08", &LogoOptions::default()).is_ok());
     assert_eq!(code.with_logo(b"GIF89a", &LogoOptions::default()).unwrap_err(), LogoError::NoSides);
+    let whole = LogoOptions { reserve: Some(u32::MAX), ..LogoOptions::default() };
+    assert_eq!(code.with_logo(logo, &whole).unwrap_err(), LogoError::Area(Excess::Nowhere));
     let outside = LogoOptions { area: Some(Rectangle { left: 20, top: 0, width: 2, height: 1 }), ..LogoOptions::default() };
     assert_eq!(code.with_logo(logo, &outside).unwrap_err(), LogoError::Area(Excess::Outside));
 }
