@@ -76,7 +76,8 @@ __all__ = ["contents", "Symbol", "encode", "encode_sequence", "encode_segments",
 # Names that other packages have.
 _HERE = {"make": "encode(data)", "make_qr": "encode(data)", "QRCode": "encode(data)",
          "QrCode": "encode(data)", "make_micro": "encode(data, micro=True)",
-         "make_sequence": "encode_sequence(data)", "helpers": "contents",
+         "make_sequence": "encode_sequence(data)", "split": "encode_sequence(data)",
+         "helpers": "contents", "epc": "contents.payment", "email": "contents.mail",
          **{name: f"contents.{name}" for name in contents.__all__}}
 
 if not TYPE_CHECKING:

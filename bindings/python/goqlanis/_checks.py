@@ -13,8 +13,12 @@ OTHERS = {"error": "level='H'", "error_correction": "level='H'", "boost_error": 
           "mask_pattern": "mask=3", "encoding": "data.encode(..)", "symbol_count": "count=3",
           "mode": "encode_segments", "unit": "size='30mm' (EPS, PDF, PNG) or size=300 (pixels)",
           "box_size": "scale=8",
-          "fill_color": "dark='navy'", "back_color": "light='white'", "color": "dark='navy'",
-          "background": "light='white'", "omitsize": "CSS: svg {width: 100%}", "xmldecl": "svg_inline"}
+          "fill_color": "dark='navy'", "color": "dark='navy'", "foreground": "dark='navy'",
+          "back_color": "light='white'", "background": "light='white'",
+          "invert": "dark='white', light='black'", "format": "kind='png'",
+          "symbol_version": "version=7", "min_version": "least_version=5",
+          "max_version": "greatest_version=10", "omitsize": "CSS: svg {width: 100%}",
+          "xmldecl": "svg_inline"}
 LEVELS = "LMQH"
 BINARY = (bytes, bytearray, memoryview)
 

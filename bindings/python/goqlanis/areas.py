@@ -140,7 +140,9 @@ def loaded(logo: Any) -> Tuple[str, Tuple[int, int]]:
     if isinstance(logo, (str, os.PathLike)):
         with open(logo, "rb") as file:
             data = file.read()
-    data = _checks.binary("logo", data)
+    if not isinstance(data, _checks.BINARY):
+        raise TypeError(f"logo is a path or the bytes of a file, not {_checks.shown(logo)}")
+    data = bytes(data)
     if data.startswith(b"\x89PNG") and len(data) > 24:
         sides = [int.from_bytes(data[at:at + 4], "big") for at in (16, 20)]
         kind = "png"

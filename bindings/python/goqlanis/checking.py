@@ -8,7 +8,7 @@ from ._checks import LEVELS, version_name
 from ._library import Checked, Checks, library
 from ._numbers import BLOCKS_MAX
 from .errors import refuse
-from .reading import Modules, Picture, _file_of, _modules_of
+from .reading import PICTURES, Modules, Picture, _file_of, _modules_of
 
 LINES = """\
 version {0.version}, level {0.level}, mask {0.mask}
@@ -107,7 +107,8 @@ def check(picture: Union[Picture, Modules, Any]) -> Union[List[Check], Check]:
     file = _file_of(picture)
     if file is not None:
         return list(_checks(file))
-    modules, known, wrong = _modules_of(picture), Checked(), (ctypes.c_size_t * BLOCKS_MAX)()
+    modules, known = _modules_of(picture, PICTURES), Checked()
+    wrong = (ctypes.c_size_t * BLOCKS_MAX)()
     refuse(library.goq_check_square(modules, len(modules), wrong, len(wrong), ctypes.byref(known)))
     return _check(known, wrong[:known.blocks])
 

@@ -1,6 +1,8 @@
 """Squares of modules and pictures, read back."""
 import ctypes
+import functools
 import io
+import operator
 import os
 from typing import (Any, IO, Iterable, Iterator, List, NamedTuple, Optional, Sequence, Tuple, Union,
                     overload)
@@ -20,8 +22,9 @@ HEADED = ("a header is in front, of several symbols, GS1 or another character se
           "reads several; read(symbol.png()) reads the others")
 # Answers of calls for which another call reads the square, unless there is such a header.
 OTHERS = {goq.NOT_SPELLED: library.goq_read_text, goq.NOT_SHOWN: library.goq_read}
-# The bytes of the largest picture that the library reads.
+# The bytes of the largest picture that the library reads, and what is no square.
 MOST_PICTURE = 67_108_864
+PICTURES = "rows of modules, a Symbol, or a picture: a path, bytes or an open file"
 Modules = Union[Symbol, Sequence[Sequence[bool]]]
 Picture = Union[str, bytes, bytearray, memoryview, "os.PathLike[str]", IO[bytes]]
 # The kinds of parts by their numbers.
@@ -167,12 +170,12 @@ Part(kind='byte', number=None, place=None, symbols=None, length=2))
     file = _file_of(picture)
     if file is not None:
         return list(_codes(file))
-    modules, out, found = _modules_of(picture), _bytes(), Read()
+    modules, out, found = _modules_of(picture, PICTURES), _bytes(), Read()
     _refuse(library.goq_read(modules, len(modules), out, len(out), ctypes.byref(found)), modules)
     return _reading(out, found)
 
 
-def _codes(picture: bytes) -> Iterator[Code]:
+def _codes(picture: bytes, of: str = "") -> Iterator[Code]:
     """The codes of a picture: room is made for more of them until there is enough."""
     count, answer = 4, goq.SMALL_BUFFER
     while answer == goq.SMALL_BUFFER:
@@ -181,7 +184,7 @@ def _codes(picture: bytes) -> Iterator[Code]:
         answer = library.goq_read_picture(picture, len(picture), codes, len(codes), parts,
                                           len(parts), out, len(out), ctypes.byref(scan))
         count *= 8
-    refuse(answer)
+    refuse(answer, of)
     said, data = iter(parts[:scan.parts]), io.BytesIO(out[:scan.length])
     for code in codes[:scan.codes]:
         own = tuple(_part(next(said)) for _ in range(code.parts))
@@ -240,8 +243,9 @@ def read_text(square: Modules) -> str:
     return bytes(out[:found.length]).decode()
 
 
-def join(squares: Iterable[Modules]) -> bytes:
-    """The data of several symbols, which `encode_sequence` made, in any order.
+def join(squares: Iterable[Union[Modules, Picture]]) -> bytes:
+    """The data of several symbols, which `encode_sequence` made, in any order; or of their pictures,
+    as `read` takes them.
 
     >>> from goqlanis import encode_sequence
     >>> symbols = encode_sequence(b"01234567", count=2)
@@ -251,16 +255,53 @@ def join(squares: Iterable[Modules]) -> bytes:
     Traceback (most recent call last):
         ...
     goqlanis.NotJoined: part 2 is missing
+    >>> for number, symbol in enumerate(symbols):
+    ...     symbol.save(f"part-{number}.png")
+    >>> join(["part-1.png", "part-0.png"])
+    b'01234567'
     """
-    given = [_modules_of(it) for it in _checks.listed("squares", squares, "symbols or squares")]
+    found = _checks.listed("squares", squares, "symbols, squares or pictures")
+    files = [_file_of(it) for it in found]
+    if any(file is not None for file in files):
+        return _joined([code for at, (it, file) in enumerate(zip(found, files)) for code in
+                        _codes(_symbol(it).png() if file is None else file, f"square {at + 1}: ")])
+    given = list(map(_modules_of, found))
     rows = (Square * len(given))(*(Square(it, len(it)) for it in given))
     out, count, place = _bytes(SEVERAL_MAX), ctypes.c_size_t(), ctypes.c_size_t()
     answer = library.goq_join(rows, len(rows), out, len(out), ctypes.byref(count),
                               ctypes.byref(place))
     if answer in JOINS:
-        raise NotJoined(JOINS[answer].format(place=place.value + 1))
+        raise _not_joined(answer, place.value)
     refuse(answer, f"square {place.value + 1}: ")
     return bytes(out[:count.value])
+
+
+def _symbol(given: Any) -> Symbol:
+    if not isinstance(given, Symbol):
+        raise TypeError(f"squares: symbols and pictures, or squares, not {_checks.shown(given)}")
+    return given
+
+
+def _joined(codes: List[Code]) -> bytes:
+    """The data of codes that each have the header of one of several symbols in front."""
+    heads = [code.parts[0] if code.parts else Part("") for code in codes]
+    for at, head in enumerate(heads):
+        if head.kind != PARTS[goq.ONE_OF_SEVERAL]:
+            raise _not_joined(goq.NOT_SEVERAL, at)
+        if (head.number, head.symbols) != (heads[0].number, heads[0].symbols):
+            raise _not_joined(goq.STRANGER, at)
+    places = [head.place for head in heads]
+    for place in range(heads[0].symbols or 0):
+        if places.count(place) != 1:
+            raise _not_joined(goq.TWICE if place in places else goq.MISSING, place)
+    data = b"".join(codes[at].data for at in sorted(range(len(codes)), key=places.__getitem__))
+    if functools.reduce(operator.xor, data, 0) != heads[0].number:
+        raise _not_joined(goq.PARITY, 0)
+    return data
+
+
+def _not_joined(answer: int, place: int) -> NotJoined:
+    return NotJoined(JOINS[answer].format(place=place + 1))
 
 
 def _bytes(count: int = 1) -> Any:
@@ -285,14 +326,14 @@ def _position(number: int) -> Tuple[str, bool]:
     return POSITIONS[position], bool(is_inverted)
 
 
-def _modules_of(square: Modules) -> bytes:
+def _modules_of(square: Modules, of: str = "rows of modules, or a Symbol") -> bytes:
     """The modules of a square, a byte each."""
     if isinstance(square, Symbol):
         return square.modules
     if isinstance(square, (str, bytes, os.PathLike)):
         raise TypeError("square is a Symbol, or rows of modules, each True or False, not "
                         f"{_checks.shown(square)}: read reads pictures")
-    given = _checks.listed("square", square, "rows of modules, or a Symbol")
+    given = _checks.listed("square", square, of)
     rows = [_row(f"row {at + 1} of the square", it) for at, it in enumerate(given)]
     if any(len(row) != len(rows) for row in rows):
         raise NoSuchSide(f"{len(rows)} rows, and not all of them have {len(rows)} modules")
