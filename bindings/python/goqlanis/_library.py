@@ -4,131 +4,26 @@ import ctypes.util
 import os
 from typing import Any, Callable, Dict, List
 
-from ._numbers import VERSION
+from ._numbers import STRUCTS, VERSION
 
 MAJOR = 10000  # what a step of the first number of a version is in its number
 
 _number, _size, _data, _place = (ctypes.c_uint32, ctypes.c_size_t, ctypes.c_char_p,
                                  ctypes.c_void_p)
+_TYPES: Dict[str, Any] = {"": _number, "size": _size, "data": _data}
 
 
-class Known(ctypes.Structure):
-    """goq_symbol."""
-    _fields_ = [("version", _number), ("level", _number), ("width", _number)]
+def _struct(name: str, fields: str) -> Any:
+    """A struct of the header."""
+    pairs = (it.partition(":") for it in fields.split())
+    own = {"_fields_": [(field, _TYPES[kind]) for field, _, kind in pairs]}
+    _TYPES[name] = type(name, (ctypes.Structure,), own)
+    return _TYPES[name]
 
 
-class Options(ctypes.Structure):
-    """goq_options."""
-    _fields_ = [("size", _number), ("level", _number), ("manner", _number), ("version", _number),
-                ("least_version", _number), ("boost", _number), ("mask", _number)]
-
-
-class Several(ctypes.Structure):
-    """goq_several."""
-    _fields_ = [("size", _number), ("level", _number), ("manner", _number),
-                ("least_version", _number), ("greatest_version", _number), ("count", _number)]
-
-
-class Drawing(ctypes.Structure):
-    """goq_drawing."""
-    _fields_ = [("size", _number), ("format", _number), ("zone", _number), ("scale", _number),
-                ("dark", _number), ("light", _number), ("dpi", _number)]
-
-
-class Segment(ctypes.Structure):
-    """goq_segment."""
-    _fields_ = [("kind", _number), ("number", _number), ("bytes", _data), ("length", _size)]
-
-
-class Read(ctypes.Structure):
-    """goq_reading."""
-    _fields_ = [("version", _number), ("level", _number), ("mask", _number), ("wrong", _size),
-                ("length", _size)]
-
-
-class AnyRead(ctypes.Structure):
-    """goq_any_reading."""
-    _fields_ = [("reading", Read), ("position", _number)]
-
-
-class Part(ctypes.Structure):
-    """goq_part."""
-    _fields_ = [("kind", _number), ("number", _number), ("place", _number), ("symbols", _number),
-                ("length", _size)]
-
-
-class Code(ctypes.Structure):
-    """goq_code."""
-    _fields_ = [("reading", Read), ("position", _number), ("parts", _size)]
-
-
-class Scan(ctypes.Structure):
-    """goq_scan."""
-    _fields_ = [("size", _number), ("codes", _size), ("parts", _size), ("length", _size)]
-
-
-class WrongModules(ctypes.Structure):
-    """goq_wrong_modules."""
-    _fields_ = [("finder", _size), ("alignment", _size), ("timing", _size), ("format", _size),
-                ("version", _size), ("remainder", _size)]
-
-
-class DataBits(ctypes.Structure):
-    """goq_data_bits."""
-    _fields_ = [("segments", _number), ("compared", _number), ("bits", _size), ("fewest", _size),
-                ("terminator", _size), ("padding", _size), ("guessed", _size),
-                ("are_utf8", _number)]
-
-
-class Rank(ctypes.Structure):
-    """goq_rank."""
-    _fields_ = [("lower", _size), ("equal", _size)]
-
-
-class Checked(ctypes.Structure):
-    """goq_checked."""
-    _fields_ = [("version", _number), ("level", _number), ("mask", _number), ("standard", _number),
-                ("grade", _number), ("blocks", _size), ("allowed", _size), ("unused", _size),
-                ("wrong", WrongModules), ("data", DataBits), ("masks", Rank), ("masks_here", Rank)]
-
-
-class Checks(ctypes.Structure):
-    """goq_checks."""
-    _fields_ = [("size", _number), ("codes", _size), ("blocks", _size)]
-
-
-class Square(ctypes.Structure):
-    """goq_square."""
-    _fields_ = [("modules", _data), ("length", _size)]
-
-
-class Field(ctypes.Structure):
-    """goq_field."""
-    _fields_ = [("bytes", _data), ("length", _size)]
-
-
-class Element(ctypes.Structure):
-    """goq_element."""
-    _fields_ = [("identifier", _data), ("identifier_length", _size), ("value", _data),
-                ("value_length", _size)]
-
-
-class Rectangle(ctypes.Structure):
-    """goq_rectangle."""
-    _fields_ = [("left", _size), ("top", _size), ("width", _size), ("height", _size)]
-
-
-class Taken(ctypes.Structure):
-    """goq_taken."""
-    _fields_ = [("blocks", _size), ("allowed", _size), ("worst", _size), ("first", _size),
-                ("last", _size), ("least", _size), ("may_show_anything", _number)]
-
-
-class Wish(ctypes.Structure):
-    """goq_wish."""
-    _fields_ = [("size", _number), ("across", _number), ("down", _number), ("reserve", _number),
-                ("keep_alignment", _number)]
-
+(Options, Several, Drawing, Known, Segment, Field, Element, Read, AnyRead, Part, Code, Scan,
+ WrongModules, DataBits, Rank, Checked, Checks, Square, Rectangle, Taken,
+ Wish) = (_struct(*it) for it in STRUCTS.items())
 
 _to = ctypes.POINTER
 _IN, _OUT, _COUNT = [_data, _size], [_place, _size], _to(_size)

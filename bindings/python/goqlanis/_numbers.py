@@ -1,4 +1,4 @@
-"""The numbers of bindings/c/goqlanis.h, written by bindings/same."""
+"""The numbers and structs of bindings/c/goqlanis.h, written by bindings/same."""
 VERSION = 10000
 (OK, NO_SUCH_LEVEL, NO_SUCH_VERSION, LEVEL_NOT_IN_VERSION, TOO_LONG, NO_MODE, NO_ROOM, SMALL_BUFFER,
     OUT_OF_MEMORY, NO_SUCH_FORMAT, NOT_SQUARE, NO_SUCH_SIZE, NOT_TEXT, NO_SUCH_KIND, NOT_IN_MODE,
@@ -47,3 +47,30 @@ BYTES_MAX = 7089
     INVERTED) = range(0, 9)
 PARTS_MAX = 5912
 BLOCKS_MAX = 81
+STRUCTS = {
+    "goq_options": "size level manner version least_version boost mask",
+    "goq_several": "size level manner least_version greatest_version count",
+    "goq_drawing": "size format zone scale dark light dpi",
+    "goq_symbol": "version level width",
+    "goq_segment": "kind number bytes:data length:size",
+    "goq_field": "bytes:data length:size",
+    "goq_element": "identifier:data identifier_length:size value:data value_length:size",
+    "goq_reading": "version level mask wrong:size length:size",
+    "goq_any_reading": "reading:goq_reading position",
+    "goq_part": "kind number place symbols length:size",
+    "goq_code": "reading:goq_reading position parts:size",
+    "goq_scan": "size codes:size parts:size length:size",
+    "goq_wrong_modules": "finder:size alignment:size timing:size format:size version:size "
+        "remainder:size",
+    "goq_data_bits": "segments compared bits:size fewest:size terminator:size padding:size "
+        "guessed:size are_utf8",
+    "goq_rank": "lower:size equal:size",
+    "goq_checked": "version level mask standard grade blocks:size allowed:size unused:size "
+        "wrong:goq_wrong_modules data:goq_data_bits masks:goq_rank masks_here:goq_rank",
+    "goq_checks": "size codes:size blocks:size",
+    "goq_square": "modules:data length:size",
+    "goq_rectangle": "left:size top:size width:size height:size",
+    "goq_taken": "blocks:size allowed:size worst:size first:size last:size least:size "
+        "may_show_anything",
+    "goq_wish": "size across down reserve keep_alignment",
+}
