@@ -98,22 +98,9 @@ static void areas(void)
             largest(version, level);
 }
 
-/* No call reads a struct further than to its size, where that is not its own: here the next page may not be read. */
-static void structs(void)
-{
-    uint8_t *end = end_of_memory();
-    goq_rectangle found;
-    for (uint32_t size = 4; size < sizeof(goq_wish); size += 4) {
-        void *given = end - size;
-        *(uint32_t *)given = size;
-        expect(goq_largest_area(1, 0, given, &found) == GOQ_NO_SUCH_STRUCT, "a wish");
-    }
-}
-
 int main(void)
 {
     areas();
-    structs();
     printf("%d wrong\n", wrong);
     return wrong != 0;
 }

@@ -32,20 +32,28 @@ static void orders(void)
 #include "orders.inc"
 }
 
+#define STRUCT(type, call) \
+    if (size < sizeof(type)) \
+        expect(call == GOQ_NO_SUCH_STRUCT, #type);
+
 /* No call reads a struct further than to its size, where that is not its own: here the next page may not be read. */
 static void structs(void)
 {
     const goq_element element = {out, 0, out, 0};
+    goq_rectangle area;
     uint8_t *end = end_of_memory();
-    for (uint32_t size = 4; size < sizeof(goq_options); size += 4) {
+    for (uint32_t size = 4; size < sizeof(goq_scan); size += 4) {
         void *given = end - size;
         memset(given, 0, size);
-        *(uint32_t *)given = size == sizeof(goq_several) ? 0 : size;
-        expect(goq_encode_with(data, 1, given, modules, 0, &symbol) == GOQ_NO_SUCH_STRUCT, "options");
-        expect(goq_encode_gs1(&element, 1, given, modules, 0, &symbol, &place) == GOQ_NO_SUCH_STRUCT, "of GS1");
-        expect(goq_draw_with(data, 441, 21, given, out, 0, &count) == GOQ_NO_SUCH_STRUCT, "drawing");
-        expect(goq_draw_with_length(data, 441, 21, given, &count) == GOQ_NO_SUCH_STRUCT, "length");
-        expect(goq_encode_several(data, 1, given, modules, 0, &symbol, &count) == GOQ_NO_SUCH_STRUCT, "several");
+        *(uint32_t *)given = size;
+        STRUCT(goq_options, goq_encode_with(data, 1, given, modules, 0, &symbol))
+        STRUCT(goq_options, goq_encode_gs1(&element, 1, given, modules, 0, &symbol, &place))
+        STRUCT(goq_drawing, goq_draw_with(data, 441, 21, given, out, 0, &count))
+        STRUCT(goq_drawing, goq_draw_with_length(data, 441, 21, given, &count))
+        STRUCT(goq_several, goq_encode_several(data, 1, given, modules, 0, &symbol, &count))
+        STRUCT(goq_scan, goq_read_picture(data, 9, NULL, 0, NULL, 0, NULL, 0, given))
+        STRUCT(goq_checks, goq_check(data, 9, NULL, 0, NULL, 0, given))
+        STRUCT(goq_wish, goq_largest_area(1, 0, given, &area))
     }
 }
 

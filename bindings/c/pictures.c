@@ -220,18 +220,6 @@ static void causes(void)
     expect(goq_check(large, most + 1, NULL, 0, NULL, 0, &counts) == GOQ_NO_SUCH_STRUCT && counts.codes == 7, "the same of checks");
 }
 
-/* No call reads a struct further than to its size, where that is not its own: here the next page may not be read. */
-static void structs(void)
-{
-    uint8_t *end = end_of_memory();
-    for (uint32_t size = 4; size < sizeof(goq_scan); size += 4) {
-        void *given = end - size;
-        *(uint32_t *)given = size;
-        expect(goq_read_picture(file, 9, NULL, 0, NULL, 0, NULL, 0, given) == GOQ_NO_SUCH_STRUCT, "a scan");
-        expect(size == sizeof(goq_checks) || goq_check(file, 9, NULL, 0, NULL, 0, given) == GOQ_NO_SUCH_STRUCT, "checks");
-    }
-}
-
 int main(void)
 {
     formats();
@@ -240,7 +228,6 @@ int main(void)
     several();
     checks();
     causes();
-    structs();
     printf("%d wrong\n", wrong);
     return wrong != 0;
 }
