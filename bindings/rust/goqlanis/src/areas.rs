@@ -48,7 +48,7 @@ impl Default for Wish {
 }
 
 impl Wish {
-    fn given(&self) -> sys::goq_wish {
+    pub(crate) fn given(&self) -> sys::goq_wish {
         sys::goq_wish {
             size: std::mem::size_of::<sys::goq_wish>() as u32,
             across: self.ratio.0,
@@ -159,15 +159,5 @@ impl QrCode {
         };
         allowed(answer, place)?;
         Ok(covered)
-    }
-}
-
-#[cfg(test)]
-mod tests {
-    use super::*;
-
-    #[test]
-    fn defaults() {
-        assert_eq!(Wish::default().given(), sys::GOQ_WISH);
     }
 }

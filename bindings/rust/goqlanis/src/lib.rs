@@ -492,6 +492,8 @@ mod tests {
     #[test]
     fn defaults() {
         assert_eq!(Options::default().given(), sys::GOQ_OPTIONS);
+        assert_eq!(several::Several::default().given(), sys::GOQ_SEVERAL);
+        assert_eq!(areas::Wish::default().given(), sys::GOQ_WISH);
     }
 }
 

@@ -380,7 +380,7 @@ pixel! {
     |renderer| {
         renderer.check_side(sys::GOQ_ASCII)?;
         let pixels = Renderer { across: 1, down: 1, ..*renderer }.plain(sys::GOQ_GREY)?;
-        let wide = |grey: &u8| std::iter::repeat(if *grey == 0 { renderer.dark } else { renderer.light }).take(renderer.across as usize);
+        let wide = |grey: &u8| vec![if *grey == 0 { renderer.dark } else { renderer.light }; renderer.across as usize];
         let line = |row: &[u8]| row.iter().flat_map(wide).collect::<String>();
         let lines = pixels.chunks(renderer.side() as usize).map(line);
         let lines: Vec<String> = lines.flat_map(|line| vec![line; renderer.down as usize]).collect();

@@ -31,7 +31,7 @@ impl Default for Several {
 }
 
 impl Several {
-    fn given(&self) -> sys::goq_several {
+    pub(crate) fn given(&self) -> sys::goq_several {
         sys::goq_several {
             size: std::mem::size_of::<sys::goq_several>() as u32,
             level: self.ec_level as u32,
@@ -127,15 +127,5 @@ pub fn join<S: AsRef<[Color]>>(squares: &[S]) -> Result<Vec<u8>, Unjoined> {
         sys::GOQ_PARITY => Err(Unjoined::Parity),
         sys::GOQ_OUT_OF_MEMORY => Err(Unjoined::OutOfMemory),
         answer => Err(Unjoined::Square(place, unread(answer))),
-    }
-}
-
-#[cfg(test)]
-mod tests {
-    use super::*;
-
-    #[test]
-    fn defaults() {
-        assert_eq!(Several::default().given(), sys::GOQ_SEVERAL);
     }
 }
