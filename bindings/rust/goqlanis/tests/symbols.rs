@@ -180,30 +180,18 @@ fn readings() {
     assert_eq!(read(&header.to_colors()).unwrap_err(), Unread::NotSpelled);
 }
 
-// Two symbols side by side, and one below the first, in a picture of their own.
+// Three symbols one below the other.
 #[test]
 fn codes_of_pictures() {
-    let squares: Vec<_> = ["left", "right", "below"]
-        .iter()
-        .map(|data| QrCode::new(data).unwrap().render::<Luma>().module_size(3).build())
-        .collect();
-    let (side, white) = (29 * 3, vec![255; 29 * 3]);
-    let mut file = format!("P5 {} {} 255\n", 2 * side, 2 * side).into_bytes();
-    for y in 0..side {
-        let rows = y * side..(y + 1) * side;
-        file.extend_from_slice(&squares[0][rows.clone()]);
-        file.extend_from_slice(&squares[1][rows]);
-    }
-    for y in 0..side {
-        file.extend_from_slice(&squares[2][y * side..(y + 1) * side]);
-        file.extend_from_slice(&white);
-    }
+    let drawn = |data: &&str| QrCode::new(data).unwrap().render::<Luma>().module_size(3).build();
+    let squares: Vec<_> = ["first", "middle", "below"].iter().map(drawn).collect();
+    let file = [b"P5 87 261 255\n".to_vec(), squares.concat()].concat();
     let codes = read_picture(&file).unwrap();
     let data: Vec<_> = codes.iter().map(|code| code.reading.data.as_slice()).collect();
-    assert_eq!(data, [&b"left"[..], b"right", b"below"]);
+    assert_eq!(data, [&b"first"[..], b"middle", b"below"]);
     assert!(codes.iter().all(|code| code.position == Position(0) && code.reading.wrong == 0));
     assert_eq!((codes[0].position.to_string(), Position(9).to_string()), ("upright".into(), "rotated left, inverted".into()));
-    assert_eq!(codes[1].parts, [Part::Byte(5)]);
+    assert_eq!(codes[1].parts, [Part::Byte(6)]);
     assert!(check(&file).unwrap().iter().all(|it| it.is_standard && it.wrong_by_block == [0]));
     assert_eq!(read_picture(b"hello").unwrap_err(), Unread::NotPicture);
     assert_eq!(read_picture(b"P1 2 2 0 0 0").unwrap_err(), Unread::BrokenPicture);
