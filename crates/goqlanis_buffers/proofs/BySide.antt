@@ -1,15 +1,17 @@
 -- Lengths of pictures by their sides.
-use Rattle.std.proofs.Common.{◌≡◌, ℕ, zero, suc, ◌+◌, ◌-◌, ◌*◌, ◌/◌, ◌<◌, ◌≤◌, List, [], ◌∷◌, Bool, true, false, ◌++◌, length, length-append, drop, flat_map, decimal, refl, sym, ap, ap₂, ◌∙◌, arith}
+use Rattle.std.proofs.Common.{◌≡◌, ℕ, zero, suc, ◌+◌, ◌-◌, ◌*◌, ◌/◌, ◌<◌, ◌≤◌, List, [], ◌∷◌, Bool, true, false, ◌++◌, length, length-append, drop, flat_map, decimal, refl, sym, ap, ap₂, ◌∙◌, subst, arith}
 use Rattle.std.specs.Prelude.{codes}
 use Rattle.std.specs.List.{range_with_len}
 use Rattle.std.proofs.lemmas.List.{length-map, length-take-le, length-drop}
 use Rattle.std.proofs.lemmas.List.FromFn.{length-map-range_with_len}
 use Rattle.std.proofs.lemmas.Nat.{row_fits_turned}
 use Rattle.qrcode_types.specs.declared.types.Color.{Color}
+use Rattle.goqlanis_core.specs.declared.formats.Format.{Format}
 use Rattle.goqlanis_core.specs.declared.formats.Format.TheVariants.{EscPos, Grey, Pbm, Pgm, Ppm, Tspl, Xbm}
-use Rattle.goqlanis_core.specs.Formats.{rgb}
+use Rattle.goqlanis_core.specs.Formats.{rgb, IsDrawnIn}
 use Rattle.goqlanis_buffers.specs.Asking.{escpos_length, pbm_length, pgm_length, ppm_length, side_of, tspl_length, xbm_length, HasLength, IsDrawable}
 use Rattle.goqlanis_buffers.specs.Colours.{colour_shade}
+use Rattle.goqlanis_buffers.specs.Drawings.{view}
 use Rattle.std.proofs.Math.Nat.{zero-mul}
 use Rattle.goqlanis_buffers.specs.declared.pictures.Asked.{Asked}
 use Rattle.qrcode_render.specs.Bitmap.{row_of}
@@ -114,87 +116,60 @@ length_of_numbers (b ∷ bytes) =
 length_of_xbm_row : (bytes : List ℕ) → length (xbm_row bytes) ≡ 5 * length bytes + 1
 length_of_xbm_row bytes = length-append (flat_map (λ b. codes "0x" ++ hex_pair (turned b) ++ codes ",") bytes) _ ∙ ap (λ n. n + 1) (length_of_numbers bytes)
 
--- pictures of grey pixels that are asked for
-pub grey_picture : (a : Asked) → IsDrawable a Grey → HasLength a (side_of a * side_of a)
-grey_picture a h =
-    let at = layout a.width a.drawing.now.zone a.drawing.now.scale a.drawing.now.scale in
-    let s = colors_of a.modules.now in (
-      raw_bytes (0 ∷ []) (255 ∷ []) (picture at s),
-      (
-        record { named = Grey; asked = h.asked; sized = h.sized; drawn = (h.sayable, refl) },
-        sym (length_of_grey 0 255 at s),
-      ),
-    )
+abbrev pub at_of : Asked → Layout  -- how the pixels of what is asked for lie
+at_of a = layout a.width a.drawing.now.zone a.drawing.now.scale a.drawing.now.scale
 
--- and of black and white ones
-pub pbm_picture : (a : Asked) → IsDrawable a Pbm → HasLength a (pbm_length (side_of a))
-pbm_picture a h =
-    let at = layout a.width a.drawing.now.zone a.drawing.now.scale a.drawing.now.scale in
-    let s = colors_of a.modules.now in (
-      pbm_file true false (picture at s),
-      (
-        record { named = Pbm; asked = h.asked; sized = h.sized; drawn = (h.sayable, refl) },
-        sym (length_of_pbm true false at s),
-      ),
-    )
+-- what is drawn in a format, where that is asked for, has so many bytes
+drawn_length : (a : Asked) (f g : Format) (bytes : List ℕ) (count total : ℕ) → f ≡ g → IsDrawable a f
+    → IsDrawnIn g (view a.drawing.now) (at_of a) (colors_of a.modules.now) bytes → length bytes ≡ total → count ≡ total → HasLength a count
+drawn_length a f g bytes count total is asked drawn long same =
+    let h = subst (IsDrawable a) is asked in
+    (bytes, (record { named = g; asked = h.asked; sized = h.sized; drawn = (h.sayable, drawn) }, same ∙ sym long))
 
--- and of grey files
-pub pgm_picture : (a : Asked) → IsDrawable a Pgm → HasLength a (pgm_length (side_of a))
-pgm_picture a h =
-    let at = layout a.width a.drawing.now.zone a.drawing.now.scale a.drawing.now.scale in
-    let s = colors_of a.modules.now in (
-      pgm_file 0 255 (picture at s),
-      (
-        record { named = Pgm; asked = h.asked; sized = h.sized; drawn = (h.sayable, refl) },
-        sym (length_of_pgm 0 255 at s),
-      ),
-    )
+-- the same of each of these formats
+pub of_grey : (a : Asked) (f : Format) (side count : ℕ) → f ≡ Grey → IsDrawable a f → side ≡ side_of a → count ≡ side * side → HasLength a count
+of_grey a f side count is h at same =
+    let s = colors_of a.modules.now in
+    drawn_length a f Grey (raw_bytes (0 ∷ []) (255 ∷ []) (picture (at_of a) s)) count _ is h refl
+    (length_of_grey 0 255 (at_of a) s) (same ∙ ap (λ n. n * n) at)
 
--- and of coloured ones
-pub ppm_picture : (a : Asked) → IsDrawable a Ppm → HasLength a (ppm_length (side_of a))
-ppm_picture a h =
-    let at = layout a.width a.drawing.now.zone a.drawing.now.scale a.drawing.now.scale in
+pub of_pbm : (a : Asked) (f : Format) (side count : ℕ) → f ≡ Pbm → IsDrawable a f → side ≡ side_of a → count ≡ pbm_length side → HasLength a count
+of_pbm a f side count is h at same =
+    let s = colors_of a.modules.now in
+    drawn_length a f Pbm (pbm_file true false (picture (at_of a) s)) count _ is h refl
+    (length_of_pbm true false (at_of a) s) (same ∙ ap pbm_length at)
+
+pub of_pgm : (a : Asked) (f : Format) (side count : ℕ) → f ≡ Pgm → IsDrawable a f → side ≡ side_of a → count ≡ pgm_length side → HasLength a count
+of_pgm a f side count is h at same =
+    let s = colors_of a.modules.now in
+    drawn_length a f Pgm (pgm_file 0 255 (picture (at_of a) s)) count _ is h refl
+    (length_of_pgm 0 255 (at_of a) s) (same ∙ ap pgm_length at)
+
+pub of_ppm : (a : Asked) (f : Format) (side count : ℕ) → f ≡ Ppm → IsDrawable a f → side ≡ side_of a → count ≡ ppm_length side → HasLength a count
+of_ppm a f side count is h at same =
     let s = colors_of a.modules.now in
     let dark = rgb (colour_shade a.drawing.now.dark) in
-    let light = rgb (colour_shade a.drawing.now.light) in (
-      ppm_file dark light (picture at s),
-      (
-        record { named = Ppm; asked = h.asked; sized = h.sized; drawn = (h.sayable, refl) },
-        sym (length_of_ppm dark light at s refl refl),
-      ),
-    )
+    let light = rgb (colour_shade a.drawing.now.light) in
+    drawn_length a f Ppm (ppm_file dark light (picture (at_of a) s)) count _ is h refl
+    (length_of_ppm dark light (at_of a) s refl refl) (same ∙ ap ppm_length at)
 
--- and what printers take, and XBM
-pub escpos_picture : (a : Asked) → IsDrawable a EscPos → HasLength a (escpos_length (side_of a))
-escpos_picture a h =
-    let at = layout a.width a.drawing.now.zone a.drawing.now.scale a.drawing.now.scale in
-    let s = colors_of a.modules.now in (
-      escpos_file true false (picture at s),
-      (
-        record { named = EscPos; asked = h.asked; sized = h.sized; drawn = (h.sayable, refl) },
-        sym (length_of_file escpos_head (λ bytes. bytes) [] true false at s (bytes_across (pixels_across at)) (λ bytes long. long)),
-      ),
-    )
+pub of_escpos : (a : Asked) (f : Format) (side count : ℕ) → f ≡ EscPos → IsDrawable a f → side ≡ side_of a → count ≡ escpos_length side → HasLength a count
+of_escpos a f side count is h at same =
+    let s = colors_of a.modules.now in
+    let row = bytes_across (pixels_across (at_of a)) in
+    drawn_length a f EscPos (escpos_file true false (picture (at_of a) s)) count _ is h refl
+    (length_of_file escpos_head (λ bytes. bytes) [] true false (at_of a) s row (λ bytes long. long)) (same ∙ ap escpos_length at)
 
-pub tspl_picture : (a : Asked) → IsDrawable a Tspl → HasLength a (tspl_length (side_of a))
-tspl_picture a h =
-    let at = layout a.width a.drawing.now.zone a.drawing.now.scale a.drawing.now.scale in
-    let s = colors_of a.modules.now in (
-      tspl_file true false (picture at s),
-      (
-        record { named = Tspl; asked = h.asked; sized = h.sized; drawn = (h.sayable, refl) },
-        sym (length_of_file tspl_head tspl_row tspl_tail true false at s (bytes_across (pixels_across at)) (λ bytes long. length-map bytes _ ∙ long)),
-      ),
-    )
+pub of_tspl : (a : Asked) (f : Format) (side count : ℕ) → f ≡ Tspl → IsDrawable a f → side ≡ side_of a → count ≡ tspl_length side → HasLength a count
+of_tspl a f side count is h at same =
+    let s = colors_of a.modules.now in
+    let row = bytes_across (pixels_across (at_of a)) in
+    drawn_length a f Tspl (tspl_file true false (picture (at_of a) s)) count _ is h refl
+    (length_of_file tspl_head tspl_row tspl_tail true false (at_of a) s row (λ bytes long. length-map bytes _ ∙ long)) (same ∙ ap tspl_length at)
 
-pub xbm_picture : (a : Asked) → IsDrawable a Xbm → HasLength a (xbm_length (side_of a))
-xbm_picture a h =
-    let at = layout a.width a.drawing.now.zone a.drawing.now.scale a.drawing.now.scale in
-    let s = colors_of a.modules.now in (
-      xbm_file true false (picture at s),
-      (
-        record { named = Xbm; asked = h.asked; sized = h.sized; drawn = (h.sayable, refl) },
-        sym (length_of_file xbm_head xbm_row xbm_tail true false at s (5 * bytes_across (pixels_across at) + 1)
-            (λ bytes long. length_of_xbm_row bytes ∙ ap (λ n. 5 * n + 1) long)),
-      ),
-    )
+pub of_xbm : (a : Asked) (f : Format) (side count : ℕ) → f ≡ Xbm → IsDrawable a f → side ≡ side_of a → count ≡ xbm_length side → HasLength a count
+of_xbm a f side count is h at same =
+    let s = colors_of a.modules.now in
+    let row = bytes_across (pixels_across (at_of a)) in
+    drawn_length a f Xbm (xbm_file true false (picture (at_of a) s)) count _ is h refl
+    (length_of_file xbm_head xbm_row xbm_tail true false (at_of a) s (5 * row + 1) (λ bytes long. length_of_xbm_row bytes ∙ ap (λ n. 5 * n + 1) long)) (same ∙ ap xbm_length at)

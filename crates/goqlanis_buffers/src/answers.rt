@@ -7,86 +7,86 @@ ghost use Rattle.goqlanis_buffers.specs.Segments.{refusal_in};
 
 use qrcode::types::QrError;
 
-/// Why a call refuses. Each refusal has one cause.
+/// Why a call refuses, by the number that C sees. Each refusal has one cause.
 #[derive(Clone, Copy, Drop, PartialEq, Eq)]
 pub enum Refusal {
     /// No level has the number.
-    NoSuchLevel,
+    NoSuchLevel = 1,
     /// No version has the number.
-    NoSuchVersion,
+    NoSuchVersion = 2,
     /// The version lacks the level.
-    LevelNotInVersion,
+    LevelNotInVersion = 3,
     /// The bytes are more than 1,048,576.
-    TooLong,
+    TooLong = 4,
     /// The bytes need a mode that the version lacks.
-    NoMode,
+    NoMode = 5,
     /// No symbol of the asked kind holds the bytes.
-    NoRoom,
+    NoRoom = 6,
     /// The buffer is too small for what would be written.
-    SmallBuffer,
+    SmallBuffer = 7,
     /// Memory was refused.
-    OutOfMemory,
+    OutOfMemory = 8,
     /// No format has the number.
-    NoSuchFormat,
+    NoSuchFormat = 9,
     /// The modules are not as many as the square of their width.
-    NotSquare,
+    NotSquare = 10,
     /// A module would have no pixel, or the picture more than 65,535 modules along a side, or a
     /// module more pixels.
-    NoSuchSize,
+    NoSuchSize = 11,
     /// The bytes are not UTF-8.
-    NotText,
+    NotText = 12,
     /// No kind of segment has the number.
-    NoSuchKind,
+    NoSuchKind = 13,
     /// A segment's mode lacks one of its bytes.
-    NotInMode,
+    NotInMode = 14,
     /// A character set above 999,999, an application above 255, or a count above 16.
-    NoSuchNumber,
+    NoSuchNumber = 15,
     /// No version has so many modules.
-    NoSuchSide,
+    NoSuchSide = 16,
     /// No level and mask are within three bits of each copy of the format word.
-    NoFormat,
+    NoFormat = 17,
     /// A block has too many wrong codewords.
-    Damaged,
+    Damaged = 18,
     /// The data bits are not segments and an end.
-    NotSpelled,
+    NotSpelled = 19,
     /// The size that a struct names is not its own.
-    NoSuchStruct,
+    NoSuchStruct = 20,
     /// No manner has the number.
-    NoSuchManner,
+    NoSuchManner = 21,
     /// The version has no mask of the number.
-    NoSuchMask,
+    NoSuchMask = 22,
     /// The format has no such colours, or names no dots per inch.
-    NotInFormat,
+    NotInFormat = 23,
     /// The data bits are not a text that readers show.
-    NotShown,
+    NotShown = 24,
     /// The square has no header of one of several symbols.
-    NotSeveral,
+    NotSeveral = 25,
     /// The square is a part of other data than the first.
-    Stranger,
+    Stranger = 26,
     /// No square has a part.
-    Missing,
+    Missing = 27,
     /// More than one square has a part.
-    Twice,
+    Twice = 28,
     /// The parts are not those of the data that their headers name.
-    Parity,
+    Parity = 29,
     /// The square is read in no position.
-    NotRead,
+    NotRead = 30,
     /// An area has no rectangle, or one without a module or not inside the symbol.
-    NoSuchArea,
+    NoSuchArea = 31,
     /// No rectangle in the middle leaves what is asked.
-    NoArea,
+    NoArea = 46,
     /// The area touches more codewords of a block than may be lost.
-    AreaBlock,
+    AreaBlock = 47,
     /// The area has more than three modules of a copy of the format word.
-    AreaFormat,
+    AreaFormat = 48,
     /// The bytes are no picture that is read.
-    NotPicture,
+    NotPicture = 49,
     /// The picture is broken, has too many pixels, or is of a kind that is not read.
-    BrokenPicture,
+    BrokenPicture = 50,
     /// The picture shows no square of modules.
-    NoSquare,
+    NoSquare = 51,
     /// The picture is more than 67,108,864 bytes.
-    LargePicture,
+    LargePicture = 52,
 }
 
 impl Refusal {
@@ -95,46 +95,7 @@ impl Refusal {
         ensures value { refusal_of result ≡ Some self }
         ensures at_least { 1 ≤ result }
     {
-        match self {
-            Refusal::NoSuchLevel => 1,
-            Refusal::NoSuchVersion => 2,
-            Refusal::LevelNotInVersion => 3,
-            Refusal::TooLong => 4,
-            Refusal::NoMode => 5,
-            Refusal::NoRoom => 6,
-            Refusal::SmallBuffer => 7,
-            Refusal::OutOfMemory => 8,
-            Refusal::NoSuchFormat => 9,
-            Refusal::NotSquare => 10,
-            Refusal::NoSuchSize => 11,
-            Refusal::NotText => 12,
-            Refusal::NoSuchKind => 13,
-            Refusal::NotInMode => 14,
-            Refusal::NoSuchNumber => 15,
-            Refusal::NoSuchSide => 16,
-            Refusal::NoFormat => 17,
-            Refusal::Damaged => 18,
-            Refusal::NotSpelled => 19,
-            Refusal::NoSuchStruct => 20,
-            Refusal::NoSuchManner => 21,
-            Refusal::NoSuchMask => 22,
-            Refusal::NotInFormat => 23,
-            Refusal::NotShown => 24,
-            Refusal::NotSeveral => 25,
-            Refusal::Stranger => 26,
-            Refusal::Missing => 27,
-            Refusal::Twice => 28,
-            Refusal::Parity => 29,
-            Refusal::NotRead => 30,
-            Refusal::NoSuchArea => 31,
-            Refusal::NoArea => 46,
-            Refusal::AreaBlock => 47,
-            Refusal::AreaFormat => 48,
-            Refusal::NotPicture => 49,
-            Refusal::BrokenPicture => 50,
-            Refusal::NoSquare => 51,
-            Refusal::LargePicture => 52,
-        }
+        self as u32
     }
 }
 

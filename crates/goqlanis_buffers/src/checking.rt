@@ -108,10 +108,7 @@ pub fn check_into(
 ) -> Result<Checks, Refusal>
     ensures { ChecksPicture picture.now size checks.old checks.new wrong.old wrong.new result }
 {
-    let told = match told_in(alloc, picture, size) {
-        Ok(told) => told,
-        Err(refusal) => return Err(refusal),
-    };
+    let told = told_in(alloc, picture, size)?;
     if checks.len() < told.checks.len() || wrong.len() < told.wrong.len() {
         return Err(Refusal::SmallBuffer);
     }

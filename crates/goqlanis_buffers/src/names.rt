@@ -23,12 +23,7 @@ pub fn level_named(number: u32) -> Option<EcLevel>
 pub(crate) fn level_number(level: EcLevel) -> u32
     ensures value { level_named result ≡ Some level }
 {
-    match level {
-        EcLevel::L => 0,
-        EcLevel::M => 1,
-        EcLevel::Q => 2,
-        EcLevel::H => 3,
-    }
+    level as u32
 }
 
 /// The version of a number: 1 to 40 for Normal, 41 to 44 for Micro.

@@ -145,10 +145,8 @@ pub fn read_text_into(alloc: Global, modules: &[u8], text: &mut [u8]) -> Result<
 pub fn mask_of(alloc: Global, modules: &[u8]) -> Result<u32, Refusal>
     ensures { TellsMask modules.now result }
 {
-    match format_of(alloc, modules) {
-        Ok(format) => Ok(mask_number(format.version, format.mask)),
-        Err(refusal) => Err(refusal),
-    }
+    let format = format_of(alloc, modules)?;
+    Ok(mask_number(format.version, format.mask))
 }
 
 /// How many bytes a square of modules is read as.
@@ -240,16 +238,7 @@ pub(crate) fn reported(
 pub(crate) fn position_number(position: Position, is_inverted: bool) -> u32
     ensures value { result ≡ position_number position is_inverted }
 {
-    let number = match position {
-        Position::Upright => 0,
-        Position::TurnedLeft => 1,
-        Position::UpsideDown => 2,
-        Position::TurnedRight => 3,
-        Position::Mirrored => 4,
-        Position::Flipped => 5,
-        Position::Transposed => 6,
-        Position::Antitransposed => 7,
-    };
+    let number = position as u32;
     if is_inverted { number + 8 } else { number }
 }
 

@@ -276,10 +276,5 @@ fn told_part(part: Piece) -> Part
 fn mode_kind(mode: Mode) -> u32
     ensures { result ≡ mode_kind mode }
 {
-    match mode {
-        Mode::Numeric => 0,
-        Mode::Alphanumeric => 1,
-        Mode::Byte => 2,
-        Mode::Kanji => 3,
-    }
+    mode as u32
 }
