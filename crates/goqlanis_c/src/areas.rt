@@ -28,10 +28,8 @@ pub extern "C" fn goq_reserve(
     ensures { IsReported (WritesReserve version level rectangles.now touched.old touched.new)
         result taken.old taken.new }
 {
-    answer(
-        reserve_into(alloc, version, level, rectangles, touched),
-        taken,
-    )
+    let written = reserve_into(alloc, version, level, rectangles, touched);
+    answer(written, taken)
 }
 
 /// The largest rectangle in the middle of a symbol of a version and level of these numbers that

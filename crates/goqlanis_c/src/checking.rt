@@ -27,10 +27,8 @@ pub extern "C" fn goq_check(
     ensures { IsReported (ChecksPicture picture.now counts.old.size checks.old checks.new
         wrong.old wrong.new) result counts.old counts.new }
 {
-    answer(
-        check_into(alloc, picture, counts.size, checks, wrong),
-        counts,
-    )
+    let written = check_into(alloc, picture, counts.size, checks, wrong);
+    answer(written, counts)
 }
 
 /// What of a square of modules, as `goq_read` takes them, departs from the standard: how many

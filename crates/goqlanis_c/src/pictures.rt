@@ -27,14 +27,8 @@ pub extern "C" fn goq_draw(
     ensures { IsReported (WritesPicture modules.now width (plain zone scale format) out.old out.new)
         result count.old count.new }
 {
-    goq_draw_with(
-        alloc,
-        modules,
-        width,
-        &plain(zone, scale, format),
-        out,
-        count,
-    )
+    let drawing = plain(zone, scale, format);
+    goq_draw_with(alloc, modules, width, &drawing, out, count)
 }
 
 /// The length of the picture that `goq_draw` would write, to `count`.
