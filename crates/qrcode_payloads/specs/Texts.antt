@@ -1,5 +1,7 @@
 -- The texts of payloads, and what refuses them.
-use Rattle.std.specs.Prelude.{◌≡◌, ◌≢◌, ℕ, nat_lt, Bool, List, [], ◌∷◌, ◌++◌, length, map, codes, Option, Some, if◌then◌else◌}
+use Rattle.std.specs.Prelude.{◌≡◌, ◌≢◌, ℕ, nat_lt, Bool, List, [], ◌∷◌, ◌++◌, length, map, codes, Option, Some, Result, IfOk, string_bytes, if◌then◌else◌}
+use Rattle.std.specs.declared.alloc.Global.{Global}
+use Rattle.std.specs.declared.string.String.{String}
 use Rattle.qrcode_contents.specs.Bill.{bill_refusal, bill_text, read_bill}
 use Rattle.qrcode_contents.specs.Card.{card_refusal, card_text, read_card}
 use Rattle.qrcode_contents.specs.Contact.{contact_refusal, mecard_text, read_mecard}
@@ -16,7 +18,7 @@ use Rattle.qrcode_contents.specs.declared.fields.errors.ContentError.{ContentErr
 use Rattle.qrcode_contents.specs.declared.fields.errors.Field.{Field}
 use Rattle.qrcode_contents.specs.declared.fields.errors.Field.TheVariants.{Message}
 use Rattle.qrcode_contents.specs.declared.fields.errors.Cause.TheVariants.{TooLong}
-use Rattle.qrcode_contents.specs.fields.Refusals.{first_refusal, refused_if}
+use Rattle.qrcode_contents.specs.fields.Refusals.{Answers, first_refusal, refused_if}
 use Rattle.qrcode_payloads.specs.Kinds.{fields_of}
 use Rattle.qrcode_contents.specs.fields.Entries.{behind, is_empty}
 use Rattle.qrcode_payloads.specs.Given.{refusal_of, text_of, IsRead}
@@ -90,3 +92,8 @@ IsReadAs Event g text = IsRead read_event (happening_in g) text
 IsReadAs Upi g text = IsRead read_upi (request_in g) text
 IsReadAs Pix g text = IsRead read_pix (charge_in g) text
 IsReadAs Promptpay g text = IsRead read_promptpay (claim_in g) text
+
+-- an answer is the text of fields, which is read as exactly them, or their refusal
+pub record HasText (kind : Kind) (g : Field → List ℕ) (result : Result (String Global) ContentError) : Type 0 where
+  pub reads : Answers (payload_refusal kind g) result (IsReadAs kind g)
+  pub value : IfOk result (λ text. string_bytes text ≡ payload_text kind g)

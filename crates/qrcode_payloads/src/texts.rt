@@ -9,7 +9,7 @@ ghost use Rattle.qrcode_contents.specs.declared.fields.errors.Field.TheVariants.
 ghost use Rattle.qrcode_payloads.specs.Plain.{plain};
 ghost use Rattle.qrcode_payloads.specs.declared.plain.Between.TheVariants as between;
 ghost use Rattle.qrcode_payloads.specs.Values.{creditor_in, debtor_in, person_said};
-ghost use Rattle.qrcode_payloads.specs.Texts.{is_long, long_refusal, content_refusal, payload_refusal, payload_text, sms_text, IsReadAs, IsReadAsSms};
+ghost use Rattle.qrcode_payloads.specs.Texts.{is_long, long_refusal, content_refusal, payload_text, sms_text, HasText, IsReadAs, IsReadAsSms};
 ghost use Rattle.qrcode_payloads.specs.declared.kinds.Kind.TheVariants.{Wifi, Mecard, Vcard, Payment, Bill, Mail, Geo, Tel, Sms, Otp, Event, Upi, Pix, Promptpay};
 
 use crate::amounts::plain_amount;
@@ -30,8 +30,7 @@ use std::alloc::Global;
 
 // The text of a network.
 fn wifi_text<G: Given>(alloc: Global, given: &G) -> ContentResult<String>
-    ensures reads { Answers (payload_refusal Wifi (G.fields given.now)) result (IsReadAs Wifi (G.fields given.now)) }
-    ensures value { IfOk result (λ text. string_bytes text ≡ payload_text Wifi (G.fields given.now)) }
+    ensures { HasText Wifi (G.fields given.now) result }
 {
     let security = values::security(given)?;
     let hidden = values::hidden(given.text(Field::Hidden))?;
@@ -46,8 +45,7 @@ fn wifi_text<G: Given>(alloc: Global, given: &G) -> ContentResult<String>
 
 // The text of a payment.
 fn payment_text<G: Given>(alloc: Global, given: &G) -> ContentResult<String>
-    ensures reads { Answers (payload_refusal Payment (G.fields given.now)) result (IsReadAs Payment (G.fields given.now)) }
-    ensures value { IfOk result (λ text. string_bytes text ≡ payload_text Payment (G.fields given.now)) }
+    ensures { HasText Payment (G.fields given.now) result }
 {
     let amount = plain_amount(alloc, given.text(Field::Amount))?;
     let iban = plain(alloc, given.text(Field::Iban), Between::Spaces)?;
@@ -71,8 +69,7 @@ fn payment_text<G: Given>(alloc: Global, given: &G) -> ContentResult<String>
 
 // The link to a location.
 fn geo_text<G: Given>(alloc: Global, given: &G) -> ContentResult<String>
-    ensures reads { Answers (payload_refusal Geo (G.fields given.now)) result (IsReadAs Geo (G.fields given.now)) }
-    ensures value { IfOk result (λ text. string_bytes text ≡ payload_text Geo (G.fields given.now)) }
+    ensures { HasText Geo (G.fields given.now) result }
 {
     let north = plain(alloc, given.text(Field::Latitude), Between::Degrees)?;
     let east = plain(alloc, given.text(Field::Longitude), Between::Degrees)?;
@@ -107,8 +104,7 @@ fn contact<'a, G: Given>(given: &'a G, phone: &'a str, birthday: Option<Day>) ->
 
 // The text of a contact, as MECARD.
 fn mecard_text<G: Given>(alloc: Global, given: &G) -> ContentResult<String>
-    ensures reads { Answers (payload_refusal Mecard (G.fields given.now)) result (IsReadAs Mecard (G.fields given.now)) }
-    ensures value { IfOk result (λ text. string_bytes text ≡ payload_text Mecard (G.fields given.now)) }
+    ensures { HasText Mecard (G.fields given.now) result }
 {
     let day = plain(alloc, given.text(Field::Birthday), Between::Time)?;
     let phone = phone_digits(alloc, given.text(Field::Phone))?;
@@ -118,8 +114,7 @@ fn mecard_text<G: Given>(alloc: Global, given: &G) -> ContentResult<String>
 
 // The text of a contact, as vCard.
 fn vcard_text<G: Given>(alloc: Global, given: &G) -> ContentResult<String>
-    ensures reads { Answers (payload_refusal Vcard (G.fields given.now)) result (IsReadAs Vcard (G.fields given.now)) }
-    ensures value { IfOk result (λ text. string_bytes text ≡ payload_text Vcard (G.fields given.now)) }
+    ensures { HasText Vcard (G.fields given.now) result }
 {
     let day = plain(alloc, given.text(Field::Birthday), Between::Time)?;
     let birthday = values::birthday(day.as_str())?;
@@ -167,8 +162,7 @@ fn debtor<'a, G: Given>(given: &'a G, country: &'a str) -> bill::Party<'a>
 
 // The text of a bill.
 fn bill_text<G: Given>(alloc: Global, given: &G) -> ContentResult<String>
-    ensures reads { Answers (payload_refusal Bill (G.fields given.now)) result (IsReadAs Bill (G.fields given.now)) }
-    ensures value { IfOk result (λ text. string_bytes text ≡ payload_text Bill (G.fields given.now)) }
+    ensures { HasText Bill (G.fields given.now) result }
 {
     let amount = plain_amount(alloc, given.text(Field::Amount))?;
     let iban = plain(alloc, given.text(Field::Iban), Between::Spaces)?;
@@ -191,8 +185,7 @@ fn bill_text<G: Given>(alloc: Global, given: &G) -> ContentResult<String>
 
 // The link that writes an e-mail.
 fn mail_text<G: Given>(alloc: Global, given: &G) -> ContentResult<String>
-    ensures reads { Answers (payload_refusal Mail (G.fields given.now)) result (IsReadAs Mail (G.fields given.now)) }
-    ensures value { IfOk result (λ text. string_bytes text ≡ payload_text Mail (G.fields given.now)) }
+    ensures { HasText Mail (G.fields given.now) result }
 {
     let mail = mail::Mail {
         address: given.text(Field::Email),
@@ -204,8 +197,7 @@ fn mail_text<G: Given>(alloc: Global, given: &G) -> ContentResult<String>
 
 // The link that calls a number.
 fn tel_text<G: Given>(alloc: Global, given: &G) -> ContentResult<String>
-    ensures reads { Answers (payload_refusal Tel (G.fields given.now)) result (IsReadAs Tel (G.fields given.now)) }
-    ensures value { IfOk result (λ text. string_bytes text ≡ payload_text Tel (G.fields given.now)) }
+    ensures { HasText Tel (G.fields given.now) result }
 {
     let number = phone_number(alloc, given.text(Field::Phone))?;
     let phone = Phone {
@@ -228,8 +220,7 @@ fn message_text(alloc: Global, number: &str, body: &str) -> ContentResult<String
 
 // The link that writes to a number.
 fn sms_text<G: Given>(alloc: Global, given: &G) -> ContentResult<String>
-    ensures reads { Answers (payload_refusal Sms (G.fields given.now)) result (IsReadAs Sms (G.fields given.now)) }
-    ensures value { IfOk result (λ text. string_bytes text ≡ payload_text Sms (G.fields given.now)) }
+    ensures { HasText Sms (G.fields given.now) result }
 {
     let number = phone_number(alloc, given.text(Field::Phone))?;
     message_text(alloc, number.as_str(), given.text(Field::Message))
@@ -237,8 +228,7 @@ fn sms_text<G: Given>(alloc: Global, given: &G) -> ContentResult<String>
 
 // The link of one-time passwords.
 fn otp_text<G: Given>(alloc: Global, given: &G) -> ContentResult<String>
-    ensures reads { Answers (payload_refusal Otp (G.fields given.now)) result (IsReadAs Otp (G.fields given.now)) }
-    ensures value { IfOk result (λ text. string_bytes text ≡ payload_text Otp (G.fields given.now)) }
+    ensures { HasText Otp (G.fields given.now) result }
 {
     let secret = plain(alloc, given.text(Field::Secret), Between::Secret)?;
     let factor = values::factor(given.text(Field::Counter), given.text(Field::Period))?;
@@ -257,8 +247,7 @@ fn otp_text<G: Given>(alloc: Global, given: &G) -> ContentResult<String>
 
 // The text of an event.
 fn event_text<G: Given>(alloc: Global, given: &G) -> ContentResult<String>
-    ensures reads { Answers (payload_refusal Event (G.fields given.now)) result (IsReadAs Event (G.fields given.now)) }
-    ensures value { IfOk result (λ text. string_bytes text ≡ payload_text Event (G.fields given.now)) }
+    ensures { HasText Event (G.fields given.now) result }
 {
     let begin = plain_time(alloc, given.text(Field::Begin))?;
     let end = plain_time(alloc, given.text(Field::End))?;
@@ -278,8 +267,7 @@ fn event_text<G: Given>(alloc: Global, given: &G) -> ContentResult<String>
 
 // The link of a payment by UPI.
 fn upi_text<G: Given>(alloc: Global, given: &G) -> ContentResult<String>
-    ensures reads { Answers (payload_refusal Upi (G.fields given.now)) result (IsReadAs Upi (G.fields given.now)) }
-    ensures value { IfOk result (λ text. string_bytes text ≡ payload_text Upi (G.fields given.now)) }
+    ensures { HasText Upi (G.fields given.now) result }
 {
     let amount = plain_amount(alloc, given.text(Field::Amount))?;
     let cents = values::open_amount(amount.as_str())?;
@@ -296,8 +284,7 @@ fn upi_text<G: Given>(alloc: Global, given: &G) -> ContentResult<String>
 
 // The text of a payment by Pix.
 fn pix_text<G: Given>(alloc: Global, given: &G) -> ContentResult<String>
-    ensures reads { Answers (payload_refusal Pix (G.fields given.now)) result (IsReadAs Pix (G.fields given.now)) }
-    ensures value { IfOk result (λ text. string_bytes text ≡ payload_text Pix (G.fields given.now)) }
+    ensures { HasText Pix (G.fields given.now) result }
 {
     let amount = plain_amount(alloc, given.text(Field::Amount))?;
     let cents = values::open_amount(amount.as_str())?;
@@ -314,8 +301,7 @@ fn pix_text<G: Given>(alloc: Global, given: &G) -> ContentResult<String>
 
 // The text of a payment by PromptPay.
 fn promptpay_text<G: Given>(alloc: Global, given: &G) -> ContentResult<String>
-    ensures reads { Answers (payload_refusal Promptpay (G.fields given.now)) result (IsReadAs Promptpay (G.fields given.now)) }
-    ensures value { IfOk result (λ text. string_bytes text ≡ payload_text Promptpay (G.fields given.now)) }
+    ensures { HasText Promptpay (G.fields given.now) result }
 {
     let payee = plain(alloc, given.text(Field::Payee), Between::Person)?;
     let amount = plain_amount(alloc, given.text(Field::Amount))?;
@@ -350,8 +336,7 @@ fn refuse_long<G: Given>(fields: &[Field], given: &G) -> ContentResult<()>
 
 // The text of a kind of payload, of fields that are not too long.
 fn payload_text<G: Given>(alloc: Global, kind: Kind, given: &G) -> ContentResult<String>
-    ensures reads { Answers (payload_refusal kind (G.fields given.now)) result (IsReadAs kind (G.fields given.now)) }
-    ensures value { IfOk result (λ text. string_bytes text ≡ payload_text kind (G.fields given.now)) }
+    ensures { HasText kind (G.fields given.now) result }
 {
     match kind {
         Kind::Wifi => wifi_text(alloc, given),
@@ -376,8 +361,10 @@ fn payload_text<G: Given>(alloc: Global, kind: Kind, given: &G) -> ContentResult
 /// An error names the first field that is too long, or that the format refuses, and why, or is
 /// `OutOfMemory`.
 pub fn text_of<G: Given>(alloc: Global, kind: Kind, given: &G) -> ContentResult<String>
-    ensures reads { Answers (content_refusal kind (G.fields given.now)) result (IsReadAs kind (G.fields given.now)) }
-    ensures value { IfOk result (λ text. string_bytes text ≡ payload_text kind (G.fields given.now)) }
+    ensures reads { Answers (content_refusal kind (G.fields given.now)) result
+        (IsReadAs kind (G.fields given.now)) }
+    ensures value { IfOk result
+        (λ text. string_bytes text ≡ payload_text kind (G.fields given.now)) }
 {
     refuse_long(fields_of(kind), given)?;
     payload_text(alloc, kind, given)

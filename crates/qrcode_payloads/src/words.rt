@@ -34,7 +34,8 @@ pub(crate) fn word<T: Copy>(
     other: T,
     field: Field,
 ) -> ContentResult<T>
-    ensures value { result ≡ word_in (map (λ word. (word.0.now, word.1)) words.now) other text.now field }
+    ensures value { result
+        ≡ word_in (map (λ word. (word.0.now, word.1)) words.now) other text.now field }
 {
     if text.is_empty() {
         return Ok(other);
