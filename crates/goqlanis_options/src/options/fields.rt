@@ -67,7 +67,7 @@ pub fn option_of(field: Field) -> (&'static str, Takes, &'static str)
             "Name of the service, without a colon"),
         Field::Account => ("account", Text("NAME"),
             "Account without a colon, e.g. an e-mail address"),
-        Field::Algorithm => ("algorithm", Word("HASH", &["SHA1", "SHA256", "SHA512"]),
+        Field::Algorithm => ("algorithm", Word("HASH", &["SHA1", "SHA256", "SHA512", "SHA-1", "SHA-256", "SHA-512"]),
             "Hash function [default: SHA1]"),
         Field::Digits => ("digits", Word("N", &["6", "8"]), "Digits of a password [default: 6]"),
         Field::Period => ("period", Text("SECONDS"),
