@@ -6,18 +6,20 @@ use Rattle.std.specs.Option.{option_map}
 use Rattle.std.proofs.lemmas.Bool.Decides.{nat_tests}
 use Rattle.qrcode_contents.specs.declared.fields.errors.Field.{Field}
 use Rattle.qrcode_contents.specs.declared.fields.errors.Field.TheVariants.{Url, Birthday}
-use Rattle.qrcode_contents.specs.declared.fields.errors.Cause.TheVariants.{ControlCharacter, Range}
-use Rattle.qrcode_contents.specs.Card.{Contact, first_fields, last_fields, first_checks, last_checks, first_refused, last_refused, card_refusal, first_texts, last_texts, card_lines, card_text, contact_with, contact_in, read_card}
+use Rattle.qrcode_contents.specs.declared.fields.errors.Cause.TheVariants.{ControlCharacter, Character, Range}
+use Rattle.qrcode_contents.specs.Card.{Contact, first_fields, last_fields, numbers_of, first_checks, number_checks, last_checks, first_refused, numbers_refused, last_refused, card_refusal, first_texts, last_texts, card_lines, card_text, contact_with, contact_in, read_card}
+use Rattle.qrcode_contents.specs.Phone.{is_no_number}
 use Rattle.qrcode_contents.specs.Times.{wrong_day, date_text, said_or_none, read_date, read_or_none}
-use Rattle.qrcode_contents.specs.fields.Characters.{is_control, is_stray, stray_checks}
+use Rattle.qrcode_contents.specs.fields.Characters.{is_control, is_dialled, is_stray, stray_checks}
 use Rattle.qrcode_contents.specs.fields.ContentLines.{content_text, structured, text_lines, read_content, part_in}
 use Rattle.qrcode_contents.specs.fields.Entries.{Entry, value_of}
 use Rattle.qrcode_contents.specs.fields.EntryTests.{are_distinct}
 use Rattle.qrcode_contents.specs.fields.Links.{Parameter}
 use Rattle.qrcode_contents.proofs.ContentParts.{HaveNoReturns, IsPlain, IsPlain-structured, part_read, text_content, line_with}
 use Rattle.qrcode_contents.proofs.ContentReading.{AreContent, content_read}
-use Rattle.qrcode_contents.proofs.LinkReading.{none_of, no_return, no_stray_return, entries_of}
+use Rattle.qrcode_contents.proofs.LinkReading.{none_of, all_without, no_return, no_stray_return, entries_of}
 use Rattle.qrcode_contents.proofs.Passing.{AllPass, all_pass, test_passes}
+use Rattle.qrcode_contents.proofs.PhoneReading.{all_dialled}
 use Rattle.qrcode_contents.proofs.TimeReading.{date_or_none_read, IsPlain-date}
 
 no_feed_of : (b : ℕ) → is_control b ≡ false → (b == 10) ≡ false
@@ -31,22 +33,34 @@ no_strays (field ∷ fields) pass = (
   no_strays fields pass.1,
 )
 
+no_dialled_return : (b : ℕ) → is_dialled b ≡ true → (b == 13) ≡ false
+no_dialled_return b is = grind (arith, nat_tests)
+
+are_numbers : (fields : List (Field × List ℕ)) → AllPass (number_checks fields) → HaveNoReturns (map (λ field. field.1) fields)
+are_numbers [] pass = tt
+are_numbers (field ∷ fields) pass = (
+  all_without is_dialled (λ b. b == 13) no_dialled_return field.1 (all_dialled field.1 (test_passes (is_no_number field.1) field.0 Character pass.0)),
+  are_numbers fields pass.1,
+)
+
 -- what no refusal says of the fields
 record AreTexts (c : Contact) : Type 0 where
   first : HaveNoReturns (map (λ field. field.1) (first_fields c))
+  numbers : HaveNoReturns (map (λ field. field.1) (numbers_of c))
   last : HaveNoReturns (map (λ field. field.1) (last_fields c))
   url : IsPlain c.person.url
   birthday : wrong_day c.person.birthday ≡ false
 
 card_said : (c : Contact) → card_refusal c ≡ None → AreTexts c
-unfolding first_refused last_refused
+unfolding first_refused numbers_refused last_refused
 card_said c is =
-    let none = all_pass (first_refused c ∷ last_refused c ∷ []) is in
+    let none = all_pass (first_refused c ∷ numbers_refused c ∷ last_refused c ∷ []) is in
     let first = all_pass (first_checks c) none.0 in
-    let last = all_pass (last_checks c) none.1.0 in
+    let last = all_pass (last_checks c) none.1.1.0 in
     let url = test_passes (list_any is_control c.person.url) Url ControlCharacter last.0 in
     record {
       first = no_strays (first_fields c) first.1.1;
+      numbers = are_numbers (numbers_of c) (all_pass (number_checks (numbers_of c)) none.1.0);
       last = no_strays (last_fields c) last.1.1;
       url = record { no_return = no_return c.person.url url; no_feed = none_of is_control (λ b. b == 10) no_feed_of c.person.url url };
       birthday = test_passes (wrong_day c.person.birthday) Birthday Range last.1.0;
@@ -66,7 +80,7 @@ later_lines c =
 
 later_content : (c : Contact) → AreTexts c → AreContent (later_lines c)
 later_content c are =
-    let more = are.last.1 in
+    let more = are.last in
     let end : AreContent ((codes "END", codes "VCARD") ∷ []) = (line_with (codes "END") (codes "VCARD") refl refl refl refl word_plain, tt) in (
       line_with (codes "URL") c.person.url refl refl refl refl are.url,
       (
@@ -80,7 +94,8 @@ card_content : (c : Contact) → AreTexts c → AreContent (card_lines c)
 card_content c are =
     let names = are.first.1 in
     let texts : HaveNoReturns (map (λ text. text.1) (first_texts c)) =
-    (are.first.0, (names.1.1.0, (names.1.1.1.0, (names.1.1.1.1.0, (names.1.1.1.1.1.0, (names.1.1.1.1.1.1.0, (are.last.0, (are.last.1.0, tt)))))))) in (
+    let phones = are.numbers in
+    (are.first.0, (names.1.1.0, (names.1.1.1.0, (phones.0, (phones.1.0, (phones.1.1.0, (phones.1.1.1.0, (are.last.0, tt)))))))) in (
       line_with (codes "BEGIN") (codes "VCARD") refl refl refl refl word_plain,
       (
         line_with (codes "VERSION") (codes "3.0") refl refl refl refl version_plain,

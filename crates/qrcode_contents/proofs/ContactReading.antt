@@ -2,11 +2,12 @@
 use Rattle.std.proofs.Common.{◌≡◌, ℕ, List, [], ◌∷◌, true, false, Option, None, Some, codes, refl, ap, ◌∙◌}
 use Rattle.std.specs.Option.{option_map, option_and_then}
 use Rattle.qrcode_contents.specs.Contact.{Person, person_controls, person_checks, contact_refusal, mecard_entries, mecard_text, person_with, person_from, read_mecard}
-use Rattle.qrcode_contents.specs.declared.fields.errors.Field.TheVariants.{Family, Birthday}
-use Rattle.qrcode_contents.specs.declared.fields.errors.Cause.TheVariants.{Empty, Range}
+use Rattle.qrcode_contents.specs.declared.fields.errors.Field.TheVariants.{Family, Birthday, Phone}
+use Rattle.qrcode_contents.specs.declared.fields.errors.Cause.TheVariants.{Empty, Range, Character}
 use Rattle.qrcode_contents.specs.fields.Entries.{Entry, filled, is_empty, part_of}
 use Rattle.qrcode_contents.specs.fields.EntryTests.{are_distinct}
 use Rattle.qrcode_contents.specs.fields.Refusals.{refused_if}
+use Rattle.qrcode_contents.specs.Phone.{is_no_number}
 use Rattle.qrcode_contents.specs.declared.times.Day.{Day}
 use Rattle.qrcode_contents.specs.Times.{wrong_day, read_day, read_or_none}
 use Rattle.qrcode_contents.proofs.EntryReading.{read_entries-text, part_of-filled}
@@ -31,7 +32,7 @@ unfolding person_checks
 right_day p is =
     let checks = (all_pass (person_controls p ∷ person_checks p ∷ []) is).1.0 in
     test_passes (wrong_day p.birthday) Birthday Range
-    (all_pass (refused_if (is_empty p.family) Family Empty ∷ refused_if (wrong_day p.birthday) Birthday Range ∷ []) checks).1.0
+    (all_pass (refused_if (is_empty p.family) Family Empty ∷ refused_if (wrong_day p.birthday) Birthday Range ∷ refused_if (is_no_number p.phone) Phone Character ∷ []) checks).1.0
 
 -- what is read is what was said
 pub mecard_read : (p : Person) → contact_refusal p ≡ None → read_mecard (mecard_text p) ≡ Some p

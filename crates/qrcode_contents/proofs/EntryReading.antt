@@ -31,6 +31,11 @@ pub denied : (a : Bool) → not a ≡ true → a ≡ false
 denied true is = cc
 denied false is = refl
 
+-- two tests of which the first holds, and not both
+pub second_fails : (a b : Bool) → a ≡ true → (a && b) ≡ false → b ≡ false
+second_fails true b is none = none
+second_fails false b is none = cc
+
 -- two tests of which neither holds
 pub neither : (a b : Bool) → (a || b) ≡ false → (a ≡ false) × (b ≡ false)
 neither true b is = cc

@@ -1,6 +1,6 @@
 -- Parts and parameters of links are read back.
 use Rattle.std.proofs.Common.{◌≡◌, ℕ, ◌/◌, ◌%◌, ◌==◌, ◌||◌, not, List, [], ◌∷◌, ◌++◌, Bool, true, false, map, filter, refl, ap, ap₂, ◌∙◌, sym, arith, append_assoc, append-nil, All}
-use Rattle.std.specs.List.{list_any, slice_split}
+use Rattle.std.specs.List.{list_all, list_any, slice_split}
 use Rattle.std.specs.Str.{bytes_eq}
 use Rattle.std.proofs.lemmas.Bool.Decides.{nat_tests}
 use Rattle.std.proofs.lemmas.List.Elements.{All-nil, All-cons}
@@ -13,7 +13,7 @@ use Rattle.qrcode_contents.specs.fields.Entries.{Entry, single, is_filled, fille
 use Rattle.qrcode_contents.specs.fields.EntryTests.{are_distinct}
 use Rattle.qrcode_contents.specs.fields.Links.{before, after, part_byte, part_text, Parameter, parameter_text, query_text, read_parameter, value_in}
 use Rattle.qrcode_contents.specs.fields.Percents.{is_unreserved, hex_digit, encoded_byte, decoded}
-use Rattle.qrcode_contents.proofs.EntryReading.{neither, part_of-filled}
+use Rattle.qrcode_contents.proofs.EntryReading.{both, neither, part_of-filled}
 use Rattle.qrcode_contents.proofs.PercentReading.{decoded_byte, kept_byte}
 
 -- no byte is c
@@ -227,6 +227,13 @@ none_of p q implies [] is = refl
 none_of p q implies (b ∷ bytes) is =
     let parts = neither (p b) (list_any p bytes) is in
     ap₂ (λ x y. x || y) (implies b parts.0) (none_of p q implies bytes parts.1)
+
+-- a test that fails where another holds fails of all bytes of which that holds
+pub all_without : (p q : ℕ → Bool) → ((b : ℕ) → p b ≡ true → q b ≡ false) → (bytes : List ℕ) → list_all p bytes ≡ true → list_any q bytes ≡ false
+all_without p q implies [] are = refl
+all_without p q implies (b ∷ bytes) are =
+    let parts = both (p b) (list_all p bytes) are in
+    ap₂ (λ x y. x || y) (implies b parts.0) (all_without p q implies bytes parts.1)
 
 control_no_return : (b : ℕ) → is_control b ≡ false → (b == 13) ≡ false
 control_no_return b is = grind (arith, nat_tests)

@@ -19,8 +19,8 @@ pub mail_read : (m : Letter) → mail_refusal m ≡ None → read_mail (mail_tex
 unfolding mail_refusal
 mail_read m is =
     let none = all_pass (mail_checks m) is in
-    let subject = no_return m.subject (test_passes (list_any is_control m.subject) Subject ControlCharacter none.1.1.0) in
-    let body = no_stray_return m.body (test_passes (list_any is_stray m.body) Message ControlCharacter none.1.1.1.0) in
+    let subject = no_return m.subject (test_passes (list_any is_control m.subject) Subject ControlCharacter none.1.1.1.0) in
+    let body = no_stray_return m.body (test_passes (list_any is_stray m.body) Message ControlCharacter none.1.1.1.1.0) in
     let ps = mail_parameters m in
     let are : AreParameters ps = (refl, refl, subject, (refl, refl, body, tt)) in
     let path = part_text Path m.address in

@@ -1,5 +1,5 @@
 -- The text of one-time passwords is read back.
-use Rattle.std.proofs.Common.{◌≡◌, ℕ, ◌+◌, ◌%◌, ◌<◌, ◌^◌, ◌==◌, ◌||◌, not, List, [], ◌∷◌, ◌++◌, Bool, true, false, None, Some, decimal, codes, if◌then◌else◌, refl, ap, ap₂, ◌∙◌, sym, arith, append_assoc}
+use Rattle.std.proofs.Common.{◌≡◌, ℕ, ◌+◌, ◌%◌, ◌<◌, ◌^◌, ◌==◌, ◌||◌, not, List, [], ◌∷◌, ◌++◌, Bool, true, false, None, Some, decimal, codes, if◌then◌else◌, refl, ap, ◌∙◌, sym, arith, append_assoc}
 use Rattle.std.specs.List.{list_any, list_all}
 use Rattle.std.specs.Str.Parse.{digits_value}
 use Rattle.std.proofs.lemmas.Bool.Decides.{nat_tests}
@@ -19,8 +19,8 @@ use Rattle.qrcode_contents.specs.fields.EntryTests.{are_distinct}
 use Rattle.qrcode_contents.specs.fields.Links.{before, part_text, query_text, value_in}
 use Rattle.qrcode_contents.specs.OneTime.{Key, is_colon, begins_with_space, is_a_word, key_checks, key_refusal, factor_parameter, algorithm_value, digits_text, label_text, key_parameters, key_text, read_algorithm, read_digits, read_factor, without_spaces, read_account, key_in, read_key}
 use Rattle.qrcode_contents.specs.fields.Percents.{decoded}
-use Rattle.qrcode_contents.proofs.EntryReading.{both, neither}
-use Rattle.qrcode_contents.proofs.LinkReading.{HasNo, HasNo-append, HasNo-part, AreParameters, entries_of, after-at, value_read, path_read, decoded-path, path_decoded, no_return}
+use Rattle.qrcode_contents.proofs.EntryReading.{neither}
+use Rattle.qrcode_contents.proofs.LinkReading.{HasNo, HasNo-append, HasNo-part, AreParameters, entries_of, after-at, value_read, path_read, decoded-path, path_decoded, no_return, all_without}
 use Rattle.qrcode_contents.proofs.Passing.{all_pass, test_passes}
 use Rattle.qrcode_contents.proofs.PhoneReading.{holds}
 use Rattle.qrcode_contents.proofs.PercentReading.{kept_byte}
@@ -64,12 +64,6 @@ period_read n false is fits = rw (is, decimal_filled n fits) (decimal_is_IsNumer
 
 secret_no_return : (b : ℕ) → is_base32 b ≡ true → (b == 13) ≡ false
 secret_no_return b is = grind (arith, nat_tests)
-
-secret_plain : (bytes : List ℕ) → list_all is_base32 bytes ≡ true → HasNo 13 bytes
-secret_plain [] is = refl
-secret_plain (b ∷ bytes) is =
-    let parts = both (is_base32 b) (list_all is_base32 bytes) is in
-    ap₂ (λ x y. x || y) (secret_no_return b parts.0) (secret_plain bytes parts.1)
 
 spaced : (account : List ℕ) → begins_with_space (32 ∷ account) ≡ true
 spaced account = refl
@@ -158,7 +152,7 @@ parameters_plain k is no_equals no_and number =
     let issuer = no_return k.issuer (test_passes (list_any is_control k.issuer) Issuer ControlCharacter none.0) in
     let all = holds (list_all is_base32 k.secret) (test_passes (not (list_all is_base32 k.secret)) Secret Character none.1.1.1.1.1.1.0) in
     let last : AreParameters (factor_parameter k.factor ∷ []) = (no_equals, no_and, number, tt) in
-    (refl, refl, secret_plain k.secret all, (refl, refl, issuer, (refl, refl, algorithm_plain k.algorithm, (refl, refl, digits_plain k.digits, last))))
+    (refl, refl, all_without is_base32 (λ b. b == 13) secret_no_return k.secret all, (refl, refl, issuer, (refl, refl, algorithm_plain k.algorithm, (refl, refl, digits_plain k.digits, last))))
 
 -- what is read is what was said, by what the passwords change with
 key_by : (factor : Factor) (issuer account secret : List ℕ) (algorithm : Algorithm) (digits : Digits) → let k : Key = record { factor = factor; issuer = issuer; account = account; secret = secret; algorithm = algorithm; digits = digits } in key_refusal k ≡ None → is_a_word factor → read_key (key_text k) ≡ Some k

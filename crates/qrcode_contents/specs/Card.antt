@@ -1,5 +1,5 @@
 -- Texts of contacts as vCard 3.0 (RFC 2426).
-use Rattle.std.specs.Prelude.{◌≡◌, ℕ, ◌&&◌, List, [], ◌∷◌, ◌++◌, Option, Some, None, codes, if◌then◌else◌, refl}
+use Rattle.std.specs.Prelude.{◌≡◌, ℕ, ◌&&◌, List, [], ◌∷◌, ◌++◌, map, Option, Some, None, codes, if◌then◌else◌, refl}
 use Rattle.std.specs.Str.{bytes_eq}
 use Rattle.std.specs.List.{list_any}
 use Rattle.std.specs.Option.{option_map}
@@ -8,7 +8,7 @@ use Rattle.qrcode_contents.specs.declared.card.Card.{Card}
 use Rattle.qrcode_contents.specs.declared.fields.errors.ContentError.{ContentError}
 use Rattle.qrcode_contents.specs.declared.fields.errors.Field.{Field}
 use Rattle.qrcode_contents.specs.declared.fields.errors.Field.TheVariants.{Name, Family, Given, Organisation, Title, Phone, Mobile, WorkPhone, HomePhone, Email, Url, Birthday, Street, City, Region, PostalCode, Country, Note}
-use Rattle.qrcode_contents.specs.declared.fields.errors.Cause.TheVariants.{Empty, ControlCharacter, Range}
+use Rattle.qrcode_contents.specs.declared.fields.errors.Cause.TheVariants.{Empty, ControlCharacter, Character, Range}
 use Rattle.qrcode_contents.specs.declared.times.Day.{Day}
 use Rattle.qrcode_contents.specs.fields.Characters.{is_control, stray_checks}
 use Rattle.qrcode_contents.specs.fields.ContentLines.{content_text, structured, text_lines, read_content, unfolded, part_in}
@@ -16,6 +16,7 @@ use Rattle.qrcode_contents.specs.fields.Entries.{Entry, is_empty, value_of}
 use Rattle.qrcode_contents.specs.fields.Escapes.{unescaped_from, pieces_from}
 use Rattle.qrcode_contents.specs.fields.Links.{Parameter}
 use Rattle.qrcode_contents.specs.fields.Refusals.{refused_if, first_refusal}
+use Rattle.qrcode_contents.specs.Phone.{is_no_number}
 use Rattle.qrcode_contents.specs.Times.{wrong_day, date_text, said_or_none, read_day, read_date, read_or_none}
 
 pub record Contact : Type 0 where  -- a contact as its card says it
@@ -40,12 +41,17 @@ contact_of c = record {
 
 abbrev pub first_fields : Contact → List (Field × List ℕ)  -- fields of texts, in which tabs and line feeds may stand
 first_fields c =
-    (Name, c.name) ∷ (Family, c.person.family) ∷ (Given, c.person.given) ∷ (Organisation, c.organisation) ∷ (Title, c.title) ∷ (Phone, c.person.phone)
-    ∷ (Mobile, c.mobile) ∷ (WorkPhone, c.work_phone) ∷ []
+    (Name, c.name) ∷ (Family, c.person.family) ∷ (Given, c.person.given) ∷ (Organisation, c.organisation) ∷ (Title, c.title) ∷ []
 
 abbrev pub last_fields : Contact → List (Field × List ℕ)  -- more of these
 last_fields c =
-    (HomePhone, c.home_phone) ∷ (Email, c.person.email) ∷ (Note, c.person.note) ∷ (Street, c.person.street) ∷ (City, c.person.city) ∷ (Region, c.person.region) ∷ (PostalCode, c.person.code) ∷ (Country, c.person.country) ∷ []
+    (Email, c.person.email) ∷ (Note, c.person.note) ∷ (Street, c.person.street) ∷ (City, c.person.city) ∷ (Region, c.person.region) ∷ (PostalCode, c.person.code) ∷ (Country, c.person.country) ∷ []
+
+abbrev pub numbers_of : Contact → List (Field × List ℕ)  -- telephone numbers
+numbers_of c = (Phone, c.person.phone) ∷ (Mobile, c.mobile) ∷ (WorkPhone, c.work_phone) ∷ (HomePhone, c.home_phone) ∷ []
+
+abbrev pub number_checks : List (Field × List ℕ) → List (Option ContentError)  -- of each field, what is no telephone number
+number_checks fields = map (λ field. refused_if (is_no_number field.1) field.0 Character) fields
 
 abbrev pub first_checks : Contact → List (Option ContentError)  -- missing names, and control characters
 first_checks c =
@@ -60,11 +66,14 @@ last_checks c =
 unfoldable pub first_refused : Contact → Option ContentError
 first_refused c = first_refusal (first_checks c)
 
+unfoldable pub numbers_refused : Contact → Option ContentError
+numbers_refused c = first_refusal (number_checks (numbers_of c))
+
 unfoldable pub last_refused : Contact → Option ContentError
 last_refused c = first_refusal (last_checks c)
 
 abbrev pub card_refusal : Contact → Option ContentError  -- what the card cannot say
-card_refusal c = first_refusal (first_refused c ∷ last_refused c ∷ [])
+card_refusal c = first_refusal (first_refused c ∷ numbers_refused c ∷ last_refused c ∷ [])
 
 -- lines of one text before the addresses; a number may be that of a mobile telephone, at work or at home
 abbrev pub first_texts : Contact → List Parameter

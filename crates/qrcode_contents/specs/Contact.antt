@@ -4,11 +4,12 @@ use Rattle.std.specs.Option.{option_map, option_and_then}
 use Rattle.qrcode_contents.specs.declared.contact.Contact.{Contact}
 use Rattle.qrcode_contents.specs.declared.fields.errors.ContentError.{ContentError}
 use Rattle.qrcode_contents.specs.declared.fields.errors.Field.TheVariants.{Family, Given, Phone, Email, Url, Birthday, Note, Street, City, Region, PostalCode, Country}
-use Rattle.qrcode_contents.specs.declared.fields.errors.Cause.TheVariants.{Empty, Range}
+use Rattle.qrcode_contents.specs.declared.fields.errors.Cause.TheVariants.{Empty, Range, Character}
 use Rattle.qrcode_contents.specs.fields.Characters.{control_refusal}
 use Rattle.qrcode_contents.specs.fields.Entries.{Entry, single, is_empty, marked_text, key_of, behind_key, read_entry, read_entries, value_of, part_of}
 use Rattle.qrcode_contents.specs.fields.Escapes.{unescaped_from, pieces_from}
 use Rattle.qrcode_contents.specs.fields.Refusals.{refused_if, first_refusal}
+use Rattle.qrcode_contents.specs.Phone.{is_no_number}
 use Rattle.qrcode_contents.specs.declared.times.Day.{Day}
 use Rattle.qrcode_contents.specs.Times.{wrong_day, day_text, said_or_none, read_day, read_or_none}
 
@@ -44,12 +45,14 @@ person_of c = record {
 
 unfoldable pub person_controls : Person → Option ContentError  -- line breaks and other control characters
 person_controls p = control_refusal (
-    (Family, p.family) ∷ (Given, p.given) ∷ (Phone, p.phone) ∷ (Email, p.email) ∷ (Url, p.url) ∷ (Note, p.note)
+    (Family, p.family) ∷ (Given, p.given) ∷ (Email, p.email) ∷ (Url, p.url) ∷ (Note, p.note)
     ∷ (Street, p.street) ∷ (City, p.city) ∷ (Region, p.region) ∷ (PostalCode, p.code) ∷ (Country, p.country) ∷ [])
 
-unfoldable pub person_checks : Person → Option ContentError  -- a missing name, and a birthday that the calendar has not
+-- a missing name, a birthday that the calendar has not, and what is no telephone number
+unfoldable pub person_checks : Person → Option ContentError
 person_checks p = first_refusal (
-    refused_if (is_empty p.family) Family Empty ∷ refused_if (wrong_day p.birthday) Birthday Range ∷ [])
+    refused_if (is_empty p.family) Family Empty ∷ refused_if (wrong_day p.birthday) Birthday Range
+    ∷ refused_if (is_no_number p.phone) Phone Character ∷ [])
 
 abbrev pub contact_refusal : Person → Option ContentError  -- what the text cannot say
 contact_refusal p = first_refusal (person_controls p ∷ person_checks p ∷ [])

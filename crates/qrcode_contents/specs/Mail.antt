@@ -4,11 +4,11 @@ use Rattle.std.specs.List.{list_any}
 use Rattle.std.specs.Option.{option_map}
 use Rattle.qrcode_contents.specs.declared.fields.errors.ContentError.{ContentError}
 use Rattle.qrcode_contents.specs.declared.fields.errors.Field.TheVariants.{Email, Subject, Message}
-use Rattle.qrcode_contents.specs.declared.fields.errors.Cause.TheVariants.{ControlCharacter, Character}
+use Rattle.qrcode_contents.specs.declared.fields.errors.Cause.TheVariants.{Empty, ControlCharacter, Character}
 use Rattle.qrcode_contents.specs.declared.fields.links.Part.TheVariants.{Path}
 use Rattle.qrcode_contents.specs.declared.mail.Mail.{Mail}
 use Rattle.qrcode_contents.specs.fields.Characters.{is_control, is_stray}
-use Rattle.qrcode_contents.specs.fields.Entries.{behind}
+use Rattle.qrcode_contents.specs.fields.Entries.{behind, is_empty}
 use Rattle.qrcode_contents.specs.fields.Links.{Parameter, before, part_text, query_text, read_parameter, value_in}
 use Rattle.qrcode_contents.specs.fields.Percents.{decoded}
 use Rattle.qrcode_contents.specs.fields.Refusals.{refused_if, first_refusal}
@@ -24,7 +24,8 @@ letter_of m = record { address = m.address.now; subject = m.subject.now; body = 
 -- what the link cannot say: an address has one `@`, and a body no control character but tabs and line feeds
 abbrev pub mail_checks : Letter → List (Option ContentError)
 mail_checks m =
-    refused_if (list_any is_control m.address) Email ControlCharacter
+    refused_if (is_empty m.address) Email Empty
+    ∷ refused_if (list_any is_control m.address) Email ControlCharacter
     ∷ refused_if (not (count_by (λ b. b == 64) m.address == 1)) Email Character
     ∷ refused_if (list_any is_control m.subject) Subject ControlCharacter
     ∷ refused_if (list_any is_stray m.body) Message ControlCharacter

@@ -2,7 +2,7 @@
 
 ghost use Rattle.std.specs.Prelude.{◌≡◌, ◌++◌, Some, IfOk, OnOk, IsOkUnless, string_bytes};
 ghost use Rattle.qrcode_contents.specs.declared.fields.errors.ContentError.TheVariants.{OutOfMemory};
-ghost use Rattle.qrcode_contents.specs.Card.{contact_of, first_refused, last_refused, card_refusal, name_lines, card_text, read_card};
+ghost use Rattle.qrcode_contents.specs.Card.{contact_of, first_refused, numbers_refused, last_refused, card_refusal, name_lines, card_text, read_card};
 ghost use Rattle.qrcode_contents.specs.fields.ContentLines.{content_text};
 ghost use Rattle.qrcode_contents.specs.fields.Refusals.{Answers, checked};
 
@@ -10,6 +10,7 @@ use crate::contact::Contact;
 use crate::fields::content_lines::{push_content, push_texts, push_value};
 use crate::fields::errors::{Cause, ContentResult, Field};
 use crate::fields::refusals::{controls, refuse_first, stray};
+use crate::phone::no_number;
 use crate::times::{date_or_none, is_wrong_day};
 use std::alloc::Global;
 
@@ -46,9 +47,19 @@ impl Card<'_> {
             stray(Field::Given, self.contact.given),
             stray(Field::Organisation, self.organisation),
             stray(Field::Title, self.title),
-            stray(Field::Phone, self.contact.phone),
-            stray(Field::Mobile, self.mobile),
-            stray(Field::WorkPhone, self.work_phone),
+        ])
+    }
+
+    // Refuses what is no telephone number.
+    #[tactic(auto, unfolding(crate::specs::Card::numbers_refused))]
+    fn check_numbers(&self) -> ContentResult<()>
+        ensures { result ≡ checked (numbers_refused (contact_of self.now)) }
+    {
+        refuse_first(&[
+            no_number(Field::Phone, self.contact.phone),
+            no_number(Field::Mobile, self.mobile),
+            no_number(Field::WorkPhone, self.work_phone),
+            no_number(Field::HomePhone, self.home_phone),
         ])
     }
 
@@ -64,7 +75,6 @@ impl Card<'_> {
                 Field::Birthday,
                 Cause::Range,
             ),
-            stray(Field::HomePhone, self.home_phone),
             stray(Field::Email, self.contact.email),
             stray(Field::Note, self.contact.note),
             stray(Field::Street, self.contact.street),
@@ -80,6 +90,7 @@ impl Card<'_> {
         ensures { result ≡ checked (card_refusal (contact_of self.now)) }
     {
         self.check_first()?;
+        self.check_numbers()?;
         self.check_last()
     }
 

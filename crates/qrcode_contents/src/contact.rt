@@ -8,6 +8,7 @@ ghost use Rattle.qrcode_contents.specs.fields.Refusals.{Answers, checked};
 use crate::fields::entries::{push_entry, push_texts};
 use crate::fields::errors::{Cause, ContentResult, Field};
 use crate::fields::refusals::{controls, refuse_first};
+use crate::phone::no_number;
 use crate::times::{Day, day_or_none, is_wrong_day};
 use std::alloc::Global;
 
@@ -49,7 +50,6 @@ impl Contact<'_> {
         refuse_first(&[
             controls(Field::Family, self.family),
             controls(Field::Given, self.given),
-            controls(Field::Phone, self.phone),
             controls(Field::Email, self.email),
             controls(Field::Url, self.url),
             controls(Field::Note, self.note),
@@ -61,7 +61,8 @@ impl Contact<'_> {
         ])
     }
 
-    // Refuses a contact with no name, and a birthday that the calendar has not.
+    // Refuses a contact with no name, a birthday that the calendar has not, and what is no
+    // telephone number.
     #[tactic(auto, unfolding(crate::specs::Contact::person_checks))]
     fn check_forms(&self) -> ContentResult<()>
         ensures { result ≡ checked (person_checks (person_of self.now)) }
@@ -69,6 +70,7 @@ impl Contact<'_> {
         refuse_first(&[
             (self.family.is_empty(), Field::Family, Cause::Empty),
             (is_wrong_day(self.birthday), Field::Birthday, Cause::Range),
+            no_number(Field::Phone, self.phone),
         ])
     }
 

@@ -29,6 +29,7 @@ impl Mail<'_> {
         ensures { result ≡ checked (mail_refusal (letter_of self.now)) }
     {
         refuse_first(&[
+            (self.address.is_empty(), Field::Email, Cause::Empty),
             controls(Field::Email, self.address),
             (!has_one_at(self.address), Field::Email, Cause::Character),
             controls(Field::Subject, self.subject),

@@ -2,17 +2,18 @@
 
 ghost use Rattle.std.specs.Prelude.{◌≡◌, ◌++◌, ◌==◌, drop, Some, IfOk, OnOk, IsOkUnless, string_bytes, codes};
 ghost use Rattle.std.specs.List.{list_any};
+ghost use Rattle.qrcode_contents.specs.declared.fields.errors.Cause.TheVariants.{Character};
 ghost use Rattle.qrcode_contents.specs.declared.fields.errors.ContentError.TheVariants.{OutOfMemory};
 ghost use Rattle.qrcode_contents.specs.fields.Characters.{is_digit};
 ghost use Rattle.qrcode_contents.specs.fields.Entries.{behind};
 ghost use Rattle.qrcode_contents.specs.fields.Percents.{encoded, decoded};
-ghost use Rattle.qrcode_contents.specs.Phone.{phone_refusal, message_text, read_message};
+ghost use Rattle.qrcode_contents.specs.Phone.{is_number, is_no_number, phone_refusal, message_text, read_message};
 ghost use Rattle.qrcode_contents.specs.fields.Refusals.{Answers, checked};
 
 use crate::fields::characters::are_dialled;
 use crate::fields::errors::{Cause, ContentResult, Field};
 use crate::fields::percents::push_encoded;
-use crate::fields::refusals::refuse_first;
+use crate::fields::refusals::{Check, refuse_first};
 use std::alloc::Global;
 
 /// A telephone number: digits, one at least, with `-`, `.`, `(` and `)` between them, and `+` in
@@ -61,6 +62,24 @@ fn has_digit(number: &str) -> bool
     bytes.iter().any(|byte| byte.is_ascii_digit())
 }
 
+/// Whether a text is a telephone number.
+pub fn is_number(text: &str) -> bool
+    ensures value { result ≡ is_number text.now }
+{
+    are_dialled(text) && !has_later_plus(text) && has_digit(text)
+}
+
+/// Refuses a field that is no telephone number, where it is not empty.
+pub(crate) fn no_number(field: Field, text: &str) -> Check
+    ensures { result ≡ (is_no_number text.now, field, Character) }
+{
+    (
+        !text.is_empty() && !is_number(text),
+        field,
+        Cause::Character,
+    )
+}
+
 impl Phone<'_> {
     // Refuses what is no number.
     #[tactic(auto, unfolding(crate::specs::Phone::phone_refusal))]
@@ -69,9 +88,7 @@ impl Phone<'_> {
     {
         refuse_first(&[
             (self.number.is_empty(), Field::Phone, Cause::Empty),
-            (!are_dialled(self.number), Field::Phone, Cause::Character),
-            (has_later_plus(self.number), Field::Phone, Cause::Character),
-            (!has_digit(self.number), Field::Phone, Cause::Character),
+            no_number(Field::Phone, self.number),
         ])
     }
 

@@ -2,6 +2,7 @@
 use Rattle.std.specs.Prelude.{◌≡◌, ℕ, ◌==◌, ◌&&◌, ◌||◌, Bool, false, List, ◌++◌, Option, Some, None, chars, codes, encode_utf8_all, eqb, if◌then◌else◌, refl}
 use Rattle.std.specs.List.{after_first, before_first, filter_map, starts_with}
 use Rattle.std.specs.Char.{to_ascii_uppercase}
+use Rattle.qrcode_contents.specs.Phone.{is_number}
 use Rattle.qrcode_contents.specs.fields.Entries.{is_filled}
 use Rattle.qrcode_payloads.specs.declared.plain.Between.{Between}
 use Rattle.qrcode_payloads.specs.declared.plain.Between.TheVariants.{Spaces, Phone, Digits, Amount, Groups, Degrees, Person, Secret, Time, Clock}
@@ -56,9 +57,11 @@ without_zero number =
 abbrev pub phone_number : List ℕ → List ℕ  -- a telephone number as formats have it
 phone_number text = without_zero (plain Phone text)
 
--- a telephone number without what stands between its digits, as MECARD has it
-abbrev pub phone_digits : List ℕ → List ℕ
-phone_digits text = plain Digits (phone_number text)
+abbrev pub digits_of : List ℕ → List ℕ  -- a number without what stands between its digits; another text with it, so that it is refused
+digits_of text = if is_number text then plain Digits text else text
+
+abbrev pub phone_digits : List ℕ → List ℕ  -- a telephone number as MECARD has it
+phone_digits text = digits_of (phone_number text)
 
 abroad_row : without_zero (codes "+41(0)791234567") ≡ codes "+41791234567"
 unfolding without_zero

@@ -1,5 +1,5 @@
 -- Days and moments of digits, and the moments in UTC of times in other zones.
-use Rattle.std.specs.Prelude.{◌≡◌, ℕ, zero, suc, nat_lt, nat_le, ◌+◌, ◌*◌, ◌/◌, ◌%◌, ◌==◌, ◌&&◌, Bool, List, ◌∷◌, ◌++◌, length, slice_index, ◌-◌, Option, Some, None, if◌then◌else◌, codes, refl}
+use Rattle.std.specs.Prelude.{◌≡◌, ℕ, zero, suc, nat_lt, nat_le, ◌+◌, ◌*◌, ◌/◌, ◌%◌, ◌==◌, ◌&&◌, Bool, List, ◌∷◌, ◌++◌, length, slice_index, ◌-◌, Option, Some, None, is_some, if◌then◌else◌, codes, refl}
 use Rattle.std.specs.List.{after_first, before_first, list_all}
 use Rattle.std.specs.Option.{option_map, option_and_then}
 use Rattle.qrcode_contents.specs.declared.times.Day.{Day}
@@ -129,6 +129,9 @@ plain_time text =
 -- the moment in UTC of a day, a T, a time of day, and a Z or a zone
 abbrev pub moment_said : List ℕ → Option Moment
 moment_said text = moment_of (before_first is_tee text) (after_first is_tee text)
+
+abbrev pub is_local : List ℕ → Bool  -- a day and a time with no zone
+is_local text = is_some (local_said (before_first is_tee text) (after_first is_tee text))
 
 -- printed examples of RFC 5545, sections 3.3.4 and 3.3.5, and one without seconds
 printed_day : day_said (codes "19970714") ≡ Some (let d : Day = record { year = 1997; month = 7; day = 14 } in d)

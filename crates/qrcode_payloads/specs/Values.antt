@@ -32,13 +32,14 @@ use Rattle.qrcode_contents.specs.declared.times.Moment.{Moment}
 use Rattle.qrcode_contents.specs.declared.wifi.Security as ways
 use Rattle.qrcode_contents.specs.declared.wifi.Security.TheVariants.{Open, Wpa}
 use Rattle.std.specs.List.{list_all}
+use Rattle.std.specs.Str.{trim}
 use Rattle.qrcode_contents.specs.fields.Characters.{is_digit}
 use Rattle.qrcode_contents.specs.fields.Entries.{is_empty}
 use Rattle.qrcode_payloads.specs.Amounts.{plain_amount}
 use Rattle.qrcode_payloads.specs.Given.{said, with_value}
 use Rattle.qrcode_payloads.specs.Numbers.{scaled_value, degrees_of, unsigned}
 use Rattle.qrcode_payloads.specs.Plain.{plain, phone_number, phone_digits}
-use Rattle.qrcode_payloads.specs.Times.{day_said, moment_said, plain_time}
+use Rattle.qrcode_payloads.specs.Times.{day_said, is_local, moment_said, plain_time}
 use Rattle.qrcode_payloads.specs.Words.{named, security_words, currency_words, algorithm_words, digits_words, flag_words}
 use Rattle.qrcode_payloads.specs.declared.plain.Between.TheVariants as between
 
@@ -50,8 +51,9 @@ word_in words other text field = if is_empty text then Ok other else said (named
 abbrev pub number_cause : List ℕ → Cause
 number_cause text = if is_empty text then Empty else (if is_some (scaled_value (length text) text) then Decimals else Character)
 
-abbrev pub time_cause : List ℕ → Cause  -- why a text says no time
-time_cause text = if is_empty text then Empty else Character
+-- why a text says no time: it is empty, has no zone, or other characters
+abbrev pub time_cause : List ℕ → Cause
+time_cause text = if is_empty text then Empty else (if is_local text then TooShort else Character)
 
 abbrev pub degrees_cause : List ℕ → Cause  -- why a text says no degrees
 degrees_cause text = number_cause (unsigned text)
@@ -117,13 +119,13 @@ person_in g = with_value (birthday_in (plain between.Time (g Birthday))) (λ bir
 
 abbrev pub contact_in : (Field → List ℕ) → Result Contact ContentError  -- a contact, as vCard has it
 contact_in g = with_value (birthday_in (plain between.Time (g Birthday))) (λ birthday. Ok (record {
-  person = person_said g (g Phone) birthday;
+  person = person_said g (phone_number (g Phone)) birthday;
   name = g Name;
   organisation = g Organisation;
   title = g Title;
-  mobile = g Mobile;
-  work_phone = g WorkPhone;
-  home_phone = g HomePhone;
+  mobile = phone_number (g Mobile);
+  work_phone = phone_number (g WorkPhone);
+  home_phone = phone_number (g HomePhone);
 }))
 
 abbrev pub transfer_in : (Field → List ℕ) → Result Transfer ContentError  -- a payment
@@ -176,8 +178,12 @@ letter_in g = record { address = g Email; subject = g Subject; body = g Message 
 abbrev pub degrees_in : List ℕ → Field → Result ℤ ContentError  -- degrees, in millionths
 degrees_in text field = said (degrees_of text) field (degrees_cause text)
 
+-- degrees of a field, which may have white space before and behind them
+abbrev pub degrees_given : (Field → List ℕ) → Field → Result ℤ ContentError
+degrees_given g field = degrees_in (plain between.Degrees (trim (g field))) field
+
 abbrev pub place_in : (Field → List ℕ) → Result Place ContentError  -- a location
-place_in g = with_value (degrees_in (plain between.Degrees (g Latitude)) Latitude) (λ north. with_value (degrees_in (plain between.Degrees (g Longitude)) Longitude) (λ east. Ok (record { latitude = north; longitude = east })))
+place_in g = with_value (degrees_given g Latitude) (λ north. with_value (degrees_given g Longitude) (λ east. Ok (record { latitude = north; longitude = east })))
 
 abbrev pub phone_in : (Field → List ℕ) → List ℕ  -- a telephone number
 phone_in g = phone_number (g Phone)
@@ -204,7 +210,7 @@ key_in g = with_value (factor_in (g Counter) (g Period)) (λ factor. with_value 
 }))))
 
 abbrev pub stamp_in : List ℕ → Result (Option Moment) ContentError  -- when an event was written, where it is said
-stamp_in text = if is_empty text then Ok None else with_value (said (moment_said text) Stamp Character) (λ moment. Ok (Some moment))
+stamp_in text = if is_empty text then Ok None else with_value (said (moment_said text) Stamp (time_cause text)) (λ moment. Ok (Some moment))
 
 abbrev pub days_in : Day → List ℕ → Result Span ContentError  -- from one day until before another
 days_in first end = with_value (said (day_said end) End (time_cause end)) (λ last. Ok (Days first last))

@@ -27,7 +27,9 @@ abbrev pub currency_words : List (List ℕ × Currency)  -- the currency of a bi
 currency_words = (codes "CHF", Franc) ∷ (codes "EUR", Euro) ∷ []
 
 abbrev pub algorithm_words : List (List ℕ × Algorithm)  -- the hash of one-time passwords
-algorithm_words = (codes "SHA1", Sha1) ∷ (codes "SHA256", Sha256) ∷ (codes "SHA512", Sha512) ∷ []
+algorithm_words =
+    (codes "SHA1", Sha1) ∷ (codes "SHA256", Sha256) ∷ (codes "SHA512", Sha512)
+    ∷ (codes "SHA-1", Sha1) ∷ (codes "SHA-256", Sha256) ∷ (codes "SHA-512", Sha512) ∷ []
 
 abbrev pub digits_words : List (List ℕ × Digits)  -- how many digits a one-time password has
 digits_words = (codes "6", Six) ∷ (codes "8", Eight) ∷ []

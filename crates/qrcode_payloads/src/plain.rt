@@ -4,6 +4,7 @@ ghost use Rattle.std.specs.Prelude.{◌≡◌, IfOk, string_bytes};
 ghost use Rattle.qrcode_payloads.specs.Plain.{is_between, as_written, kept, plain, without_zero, phone_number, phone_digits};
 
 use qrcode_contents::fields::characters::parts;
+use qrcode_contents::phone::is_number;
 use std::alloc::{AllocError, Global};
 
 /// What people write between the characters of a value.
@@ -107,10 +108,14 @@ pub(crate) fn phone_number(alloc: Global, text: &str) -> Result<String, AllocErr
     without_zero(alloc, plain(alloc, text, Between::Phone)?)
 }
 
-/// A telephone number of digits alone, perhaps behind a plus sign, as MECARD has it.
+/// A telephone number of digits alone, perhaps behind a plus sign, as MECARD has it; another text
+/// as it is, so that it is refused.
 pub(crate) fn phone_digits(alloc: Global, text: &str) -> Result<String, AllocError>
     ensures { IfOk result (λ value. string_bytes value ≡ phone_digits text.now) }
 {
     let number = phone_number(alloc, text)?;
+    if !is_number(number.as_str()) {
+        return Ok(number);
+    }
     plain(alloc, number.as_str(), Between::Digits)
 }

@@ -71,8 +71,8 @@ fn payment_text<G: Given>(alloc: Global, given: &G) -> ContentResult<String>
 fn geo_text<G: Given>(alloc: Global, given: &G) -> ContentResult<String>
     ensures { HasText Geo (G.fields given.now) result }
 {
-    let north = plain(alloc, given.text(Field::Latitude), Between::Degrees)?;
-    let east = plain(alloc, given.text(Field::Longitude), Between::Degrees)?;
+    let north = plain(alloc, given.text(Field::Latitude).trim(), Between::Degrees)?;
+    let east = plain(alloc, given.text(Field::Longitude).trim(), Between::Degrees)?;
     let latitude = values::coordinate(north.as_str(), Field::Latitude)?;
     let longitude = values::coordinate(east.as_str(), Field::Longitude)?;
     let place = Place {
@@ -117,15 +117,19 @@ fn vcard_text<G: Given>(alloc: Global, given: &G) -> ContentResult<String>
     ensures { HasText Vcard (G.fields given.now) result }
 {
     let day = plain(alloc, given.text(Field::Birthday), Between::Time)?;
+    let phone = phone_number(alloc, given.text(Field::Phone))?;
+    let mobile = phone_number(alloc, given.text(Field::Mobile))?;
+    let work_phone = phone_number(alloc, given.text(Field::WorkPhone))?;
+    let home_phone = phone_number(alloc, given.text(Field::HomePhone))?;
     let birthday = values::birthday(day.as_str())?;
     let card = Card {
-        contact: contact(given, given.text(Field::Phone), birthday),
+        contact: contact(given, phone.as_str(), birthday),
         name: given.text(Field::Name),
         organisation: given.text(Field::Organisation),
         title: given.text(Field::Title),
-        mobile: given.text(Field::Mobile),
-        work_phone: given.text(Field::WorkPhone),
-        home_phone: given.text(Field::HomePhone),
+        mobile: mobile.as_str(),
+        work_phone: work_phone.as_str(),
+        home_phone: home_phone.as_str(),
     };
     card.text(alloc)
 }

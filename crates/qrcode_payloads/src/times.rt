@@ -1,7 +1,7 @@
 //! Days and moments as people write them, also in zones other than UTC.
 
 ghost use Rattle.std.specs.Prelude.{◌≡◌, ◌<◌, ◌+◌, IfOk, IfSome, Some, true, string_bytes};
-ghost use Rattle.qrcode_payloads.specs.Times.{day_numbered, day_said, clock_number, moment_at, local_said, day_after, day_before, clock_minutes, with_minutes, earlier, later, zone_minutes, minute_count, day_count, from_ahead, from_behind, is_utc, zoned, moment_said, plain_time};
+ghost use Rattle.qrcode_payloads.specs.Times.{day_numbered, day_said, clock_number, moment_at, local_said, day_after, day_before, clock_minutes, with_minutes, earlier, later, zone_minutes, minute_count, day_count, from_ahead, from_behind, is_utc, zoned, moment_said, is_local, plain_time};
 ghost use Rattle.qrcode_contents.specs.Times.{is_moment};
 
 use crate::numbers::decimal;
@@ -220,6 +220,14 @@ pub(crate) fn moment_said(text: &str) -> Option<Moment>
         return local_said(day, parts(time, 'Z').0);
     }
     zoned(day, time)
+}
+
+/// Whether a text is a day and a time with no zone, e.g. 19970714T170000.
+pub(crate) fn is_local(text: &str) -> bool
+    ensures value { result ≡ is_local text.now }
+{
+    let (day, time) = parts(text, 'T');
+    local_said(day, time).is_some()
 }
 
 /// A day, or a day and a time, without hyphens between the parts of the day and colons between

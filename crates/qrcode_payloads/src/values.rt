@@ -6,7 +6,7 @@ ghost use Rattle.qrcode_payloads.specs.Values.{number_cause, amount_in, open_amo
 
 use crate::given::Given;
 use crate::numbers::{decimal, degrees, unsigned};
-use crate::times::{day_said, moment_said};
+use crate::times::{day_said, is_local, moment_said};
 use crate::words::word;
 use qrcode_contents::bill::Currency;
 use qrcode_contents::event::Span;
@@ -122,6 +122,9 @@ pub(crate) fn algorithm(text: &str) -> ContentResult<Algorithm>
         ("SHA1", Algorithm::Sha1),
         ("SHA256", Algorithm::Sha256),
         ("SHA512", Algorithm::Sha512),
+        ("SHA-1", Algorithm::Sha1),
+        ("SHA-256", Algorithm::Sha256),
+        ("SHA-512", Algorithm::Sha512),
     ];
     word(text, &words, Algorithm::Sha1, Field::Algorithm)
 }
@@ -176,11 +179,14 @@ pub(crate) fn factor(counter: &str, period: &str) -> ContentResult<Factor>
 fn no_time(text: &str, field: Field) -> ContentError
     ensures { result ≡ Refused field (time_cause text.now) }
 {
-    if text.is_empty() {
-        ContentError::Refused(field, Cause::Empty)
+    let cause = if text.is_empty() {
+        Cause::Empty
+    } else if is_local(text) {
+        Cause::TooShort
     } else {
-        ContentError::Refused(field, Cause::Character)
-    }
+        Cause::Character
+    };
+    ContentError::Refused(field, cause)
 }
 
 /// When an event was written, where it is said.

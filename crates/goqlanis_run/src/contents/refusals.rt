@@ -16,10 +16,7 @@ pub(crate) fn refusal_of(
     let ContentError::Refused(field, cause) = error else {
         return Ok(Failure::OutOfMemory);
     };
-    let what = match (field, cause) {
-        (Field::Reference, Cause::Unused) => "it does not go with this account",
-        _ => cause_text(cause),
-    };
+    let what = what_is_wrong(kind, field, cause);
     let entry = entry_of(kind, field);
     let (name, help) = (entry.long, entry.help);
     let text = if name.is_empty() {
@@ -30,6 +27,23 @@ pub(crate) fn refusal_of(
         format!(in alloc; "--{name}: {what}; expected: {help}")
     };
     Ok(Failure::Refused(text?))
+}
+
+// What is wrong with a field of a kind; where that says no more, by its cause.
+fn what_is_wrong(kind: Kind, field: Field, cause: Cause) -> &'static str {
+    match (kind, field, cause) {
+        (_, Field::Reference, Cause::Unused) => "it does not go with this account",
+        (Kind::Mail, Field::Email, Cause::Character) => "it has no @, or more than one",
+        (Kind::Upi, Field::Payee, Cause::Character) =>
+            "it may only have letters, digits and -._ around one @",
+        (_, Field::Phone | Field::Mobile | Field::WorkPhone | Field::HomePhone, Cause::Character) =>
+            "it may only have digits, spaces and -./(), with + in front",
+        (_, Field::Begin | Field::End | Field::Stamp, Cause::TooShort) =>
+            "it has no time zone: add one as +01:00, or Z for UTC",
+        (_, Field::Begin | Field::Stamp, Cause::Character) => "it is not written as a day or time",
+        (_, Field::End, Cause::Character) => "it is not in the same form as --begin",
+        _ => cause_text(cause),
+    }
 }
 
 // What is wrong, by its cause.

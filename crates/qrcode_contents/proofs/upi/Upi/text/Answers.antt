@@ -1,4 +1,4 @@
-use Rattle.std.proofs.Common.{◌≡◌, ℕ, nat_lt, ◌/◌, ◌%◌, ◌<◌, ◌^◌, ◌==◌, ◌||◌, ◌&&◌, not, List, [], ◌∷◌, ◌++◌, Bool, true, false, Option, Some, None, filter, length, decimal, codes, if◌then◌else◌, refl, ap, ap₂, ◌∙◌, sym, arith, append_assoc}
+use Rattle.std.proofs.Common.{◌≡◌, ℕ, nat_lt, ◌/◌, ◌%◌, ◌<◌, ◌^◌, ◌==◌, ◌&&◌, not, List, [], ◌∷◌, ◌++◌, Bool, true, false, Option, Some, None, filter, length, decimal, codes, if◌then◌else◌, refl, ap, ◌∙◌, sym, arith, append_assoc}
 use Rattle.std.specs.List.{list_all, list_any}
 use Rattle.std.specs.Str.{bytes_eq}
 use Rattle.std.proofs.lemmas.Bool.Decides.{nat_tests}
@@ -13,8 +13,8 @@ use Rattle.qrcode_contents.specs.fields.EntryTests.{are_distinct}
 use Rattle.qrcode_contents.specs.fields.Links.{Parameter, before, after, parameter_text, query_text, read_parameter, value_in}
 use Rattle.qrcode_contents.specs.fields.Percents.{decoded}
 use Rattle.qrcode_contents.proofs.BillReading.{amount_below, cents_read}
-use Rattle.qrcode_contents.proofs.EntryReading.{both, neither, part_of-filled}
-use Rattle.qrcode_contents.proofs.LinkReading.{HasNo, HasNo-append, AreParameters, entries_of, is_kept, kept_first, later_read, no_return, read_pieces, and_text}
+use Rattle.qrcode_contents.proofs.EntryReading.{both, second_fails, part_of-filled}
+use Rattle.qrcode_contents.proofs.LinkReading.{HasNo, HasNo-append, AreParameters, entries_of, is_kept, kept_first, later_read, no_return, all_without, read_pieces, and_text}
 use Rattle.qrcode_contents.proofs.OneTimeReading.{decimal_plain}
 use Rattle.qrcode_contents.proofs.Passing.{all_pass, test_passes}
 use Rattle.qrcode_contents.proofs.PercentReading.{kept_byte}
@@ -39,31 +39,15 @@ address_read (b ∷ bytes) are =
     let is = is_itself b parts.0 in
     ap (filter is_kept) (kept_byte b bytes is.no_percent) ∙ kept_first b (decoded bytes) is.no_return ∙ ap (λ xs. b ∷ xs) (address_read bytes parts.1)
 
-address_no_and : (bytes : List ℕ) → list_all is_address_byte bytes ≡ true → HasNo 38 bytes
-address_no_and [] are = refl
-address_no_and (b ∷ bytes) are =
-    let parts = both (is_address_byte b) (list_all is_address_byte bytes) are in
-    ap₂ (λ x y. x || y) (is_itself b parts.0).no_and (address_no_and bytes parts.1)
-
 digit_no_return : (b : ℕ) → is_digit b ≡ true → (b == 13) ≡ false
 digit_no_return b is = grind (arith, nat_tests)
-
-digits_plain : (bytes : List ℕ) → list_all is_digit bytes ≡ true → HasNo 13 bytes
-digits_plain [] are = refl
-digits_plain (b ∷ bytes) are =
-    let parts = both (is_digit b) (list_all is_digit bytes) are in
-    ap₂ (λ x y. x || y) (digit_no_return b parts.0) (digits_plain bytes parts.1)
-
-second_fails : (a b : Bool) → a ≡ true → (a && b) ≡ false → b ≡ false
-second_fails true b is none = none
-second_fails false b is none = cc
 
 category_plain : (bytes : List ℕ) → (is_filled bytes && not (is_category bytes)) ≡ false → HasNo 13 bytes
 category_plain [] is = refl
 category_plain (b ∷ bytes) is =
     let some : is_filled (b ∷ bytes) ≡ true = grind (arith, nat_tests) in
     let denied = second_fails (is_filled (b ∷ bytes)) (not (is_category (b ∷ bytes))) some is in
-    digits_plain (b ∷ bytes) (both (length (b ∷ bytes) == 4) (list_all is_digit (b ∷ bytes)) (holds (is_category (b ∷ bytes)) denied)).1
+    all_without is_digit (λ x. x == 13) digit_no_return (b ∷ bytes) (both (length (b ∷ bytes) == 4) (list_all is_digit (b ∷ bytes)) (holds (is_category (b ∷ bytes)) denied)).1
 
 amount_plain : (cents : Option ℕ) → is_out_of_range cents ≡ false → HasNo 13 (amount_line cents)
 unfolding amount_text
@@ -105,7 +89,7 @@ first_read payee are = ap (single (codes "pa")) (address_read payee are)
 -- the entries of a link
 link_entries : (r : Request) → AreSaid r → read_pieces (codes "pa=" ++ (r.payee ++ and_text (upi_parameters r))) ≡ single (codes "pa") r.payee ∷ filled (entries_of (upi_parameters r))
 link_entries r said =
-    later_read (codes "pa=" ++ r.payee) (upi_parameters r) (address_no_and r.payee said.address) said.parameters
+    later_read (codes "pa=" ++ r.payee) (upi_parameters r) (all_without is_address_byte (λ b. b == 38) (λ b is. (is_itself b is).no_and) r.payee said.address) said.parameters
     ∙ ap (λ entry. entry ∷ filled (entries_of (upi_parameters r))) (first_read r.payee said.address)
 
 value_of_link : (r : Request) → AreSaid r → (key : List ℕ) → bytes_eq key (codes "pa") ≡ false → are_distinct (entries_of (upi_parameters r)) ≡ true → value_in key (link_of r) ≡ value_of key (entries_of (upi_parameters r))
