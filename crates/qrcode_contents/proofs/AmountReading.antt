@@ -9,8 +9,8 @@ use Rattle.std.proofs.lemmas.List.Folds.{list_any-append}
 use Rattle.std.proofs.lemmas.Fmt.{decimal_by_steps, decimal_is_IsNumeral, decimal_digit, length-decimal-le}
 use Rattle.std.proofs.lemmas.Int.Digits.{digits_value_push}
 use Rattle.std.proofs.lemmas.Str.{digit_value_digit}
-use Rattle.qrcode_contents.specs.fields.Amounts.{amount_text, before_point, behind_point, read_amount}
-use Rattle.qrcode_contents.proofs.EntryReading.{neither}
+use Rattle.qrcode_contents.specs.fields.Amounts.{amount_text, read_amount}
+use Rattle.qrcode_contents.proofs.EntryReading.{before-at, after-at}
 use Rattle.qrcode_contents.proofs.LineReading.{HasNoFeed, HasNoFeed-append, HasNoFeed-decimal}
 
 abbrev is_point : ℕ → Bool
@@ -22,18 +22,6 @@ digit_no_point n small = let no : is_point (48 + n) ≡ false = grind (arith, na
 no_point : (n : ℕ) → n < 2 ^ 64 → list_any is_point (decimal n) ≡ false
 no_point n fits = decimal_by_steps (λ m ds. list_any is_point ds ≡ false) digit_no_point
     (λ m ds low is. list_any-append is_point ds ((48 + m % 10) ∷ []) ∙ ap₂ (λ a b. a || b) is (digit_no_point (m % 10) (omega arith))) n fits
-
-before_point-at : (xs ys : List ℕ) → list_any is_point xs ≡ false → before_point (xs ++ 46 ∷ ys) ≡ xs
-before_point-at [] ys is = refl
-before_point-at (x ∷ xs) ys is =
-    let parts = neither (is_point x) (list_any is_point xs) is in
-    rw (parts.0) (ap (λ l. x ∷ l) (before_point-at xs ys parts.1))
-
-behind_point-at : (xs ys : List ℕ) → list_any is_point xs ≡ false → behind_point (xs ++ 46 ∷ ys) ≡ ys
-behind_point-at [] ys is = refl
-behind_point-at (x ∷ xs) ys is =
-    let parts = neither (is_point x) (list_any is_point xs) is in
-    rw (parts.0) (behind_point-at xs ys parts.1)
 
 value_of_digit : (n : ℕ) → n < 10 → digit_value (48 + n) ≡ n
 value_of_digit n small = let is = digit_value_digit (48 + n) (omega arith, omega arith) in omega (arith, is)
@@ -52,7 +40,7 @@ amount_read n fits =
     let whole : n / 100 < 2 ^ 64 = omega arith in
     let later = decimal (n / 10 % 10) ++ decimal (n % 10) in
     let is = no_point (n / 100) whole in
-    ap₂ (λ xs ys. digits_value 10 xs * 100 + digits_value 10 ys) (before_point-at (decimal (n / 100)) later is) (behind_point-at (decimal (n / 100)) later is)
+    ap₂ (λ xs ys. digits_value 10 xs * 100 + digits_value 10 ys) (before-at 46 (decimal (n / 100)) later is) (after-at 46 (decimal (n / 100)) later is)
     ∙ ap₂ (λ x y. x * 100 + y) (decimal_is_IsNumeral (n / 100) whole).1 (two_digits (n / 10 % 10) (n % 10) (omega arith) (omega arith))
     ∙ omega arith
 

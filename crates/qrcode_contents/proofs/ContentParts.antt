@@ -7,8 +7,8 @@ use Rattle.qrcode_contents.specs.fields.Entries.{is_filled}
 use Rattle.qrcode_contents.specs.fields.Links.{Parameter}
 use Rattle.qrcode_contents.specs.fields.Escapes.{letter_of, with_letter, escaped, unescaped_from, pieces_from}
 use Rattle.qrcode_contents.proofs.ContentReading.{begins_blank, IsContent, AreContent}
-use Rattle.qrcode_contents.proofs.EntryReading.{neither, parts_read, no_part}
-use Rattle.qrcode_contents.proofs.LinkReading.{HasNo, HasNo-append}
+use Rattle.qrcode_contents.proofs.EntryReading.{neither, parts_read, no_part, HasNo}
+use Rattle.qrcode_contents.proofs.LinkReading.{HasNo-append}
 use Rattle.qrcode_contents.proofs.Pieces.{semicolon_escaped}
 
 -- what a value of lines may have: no carriage return, and no line feed

@@ -8,9 +8,10 @@ use Rattle.std.proofs.lemmas.List.Splits.{slice_split_at}
 use Rattle.qrcode_contents.specs.fields.ContentLines.{fold_break, next_column, folded_from, line_text, content_text, unfolded, read_content}
 use Rattle.qrcode_contents.specs.fields.Entries.{Entry, single, is_filled, filled, value_of}
 use Rattle.qrcode_contents.specs.fields.EntryTests.{are_distinct}
-use Rattle.qrcode_contents.specs.fields.Links.{Parameter, before, after}
-use Rattle.qrcode_contents.proofs.EntryReading.{neither, part_of-filled}
-use Rattle.qrcode_contents.proofs.LinkReading.{HasNo, before-at, after-at, entries_of}
+use Rattle.qrcode_contents.specs.fields.Characters.{before, after}
+use Rattle.qrcode_contents.specs.fields.Links.{Parameter}
+use Rattle.qrcode_contents.proofs.EntryReading.{neither, part_of-filled, HasNo, before-at, after-at}
+use Rattle.qrcode_contents.proofs.LinkReading.{entries_of}
 
 -- an octet that begins no break stands for itself
 kept_octet : (b : ℕ) (rest : List ℕ) → (b == 13) ≡ false → unfolded (b ∷ rest) ≡ b ∷ unfolded rest

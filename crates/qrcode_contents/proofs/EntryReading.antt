@@ -8,8 +8,9 @@ use Rattle.std.proofs.lemmas.Bool.Decides.{nat_tests}
 use Rattle.std.specs.Option.{option_map, option_and_then}
 use Rattle.qrcode_contents.specs.declared.fields.escapes.Escapes.{Escapes}
 use Rattle.qrcode_contents.specs.declared.fields.escapes.Escapes.TheVariants.{Marks}
+use Rattle.qrcode_contents.specs.fields.Characters.{before, after}
 use Rattle.qrcode_contents.specs.fields.Escapes.{escaped, unescaped, pieces}
-use Rattle.qrcode_contents.specs.fields.Entries.{Entry, filled, is_filled, parts_text, entry_text, marked_text, key_of, behind_key, read_entry, read_until_empty, read_entries, behind, part_of}
+use Rattle.qrcode_contents.specs.fields.Entries.{Entry, filled, is_filled, parts_text, entry_text, marked_text, read_entry, read_until_empty, read_entries, behind, part_of}
 use Rattle.qrcode_contents.specs.fields.EntryTests.{is_key, are_entries, are_distinct}
 use Rattle.qrcode_contents.proofs.Pieces.{IsPiece, IsEscaped, comma_escaped, semicolon_escaped, IsPiece-nil, IsPiece-cons, IsPiece-escaped, IsPiece-value, unescaped-escaped}
 
@@ -40,6 +41,37 @@ second_fails false b is none = cc
 pub neither : (a b : Bool) → (a || b) ≡ false → (a ≡ false) × (b ≡ false)
 neither true b is = cc
 neither false b is = (refl, is)
+
+-- no byte is c
+abbrev pub HasNo : ℕ → List ℕ → Type 0
+HasNo c bytes = list_any (λ b. b == c) bytes ≡ false
+
+-- what stands before a mark
+pub before-at : (c : ℕ) (xs ys : List ℕ) → HasNo c xs → before c (xs ++ c ∷ ys) ≡ xs
+before-at c [] ys is = let same : (c == c) ≡ true = grind (arith, nat_tests) in rw same refl
+before-at c (x ∷ xs) ys is =
+    let parts = neither (x == c) (list_any (λ b. b == c) xs) is in
+    rw (parts.0) (ap (λ l. x ∷ l) (before-at c xs ys parts.1))
+
+-- what stands behind a mark
+pub after-at : (c : ℕ) (xs ys : List ℕ) → HasNo c xs → after c (xs ++ c ∷ ys) ≡ ys
+after-at c [] ys is = let same : (c == c) ≡ true = grind (arith, nat_tests) in rw same refl
+after-at c (x ∷ xs) ys is =
+    let parts = neither (x == c) (list_any (λ b. b == c) xs) is in
+    rw (parts.0) (after-at c xs ys parts.1)
+
+-- with no mark
+pub before-none : (c : ℕ) (xs : List ℕ) → HasNo c xs → before c xs ≡ xs
+before-none c [] is = refl
+before-none c (x ∷ xs) is =
+    let parts = neither (x == c) (list_any (λ b. b == c) xs) is in
+    rw (parts.0) (ap (λ l. x ∷ l) (before-none c xs parts.1))
+
+pub after-none : (c : ℕ) (xs : List ℕ) → HasNo c xs → after c xs ≡ []
+after-none c [] is = refl
+after-none c (x ∷ xs) is =
+    let parts = neither (x == c) (list_any (λ b. b == c) xs) is in
+    rw (parts.0) (after-none c xs parts.1)
 
 -- what the test of one byte of a key says
 record EndsNothing (b : ℕ) : Type 0 where
@@ -77,26 +109,16 @@ parts_read s guarded e part (next ∷ parts) =
     ap (map (unescaped e)) ((IsPiece-value s guarded e part).before (parts_text e s (next ∷ parts)))
     ∙ ap₂ (λ x xs. x ∷ xs) (unescaped-escaped e part) (parts_read s guarded e next parts)
 
-key_of-entry : (key value : List ℕ) → is_key key ≡ true → key_of (key ++ 58 ∷ value) ≡ key
-unfolding key_of
-key_of-entry [] value is = refl
-key_of-entry (b ∷ key) value is =
-    let first = ends_nothing b key is in
-    rw (first.0.no_colon) (ap (λ xs. b ∷ xs) (key_of-entry key value first.1))
-
-behind_key-entry : (key value : List ℕ) → is_key key ≡ true → behind_key (key ++ 58 ∷ value) ≡ value
-unfolding behind_key
-behind_key-entry [] value is = refl
-behind_key-entry (b ∷ key) value is =
-    let first = ends_nothing b key is in
-    rw (first.0.no_colon) (behind_key-entry key value first.1)
+no_colon_in : (key : List ℕ) → is_key key ≡ true → HasNo 58 key
+no_colon_in [] is = refl
+no_colon_in (b ∷ key) is = let first = ends_nothing b key is in ap₂ (λ x y. x || y) first.0.no_colon (no_colon_in key first.1)
 
 -- an entry is read back
 pub read_entry-text : (s : ℕ) → IsEscaped s → (e : Escapes) (key part : List ℕ) (parts : List (List ℕ)) → is_key key ≡ true → read_entry e s (entry_text e s (key, part ∷ parts)) ≡ (key, part ∷ parts)
 unfolding read_entry
 read_entry-text s guarded e key part parts is =
-    ap₂ (λ k v. (k, v)) (key_of-entry key (parts_text e s (part ∷ parts)) is)
-    (ap (λ xs. map (unescaped e) (pieces s xs)) (behind_key-entry key (parts_text e s (part ∷ parts)) is) ∙ parts_read s guarded e part parts)
+    ap₂ (λ k v. (k, v)) (before-at 58 key (parts_text e s (part ∷ parts)) (no_colon_in key is))
+    (ap (λ xs. map (unescaped e) (pieces s xs)) (after-at 58 key (parts_text e s (part ∷ parts)) (no_colon_in key is)) ∙ parts_read s guarded e part parts)
 
 -- a first piece that is not empty
 read_piece : (key part : List ℕ) (parts later : List (List ℕ)) → read_until_empty (entry_text Marks 44 (key, part ∷ parts) ∷ later) ≡ option_map (λ entries. read_entry Marks 44 (entry_text Marks 44 (key, part ∷ parts)) ∷ entries) (read_until_empty later)

@@ -11,8 +11,8 @@ use Rattle.qrcode_contents.specs.fields.Entries.{Entry, single, is_filled, fille
 use Rattle.qrcode_contents.specs.fields.Links.{Parameter}
 use Rattle.qrcode_contents.proofs.ContentParts.{IsPlain, part_read, one_plain, line_with, plain_nothing}
 use Rattle.qrcode_contents.proofs.ContentReading.{AreContent, AreContent-append, behind_last, lines_read}
-use Rattle.qrcode_contents.proofs.EntryReading.{neither, part_of-filled}
-use Rattle.qrcode_contents.proofs.LinkReading.{HasNo, entries_of, no_return, no_stray_return}
+use Rattle.qrcode_contents.proofs.EntryReading.{neither, part_of-filled, HasNo}
+use Rattle.qrcode_contents.proofs.LinkReading.{entries_of, no_return, no_stray_return}
 use Rattle.qrcode_contents.proofs.Passing.{all_pass, test_passes}
 use Rattle.qrcode_contents.specs.declared.times.Day.{Day}
 use Rattle.qrcode_contents.specs.declared.times.Moment.{Moment}

@@ -12,8 +12,8 @@ use Rattle.qrcode_contents.specs.declared.fields.errors.Field.TheVariants.{Latit
 use Rattle.qrcode_contents.specs.declared.fields.errors.Cause.TheVariants.{Range}
 use Rattle.qrcode_contents.specs.declared.geo.Place.{Place}
 use Rattle.qrcode_contents.specs.Geo.{place_checks, place_refusal, first_digit, fraction_digits, fraction_text, degrees_text, sign_text, coordinate_text, place_text, fraction_value, read_degrees, negative, read_coordinate, read_place}
-use Rattle.qrcode_contents.proofs.EntryReading.{neither}
-use Rattle.qrcode_contents.proofs.LinkReading.{HasNo, HasNo-append, before-at, after-at, before-none, after-none, none_of}
+use Rattle.qrcode_contents.proofs.EntryReading.{neither, HasNo, before-at, after-at, before-none, after-none}
+use Rattle.qrcode_contents.proofs.LinkReading.{HasNo-append, none_of}
 use Rattle.qrcode_contents.proofs.Passing.{all_pass, test_passes}
 
 -- powers of ten below the sixth

@@ -8,47 +8,16 @@ use Rattle.std.proofs.lemmas.List.Folds.{list_any-append}
 use Rattle.std.proofs.lemmas.List.Splits.{slice_split_none, slice_split_at}
 use Rattle.qrcode_contents.specs.declared.fields.links.Part.{Part}
 use Rattle.qrcode_contents.specs.declared.fields.links.Part.TheVariants.{Path, Value}
-use Rattle.qrcode_contents.specs.fields.Characters.{is_control, is_stray}
+use Rattle.qrcode_contents.specs.fields.Characters.{is_control, is_stray, before, after}
 use Rattle.qrcode_contents.specs.fields.Entries.{Entry, single, is_filled, filled, value_of}
 use Rattle.qrcode_contents.specs.fields.EntryTests.{are_distinct}
-use Rattle.qrcode_contents.specs.fields.Links.{before, after, part_byte, part_text, Parameter, parameter_text, query_text, read_parameter, value_in}
+use Rattle.qrcode_contents.specs.fields.Links.{part_byte, part_text, Parameter, parameter_text, query_text, read_parameter, value_in}
 use Rattle.qrcode_contents.specs.fields.Percents.{is_unreserved, hex_digit, encoded_byte, decoded}
-use Rattle.qrcode_contents.proofs.EntryReading.{both, neither, part_of-filled}
+use Rattle.qrcode_contents.proofs.EntryReading.{HasNo, before-at, after-at, before-none, after-none, both, neither, part_of-filled}
 use Rattle.qrcode_contents.proofs.PercentReading.{decoded_byte, kept_byte}
-
--- no byte is c
-abbrev pub HasNo : ℕ → List ℕ → Type 0
-HasNo c bytes = list_any (λ b. b == c) bytes ≡ false
 
 pub HasNo-append : (c : ℕ) (xs ys : List ℕ) → HasNo c xs → HasNo c ys → HasNo c (xs ++ ys)
 HasNo-append c xs ys x y = list_any-append (λ b. b == c) xs ys ∙ ap₂ (λ a b. a || b) x y
-
--- what stands before a mark
-pub before-at : (c : ℕ) (xs ys : List ℕ) → HasNo c xs → before c (xs ++ c ∷ ys) ≡ xs
-before-at c [] ys is = let same : (c == c) ≡ true = grind (arith, nat_tests) in rw same refl
-before-at c (x ∷ xs) ys is =
-    let parts = neither (x == c) (list_any (λ b. b == c) xs) is in
-    rw (parts.0) (ap (λ l. x ∷ l) (before-at c xs ys parts.1))
-
--- what stands behind a mark
-pub after-at : (c : ℕ) (xs ys : List ℕ) → HasNo c xs → after c (xs ++ c ∷ ys) ≡ ys
-after-at c [] ys is = let same : (c == c) ≡ true = grind (arith, nat_tests) in rw same refl
-after-at c (x ∷ xs) ys is =
-    let parts = neither (x == c) (list_any (λ b. b == c) xs) is in
-    rw (parts.0) (after-at c xs ys parts.1)
-
--- with no mark
-pub before-none : (c : ℕ) (xs : List ℕ) → HasNo c xs → before c xs ≡ xs
-before-none c [] is = refl
-before-none c (x ∷ xs) is =
-    let parts = neither (x == c) (list_any (λ b. b == c) xs) is in
-    rw (parts.0) (ap (λ l. x ∷ l) (before-none c xs parts.1))
-
-pub after-none : (c : ℕ) (xs : List ℕ) → HasNo c xs → after c xs ≡ []
-after-none c [] is = refl
-after-none c (x ∷ xs) is =
-    let parts = neither (x == c) (list_any (λ b. b == c) xs) is in
-    rw (parts.0) (after-none c xs parts.1)
 
 -- the marks that end parts of links, none of which an encoded part has
 abbrev pub is_mark : ℕ → Bool

@@ -13,14 +13,14 @@ use Rattle.qrcode_contents.specs.declared.one_time.Algorithm.{Algorithm}
 use Rattle.qrcode_contents.specs.declared.one_time.Algorithm.TheVariants.{Sha1, Sha256, Sha512}
 use Rattle.qrcode_contents.specs.declared.one_time.Digits.{Digits}
 use Rattle.qrcode_contents.specs.declared.one_time.Digits.TheVariants.{Six, Eight}
-use Rattle.qrcode_contents.specs.fields.Characters.{is_base32, is_control}
+use Rattle.qrcode_contents.specs.fields.Characters.{is_base32, is_control, before}
 use Rattle.qrcode_contents.specs.fields.Entries.{is_filled}
 use Rattle.qrcode_contents.specs.fields.EntryTests.{are_distinct}
-use Rattle.qrcode_contents.specs.fields.Links.{before, part_text, query_text, value_in}
+use Rattle.qrcode_contents.specs.fields.Links.{part_text, query_text, value_in}
 use Rattle.qrcode_contents.specs.OneTime.{Key, is_colon, begins_with_space, is_a_word, key_checks, key_refusal, factor_parameter, algorithm_value, digits_text, label_text, key_parameters, key_text, read_algorithm, read_digits, read_factor, without_spaces, read_account, key_in, read_key}
 use Rattle.qrcode_contents.specs.fields.Percents.{decoded}
-use Rattle.qrcode_contents.proofs.EntryReading.{neither}
-use Rattle.qrcode_contents.proofs.LinkReading.{HasNo, HasNo-append, HasNo-part, AreParameters, entries_of, after-at, value_read, path_read, decoded-path, path_decoded, no_return, all_without}
+use Rattle.qrcode_contents.proofs.EntryReading.{neither, HasNo, after-at}
+use Rattle.qrcode_contents.proofs.LinkReading.{HasNo-append, HasNo-part, AreParameters, entries_of, value_read, path_read, decoded-path, path_decoded, no_return, all_without}
 use Rattle.qrcode_contents.proofs.Passing.{all_pass, test_passes}
 use Rattle.qrcode_contents.proofs.PhoneReading.{holds}
 use Rattle.qrcode_contents.proofs.PercentReading.{kept_byte}

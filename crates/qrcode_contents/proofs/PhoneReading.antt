@@ -5,13 +5,12 @@ use Rattle.std.specs.Option.{option_map}
 use Rattle.std.proofs.lemmas.Bool.Decides.{nat_tests}
 use Rattle.qrcode_contents.specs.declared.fields.errors.Field.TheVariants.{Phone}
 use Rattle.qrcode_contents.specs.declared.fields.errors.Cause.TheVariants.{Character}
-use Rattle.qrcode_contents.specs.fields.Characters.{is_dialled}
+use Rattle.qrcode_contents.specs.fields.Characters.{is_dialled, before, after}
 use Rattle.qrcode_contents.specs.fields.Entries.{behind, is_filled}
-use Rattle.qrcode_contents.specs.fields.Links.{before, after}
 use Rattle.qrcode_contents.specs.fields.Percents.{encoded, decoded}
 use Rattle.qrcode_contents.specs.Phone.{is_number, is_no_number, phone_checks, phone_refusal, message_text, read_message}
-use Rattle.qrcode_contents.proofs.EntryReading.{both, second_fails}
-use Rattle.qrcode_contents.proofs.LinkReading.{before-at, after-at, all_without}
+use Rattle.qrcode_contents.proofs.EntryReading.{both, second_fails, before-at, after-at}
+use Rattle.qrcode_contents.proofs.LinkReading.{all_without}
 use Rattle.qrcode_contents.proofs.Passing.{all_pass, test_passes}
 
 -- a test whose denial does not hold

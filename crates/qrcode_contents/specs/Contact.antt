@@ -6,7 +6,7 @@ use Rattle.qrcode_contents.specs.declared.fields.errors.ContentError.{ContentErr
 use Rattle.qrcode_contents.specs.declared.fields.errors.Field.TheVariants.{Family, Given, Phone, Email, Url, Birthday, Note, Street, City, Region, PostalCode, Country}
 use Rattle.qrcode_contents.specs.declared.fields.errors.Cause.TheVariants.{Empty, Range, Character}
 use Rattle.qrcode_contents.specs.fields.Characters.{control_refusal}
-use Rattle.qrcode_contents.specs.fields.Entries.{Entry, single, is_empty, marked_text, key_of, behind_key, read_entry, read_entries, value_of, part_of}
+use Rattle.qrcode_contents.specs.fields.Entries.{Entry, single, is_empty, marked_text, read_entry, read_entries, value_of, part_of}
 use Rattle.qrcode_contents.specs.fields.Escapes.{unescaped_from, pieces_from}
 use Rattle.qrcode_contents.specs.fields.Refusals.{refused_if, first_refusal}
 use Rattle.qrcode_contents.specs.Phone.{is_no_number}
@@ -105,5 +105,5 @@ printed_row : read_mecard (codes "MECARD:N:Owen,Sean;ADR:76 9th Avenue, 4th Floo
       code = [];
       country = [];
     } in p)
-unfolding read_mecard read_entries read_entry key_of behind_key pieces_from unescaped_from
+unfolding read_mecard read_entries read_entry pieces_from unescaped_from
 printed_row = refl

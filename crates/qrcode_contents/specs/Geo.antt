@@ -8,7 +8,7 @@ use Rattle.qrcode_contents.specs.declared.fields.errors.Field.TheVariants.{Latit
 use Rattle.qrcode_contents.specs.declared.fields.errors.Cause.TheVariants.{Range}
 use Rattle.qrcode_contents.specs.declared.geo.Place.{Place}
 use Rattle.qrcode_contents.specs.fields.Entries.{behind}
-use Rattle.qrcode_contents.specs.fields.Links.{before, after}
+use Rattle.qrcode_contents.specs.fields.Characters.{before, after}
 use Rattle.qrcode_contents.specs.fields.Refusals.{refused_if, first_refusal}
 
 abbrev pub place_checks : Place → List (Option ContentError)  -- what the link cannot say

@@ -7,9 +7,9 @@ use Rattle.qrcode_contents.specs.declared.fields.errors.Field.TheVariants.{Email
 use Rattle.qrcode_contents.specs.declared.fields.errors.Cause.TheVariants.{Empty, ControlCharacter, Character}
 use Rattle.qrcode_contents.specs.declared.fields.links.Part.TheVariants.{Path}
 use Rattle.qrcode_contents.specs.declared.mail.Mail.{Mail}
-use Rattle.qrcode_contents.specs.fields.Characters.{is_control, is_stray}
+use Rattle.qrcode_contents.specs.fields.Characters.{is_control, is_stray, before}
 use Rattle.qrcode_contents.specs.fields.Entries.{behind, is_empty}
-use Rattle.qrcode_contents.specs.fields.Links.{Parameter, before, part_text, query_text, read_parameter, value_in}
+use Rattle.qrcode_contents.specs.fields.Links.{Parameter, part_text, query_text, read_parameter, value_in}
 use Rattle.qrcode_contents.specs.fields.Percents.{decoded}
 use Rattle.qrcode_contents.specs.fields.Refusals.{refused_if, first_refusal}
 

@@ -15,9 +15,9 @@ use Rattle.qrcode_contents.specs.declared.one_time.Algorithm.TheVariants.{Sha1, 
 use Rattle.qrcode_contents.specs.declared.one_time.Digits.{Digits}
 use Rattle.qrcode_contents.specs.declared.one_time.Digits.TheVariants.{Six, Eight}
 use Rattle.qrcode_contents.specs.declared.one_time.OneTime.{OneTime}
-use Rattle.qrcode_contents.specs.fields.Characters.{is_base32, is_control}
+use Rattle.qrcode_contents.specs.fields.Characters.{is_base32, is_control, before, after}
 use Rattle.qrcode_contents.specs.fields.Entries.{is_empty, is_filled, behind}
-use Rattle.qrcode_contents.specs.fields.Links.{Parameter, before, after, part_text, query_text, read_parameter, value_in}
+use Rattle.qrcode_contents.specs.fields.Links.{Parameter, part_text, query_text, read_parameter, value_in}
 use Rattle.qrcode_contents.specs.fields.Percents.{decoded}
 use Rattle.qrcode_contents.specs.fields.Refusals.{refused_if, first_refusal}
 

@@ -1,20 +1,13 @@
 -- Amounts of money, with a point before the last two digits.
-use Rattle.std.specs.Prelude.{◌≡◌, ℕ, ◌+◌, ◌*◌, ◌/◌, ◌%◌, ◌==◌, List, [], ◌∷◌, ◌++◌, decimal, if◌then◌else◌, codes, refl}
+use Rattle.std.specs.Prelude.{◌≡◌, ℕ, ◌+◌, ◌*◌, ◌/◌, ◌%◌, List, ◌∷◌, ◌++◌, decimal, codes, refl}
 use Rattle.std.specs.Str.Parse.{digits_value}
+use Rattle.qrcode_contents.specs.fields.Characters.{before, after}
 
 unfoldable pub amount_text : ℕ → List ℕ  -- an amount that is given in hundredths
 amount_text n = decimal (n / 100) ++ (46 ∷ (decimal (n / 10 % 10) ++ decimal (n % 10)))
 
-abbrev pub before_point : List ℕ → List ℕ  -- the bytes before the first point
-before_point [] = []
-before_point (b ∷ rest) = if b == 46 then [] else b ∷ before_point rest
-
-abbrev pub behind_point : List ℕ → List ℕ  -- the bytes behind the first point
-behind_point [] = []
-behind_point (b ∷ rest) = if b == 46 then rest else behind_point rest
-
 unfoldable pub read_amount : List ℕ → ℕ  -- the hundredths of an amount with two digits behind its point
-read_amount text = digits_value 10 (before_point text) * 100 + digits_value 10 (behind_point text)
+read_amount text = digits_value 10 (before 46 text) * 100 + digits_value 10 (after 46 text)
 
 printed_row : read_amount (codes "1949.75") ≡ 194975
 unfolding read_amount

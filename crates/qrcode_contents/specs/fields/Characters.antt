@@ -1,5 +1,5 @@
 -- What characters fields have.
-use Rattle.std.specs.Prelude.{ℕ, nat_lt, ◌==◌, ◌&&◌, ◌||◌, not, Bool, List, map, Option}
+use Rattle.std.specs.Prelude.{ℕ, nat_lt, ◌==◌, ◌&&◌, ◌||◌, not, Bool, List, [], ◌∷◌, map, Option, if◌then◌else◌}
 use Rattle.std.specs.List.{list_any}
 use Rattle.qrcode_contents.specs.declared.fields.errors.ContentError.{ContentError}
 use Rattle.qrcode_contents.specs.declared.fields.errors.Field.{Field}
@@ -29,6 +29,14 @@ is_stray b = is_control b && not (b == 9) && not (b == 10)
 
 abbrev pub is_unicode_break : ℕ → Bool  -- a character that ends a line, and is none of ASCII: NEL, LS or PS
 is_unicode_break c = c == 133 || c == 8232 || c == 8233
+
+abbrev pub before : ℕ → List ℕ → List ℕ  -- the bytes before the first byte c
+before c [] = []
+before c (b ∷ rest) = if b == c then [] else b ∷ before c rest
+
+abbrev pub after : ℕ → List ℕ → List ℕ  -- the bytes behind the first byte c
+after c [] = []
+after c (b ∷ rest) = if b == c then rest else after c rest
 
 abbrev pub control_refusal : List (Field × List ℕ) → Option ContentError  -- the first field with a control character
 control_refusal fields =

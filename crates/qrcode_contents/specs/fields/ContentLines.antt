@@ -5,7 +5,8 @@ use Rattle.std.specs.List.{list_any, slice_split}
 use Rattle.qrcode_contents.specs.declared.fields.escapes.Escapes.TheVariants.{Lines}
 use Rattle.qrcode_contents.specs.fields.Entries.{Entry, single, is_filled, parts_text, value_of}
 use Rattle.qrcode_contents.specs.fields.Escapes.{unescaped, unescaped_from, pieces, pieces_from}
-use Rattle.qrcode_contents.specs.fields.Links.{Parameter, before, after}
+use Rattle.qrcode_contents.specs.fields.Characters.{before, after}
+use Rattle.qrcode_contents.specs.fields.Links.{Parameter}
 
 -- what stands before a character of so many octets behind others: a break and a space where the line would have more than 75
 abbrev pub fold_break : ℕ → ℕ → List ℕ

@@ -5,6 +5,7 @@ use Rattle.std.specs.List.{list_any}
 use Rattle.std.specs.Option.{option_map, option_and_then}
 use Rattle.qrcode_contents.specs.declared.fields.escapes.Escapes.{Escapes}
 use Rattle.qrcode_contents.specs.declared.fields.escapes.Escapes.TheVariants.{Marks}
+use Rattle.qrcode_contents.specs.fields.Characters.{before, after}
 use Rattle.qrcode_contents.specs.fields.Escapes.{escaped, unescaped, pieces}
 
 abbrev pub Entry : Type 0  -- a key and the parts of its value
@@ -34,18 +35,10 @@ abbrev pub marked_text : Entry → List ℕ  -- an entry with a semicolon behind
 marked_text entry =
     if list_any is_filled entry.1 then entry_text Marks 44 entry ++ 59 ∷ [] else []
 
-unfoldable pub key_of : List ℕ → List ℕ  -- the bytes before the first colon
-key_of [] = []
-key_of (b ∷ rest) = if b == 58 then [] else b ∷ key_of rest
-
-unfoldable pub behind_key : List ℕ → List ℕ  -- the bytes behind the first colon
-behind_key [] = []
-behind_key (b ∷ rest) = if b == 58 then rest else behind_key rest
-
 -- the entry that a piece of the text is, by its escapes and what stands between parts
 unfoldable pub read_entry : Escapes → ℕ → List ℕ → Entry
 read_entry escapes separator piece =
-    (key_of piece, map (unescaped escapes) (pieces separator (behind_key piece)))
+    (before 58 piece, map (unescaped escapes) (pieces separator (after 58 piece)))
 
 -- the entries before the first empty piece; none where no piece is empty
 abbrev pub read_until_empty : List (List ℕ) → Option (List Entry)

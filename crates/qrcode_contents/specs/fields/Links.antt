@@ -3,16 +3,9 @@ use Rattle.std.specs.Prelude.{◌≡◌, ℕ, ◌==◌, not, Bool, true, false, 
 use Rattle.std.specs.List.{slice_split}
 use Rattle.qrcode_contents.specs.declared.fields.links.Part.{Part}
 use Rattle.qrcode_contents.specs.declared.fields.links.Part.TheVariants.{Path, Value}
+use Rattle.qrcode_contents.specs.fields.Characters.{before, after}
 use Rattle.qrcode_contents.specs.fields.Entries.{Entry, single, is_filled, value_of}
 use Rattle.qrcode_contents.specs.fields.Percents.{encoded_byte, decoded}
-
-abbrev pub before : ℕ → List ℕ → List ℕ  -- the bytes before the first byte c
-before c [] = []
-before c (b ∷ rest) = if b == c then [] else b ∷ before c rest
-
-abbrev pub after : ℕ → List ℕ → List ℕ  -- the bytes behind the first byte c
-after c [] = []
-after c (b ∷ rest) = if b == c then rest else after c rest
 
 -- a byte, percent-encoded: in a path `@` stands for itself, and in a value a line feed is a carriage return and a line feed (RFC 6068, section 5)
 abbrev pub part_byte : Part → ℕ → List ℕ

@@ -7,14 +7,14 @@ use Rattle.qrcode_contents.specs.declared.fields.errors.Cause.TheVariants.{Chara
 use Rattle.qrcode_contents.specs.Bill.{amount_line, is_out_of_range, read_cents}
 use Rattle.qrcode_contents.specs.Upi.{Request, request_of, is_address_byte, is_category, upi_checks, upi_refusal, upi_parameters, upi_text, read_upi}
 use Rattle.qrcode_contents.specs.fields.Amounts.{amount_text}
-use Rattle.qrcode_contents.specs.fields.Characters.{is_control, is_digit}
+use Rattle.qrcode_contents.specs.fields.Characters.{is_control, is_digit, before, after}
 use Rattle.qrcode_contents.specs.fields.Entries.{Entry, is_filled, filled, single, value_of}
 use Rattle.qrcode_contents.specs.fields.EntryTests.{are_distinct}
-use Rattle.qrcode_contents.specs.fields.Links.{Parameter, before, after, parameter_text, query_text, read_parameter, value_in}
+use Rattle.qrcode_contents.specs.fields.Links.{Parameter, parameter_text, query_text, read_parameter, value_in}
 use Rattle.qrcode_contents.specs.fields.Percents.{decoded}
 use Rattle.qrcode_contents.proofs.BillReading.{amount_below, cents_read}
-use Rattle.qrcode_contents.proofs.EntryReading.{both, second_fails, part_of-filled}
-use Rattle.qrcode_contents.proofs.LinkReading.{HasNo, HasNo-append, AreParameters, entries_of, is_kept, kept_first, later_read, no_return, all_without, read_pieces, and_text}
+use Rattle.qrcode_contents.proofs.EntryReading.{both, second_fails, part_of-filled, HasNo}
+use Rattle.qrcode_contents.proofs.LinkReading.{HasNo-append, AreParameters, entries_of, is_kept, kept_first, later_read, no_return, all_without, read_pieces, and_text}
 use Rattle.qrcode_contents.proofs.OneTimeReading.{decimal_plain}
 use Rattle.qrcode_contents.proofs.Passing.{all_pass, test_passes}
 use Rattle.qrcode_contents.proofs.PercentReading.{kept_byte}
