@@ -80,10 +80,13 @@ fn check_side(alloc: Global, request: &Request<'_>, code: &QrCode) -> Result<(),
             modules a side; use --size {modules} or more, or a smaller --quiet-zone"
         )?,
         _ if side > most => {
-            let most_scale = most / modules.max(1);
+            let (option, limit) = match request.size {
+                Some(_) => ("size", most),
+                None => ("scale", most / modules.max(1)),
+            };
             format!(in alloc;
-                "a side of {side} pixels is too large: this format has at most {most}; use --scale \
-                {most_scale} or less"
+                "a side of {side} pixels is too large: this format has at most {most}; use \
+                --{option} {limit} or less"
             )?
         }
         _ => return Ok(()),
