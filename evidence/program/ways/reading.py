@@ -5,7 +5,7 @@ import re
 
 import checked
 import png
-from room import FILES, SYMBOLS, figures, file_of, run, squares
+from room import FILES, SYMBOLS, figures, file_of, rows_of, run, squares
 
 EXCHANGED = ", inverted"
 NOT_HEADERS = ("segment: ", "goqlanis: warning: ")
@@ -125,3 +125,34 @@ def a_percent_sign_is_a_separator_behind_fnc1_alone(program):
     rows = {name[6:].encode(): it for name, it in SYMBOLS.items() if name.startswith("bytes ")}
     read = [run(program, ["read"], "/", file_of(it, 4, 2)).stdout for it in rows.values()]
     return len(read) == 4 and read == [*rows]
+
+
+def _square(program, *words):
+    """The rows of modules of a symbol."""
+    words = ["-f", "pbm", "-s", "1", "-q", "0", *words]
+    _, sides, bits = run(program, words, "/").stdout.split(b"\n", 2)
+    step = (int(sides.split()[0]) + 7) // 8
+    return rows_of(" ".join(bits[at:at + step].hex() for at in range(0, len(bits), step)))
+
+
+def _tiled(rows, count, pitch):
+    """A PBM file of so many by so many copies of a square, so many pixels apart, and a dark line,
+    so that it shows no square in an even margin."""
+    wide = [(it + [0] * (pitch - len(it))) * count for it in rows]
+    wide += [[0] * (pitch * count)] * (pitch - len(rows))
+    wide = wide * count + [[1] * (pitch * count)]
+    ink = "\n".join("".join(map(str, it)) for it in [[0] * (pitch * count), *wide])
+    return f"P1\n{pitch * count} {len(wide) + 1}\n{ink}".encode()
+
+
+def crowded_pages_are_read(program):
+    """All of 121 codes; and nothing in 1,024 finder patterns without codes, or in noise."""
+    code = _square(program, "-v", "1", "hi")
+    finder = [it[:7] for it in code[:7]]
+    noise = b"P4\n400 400\n" + random.Random(1).randbytes(20000)
+    for picture, said in ((_tiled(code, 11, 29), b"hi\n" * 121), (_tiled(finder, 32, 9), b""),
+                          (noise, b"")):
+        ran = run(program, ["read"], "/", picture)
+        if ran.stdout != said or ran.returncode != (not said):
+            return False
+    return True

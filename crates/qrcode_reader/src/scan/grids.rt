@@ -11,6 +11,10 @@ use std::alloc::{AllocError, Global};
 // The most grids of a picture. It bounds memory and time.
 const MOST_GRIDS: usize = 1024;
 
+// The most finder patterns on each side of another that are tried with it, the nearest ones:
+// between those of a square there is only the square. It bounds time.
+const MOST_NEAR: usize = 4;
+
 /// Where the modules of a square stand in pixels: the centre of the first one, and how far the
 /// columns and the rows stand apart, in parts of a pixel.
 #[derive(Clone, Copy)]
@@ -71,17 +75,54 @@ fn push_corners(
     found: &[Finder],
     corner: Finder,
 ) -> Result<(), AllocError> {
+    let besides: Vec<Finder> = found
+        .iter()
+        .filter(|it| is_beside(corner, **it))
+        .copied()
+        .collect(alloc)?;
     let belows: Vec<Finder> = found
         .iter()
         .filter(|it| is_below(corner, **it))
         .copied()
         .collect(alloc)?;
-    for beside in found {
-        if is_beside(corner, *beside) {
-            push_below(grids, pixels, &belows, corner, *beside)?;
-        }
+    let belows = nearest(alloc, &belows, corner)?;
+    for beside in &nearest(alloc, &besides, corner)? {
+        push_below(grids, pixels, &belows, corner, *beside)?;
     }
     Ok(())
+}
+
+// Of finder patterns in a line with another, the nearest on both sides.
+fn nearest(alloc: Global, line: &[Finder], corner: Finder) -> Result<Vec<Finder>, AllocError> {
+    let (mut before, mut behind) = (Vec::new(alloc), Vec::new(alloc));
+    for other in line {
+        if place(*other) < place(corner) {
+            push_near(&mut before, corner, *other)?;
+        } else {
+            push_near(&mut behind, corner, *other)?;
+        }
+    }
+    before.extend_from_slice(&behind)?;
+    Ok(before)
+}
+
+// Inserts a finder pattern before the first that is further away, unless four are nearer.
+fn push_near(near: &mut Vec<Finder>, corner: Finder, other: Finder) -> Result<(), AllocError> {
+    let apart = place(corner).abs_diff(place(other));
+    let number = near
+        .iter()
+        .position(|it| apart < place(corner).abs_diff(place(*it)))
+        .unwrap_or(near.len());
+    if number < MOST_NEAR {
+        near.insert(number, other)?;
+        near.truncate(MOST_NEAR);
+    }
+    Ok(())
+}
+
+// Where a finder pattern stands in a line across or down.
+fn place(finder: Finder) -> usize {
+    finder.x + finder.y
 }
 
 // Appends those of a finder pattern in the corner, one beside it and others above or below it.
@@ -114,16 +155,16 @@ pub(crate) fn push_grid(grids: &mut Vec<Grid>, grid: Option<Grid>) -> Result<(),
 
 // Whether a finder pattern of the same size stands to the left or right of another.
 fn is_beside(corner: Finder, other: Finder) -> bool {
-    is_same_size(corner, other)
-        && 7 * corner.y.abs_diff(other.y) <= 2 * corner.height + 14
+    7 * corner.y.abs_diff(other.y) <= 2 * corner.height + 14
         && corner.x.abs_diff(other.x) > 3 * corner.width
+        && is_same_size(corner, other)
 }
 
 // Whether a finder pattern of the same size stands above or below another.
 fn is_below(corner: Finder, other: Finder) -> bool {
-    is_same_size(corner, other)
-        && 7 * corner.x.abs_diff(other.x) <= 2 * corner.width + 14
+    7 * corner.x.abs_diff(other.x) <= 2 * corner.width + 14
         && corner.y.abs_diff(other.y) > 3 * corner.height
+        && is_same_size(corner, other)
 }
 
 // Whether finder patterns are as large, but for a third.
