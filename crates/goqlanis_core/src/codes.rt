@@ -6,8 +6,9 @@ ghost use Rattle.goqlanis_core.specs.Codes.{AreCodesIn, IsFoundAs, IsMissedOf};
 ghost use Rattle.goqlanis_core.specs.Scans.{IsNotClean, IsScanOf, IsUnreadPicture, IsUnreadIn};
 
 use crate::scanning::{self, Scan, read_clean, scan_of, seen_in};
+use qrcode_ec::max_allowed_errors;
 use qrcode_reader::scan::{Grid, Pixels, Square, grids_of, sampled_at};
-use qrcode_reader::{Unread, read_any_parts};
+use qrcode_reader::{AnyPartsReading, Unread, read_any_parts};
 use std::alloc::{AllocError, Global};
 
 /// A square between finder patterns that is not read.
@@ -54,7 +55,8 @@ pub struct Codes {
 }
 
 /// Reads the codes of a picture: the square in a margin, or else those that stand between finder
-/// patterns. There is one at least, or an error.
+/// patterns. Of the latter, Micro ones have no more wrong codewords than the standard allows. There
+/// is one at least, or an error.
 #[tactic(auto, using(crate::proofs::WhyUnread::unread_picture, crate::proofs::WhyUnread::unseen_picture, crate::proofs::Read::scans_of, crate::proofs::Read::missed_of))]
 pub fn read_codes(alloc: Global, bytes: &[u8]) -> Result<Codes, scanning::Unread>
     ensures value { IfOk result (λ codes. All (IsScanOf bytes.now) codes.scans.items) }
@@ -156,6 +158,7 @@ fn found_at(
         return Ok(Found::Nothing);
     };
     let any = match read_any_parts(alloc, &modules) {
+        Ok(any) if is_doubtful(&any) => return Ok(Found::Nothing),
         Ok(any) => any,
         Err(Unread::OutOfMemory) => return Err(AllocError),
         Err(cause) if is_likely(cause) => {
@@ -170,6 +173,16 @@ fn found_at(
         modules,
     };
     Ok(Found::Code(scan_of(alloc, square, Some(*grid), is_inverted, any)?))
+}
+
+// Whether a Micro symbol has more wrong codewords than the standard allows (ISO/IEC 18004:2006,
+// 6.5.1). It has one finder pattern and little error correction: there are such in noise.
+fn is_doubtful(any: &AnyPartsReading) -> bool {
+    let read = &any.reading;
+    match max_allowed_errors(read.version, read.ec_level) {
+        Ok(allowed) => read.version.is_micro() && allowed < read.wrong.len(),
+        Err(_) => false,
+    }
 }
 
 // Whether what is not read is a code nevertheless: it has format words.
