@@ -181,7 +181,7 @@ fn no_room(alloc: Global, area: Rectangle) -> Result<Failure, AllocError> {
     let (width, height) = (area.width, area.height);
     Ok(Failure::Refused(format!(in alloc;
         "the area of {width} by {height} modules leaves no room for a logo within its margin; use a \
-        higher --level, or a smaller --logo-margin"
+        smaller --logo-margin, or a higher version with -v"
     )?))
 }
 
