@@ -52,7 +52,8 @@ static void largest(uint32_t version, uint32_t level)
     }
 }
 
-static void areas(void)
+/* Whether each call answers; of Normal, symbols to the last version. */
+static void areas(uint32_t last)
 {
     const uint32_t size = sizeof(goq_wish);
     const size_t allowed[] = {3, 5, 6, 8}; /* half of 7, 10, 13 and 17, the error correction codewords of Normal 1 */
@@ -95,12 +96,15 @@ static void areas(void)
     expect(goq_cover(modules, 441, &out, 1, &place) == GOQ_NO_FORMAT, "format before area");
     for (uint32_t version = 1; version <= GOQ_MICRO(4); version++)
         for (uint32_t level = GOQ_L; level <= GOQ_H; level++)
-            largest(version, level);
+            if (version <= last || version > 40)
+                largest(version, level);
 }
 
-int main(void)
+/* With any word it looks at small symbols alone: valgrind takes minutes for the others. */
+int main(int count, char **words)
 {
-    areas();
+    (void)words;
+    areas(count > 1 ? 7 : 40);
     printf("%d wrong\n", wrong);
     return wrong != 0;
 }
