@@ -84,7 +84,7 @@ pub static NORMAL_LEVELS: &[Entry] = &[
 pub static TEXTS: &[Entry] = &[
     entry!("micro", Nothing, "Allow Micro QR (--min-version M1); M1 needs --level L"),
     entry!("boost", Nothing,
-        "Raise the level, starting from --level, while the code gets no larger; not with -v"),
+        "Raise the level above --level as far as the code gets no larger; not with -v"),
 ];
 
 /// How a text in one code is marked.
@@ -106,7 +106,7 @@ pub static LOOKS: &[Entry] = &[
         "Write to FILE, atomically; several codes to numbered files; - is standard output"),
     entry!("format", 'f', Word("FORMAT", FORMATS),
         "Output format; zpl, tspl, escpos: printers [default: FILE's extension (.txt: half-blocks); \
-        terminal in terminals, else half-blocks]"),
+        to a terminal: terminal; else half-blocks]"),
     entry!("quiet-zone", 'q', Number("MODULES", 0, 255),
         "Quiet zone on each side, 0 to 255 [default: 4, Micro QR 2]"),
     entry!("scale", 's', Number("PIXELS", 1, 1000),
@@ -131,7 +131,7 @@ pub static LOOKS: &[Entry] = &[
         "Colour of light modules, or transparent (PNG, SVG) [default: white]"),
     entry!("invert", Nothing, "Swap dark and light"),
     entry!("logo", Path,
-        "Put a logo in the middle: an SVG or PNG file for SVG, a PNG file for PNG; the code stays \
+        "Put a logo in the middle of SVG (an SVG or PNG file) or PNG (a PNG file); the code stays \
         readable"),
     entry!("logo-area", Nothing, "Leave an empty area for a logo, in any format"),
     entry!("logo-size", Text("SIZE"),

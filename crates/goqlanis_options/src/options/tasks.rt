@@ -52,8 +52,8 @@ pub static TASKS: &[Task] = &[
     task!("event", Purpose::Content(Kind::Event), "Calendar event"),
     task!("gs1", Purpose::Elements, "GS1 element string",
         entry!("application", Text("INDICATOR"),
-            "Encode data in an industry's own format (FNC1 in second position), by its indicator \
-            from AIM: two digits or a letter")),
+            "Encode data in an industry's own format (FNC1 in second position); AIM assigns the \
+            indicator: two digits or a letter")),
 ];
 
 /// The option of a field of a kind.
@@ -125,7 +125,7 @@ fn own_help(kind: Kind, field: Field) -> Option<(&'static str, &'static str)> {
         (Kind::Pix, Field::City) => ("TEXT", "Payee's city, up to 15 ASCII characters"),
         (Kind::Pix, Field::Reference) => ("TEXT", "Reference (txid), up to 25 letters and digits"),
         (Kind::Pix, Field::Description) =>
-            ("TEXT", "Description, up to 73 ASCII characters including the key"),
+            ("TEXT", "Description, ASCII; with the key up to 73 characters"),
         (Kind::Promptpay, Field::Payee) => ("NUMBER",
             "Payee's phone number (081 234 5678), national or tax ID (13 digits), or e-wallet (15)"),
         _ => return None,
