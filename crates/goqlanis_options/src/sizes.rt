@@ -108,18 +108,24 @@ fn size_help(is_exact: bool, is_side: bool) -> &'static str {
 // thousandth of a point and a ten-thousandth of an inch.
 const INCH: u64 = 45_720_000;
 
-// The parts of a length: of millimetres, centimetres, inches or points.
+// Units of length, each with the decimals that are taken, and the parts of the last one.
+static UNITS: &[(&str, usize, u64)] = &[
+    ("mm", 3, 1_800),
+    ("cm", 4, 1_800),
+    ("in", 4, 4_572),
+    ("pt", 3, 635),
+];
+
+// The parts of a length.
 fn parts_of(text: &str) -> Option<u64> {
-    let (number, places, parts) = if let Some(number) = text.strip_suffix("mm") {
-        (number, 3, 1_800)
-    } else if let Some(number) = text.strip_suffix("cm") {
-        (number, 4, 1_800)
-    } else if let Some(number) = text.strip_suffix("in") {
-        (number, 4, 4_572)
-    } else {
-        (text.strip_suffix("pt")?, 3, 635)
-    };
-    Some(decimal(number, places)?.saturating_mul(parts))
+    let end = text.len().checked_sub(2)?;
+    let (number, unit) = text.get(..end).zip(text.get(end..))?;
+    for (name, places, parts) in UNITS {
+        if unit.eq_ignore_ascii_case(name) {
+            return Some(decimal(number, *places)?.saturating_mul(*parts));
+        }
+    }
+    None
 }
 
 // The pixels of a length, of which an inch has so many: of a side rounded down, and of a module to
