@@ -95,7 +95,7 @@ fn draw_line(
     let text = String::from_utf8_lossy(rt.alloc(), line)?;
     let name = name_of(rt.alloc(), path, number, text.as_str(), asked.delimiter())?;
     take_name(rt.alloc(), taken, path, name.as_str())?;
-    check_made(rt, name.as_str())?;
+    check_made(rt, asked, name.as_str())?;
     let target = Target::File(name.as_str());
     draw_one(rt, &Asked { target, ..*asked }, data)
 }

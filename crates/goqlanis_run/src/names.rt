@@ -6,6 +6,7 @@ use goqlanis_files::streams::is_unseen;
 use goqlanis_options::asked::{Asked, Target};
 use std::alloc::{AllocError, Global};
 use std::collections::BTreeSet;
+use std::fs;
 
 // The most bytes of a file's name, as Linux has it.
 const MOST_IN_NAME: usize = 255;
@@ -73,14 +74,22 @@ pub(crate) fn take_name(
     )?))
 }
 
-/// Refuses a name that was made if it is no file of its own.
-pub(crate) fn check_made(rt: &HostRuntime, name: &str) -> Result<(), Failure> {
-    if is_stream(rt, name) {
-        return Err(Failure::Refused(format!(in rt.alloc();
-            "{name} is a pipe, device or folder; each code gets its own file"
-        )?));
-    }
-    Ok(())
+/// Refuses a name that was made if it is no file of its own: a line is to lead nowhere else.
+pub(crate) fn check_made(
+    rt: &HostRuntime,
+    asked: &Asked<'_, '_>,
+    name: &str,
+) -> Result<(), Failure> {
+    let what = if is_stream(rt, name) {
+        "a pipe, device or folder"
+    } else if fs::symlink_metadata(rt, name).is_ok_and(|found| found.is_symlink()) {
+        "a link"
+    } else if asked.given.get_str("input") == Some(name) {
+        "the input"
+    } else {
+        return Ok(());
+    };
+    Err(Failure::Refused(format!(in rt.alloc(); "{name} is {what}; each code gets its own file")?))
 }
 
 /// The file of a number, counted from 1, and of a line with its delimiter: a path with them in its

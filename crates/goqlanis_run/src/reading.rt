@@ -5,6 +5,7 @@ use clap::ArgMatches;
 use goqlanis_core::{Codes, Scan, Unread, read_codes};
 use goqlanis_files::failure::Failure;
 use goqlanis_files::streams::{MOST_PICTURE, read_file, read_standard_input, write_data};
+use qrcode::types::Version;
 use std::process::ExitCode;
 
 /// Reads the picture that the command line names, and writes the data of its codes.
@@ -16,6 +17,13 @@ pub(crate) fn read(rt: &HostRuntime, given: &ArgMatches<'_>) -> Result<ExitCode,
         let _ = eprint!(rt; "{text}");
     }
     for scan in scans {
+        let read = &scan.any.reading;
+        if read.version == Version::Micro(1) && !read.wrong.is_empty() {
+            let _ = eprintln!(rt;
+                "goqlanis: warning: version M1 lets readers notice damage, not correct it; the data may \
+                be wrong"
+            );
+        }
         if let Some(set) = other_set(&scan.parts) {
             let _ = eprintln!(rt;
                 "goqlanis: warning: the data has text in {set}, which is written as its bytes"

@@ -62,7 +62,7 @@ fn draw_each(
         let drawing = drawn(rt.alloc(), &asked.request, code)?;
         if let Target::File(path) = asked.target {
             let name = name_of(rt.alloc(), path, index.saturating_add(1), "", "")?;
-            check_made(rt, name.as_str())?;
+            check_made(rt, asked, name.as_str())?;
             let target = Target::File(name.as_str());
             write_drawing(rt, &Asked { target, ..*asked }, &drawing)?;
         } else {

@@ -160,12 +160,15 @@ def crowded_pages_are_read(program):
 
 def wrong_codewords_of_micro_codes_on_a_page(program):
     """One is corrected in M2, but none in M1, as the standard has it; in a picture of one code, one
-    is corrected in M1 too."""
+    is corrected in M1 too, with a warning."""
     for version, wrong, on_page in (("M1", 0, b"12"), ("M1", 1, b""), ("M2", 1, b"12")):
         rows = _square(program, "-v", version, "12")
         rows[-1][-1] ^= wrong
         ran = run(program, ["read"], "/", _tiled(rows, 1, 20))
         alone = run(program, ["read"], "/", file_of(rows, 2, 4))
+        is_warned = b"warning: version M1" in alone.stderr
         if (ran.stdout, ran.returncode, alone.stdout) != (on_page, not on_page, b"12"):
+            return False
+        if is_warned != ((version, wrong) == ("M1", 1)):
             return False
     return True

@@ -32,10 +32,27 @@ impl Given for Options<'_, '_> {
     }
 }
 
+// The options without which a payload means something else: an open network or amount, or another
+// kind of one-time password.
+const DECISIVE: &[&str] = &["password", "amount", "counter", "period"];
+
+// Refuses one of these that is given and empty.
+fn check_given(alloc: Global, given: &ArgMatches<'_>) -> Result<(), Failure> {
+    for name in DECISIVE {
+        if given.get_str(name) == Some("") {
+            return Err(Failure::Refused(format!(in alloc;
+                "--{name}: it is empty, e.g. of a variable that is not set; leave it out for none"
+            )?));
+        }
+    }
+    Ok(())
+}
+
 /// The text of a payload, of the options that are given: an option that is not given is an empty
 /// field.
 ///
-/// `Refused`: the format refuses a field. `OutOfMemory`: memory ran out.
+/// `Refused`: the format refuses a field, or an option is empty without which the text means
+/// something else. `OutOfMemory`: memory ran out.
 pub(crate) fn payload_of(
     alloc: Global,
     kind: Kind,
@@ -43,6 +60,7 @@ pub(crate) fn payload_of(
 ) -> Result<String, Failure>
     ensures value { IfOk result (λ text. string_bytes text ≡ payload_text kind (texts_in given.now)) }
 {
+    check_given(alloc, given)?;
     match text_of(alloc, kind, &Options { given }) {
         Ok(text) => Ok(text),
         Err(error) => Err(refusal_of(alloc, kind, error)?),
