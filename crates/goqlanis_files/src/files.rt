@@ -32,12 +32,18 @@ pub enum Unwritten {
     /// What stands there is another user's, in a folder that everybody writes to.
     #[error("it is another user's, in a folder for everybody: remove it, or take another name")]
     Strange,
+    /// All names for new files are taken in this folder.
+    #[error("its folder {0} has goqlanis-0.new to goqlanis-999.new: remove those of ended runs")]
+    Taken(String),
     #[error("out of memory")]
     OutOfMemory(#[from(alloc)] AllocError),
 }
 
 // The most links that are followed, as Linux does.
 const LINKS: u32 = 40;
+
+// How many names are tried for a new file: others may have taken many, so as to take time.
+const NAMES: u32 = 1_000;
 
 // A folder, whose names are looked up in what was opened once: another folder, or a link, that
 // takes its place meanwhile is not seen.
@@ -198,7 +204,7 @@ fn replace(
     old: Option<Metadata>,
     bytes: &[u8],
 ) -> Result<(), Unwritten> {
-    for number in 0..u32::MAX {
+    for number in 0..NAMES {
         let beside = format!(in rt.alloc(); "{}goqlanis-{number}.new", folder.way.as_str())?;
         match private_file(rt, beside.as_str()) {
             Ok((file, usual)) => {
@@ -209,7 +215,7 @@ fn replace(
             Err(error) => return Err(Unwritten::Folder(folder.name, error)),
         }
     }
-    Err(Unwritten::File(io::Error::from(ErrorKind::AlreadyExists)))
+    Err(Unwritten::Taken(folder.name))
 }
 
 // A new file of its owner alone, and the permissions that a file gets there by itself.
