@@ -1,5 +1,5 @@
 -- Days and moments of digits, and the moments in UTC of times in other zones.
-use Rattle.std.specs.Prelude.{◌≡◌, ℕ, zero, suc, nat_lt, nat_le, ◌+◌, ◌*◌, ◌/◌, ◌%◌, ◌==◌, ◌&&◌, Bool, List, ◌∷◌, ◌++◌, length, slice_index, ◌-◌, Option, Some, None, is_some, if◌then◌else◌, codes, refl}
+use Rattle.std.specs.Prelude.{◌≡◌, ℕ, zero, suc, nat_lt, nat_le, ◌+◌, ◌*◌, ◌/◌, ◌%◌, ◌==◌, ◌&&◌, ◌||◌, Bool, true, false, List, ◌∷◌, ◌++◌, length, slice_index, ◌-◌, Option, Some, None, is_some, if◌then◌else◌, codes, refl}
 use Rattle.std.specs.List.{after_first, before_first, list_all}
 use Rattle.std.specs.Option.{option_map, option_and_then}
 use Rattle.qrcode_contents.specs.declared.times.Day.{Day}
@@ -7,7 +7,7 @@ use Rattle.qrcode_contents.specs.declared.times.Moment.{Moment}
 use Rattle.qrcode_contents.specs.fields.Characters.{is_digit}
 use Rattle.qrcode_contents.specs.Times.{is_leap, days_in, is_moment}
 use Rattle.qrcode_contents.specs.fields.Entries.{is_empty, is_filled}
-use Rattle.qrcode_payloads.specs.Plain.{plain}
+use Rattle.qrcode_payloads.specs.Plain.{has_form, plain}
 use Rattle.qrcode_payloads.specs.declared.plain.Between.TheVariants as between
 use Rattle.qrcode_payloads.specs.Numbers.{scaled_value, at_most_u64}
 
@@ -118,13 +118,26 @@ zoned day time =
 unfoldable pub moment_of : List ℕ → List ℕ → Option Moment
 moment_of day time = if is_utc time then local_said day (before_first is_zed time) else zoned day time
 
--- a day, or a day and a time, without hyphens between the parts of the day and colons between those of the time
+-- a day without the hyphens of ISO 8601; another text as it is, so that it is refused
+unfoldable pub plain_day : List ℕ → List ℕ
+plain_day text = if has_form (codes "dddd-dd-dd") text then plain between.Digits text else text
+
+-- a time of day, and perhaps a zone, with colons where ISO 8601 has them; a zone may do without
+unfoldable pub has_colons : List ℕ → Bool
+has_colons time =
+    has_form (codes "dd:dd") time || has_form (codes "dd:dd:dd") time || has_form (codes "dd:ddZ") time || has_form (codes "dd:dd:ddZ") time || has_form (codes "dd:ddsdd:dd") time || has_form (codes "dd:dd:ddsdd:dd") time || has_form (codes "dd:ddsdddd") time || has_form (codes "dd:dd:ddsdddd") time
+
+-- a time of day, and perhaps a zone, without these colons; another text as it is
+unfoldable pub plain_clock : List ℕ → List ℕ
+plain_clock time = if has_colons time then plain between.Clock time else time
+
+-- a day, or a day and a time, without the hyphens of the day and the colons of the time; a space may stand for the T
 unfoldable pub plain_time : List ℕ → List ℕ
 plain_time text =
-    let written = plain between.Clock text in
+    let written = plain between.Time text in
     if is_filled (after_first is_tee written)
-    then plain between.Time (before_first is_tee written) ++ (84 ∷ after_first is_tee written)
-    else plain between.Time written
+    then plain_day (before_first is_tee written) ++ (84 ∷ plain_clock (after_first is_tee written))
+    else plain_day written
 
 -- the moment in UTC of a day, a T, a time of day, and a Z or a zone
 abbrev pub moment_said : List ℕ → Option Moment
@@ -175,3 +188,16 @@ wide_row = refl
 minutes_row : moment_said (codes "19980118T230000+0060") ≡ None
 unfolding moment_of zoned local_said zone_minutes from_ahead from_behind
 minutes_row = refl
+
+-- colons as ISO 8601 has them, and where zeros are left out, so that the colons stay and nothing is read
+colons_row : has_colons (codes "14:00:30-01:00") ≡ true
+unfolding has_colons
+colons_row = refl
+
+zeros_row : has_colons (codes "1:4:30Z") ≡ false
+unfolding has_colons
+zeros_row = refl
+
+early_row : plain_day (codes "-1970-01-31") ≡ codes "-1970-01-31"
+unfolding plain_day
+early_row = refl

@@ -38,8 +38,8 @@ use Rattle.qrcode_contents.specs.fields.Entries.{is_empty}
 use Rattle.qrcode_payloads.specs.Amounts.{plain_amount}
 use Rattle.qrcode_payloads.specs.Given.{said, with_value}
 use Rattle.qrcode_payloads.specs.Numbers.{scaled_value, degrees_of, unsigned}
-use Rattle.qrcode_payloads.specs.Plain.{plain, phone_number, phone_digits}
-use Rattle.qrcode_payloads.specs.Times.{day_said, is_local, moment_said, plain_time}
+use Rattle.qrcode_payloads.specs.Plain.{plain, phone_number, phone_digits, without_padding}
+use Rattle.qrcode_payloads.specs.Times.{day_said, is_local, moment_said, plain_day, plain_time}
 use Rattle.qrcode_payloads.specs.Words.{named, security_words, currency_words, algorithm_words, digits_words, flag_words}
 use Rattle.qrcode_payloads.specs.declared.plain.Between.TheVariants as between
 
@@ -115,10 +115,10 @@ person_said g phone birthday = record {
 }
 
 abbrev pub person_in : (Field → List ℕ) → Result Person ContentError  -- a contact, as MECARD has it
-person_in g = with_value (birthday_in (plain between.Time (g Birthday))) (λ birthday. Ok (person_said g (phone_digits (g Phone)) birthday))
+person_in g = with_value (birthday_in (plain_day (g Birthday))) (λ birthday. Ok (person_said g (phone_digits (g Phone)) birthday))
 
 abbrev pub contact_in : (Field → List ℕ) → Result Contact ContentError  -- a contact, as vCard has it
-contact_in g = with_value (birthday_in (plain between.Time (g Birthday))) (λ birthday. Ok (record {
+contact_in g = with_value (birthday_in (plain_day (g Birthday))) (λ birthday. Ok (record {
   person = person_said g (phone_number (g Phone)) birthday;
   name = g Name;
   organisation = g Organisation;
@@ -204,7 +204,7 @@ key_in g = with_value (factor_in (g Counter) (g Period)) (λ factor. with_value 
   factor = factor;
   issuer = g Issuer;
   account = g Account;
-  secret = plain between.Secret (g Secret);
+  secret = without_padding (plain between.Person (g Secret));
   algorithm = algorithm;
   digits = digits;
 }))))

@@ -1,7 +1,8 @@
 //! Values without what people write between their characters.
 
 ghost use Rattle.std.specs.Prelude.{◌≡◌, IfOk, string_bytes};
-ghost use Rattle.qrcode_payloads.specs.Plain.{is_between, as_written, kept, plain, without_zero, phone_number, phone_digits};
+ghost use Rattle.std.specs.List.{list_all};
+ghost use Rattle.qrcode_payloads.specs.Plain.{is_between, as_written, kept, plain, is_placed, has_form, is_code, is_country, without_zero, phone_number, phone_digits, is_equals, without_padding};
 
 use qrcode_contents::fields::characters::parts;
 use qrcode_contents::phone::is_number;
@@ -10,11 +11,9 @@ use std::alloc::{AllocError, Global};
 /// What people write between the characters of a value.
 #[derive(Clone, Copy)]
 pub(crate) enum Between {
-    /// Spaces, in account numbers, references and codes.
+    /// Spaces, in account numbers, references, codes and telephone numbers.
     Spaces,
-    /// Spaces and slashes, in telephone numbers.
-    Phone,
-    /// Hyphens, points and brackets, where formats have only the digits of such numbers.
+    /// Hyphens, points and brackets, where formats have only the digits of numbers and days.
     Digits,
     /// Nothing, in amounts as they are written.
     Amount,
@@ -22,13 +21,11 @@ pub(crate) enum Between {
     Groups,
     /// Nothing, in degrees: 1 30 may be minutes.
     Degrees,
-    /// Spaces, hyphens, and equals signs at the end, in secrets.
-    Secret,
-    /// Hyphens and colons, in days.
-    Time,
-    /// Spaces and hyphens, in numbers of persons.
+    /// Spaces and hyphens, in secrets and numbers of persons.
     Person,
-    /// Colons, in times, in which a hyphen is the sign of a zone.
+    /// Nothing, in days and times.
+    Time,
+    /// Colons, in times of day.
     Clock,
 }
 
@@ -38,14 +35,11 @@ impl Between {
         ensures { result ≡ is_between self character }
     {
         match (self, character) {
-            (Between::Amount | Between::Degrees, _) => false,
+            (Between::Amount | Between::Degrees | Between::Time, _) => false,
             (Between::Groups, _) => matches!(character, ' ' | '\''),
-            (Between::Time, _) => matches!(character, '-' | ':'),
             (Between::Digits, _) => matches!(character, '-' | '.' | '(' | ')'),
             (Between::Clock, _) => character == ':',
             (_, ' ' | '\u{a0}' | '\u{202f}') => true,
-            (Between::Phone, '/') => true,
-            (Between::Secret, '-' | '=') => true,
             (Between::Person, '-') => true,
             _ => false,
         }
@@ -61,7 +55,7 @@ impl Between {
             (Between::Amount | Between::Degrees, ',') => '.',
             (Between::Amount, '\u{a0}' | '\u{202f}') => ' ',
             (Between::Amount, '\u{2019}') => '\'',
-            (Between::Time | Between::Clock, ' ') => 'T',
+            (Between::Time, ' ') => 'T',
             _ => character.to_ascii_uppercase(),
         }
     }
@@ -86,13 +80,65 @@ pub(crate) fn plain(alloc: Global, text: &str, between: Between) -> Result<Strin
         .collect(alloc)
 }
 
+// Whether a byte stands where a form has this one: a digit for d, a sign for s.
+fn is_placed(place: u8, byte: u8) -> bool
+    ensures { result ≡ is_placed place byte }
+{
+    match place {
+        b'd' => byte.is_ascii_digit(),
+        b's' => matches!(byte, b'+' | b'-'),
+        _ => byte == place,
+    }
+}
+
+/// Whether bytes have a form: a digit for each d of it, a sign for each s, and else the same bytes.
+pub(crate) fn has_form(form: &[u8], bytes: &[u8]) -> bool
+    ensures { result ≡ has_form form.now bytes.now }
+{
+    let mut places = form;
+    let mut rest = bytes;
+    while let [place, later @ ..] = places {
+        let [byte, more @ ..] = rest else {
+            return false;
+        };
+        if !is_placed(*place, *byte) {
+            return false;
+        }
+        places = later;
+        rest = more;
+    }
+    rest.is_empty()
+}
+
+// Whether bytes are the code of a country: one to three digits behind + or 00.
+#[tactic(auto, unfolding(crate::specs::Plain::is_code))]
+fn is_code(bytes: &[u8]) -> bool
+    ensures { result ≡ is_code bytes.now }
+{
+    has_form(b"+d", bytes)
+        || has_form(b"+dd", bytes)
+        || has_form(b"+ddd", bytes)
+        || has_form(b"00d", bytes)
+        || has_form(b"00dd", bytes)
+        || has_form(b"00ddd", bytes)
+}
+
+// Whether a text is such a code, perhaps with a hyphen behind it.
+#[tactic(auto, unfolding(crate::specs::Plain::is_country))]
+fn is_country(text: &str) -> bool
+    ensures { result ≡ is_country text.now }
+{
+    let (code, rest) = parts(text, '-');
+    is_code(code.as_bytes()) && rest.is_empty()
+}
+
 // A number without a (0) behind the code of its country.
 #[tactic(auto, unfolding(crate::specs::Plain::without_zero))]
 fn without_zero(alloc: Global, number: String) -> Result<String, AllocError>
     ensures { IfOk result (λ value. string_bytes value ≡ without_zero (string_bytes number)) }
 {
     let (country, inside) = parts(number.as_str(), '(');
-    if country.is_empty() || !inside.as_bytes().starts_with(b"0)") {
+    if !is_country(country) || !inside.as_bytes().starts_with(b"0)") {
         return Ok(number);
     }
     let mut dialled = String::from_str(alloc, country)?;
@@ -105,7 +151,7 @@ fn without_zero(alloc: Global, number: String) -> Result<String, AllocError>
 pub(crate) fn phone_number(alloc: Global, text: &str) -> Result<String, AllocError>
     ensures { IfOk result (λ value. string_bytes value ≡ phone_number text.now) }
 {
-    without_zero(alloc, plain(alloc, text, Between::Phone)?)
+    without_zero(alloc, plain(alloc, text, Between::Spaces)?)
 }
 
 /// A telephone number of digits alone, perhaps behind a plus sign, as MECARD has it; another text
@@ -118,4 +164,23 @@ pub(crate) fn phone_digits(alloc: Global, text: &str) -> Result<String, AllocErr
         return Ok(number);
     }
     plain(alloc, number.as_str(), Between::Digits)
+}
+
+// Whether all bytes are equals signs.
+fn are_equals(bytes: &[u8]) -> bool
+    ensures { result ≡ list_all is_equals bytes.now }
+{
+    bytes.iter().all(|byte| *byte == b'=')
+}
+
+/// A secret without the equals signs at its end; with all of them where another byte is behind one.
+pub(crate) fn without_padding(secret: &str) -> &str
+    ensures { result.now ≡ without_padding secret.now }
+{
+    let (value, padding) = parts(secret, '=');
+    if are_equals(padding.as_bytes()) {
+        value
+    } else {
+        secret
+    }
 }

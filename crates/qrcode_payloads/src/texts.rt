@@ -15,8 +15,8 @@ ghost use Rattle.qrcode_payloads.specs.declared.kinds.Kind.TheVariants.{Wifi, Me
 use crate::amounts::plain_amount;
 use crate::given::Given;
 use crate::kinds::{Kind, fields_of};
-use crate::plain::{Between, phone_digits, phone_number, plain};
-use crate::times::plain_time;
+use crate::plain::{Between, phone_digits, phone_number, plain, without_padding};
+use crate::times::{plain_day, plain_time};
 use crate::values;
 use qrcode_contents::card::Card;
 use qrcode_contents::contact::Contact;
@@ -106,7 +106,7 @@ fn contact<'a, G: Given>(given: &'a G, phone: &'a str, birthday: Option<Day>) ->
 fn mecard_text<G: Given>(alloc: Global, given: &G) -> ContentResult<String>
     ensures { HasText Mecard (G.fields given.now) result }
 {
-    let day = plain(alloc, given.text(Field::Birthday), Between::Time)?;
+    let day = plain_day(alloc, given.text(Field::Birthday))?;
     let phone = phone_digits(alloc, given.text(Field::Phone))?;
     let birthday = values::birthday(day.as_str())?;
     contact(given, phone.as_str(), birthday).mecard(alloc)
@@ -116,7 +116,7 @@ fn mecard_text<G: Given>(alloc: Global, given: &G) -> ContentResult<String>
 fn vcard_text<G: Given>(alloc: Global, given: &G) -> ContentResult<String>
     ensures { HasText Vcard (G.fields given.now) result }
 {
-    let day = plain(alloc, given.text(Field::Birthday), Between::Time)?;
+    let day = plain_day(alloc, given.text(Field::Birthday))?;
     let phone = phone_number(alloc, given.text(Field::Phone))?;
     let mobile = phone_number(alloc, given.text(Field::Mobile))?;
     let work_phone = phone_number(alloc, given.text(Field::WorkPhone))?;
@@ -234,7 +234,7 @@ fn sms_text<G: Given>(alloc: Global, given: &G) -> ContentResult<String>
 fn otp_text<G: Given>(alloc: Global, given: &G) -> ContentResult<String>
     ensures { HasText Otp (G.fields given.now) result }
 {
-    let secret = plain(alloc, given.text(Field::Secret), Between::Secret)?;
+    let secret = plain(alloc, given.text(Field::Secret), Between::Person)?;
     let factor = values::factor(given.text(Field::Counter), given.text(Field::Period))?;
     let algorithm = values::algorithm(given.text(Field::Algorithm))?;
     let digits = values::digits(given.text(Field::Digits))?;
@@ -242,7 +242,7 @@ fn otp_text<G: Given>(alloc: Global, given: &G) -> ContentResult<String>
         factor,
         issuer: given.text(Field::Issuer),
         account: given.text(Field::Account),
-        secret: secret.as_str(),
+        secret: without_padding(secret.as_str()),
         algorithm,
         digits,
     };

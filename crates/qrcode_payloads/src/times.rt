@@ -1,11 +1,11 @@
 //! Days and moments as people write them, also in zones other than UTC.
 
 ghost use Rattle.std.specs.Prelude.{◌≡◌, ◌<◌, ◌+◌, IfOk, IfSome, Some, true, string_bytes};
-ghost use Rattle.qrcode_payloads.specs.Times.{day_numbered, day_said, clock_number, moment_at, local_said, day_after, day_before, clock_minutes, with_minutes, earlier, later, zone_minutes, minute_count, day_count, from_ahead, from_behind, is_utc, zoned, moment_said, is_local, plain_time};
+ghost use Rattle.qrcode_payloads.specs.Times.{day_numbered, day_said, clock_number, moment_at, local_said, day_after, day_before, clock_minutes, with_minutes, earlier, later, zone_minutes, minute_count, day_count, from_ahead, from_behind, is_utc, zoned, moment_said, is_local, plain_day, has_colons, plain_clock, plain_time};
 ghost use Rattle.qrcode_contents.specs.Times.{is_moment};
 
 use crate::numbers::decimal;
-use crate::plain::{Between, plain};
+use crate::plain::{Between, has_form, plain};
 use qrcode_contents::fields::characters::{are_digits, parts};
 use qrcode_contents::times::{Day, Moment, days_in};
 use std::alloc::{AllocError, Global};
@@ -230,19 +230,57 @@ pub(crate) fn is_local(text: &str) -> bool
     local_said(day, time).is_some()
 }
 
-/// A day, or a day and a time, without hyphens between the parts of the day and colons between
-/// those of the time.
+/// A day without the hyphens of ISO 8601; another text as it is, so that it is refused.
+#[tactic(auto, unfolding(crate::specs::Times::plain_day))]
+pub(crate) fn plain_day(alloc: Global, text: &str) -> Result<String, AllocError>
+    ensures { IfOk result (λ value. string_bytes value ≡ plain_day text.now) }
+{
+    if has_form(b"dddd-dd-dd", text.as_bytes()) {
+        return plain(alloc, text, Between::Digits);
+    }
+    String::from_str(alloc, text)
+}
+
+// Whether a time of day, and perhaps a zone, have colons where ISO 8601 has them; a zone may do
+// without.
+#[tactic(auto, unfolding(crate::specs::Times::has_colons))]
+fn has_colons(time: &[u8]) -> bool
+    ensures { result ≡ has_colons time.now }
+{
+    has_form(b"dd:dd", time)
+        || has_form(b"dd:dd:dd", time)
+        || has_form(b"dd:ddZ", time)
+        || has_form(b"dd:dd:ddZ", time)
+        || has_form(b"dd:ddsdd:dd", time)
+        || has_form(b"dd:dd:ddsdd:dd", time)
+        || has_form(b"dd:ddsdddd", time)
+        || has_form(b"dd:dd:ddsdddd", time)
+}
+
+// A time of day, and perhaps a zone, without these colons; another text as it is.
+#[tactic(auto, unfolding(crate::specs::Times::plain_clock))]
+fn plain_clock(alloc: Global, time: &str) -> Result<String, AllocError>
+    ensures { IfOk result (λ value. string_bytes value ≡ plain_clock time.now) }
+{
+    if has_colons(time.as_bytes()) {
+        return plain(alloc, time, Between::Clock);
+    }
+    String::from_str(alloc, time)
+}
+
+/// A day, or a day and a time, without the hyphens of the day and the colons of the time.
 #[tactic(auto, unfolding(crate::specs::Times::plain_time))]
 pub(crate) fn plain_time(alloc: Global, text: &str) -> Result<String, AllocError>
     ensures { IfOk result (λ value. string_bytes value ≡ plain_time text.now) }
 {
-    let written = plain(alloc, text, Between::Clock)?;
-    let (day, clock) = parts(written.as_str(), 'T');
-    if clock.is_empty() {
-        return plain(alloc, written.as_str(), Between::Time);
+    let written = plain(alloc, text, Between::Time)?;
+    let (day, time) = parts(written.as_str(), 'T');
+    if time.is_empty() {
+        return plain_day(alloc, written.as_str());
     }
-    let mut value = plain(alloc, day, Between::Time)?;
+    let clock = plain_clock(alloc, time)?;
+    let mut value = plain_day(alloc, day)?;
     value.push_str("T")?;
-    value.push_str(clock)?;
+    value.push_str(clock.as_str())?;
     Ok(value)
 }

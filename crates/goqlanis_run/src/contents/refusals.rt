@@ -37,7 +37,7 @@ fn what_is_wrong(kind: Kind, field: Field, cause: Cause) -> &'static str {
         (Kind::Upi, Field::Payee, Cause::Character) =>
             "it may only have letters, digits and -._ around one @",
         (_, Field::Phone | Field::Mobile | Field::WorkPhone | Field::HomePhone, Cause::Character) =>
-            "it may only have digits, spaces and -./(), with + in front",
+            "it may only have digits, spaces and -.(), with + in front",
         (_, Field::Begin | Field::End | Field::Stamp, Cause::TooShort) =>
             "it has no time zone: add one as +01:00, or Z for UTC",
         (_, Field::Begin | Field::Stamp, Cause::Character) => "it is not written as a day or time",
