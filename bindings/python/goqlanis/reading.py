@@ -288,7 +288,8 @@ def _joined(codes: List[Code]) -> bytes:
     for at, head in enumerate(heads):
         if head.kind != PARTS[goq.ONE_OF_SEVERAL]:
             raise _not_joined(goq.NOT_SEVERAL, at)
-        if (head.number, head.symbols) != (heads[0].number, heads[0].symbols):
+        is_beyond = (head.place or 0) >= (head.symbols or 0)
+        if is_beyond or (head.number, head.symbols) != (heads[0].number, heads[0].symbols):
             raise _not_joined(goq.STRANGER, at)
     places = [head.place for head in heads]
     for place in range(heads[0].symbols or 0):
