@@ -16,24 +16,24 @@ def write(out: Any, data: bytes, is_text: bool) -> None:
             _write_whole(path, data)
         except OSError as error:
             raise OSError(error.errno, error.strerror, path) from None
-    elif isinstance(out, io.RawIOBase):
+    elif not hasattr(out, "encoding"):
         _write_parts(out, data)
-    elif not isinstance(out, io.TextIOBase):
-        out.write(data)
     elif is_text:
         out.write(data.decode())
     else:
         raise TypeError("this format is bytes, and the file is open for text: open it with 'wb'")
 
 
-def _write_parts(out: io.RawIOBase, data: bytes) -> None:
-    """Writes data to a file without a buffer, which may take a part of it at a time."""
-    rest = memoryview(data)
-    while rest:
-        count = out.write(rest)
+def _write_parts(out: Any, data: bytes) -> None:
+    """Writes data to a file that may take a part of it at a time, and says how much. Where it says
+    nothing it took all, but a file without a buffer took nothing."""
+    while data:
+        count = out.write(data)
+        if count is None and not isinstance(out, io.RawIOBase):
+            return
         if not count:
             raise BlockingIOError(errno.EAGAIN, os.strerror(errno.EAGAIN))
-        rest = rest[count:]
+        data = data[count:]
 
 
 def _write_whole(path: str, data: bytes) -> None:
