@@ -14,6 +14,8 @@ from .errors import NoRoom, TooLong, WrongField, refuse
 Number = Union[int, float, str, decimal.Decimal]
 
 Time = Union[str, datetime.date]
+# The digits before a point, or zeros behind it, beyond which a number is in no format.
+MOST_DIGITS = 40
 
 
 class EmptyField(WrongField):
@@ -197,7 +199,11 @@ def number(name: str, value: Number) -> str:
         return value
     if isinstance(value, bool) or not isinstance(value, (int, float, decimal.Decimal)):
         raise TypeError(f"{name} is a number, or one in a str, not {shown(value)}")
-    return format(decimal.Decimal(str(value)), "f")
+    found = decimal.Decimal(value if isinstance(value, int) else str(value))
+    if not found.is_finite() or abs(found.adjusted()) > MOST_DIGITS:
+        kind = TooManyDecimals if found.adjusted() < 0 else OutOfRange
+        raise kind(name, _said(kind, name))
+    return format(found, "f")
 
 
 def time(name: str, value: Time) -> str:
