@@ -28,9 +28,12 @@ def cut(said: str) -> str:
     return said if len(said) <= 40 else f"{said[:38]}.."
 
 
-def shown(value: Any) -> str:
+def shown(value: Any, write: Callable[[Any], str] = repr) -> str:
     """A value as Python writes it, cut."""
-    return cut(repr(value))
+    try:
+        return cut(write(value))
+    except ValueError:  # Python writes no int of more than 4,300 digits.
+        return "a number of thousands of digits"
 
 
 def named(call: Call) -> Call:
@@ -57,7 +60,7 @@ def whole(name: str, value: Any, least: int, most: int,
                         f"{_whole_of(value)}")
     if not least <= number <= most:
         raise error(f"{name} is a whole number from {least:,} to {most:,}, not "
-                    f"{cut(f'{number:,}')}")
+                    f"{shown(number, '{:,}'.format)}")
     return number
 
 
@@ -73,8 +76,8 @@ def _whole_of(value: Any) -> str:
     """What would make a whole number of a value, where something does."""
     if isinstance(value, float) and abs(value) < 2**53:
         return f": take {round(value)}"
-    if isinstance(value, str) and value.strip().isdecimal():
-        return f": take {cut(str(int(value)))}"
+    if isinstance(value, str) and value.strip().isdecimal() and len(value) < 40:
+        return f": take {int(value)}"
     return ""
 
 
@@ -88,16 +91,21 @@ def flag(name: str, value: Any) -> bool:
 def text(name: str, value: Any) -> str:
     """A str."""
     if isinstance(value, str):
-        return value
+        return str.__str__(value)
     if isinstance(value, BINARY):
         raise TypeError(f"{name} is a str, not bytes: take {name}.decode()")
     raise TypeError(f"{name} is a str, not {shown(value)}: take str(..)")
 
 
+def exact(value: Any) -> bytes:
+    """A copy of bytes, whatever their class says of their length."""
+    return memoryview(value).tobytes()
+
+
 def binary(name: str, value: Any) -> bytes:
     """Bytes."""
     if isinstance(value, BINARY):
-        return bytes(value)
+        return exact(value)
     if isinstance(value, str):
         raise TypeError(f"{name} is bytes, not a str: take {value[:20]!r}.encode()")
     raise TypeError(f"{name} is bytes, not {_typed(value)}{_bytes_of(value)}")
@@ -106,9 +114,9 @@ def binary(name: str, value: Any) -> bytes:
 def data(value: Any) -> Tuple[bytes, bool]:
     """Data as bytes, and whether it is a text."""
     if isinstance(value, str):
-        return value.encode(), True
+        return str.encode(value), True
     if isinstance(value, BINARY):
-        return bytes(value), False
+        return exact(value), False
     raise TypeError(f"data is a str or bytes, not {_typed(value)}{_bytes_of(value)}")
 
 
@@ -120,7 +128,7 @@ def _typed(value: Any) -> str:
 def _bytes_of(value: Any) -> str:
     """What would make data of a value, where something does."""
     if isinstance(value, numbers.Number):
-        return f": take str({cut(str(value))})"
+        return f": take str({shown(value, str)})"
     if hasattr(value, "read_bytes"):
         return ": take str(..) for the path, or .read_bytes() for what is in the file"
     if hasattr(value, "read"):
@@ -141,7 +149,7 @@ def level(value: Any) -> int:
 
 def version(value: Any) -> int:
     """The library's number of a version, which is a text or, of Normal, a number."""
-    name = value if isinstance(value, str) else str(_index(value))
+    name = value if isinstance(value, str) else shown(_index(value), str)
     if name == "None":
         raise TypeError(f"a version is '1' to '40' or 'M1' to 'M4', not {shown(value)}")
     is_micro = name[:1] in ("M", "m")

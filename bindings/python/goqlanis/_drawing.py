@@ -102,7 +102,7 @@ def _fitted(look: Look, name: str, across: int) -> int:
 def _pixels(look: Look, dots: Any) -> int:
     """The pixels of a size, of which so many are an inch."""
     size = look.size
-    found = isinstance(size, str) and re.fullmatch(r"([0-9]+([.][0-9]+)?)mm", size)
+    found = isinstance(size, str) and re.fullmatch(r"([0-9]{1,99}([.][0-9]{1,99})?)mm", size)
     if found and dots is None:
         raise ValueError(f"size={shown(size)}: how many pixels are these? Take PNG and dpi=300, or "
                          "EPS or PDF, in points")
@@ -143,7 +143,7 @@ def kind_of(out: Any, kind: Optional[str]) -> str:
         raise ValueError(f"nothing names the format, one of {known}: add kind='png', or another "
                          "one")
     if ending not in KINDS:
-        file = os.path.basename(name)
+        file = os.path.basename(os.fsdecode(name))
         raise ValueError(f"{shown(file)}: its ending is none of {known}: save "
                          f"{shown(os.path.splitext(file)[0] + '.png')}, and convert that")
     return ending

@@ -7,7 +7,7 @@ from ._library import Segment, library
 from ._numbers import (ALPHANUMERIC, AS_BYTES, AS_MARKED_TEXT, AS_TEXT, BYTES, ECI, FNC1_FIRST,
                        FNC1_SECOND, KANJI, NUMERIC, SEVERAL_MAX)
 from ._payloads import elements_of, string_of
-from .errors import NoSuchNumber
+from .errors import NoSuchMask, NoSuchNumber
 from .symbol import Symbol
 
 Data = Union[str, bytes, bytearray, memoryview]
@@ -99,7 +99,7 @@ def _versions(version: Optional[Version], least: Optional[Version], micro: bool)
 
 
 def _mask(mask: Optional[int]) -> int:
-    return 0 if mask is None else 1 + _checks.whole("mask", mask, 0, 7)
+    return 0 if mask is None else 1 + _checks.whole("mask", mask, 0, 7, NoSuchMask)
 
 
 def encode_text(text: str, level: str = "M", marked: bool = False) -> Symbol:

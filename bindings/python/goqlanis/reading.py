@@ -203,11 +203,13 @@ def _part(part: KnownPart) -> Part:
 def _file_of(given: Any) -> Optional[bytes]:
     """The bytes of a picture, where it is one."""
     if isinstance(given, _checks.BINARY):
-        return bytes(given)
+        return _checks.exact(given)
     if isinstance(given, (str, os.PathLike)):
         with open(given, "rb") as file:
             return file.read(MOST_PICTURE + 1)
     if hasattr(given, "read"):
+        if hasattr(given, "encoding"):
+            raise TypeError("the file is open for text: open it with 'rb'")
         return _checks.binary("what the file gives", given.read())
     if hasattr(given, "save") and hasattr(given, "mode"):
         out = io.BytesIO()
@@ -331,7 +333,7 @@ def _modules_of(square: Modules, of: str = "rows of modules, or a Symbol") -> by
     """The modules of a square, a byte each."""
     if isinstance(square, Symbol):
         return square.modules
-    if isinstance(square, (str, bytes, os.PathLike)):
+    if isinstance(square, (str, *_checks.BINARY, os.PathLike)) or hasattr(square, "read"):
         raise TypeError("square is a Symbol, or rows of modules, each True or False, not "
                         f"{_checks.shown(square)}: read reads pictures")
     given = _checks.listed("square", square, of)
