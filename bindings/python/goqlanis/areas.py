@@ -5,7 +5,7 @@ import os
 import re
 import xml.etree.ElementTree as xml
 from fractions import Fraction
-from typing import Any, List, NamedTuple, Optional, Sequence, Tuple, Union
+from typing import Any, Iterable, List, NamedTuple, Optional, Sequence, Tuple, Union
 
 from . import _checks
 from . import _numbers as goq
@@ -54,8 +54,12 @@ Area = Union[Rectangle, Sequence[int], Sequence[Rectangle]]
 
 def reserve(version: int, level: int, area: Area) -> Reserve:
     """What an area takes of a symbol of a version and level."""
+    return _reserve(version, level, *_given(area))
+
+
+def _reserve(version: int, level: int, given: Any, count: int) -> Reserve:
     counts, taken = (ctypes.c_size_t * goq.BLOCKS_MAX)(), Taken()
-    answer = library.goq_reserve(version, level, *_given(area), counts, len(counts),
+    answer = library.goq_reserve(version, level, given, count, counts, len(counts),
                                  ctypes.byref(taken))
     refuse(answer)
     return Reserve(tuple(counts[:taken.blocks]), taken.allowed, taken.worst,
@@ -78,26 +82,27 @@ def largest(version: int, level: int, ratio: Any, kept: Any, keep_alignment: boo
 def covered(modules: bytes, version: int, level: int, area: Area) -> bytes:
     """The modules of a symbol, those of an area light."""
     out, place = ctypes.create_string_buffer(modules, len(modules)), ctypes.c_size_t()
-    answer = library.goq_cover(out, len(out), *_given(area), ctypes.byref(place))
+    given = _given(area)
+    answer = library.goq_cover(out, len(out), *given, ctypes.byref(place))
     if answer == goq.AREA_BLOCK:
-        raise _too_large(version, level, area)
+        raise _too_large(version, level, *given)
     refuse(answer)
     return out.raw
 
 
-def _too_large(version: int, level: int, area: Area) -> Error:
+def _too_large(version: int, level: int, given: Any, count: int) -> Error:
     """The refusal of an area, with the level that would do."""
-    taken = reserve(version, level, area)
-    higher = (it for it in range(level + 1, len(LEVELS)) if _fits(version, it, area))
+    taken = _reserve(version, level, given, count)
+    higher = (it for it in range(level + 1, len(LEVELS)) if _fits(version, it, given, count))
     found = next(higher, None)
     helps = "a smaller area" if found is None else f"level {LEVELS[found]}, or a smaller area"
     return refusal(goq.AREA_BLOCK, f"the area touches {taken.touched[taken.worst]} codewords of "
                    f"block {taken.worst + 1}, of which {taken.allowed} may be lost: take {helps}")
 
 
-def _fits(version: int, level: int, area: Area) -> bool:
+def _fits(version: int, level: int, given: Any, count: int) -> bool:
     try:
-        return reserve(version, level, area).least is not None
+        return _reserve(version, level, given, count).least is not None
     except Error:
         return False
 
@@ -105,14 +110,18 @@ def _fits(version: int, level: int, area: Area) -> bool:
 def _given(area: Area) -> Tuple[Any, int]:
     """The rectangles of an area: one, or several."""
     given: List[Any] = _checks.listed("area", area, "rectangles: left, top, width, height")
-    rows = [given] if given and all(isinstance(it, int) for it in given) else given
-    for row in rows:
-        sides = _checks.listed("area", row, "left, top, width, height")
-        if len(sides) != 4:
-            raise ValueError(f"a rectangle is left, top, width and height, not {_checks.shown(row)}")
-        for name, side in zip(Rectangle._fields, sides):
-            _checks.whole(name, side, 0, 10000)
-    return (Given * len(rows))(*(Given(*row) for row in rows)), len(rows)
+    is_one = given and not any(isinstance(it, Iterable) for it in given)
+    rows = [Given(*rectangle(row)) for row in ([given] if is_one else given)]
+    return (Given * len(rows))(*rows), len(rows)
+
+
+def rectangle(given: Any) -> Rectangle:
+    """A rectangle, as a caller gives it."""
+    sides = _checks.listed("area", given, "left, top, width, height")
+    if len(sides) != 4:
+        raise ValueError(f"a rectangle is left, top, width and height, not {_checks.shown(given)}")
+    return Rectangle(*(_checks.whole(name, side, 0, 10000)
+                       for name, side in zip(Rectangle._fields, sides)))
 
 
 def _rectangle(found: Given) -> Rectangle:
@@ -142,7 +151,7 @@ def loaded(logo: Any) -> Tuple[str, Tuple[int, int]]:
             data = file.read()
     if not isinstance(data, _checks.BINARY):
         raise TypeError(f"logo is a path or the bytes of a file, not {_checks.shown(logo)}")
-    data = bytes(data)
+    data = _checks.exact(data)
     if data.startswith(b"\x89PNG") and len(data) > 24:
         sides = [int.from_bytes(data[at:at + 4], "big") for at in (16, 20)]
         kind = "png"
@@ -150,7 +159,7 @@ def loaded(logo: Any) -> Tuple[str, Tuple[int, int]]:
         sides, kind = _sides(data), "svg+xml"
     if min(sides) <= 0:
         raise ValueError("the logo has no width or no height")
-    ratio = Fraction(sides[0]) / Fraction(sides[1])
+    ratio = min(max(Fraction(sides[0]) / Fraction(sides[1]), Fraction(1, 10000)), Fraction(10000))
     across, down = ratio.limit_denominator(100).as_integer_ratio() if ratio >= 1 else \
         (1 / ratio).limit_denominator(100).as_integer_ratio()[::-1]
     return f"data:image/{kind};base64,{base64.b64encode(data).decode()}", (across, down)
@@ -167,7 +176,7 @@ def _sides(data: bytes) -> List[Any]:
         raise ValueError("a logo is an SVG or a PNG file") from None
     box = root.get("viewBox", "").replace(",", " ").split()[2:]
     said = box if len(box) == 2 else [root.get("width", ""), root.get("height", "")]
-    found = [re.match(r"[0-9]*[.]?[0-9]+", it) for it in said]
+    found = [re.match(r"[0-9]{0,99}[.]?[0-9]{1,99}", it) for it in said]
     if not root.tag.endswith("svg") or not all(found):
         raise ValueError("the logo is no SVG file with a viewBox, or a width and a height")
     return [Fraction(it[0]) for it in found if it]

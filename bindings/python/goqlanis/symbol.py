@@ -10,12 +10,12 @@ from dataclasses import dataclass, replace
 from typing import IO, Any, Optional, Tuple, Union
 
 from . import _checks, _drawing, _files, areas
-from ._checks import Version, named, shown
+from ._checks import named, shown, version_name
 from ._colours import Colour
 from ._drawing import Look, Size
 from ._library import library
 from .areas import Area, Logo, Rectangle, Reserve
-from .errors import refuse
+from .errors import NoSuchSide, refuse
 
 Path = Union[str, bytes, "os.PathLike[str]"]
 BLACK_ON_WHITE, USUAL_COLOURS = "\x1b[38;5;16;48;5;231m", "\x1b[0m"
@@ -53,10 +53,13 @@ class Symbol:
     logo: Optional[Logo] = None
 
     def __post_init__(self) -> None:
-        if len(self.modules) != self.width ** 2:
-            raise ValueError(f"modules: {len(self.modules)} bytes are no square: give a byte for "
-                             "each module, row by row")
-        object.__setattr__(self, "version", Version(self.version))
+        number, modules = _checks.version(self.version), _checks.binary("modules", self.modules)
+        width = library.goq_width(number)
+        if len(modules) != width ** 2:
+            raise NoSuchSide(f"modules: {len(modules):,} bytes: version {version_name(number)} has "
+                             f"{width} rows of {width}, a byte for each module")
+        object.__setattr__(self, "modules", modules)
+        object.__setattr__(self, "version", version_name(number))
 
     @property
     def width(self) -> int:
@@ -239,6 +242,8 @@ zpl, tspl, escpos, xbm, ppm: save 'ticket.png', and convert that
         ▀▀▀▀▀▀▀▀ ▀▀
         """
         out = sys.stdout if out is None else out
+        if out is None:
+            raise ValueError("there is no standard output: give terminal a file that is open")
         lines = self.text(border=border).split("\n")
         if out.isatty() and not os.environ.get("NO_COLOR"):
             lines = [f"{BLACK_ON_WHITE}{line}{USUAL_COLOURS}" for line in lines]
@@ -335,9 +340,9 @@ take a smaller area
         True
         """
         data, ratio = areas.loaded(logo)
-        if area is None:
-            area = self.largest_area(ratio, reserve=reserve, keep_alignment=keep_alignment)
-        placed = areas.placed(data, Rectangle(*area), _checks.whole("margin", margin, 0, 99))
+        area = areas.rectangle(area) if area is not None else \
+            self.largest_area(ratio, reserve=reserve, keep_alignment=keep_alignment)
+        placed = areas.placed(data, area, _checks.whole("margin", margin, 0, 99))
         return replace(self.with_area(area), logo=placed)
 
     def _pair(self) -> Tuple[int, int]:
