@@ -1,6 +1,7 @@
 //! Logos in areas of symbols.
 use crate::areas::{Excess, Rectangle, Wish};
 use crate::QrCode;
+use std::iter;
 
 /// Where a logo stands.
 #[derive(Clone, Copy, Debug, PartialEq, Eq)]
@@ -119,8 +120,11 @@ fn near(ratio: f64) -> (u32, u32) {
     (across as u32, down)
 }
 
-// The width and height of an SVG file.
+// The width and height of an SVG file, whose comments are left out.
 fn sides(text: &str) -> Option<(f64, f64)> {
+    let (first, rest) = text.split_once("<!--").unwrap_or((text, ""));
+    let behind = rest.split("<!--").filter_map(|it| it.split_once("-->"));
+    let text: String = iter::once(first).chain(behind.map(|it| it.1)).collect();
     let start = &text[text.find("<svg")? + 4..];
     let head = &start[..start.find('>')?];
     let view = attribute(head, "viewBox").unwrap_or("").replace(',', " ");

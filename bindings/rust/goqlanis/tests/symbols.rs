@@ -2,7 +2,7 @@ use goqlanis::render::{eps, pbm, pgm, pic, png, svg, svg_path, unicode, Luma, Re
 use goqlanis::several::{encode_several, join, Several, Unjoined};
 use goqlanis::areas::{Excess, Rectangle};
 use goqlanis::logos::{LogoError, LogoOptions};
-use goqlanis::checking::{Rank, WrongModules};
+use goqlanis::checking::{DataCheck, Rank, WrongModules};
 use goqlanis::{check, check_square, read, read_any, read_picture, read_text, Color, EcLevel, Options, Part, Position};
 use goqlanis::{QrCode, QrError, Segment, Unread};
 use goqlanis::{Version, Writing};
@@ -240,6 +240,8 @@ fn checks() {
     let joined = check_square(&square_of(&JOINED)).unwrap();
     assert_eq!((joined.data, joined.is_standard), (None, false));
     assert!(joined.to_string().contains("\ndata: its bits are not segments and a terminator\nmasks with "));
+    let fewer = DataCheck { bits: Some((1, 2)), ..found[0].data.unwrap() };
+    assert!(fewer.to_string().starts_with("data: 1 bits, 0 more"));
     assert_eq!(check(b"hello").unwrap_err(), Unread::NotPicture);
     assert_eq!(check_square(&[Color::Dark; 441]).unwrap_err(), Unread::NoFormat);
 }
@@ -272,6 +274,9 @@ fn logos() {
     assert_eq!(covered.render::<Luma>().build(), code.with_area(&[area.unwrap()]).unwrap().render::<Luma>().build());
     assert_eq!(read(&covered.to_colors()).unwrap().data, b"01234567");
     assert!(code.with_logo(b"\x89PNG\r\n\x1a\n\0\0\0\x0dIHDR\0\0\0\x10\0\0\0\x09\x08", &LogoOptions::default()).is_ok());
+    let wide = br#"<!-- <svg viewBox="0 0 1 1"> --><svg viewBox="0 0 3 1"/>"#;
+    let alone = |logo: &[u8]| code.with_logo(logo, &LogoOptions::default()).unwrap().to_colors();
+    assert!(alone(wide) == alone(&wide[32..]) && alone(wide) != alone(logo));
     assert_eq!(code.with_logo(b"GIF89a", &LogoOptions::default()).unwrap_err(), LogoError::NoSides);
     let whole = LogoOptions { reserve: Some(u32::MAX), ..LogoOptions::default() };
     assert_eq!(code.with_logo(logo, &whole).unwrap_err(), LogoError::Area(Excess::Nowhere));
