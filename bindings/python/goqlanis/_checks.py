@@ -98,8 +98,8 @@ def text(name: str, value: Any) -> str:
 
 
 def exact(value: Any) -> bytes:
-    """A copy of bytes, whatever their class says of their length."""
-    return memoryview(value).tobytes()
+    """Bytes of no other class, as the length that such a class says may be wrong."""
+    return value if type(value) is bytes else memoryview(value).tobytes()
 
 
 def binary(name: str, value: Any) -> bytes:

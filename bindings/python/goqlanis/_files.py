@@ -29,7 +29,7 @@ def _write_parts(out: Any, data: bytes) -> None:
     nothing it took all, but a file without a buffer took nothing."""
     while data:
         count = out.write(data)
-        if count is None and not isinstance(out, io.RawIOBase):
+        if not isinstance(count, int) and not isinstance(out, io.RawIOBase):
             return
         if not count:
             raise BlockingIOError(errno.EAGAIN, os.strerror(errno.EAGAIN))

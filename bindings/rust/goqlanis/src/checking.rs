@@ -189,7 +189,8 @@ impl fmt::Display for DataCheck {
     fn fmt(&self, out: &mut fmt::Formatter<'_>) -> fmt::Result {
         match self.bits {
             Some((bits, fewest)) => {
-                writeln!(out, "data: {bits} bits, {} more than needed", bits.saturating_sub(fewest))?;
+                let more = bits.saturating_sub(fewest);
+                writeln!(out, "data: {bits} bits, {more} more than needed")?;
             }
             None => {
                 let with = "data: with headers such as FNC1";
