@@ -33,7 +33,7 @@ pub enum Unwritten {
     #[error("it is another user's, in a folder for everybody: remove it, or take another name")]
     Strange,
     /// All names for new files are taken in this folder.
-    #[error("its folder {0} has goqlanis-0.new to goqlanis-999.new: remove those of ended runs")]
+    #[error("its folder {0} has goqlanis-0.new to goqlanis-9999.new: remove those of ended runs")]
     Taken(String),
     #[error("out of memory")]
     OutOfMemory(#[from(alloc)] AllocError),
@@ -43,7 +43,7 @@ pub enum Unwritten {
 const LINKS: u32 = 40;
 
 // How many names are tried for a new file: others may have taken many, so as to take time.
-const NAMES: u32 = 1_000;
+const NAMES: u32 = 10_000;
 
 // A folder, whose names are looked up in what was opened once: another folder, or a link, that
 // takes its place meanwhile is not seen.
