@@ -149,7 +149,7 @@ fn push_verdict(text: &mut String, check: &Check) -> Result<(), AllocError> {
         (!is_ended, "bits after the data are wrong"),
         (
             is_whole(check) && !is_least,
-            "another mask has a lower penalty",
+            "another mask has a lower penalty, though readers take any",
         ),
     ];
     let mut sign = "meets the standard: no: ";

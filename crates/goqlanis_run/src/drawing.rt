@@ -122,8 +122,13 @@ pub(crate) fn segments_drawing(
     ensures { IfOk result (IsShownIn asked.now.request) }
 {
     let segments = segments_of(alloc, words)?;
-    if segments.iter().all(|segment| is_empty(segment)) {
-        check_empty(alloc, asked, &[])?;
+    let has_none = segments.iter().all(|segment| is_empty(segment));
+    if has_none && !asked.given.get_flag("allow-empty") {
+        return refused(
+            alloc,
+            "--segment gives no data, and standard input is not read; add --segment byte:TEXT, or \
+            --allow-empty",
+        );
     }
     if let Some(place) = unwritable(&segments) {
         let why = match segments.get(place) {

@@ -39,7 +39,7 @@ fn what_is_wrong(kind: Kind, field: Field, cause: Cause) -> &'static str {
         (_, Field::Phone | Field::Mobile | Field::WorkPhone | Field::HomePhone, Cause::Character) =>
             "it may only have digits, spaces and -.(), with + in front",
         (_, Field::Begin | Field::End | Field::Stamp, Cause::TooShort) =>
-            "it has no time zone: add one as +01:00, or Z for UTC",
+            "it has no time zone: add that of the place and day, e.g. +02:00, or Z for UTC",
         (_, Field::Begin | Field::Stamp, Cause::Character) => "it is not written as a day or time",
         (_, Field::End, Cause::Character) => "it is not in the same form as --begin",
         _ => cause_text(cause),
