@@ -15,7 +15,7 @@ from ._library import Code as KnownCode
 from ._library import Part as KnownPart
 from ._numbers import BYTES_MAX, PARTS_MAX, SEVERAL_MAX
 from .encoding import KINDS
-from .errors import NoSuchSide, NotJoined, refuse
+from .errors import NoSuchSide, NotJoined, refusal, refuse
 from .symbol import Symbol
 
 HEADED = ("a header is in front, of several symbols, GS1 or another character set than UTF-8: join "
@@ -184,6 +184,8 @@ def _codes(picture: bytes, of: str = "") -> Iterator[Code]:
         answer = library.goq_read_picture(picture, len(picture), codes, len(codes), parts,
                                           len(parts), out, len(out), ctypes.byref(scan))
         count *= 8
+    if answer == goq.NO_SUCH_SIDE:
+        raise refusal(answer, "the picture shows no code: what it shows has no code's size", of)
     refuse(answer, of)
     said, data = iter(parts[:scan.parts]), io.BytesIO(out[:scan.length])
     for code in codes[:scan.codes]:
