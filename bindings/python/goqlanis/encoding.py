@@ -41,7 +41,7 @@ def encode(data: Data, level: str = "M", version: Optional[Version] = None, *,
     - `boost`: takes the highest level, from `level` on, for which the least version has room;
     - `mask`: takes the mask of this number, 0 to 7, of Micro 0 to 3, and not that of least penalty;
     - `marked`: writes in front that the text is UTF-8, for readers that guess;
-    - `eci`: writes in front the number of the character set of the bytes, as 7 for ISO 8859-2.
+    - `eci`: writes in front the number of the character set of the bytes, as 4 for ISO 8859-2.
 
     >>> encode("https://example.org")
     <goqlanis.Symbol 2-M>
@@ -51,7 +51,7 @@ def encode(data: Data, level: str = "M", version: Optional[Version] = None, *,
     (<goqlanis.Symbol M2-M>, <goqlanis.Symbol 1-H>, 3)
     >>> encode("Größe: 5 m²").version, encode("Größe: 5 m²", marked=True).version
     ('1', '2')
-    >>> encode("Živjo".encode("iso8859_2"), eci=7).version
+    >>> encode("Živjo".encode("iso8859_2"), eci=4).version
     '1'
     >>> encode(42)
     Traceback (most recent call last):
@@ -150,7 +150,7 @@ def encode_segments(segments: Segments, level: str = "M",
     `"byte"` or `"kanji"` (pairs of bytes of Shift JIS); or a header: `("eci", 26)`,
     `("fnc1_first", None)`, `("fnc1_second", 37)`. A segment without bytes is left out.
 
-    >>> encode_segments([("eci", 7), ("byte", "Živjo".encode("iso8859_2"))]).version
+    >>> encode_segments([("eci", 4), ("byte", "Živjo".encode("iso8859_2"))]).version
     '1'
     >>> encode_segments([("fnc1_first", None), ("numeric", b"0109501101530003")], "Q").version
     '1'
