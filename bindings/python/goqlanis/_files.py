@@ -92,7 +92,7 @@ def _replace(folder: int, above: str, name: str, old: Optional[os.stat_result],
     """Writes a new file in a folder, which `above` names, and renames it."""
     beside = f".goqlanis-{secrets.token_hex(8)}"
     try:
-        rights = _usual_rights(folder, beside) if old is None else _kept_rights(old.st_mode)
+        usual = _usual_rights(folder, beside)
         descriptor = _created(folder, beside, 0o600)
     except OSError as error:
         why = f"{error.strerror} in the folder {os.path.abspath(above)}"
@@ -100,8 +100,7 @@ def _replace(folder: int, above: str, name: str, old: Optional[os.stat_result],
     try:
         # Between opening and renaming nothing is done by name: another file may have it by then.
         with open(descriptor, "wb") as file:
-            if old is not None:
-                _keep_owner(descriptor, old)
+            rights = usual if old is None else _rights_after(descriptor, usual, old)
             file.write(data)
             file.flush()
             os.fchmod(descriptor, rights)
@@ -145,13 +144,17 @@ def _usual_rights(folder: int, name: str) -> int:
         os.unlink(name, dir_fd=folder)
 
 
-def _keep_owner(descriptor: int, old: os.stat_result) -> None:
-    """Gives a new file the owner and the group of the old one, where that is allowed. If it is not,
-    the owner of the old one has to be able to read the new one."""
+def _rights_after(descriptor: int, usual: int, old: os.stat_result) -> int:
+    """Gives a new file the owner and the group of the old one, where that is allowed, and returns
+    its permissions. A file that stays this user's in the place of another's has no more of them
+    than any new file, and the owner of the old one has to be able to read it."""
+    kept = _kept_rights(old.st_mode)
     try:
         os.fchown(descriptor, old.st_uid, old.st_gid)
     except OSError:
-        is_shut_out = _kept_rights(old.st_mode) & 0o4 == 0
-        if is_shut_out and os.fstat(descriptor).st_uid != old.st_uid:
-            raise PermissionError(errno.EPERM, "it belongs to another user, who could not read the "
-                                  "new one: remove it first") from None
+        if os.fstat(descriptor).st_uid != old.st_uid:
+            kept &= usual
+            if not kept & 0o4:
+                raise PermissionError(errno.EPERM, "it belongs to another user, who could not read "
+                                      "the new one: remove it first") from None
+    return kept

@@ -72,7 +72,7 @@ pub fn asked_for<'a, 'w>(
 ) -> Result<Asked<'a, 'w>, Failure> {
     let alloc = rt.alloc();
     check_conflicts(alloc, given)?;
-    let target = target_of(given);
+    let target = target_of(alloc, given)?;
     let format = format(rt, given.get_str("format"), target)?;
     check_format(alloc, given, format)?;
     let sizes = sizes_of(alloc, given, format)?;
@@ -153,11 +153,15 @@ pub fn source_of<'a>(given: &ArgMatches<'a>) -> Source<'a> {
     }
 }
 
-fn target_of<'a>(given: &ArgMatches<'a>) -> Target<'a> {
+fn target_of<'a>(alloc: Global, given: &ArgMatches<'a>) -> Result<Target<'a>, Failure> {
     match given.get_str("output") {
-        None => Target::Terminal,
-        Some("-") => Target::StandardOutput,
-        Some(path) => Target::File(path),
+        None => Ok(Target::Terminal),
+        Some("-") => Ok(Target::StandardOutput),
+        Some("") => usage(
+            alloc,
+            "--output: it is empty, e.g. of a variable that is not set",
+        ),
+        Some(path) => Ok(Target::File(path)),
     }
 }
 

@@ -63,7 +63,7 @@ const LEVEL: Takes = Word("LEVEL", &["L", "M", "Q", "H"]);
 #[rattlefmt::skip]
 pub static LEVELS: &[Entry] = &[
     entry!("level", 'l', LEVEL,
-        "Error correction level [default: M; H with a logo; L in version M1]"),
+        "Error correction level [default: M; H with a logo; L with -v M1]"),
     entry!("symbol-version", 'v', Text("VERSION"),
         "Version, 1 to 40 or M1 to M4 [default: the smallest of 1 to 40 that fits]"),
     entry!("min-version", Text("VERSION"),
@@ -112,8 +112,8 @@ pub static LOOKS: &[Entry] = &[
     entry!("scale", 's', Number("PIXELS", 1, 1000),
         "Pixels per module, 1 to 1,000 [default: 8; 1 in PIC, half-blocks, terminal, text, ascii]"),
     entry!("size", Text("SIZE"),
-        "Maximum side of the picture, in pixels or mm, cm, in, pt, e.g. 300 or 30mm; lengths are \
-        exact in SVG, EPS and PDF, and need --dpi elsewhere"),
+        "Maximum side of the picture, e.g. 300 (pixels) or 30mm (or cm, in, pt); 30mm is exact in \
+        SVG, EPS and PDF, and needs --dpi elsewhere"),
     entry!("module", Text("LENGTH"),
         "Side of a module, e.g. 0.5mm; exact in SVG, EPS and PDF without --dpi, else whole pixels"),
     entry!("dpi", Number("N", 1, 65535), "Pixels per inch, 1 to 65,535"),

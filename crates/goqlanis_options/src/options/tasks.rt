@@ -125,7 +125,7 @@ fn own_help(kind: Kind, field: Field) -> Option<(&'static str, &'static str)> {
         (Kind::Pix, Field::City) => ("TEXT", "Payee's city, up to 15 ASCII characters"),
         (Kind::Pix, Field::Reference) => ("TEXT", "Reference (txid), up to 25 letters and digits"),
         (Kind::Pix, Field::Description) =>
-            ("TEXT", "Description, ASCII; with the key up to 73 characters"),
+            ("TEXT", "ASCII description; up to 73 characters, key included"),
         (Kind::Promptpay, Field::Payee) => ("NUMBER",
             "Payee's phone number (081 234 5678), national or tax ID (13 digits), or e-wallet (15)"),
         _ => return None,
