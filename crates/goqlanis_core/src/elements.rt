@@ -14,8 +14,8 @@ use std::alloc::Global;
 
 /// The symbol of elements that a choice asks for at a level, which is kept.
 ///
-/// `Elements`: which element is refused first, and why. `Symbol(DataTooLong)`: no version that may
-/// be taken holds them. `OutOfMemory`, in either: memory was refused.
+/// `Elements`: which element is refused first, and why. `Symbol(DataTooLong)`: no version that the
+/// choice allows holds them; none of Micro QR does. `OutOfMemory`, in either: memory was refused.
 #[tactic(auto, using(crate::proofs::Choices::elements_alone))]
 pub fn symbol_of_elements(
     alloc: Global,
@@ -41,9 +41,11 @@ pub fn symbol_of_elements(
     }
 }
 
-/// The symbol of data of an application that a choice asks for at a level, which is kept.
+/// The symbol of an application's data, behind FNC1 in second position and the application's
+/// indicator, at a level, which is kept. Byte 29 is the separator.
 ///
-/// `DataTooLong`: no version that may be taken holds the data. `OutOfMemory`: memory was refused.
+/// `DataTooLong`: no version that the choice allows holds the data; none of Micro QR does.
+/// `OutOfMemory`: memory was refused.
 #[tactic(auto, using(crate::proofs::Choices::alone))]
 pub fn symbol_for_application(
     alloc: Global,

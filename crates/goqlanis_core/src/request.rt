@@ -1,4 +1,4 @@
-//! What is asked for.
+//! Requests for drawings.
 
 ghost use Rattle.std.specs.Prelude.{◌≡◌, IsUtf8};
 ghost use Rattle.qrcode_bits.specs.declared.bits.manner.Manner.TheVariants.{Bytes, Text};
@@ -10,53 +10,50 @@ use qrcode::bits::Manner;
 use qrcode::render::svg::Frame;
 use qrcode::types::{EcLevel, Version};
 
-/// Which symbol is asked for. Versions are in the order M1 to M4, 1 to 40.
+/// Which version to use. Versions are in the order M1 to M4, 1 to 40.
 #[derive(Clone, Copy)]
 pub enum Choice {
-    /// That of the least version, from one on, that holds the data.
+    /// The smallest that holds the data, from this one on.
     From(Version),
-    /// The same at the highest level, from the one that is asked for on, at which that version
-    /// holds the data.
+    /// The same, with the level raised as far as that version still holds the data.
     Boosted(Version),
-    /// That of a version.
+    /// This one.
     At(Version),
 }
 
-/// A length in place of pixels: so many dots to an inch, of which a module has as many as its
-/// pixels; of a side that is so long each module has its share.
+/// A length instead of pixels: each dot has this share of an inch. A module is as many dots long as
+/// it has pixels; or the side is, and each module has its share of it.
 #[derive(Clone, Copy)]
 pub struct Length {
-    /// The dots of an inch.
+    /// Dots per inch.
     pub dots: u16,
-    /// Whether so many dots are the length of the side, and not that of a module.
+    /// Whether the dots are the length of the side, not of a module.
     pub is_side: bool,
 }
 
-/// What is asked for.
+/// A request for a drawing.
 #[derive(Clone, Copy)]
 pub struct Request<'a> {
     /// How the data is written.
     pub manner: Manner,
     pub choice: Choice,
     pub level: EcLevel,
-    /// The number of the mask, 0 to 7, of Micro 0 to 3; the first of least penalty where it is not
-    /// given.
+    /// The mask, 0 to 7, in Micro QR 0 to 3; without it the first of lowest penalty.
     pub mask: Option<usize>,
     pub format: Format,
-    /// The modules of the quiet zone at each side; the standard's where it is not given.
+    /// The modules of the quiet zone on each side; without it as many as the standard asks for.
     pub zone: Option<u8>,
-    /// The pixels of a module, across and down, raised to at least 1.
+    /// The pixels of a module, across and down; 0 means 1.
     pub scale: u16,
-    /// The pixels that a side may have; where it is given, a module has as many as there is room
-    /// for.
+    /// The maximum pixels of a side; with it, modules are as large as fits.
     pub size: Option<u16>,
-    /// The dots per inch that a PNG file names, where they are given: pixels along a printed inch.
+    /// The pixels per printed inch that a PNG file names.
     pub dpi: Option<u16>,
     /// Whether the pixels of a module are a length, in SVG of one path, EPS and PDF.
     pub length: Option<Length>,
     /// The dots from the left and from the top of a label, in ZPL and TSPL.
     pub place: (u32, u32),
-    /// What stands at the element of SVG of one path; a length says how large it is.
+    /// The title, ID and the like of SVG of one path; a length sets its size.
     pub frame: Frame<'a>,
     /// The colours of SVG, EPS and PNG.
     pub dark: Ink<'a>,

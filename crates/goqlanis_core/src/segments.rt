@@ -42,8 +42,14 @@ fn is_unwritable(segment: &Segment<'_>) -> bool
     }
 }
 
-/// The symbol of segments, one after the other, of the least version that may be taken and holds
-/// them. It is refused by the causes of `draw_segments`, `OutOfMemory` among them.
+/// The symbol of segments, one after the other, in the smallest version that the choice allows and
+/// that holds them. A choice that raises levels keeps the level.
+///
+/// `InvalidVersion`: the choice names no version. If no version holds the segments, the error is the
+/// first cause in the last one: `InvalidCharacter`, a mode cannot write its segment;
+/// `InvalidEciDesignator`, the number of a character set is above 999,999;
+/// `UnsupportedCharacterSet`, the version lacks a mode, or character sets; `InvalidVersion`, it lacks
+/// the level; `DataTooLong`, it has no room. `OutOfMemory`: memory was refused.
 pub fn symbol_of(
     alloc: Global,
     choice: Choice,

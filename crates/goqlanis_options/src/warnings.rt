@@ -2,7 +2,7 @@
 
 use crate::asked::{Asked, Target, ending_format};
 use clap::ArgMatches;
-use goqlanis_core::{Format, Ink, Request};
+use goqlanis_core::{Format, Grouped, Ink, Request};
 use goqlanis_files::streams::shown;
 use qrcode::types::Color;
 use std::fmt;
@@ -108,9 +108,10 @@ pub fn warn_of_sizes(
     }
     let bytes = side.div_ceil(8).saturating_mul(side);
     if asked.request.format == Format::Zpl && bytes > MOST_FIELD {
+        let most = Grouped(MOST_FIELD as usize);
         let _ = eprintln!(rt;
-            "goqlanis: warning: ZPL takes at most 99,999 bytes of a picture, and this one has more; use \
-            a smaller --scale, --size, --module or --dpi"
+            "goqlanis: warning: ZPL takes at most {most} bytes of a picture, and this one has more; \
+            use a smaller --scale, --size, --module or --dpi"
         );
     }
 }
