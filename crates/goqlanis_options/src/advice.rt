@@ -1,5 +1,4 @@
-//! What is said of words that `clap` refuses, where there is more to say, and its help within lines
-//! of 80 characters.
+//! Advice on command lines that `clap` rejects, and help wrapped at 80 columns.
 
 use crate::nearest::nearest;
 use crate::options::{ADVICE, Takes, Task, task_named, task_words};
@@ -7,8 +6,10 @@ use clap::error::Error;
 use goqlanis_core::Grouped;
 use std::alloc::{AllocError, Global};
 
-/// What is wrong with words of a task that `clap` refuses, and what to write instead, where `clap`
-/// does not say so itself.
+/// Explains why `clap` rejected the command line and what to write instead, or returns `None` if
+/// its own message is as good.
+///
+/// Errors: only `AllocError`.
 pub fn advice(
     alloc: Global,
     task: &Task,
@@ -35,7 +36,7 @@ pub fn advice(
     Ok(Some(other_help(alloc, task, words, word)?))
 }
 
-// What to write instead of the value of an option, by the text of an error.
+// Advice on an invalid value of an option, found in the text of `clap`'s error.
 fn value_help(
     alloc: Global,
     task: &Task,
@@ -57,17 +58,17 @@ fn value_help(
     Ok(None)
 }
 
-// What stands between two texts in another one.
+// Returns the part of `text` between `start` and `end`.
 fn between<'a>(text: &'a str, start: &str, end: &str) -> Option<&'a str> {
     let (_, rest) = text.split_once(start)?;
     let (found, _) = rest.split_once(end)?;
     Some(found)
 }
 
-// Options of codes whose level no format says.
+// Options that do not apply to payloads whose format fixes the level.
 const CODE_OPTIONS: &str = "-l --level -v --symbol-version --min-version --boost";
 
-// What to write instead of a word that other programs take, where a task draws.
+// Advice on a word that other programs accept.
 fn known_help(alloc: Global, task: &Task, word: &str) -> Result<Option<String>, AllocError> {
     let name = task.word;
     if task.has_its_level() && CODE_OPTIONS.split(' ').any(|option| option == word) {
@@ -83,7 +84,7 @@ fn known_help(alloc: Global, task: &Task, word: &str) -> Result<Option<String>, 
     Ok(None)
 }
 
-// What is said of words without a command, where the first is nearly one, or a later one is one.
+// Advice if the first word looks like a misspelled command, or if a command follows options.
 fn command_help(
     alloc: Global,
     task: &Task,
@@ -112,7 +113,7 @@ fn command_help(
     }
 }
 
-// What is said of any other word that is not taken.
+// Advice on any other unexpected word.
 fn other_help(
     alloc: Global,
     task: &Task,
@@ -136,10 +137,12 @@ fn other_help(
     }
 }
 
-// The most characters of a line of help.
+// The width of help, in columns.
 const WIDTH: usize = 80;
 
-/// The text of help, in which long lines go on below their last column.
+/// Wraps the lines of `help`; continuation lines are indented to the column of descriptions.
+///
+/// Errors: only `AllocError`.
 pub fn wrapped_help(alloc: Global, help: &str) -> Result<String, AllocError> {
     let mut text = String::new(alloc);
     for line in help.trim_end().split('\n') {
@@ -148,7 +151,7 @@ pub fn wrapped_help(alloc: Global, help: &str) -> Result<String, AllocError> {
     Ok(text)
 }
 
-// Appends a line, which goes on below what stands behind its last two spaces.
+// Appends a line, wrapped; it continues in the column after its last two spaces.
 fn push_wrapped(text: &mut String, line: &str) -> Result<(), AllocError> {
     let indent = line.rfind("  ").map_or(0, |place| place.saturating_add(2));
     let mut column = 0usize;

@@ -1,4 +1,4 @@
-//! From the command line to what is asked for.
+//! Turns the command line into a request.
 
 use crate::colours::{check_colours, ink_of, part_colour, part_inks};
 use crate::frames::{frame_of, place_of};
@@ -18,7 +18,7 @@ use qrcode_append::Versions;
 use std::alloc::Global;
 use std::fs;
 
-/// Where the data comes from.
+/// The source of the data.
 #[derive(Clone, Copy)]
 pub enum Source<'a> {
     Text(&'a str),
@@ -26,45 +26,48 @@ pub enum Source<'a> {
     StandardInput,
 }
 
-/// Where the drawing goes.
+/// The destination of the drawing.
 #[derive(Clone, Copy)]
 pub enum Target<'a> {
-    /// Standard output, unless that is a terminal and the drawing is no text.
+    /// Standard output; binary formats are refused if it is a terminal.
     Terminal,
-    /// Standard output, whatever it is.
+    /// Standard output, even for binary formats on a terminal.
     StandardOutput,
     File(&'a str),
 }
 
-/// What is asked for.
+/// What the command line asks for.
 #[derive(Clone, Copy)]
 pub struct Asked<'a, 'w> {
-    /// Its manner is that of data that is written as a text; the data decides.
+    /// The request; its `manner` is a placeholder until the data is known.
     pub request: Request<'a>,
-    /// The options that are given.
+    /// The parsed command line.
     pub given: &'a ArgMatches<'w>,
     pub target: Target<'a>,
-    /// The side that is asked for in hundredths of millimetres, where it is.
+    /// The side of the picture in hundredths of a millimetre, if `--size` is a length in pixels.
     pub hundredths: Option<u64>,
-    /// The pixels of a printed inch, where they are known.
+    /// Pixels per printed inch, if known.
     pub dots: Option<u16>,
-    /// What is asked of the middle of a code, where something is.
+    /// The logo or empty area in the middle of the code, if any.
     pub logo: Option<AskedLogo<'a>>,
 }
 
 impl<'w> Asked<'_, 'w> {
-    /// Whether each line is data of its own.
+    /// Whether each input line becomes a code of its own (`--lines`).
     pub fn is_by_line(&self) -> bool {
         self.given.get_flag("lines")
     }
 
-    /// What stands between the fields of a line.
+    /// Returns the separator of the fields in a line.
     pub fn delimiter(&self) -> &'w str {
         self.given.get_str("delimiter").unwrap_or(",")
     }
 }
 
-/// What is asked for by the options that are given. What is doubtful is said on standard error.
+/// Turns the options in `given` into a request, and warns on standard error of doubtful ones.
+///
+/// Errors: options that contradict each other, an unknown format, version, size, colour or place,
+/// or an option that the format does not support; `OutOfMemory`.
 pub fn asked_for<'a, 'w>(
     rt: &HostRuntime,
     task: &Task,
@@ -96,7 +99,7 @@ pub fn asked_for<'a, 'w>(
     Ok(asked)
 }
 
-/// Refuses several drawings that go to one place, unless they are lines of characters.
+/// Checks that several drawings go to files, or are text that can be printed one after another.
 pub fn check_one_behind_another(alloc: Global, asked: &Asked<'_, '_>) -> Result<(), Failure> {
     match (asked.target, asked.request.format) {
         (Target::File(_), _)
@@ -109,7 +112,7 @@ pub fn check_one_behind_another(alloc: Global, asked: &Asked<'_, '_>) -> Result<
     }
 }
 
-// Options that do not go together with others, and what helps.
+// Options that exclude each other, with the advice for each.
 #[rattlefmt::skip]
 static CONFLICTS: &[(&str, &[&str], &str)] = &[
     ("--segment", &["TEXT", "--input"], "--segment gives the data"),
@@ -125,7 +128,7 @@ static CONFLICTS: &[(&str, &[&str], &str)] = &[
     ("--module", &["--no-size"], "use one of them"),
 ];
 
-// Refuses options that do not go together.
+// Checks that no two options exclude each other.
 fn check_conflicts(alloc: Global, given: &ArgMatches<'_>) -> Result<(), Failure> {
     for (one, others, help) in CONFLICTS {
         let other = others.iter().find(|other| is_given(given, other));
@@ -138,13 +141,13 @@ fn check_conflicts(alloc: Global, given: &ArgMatches<'_>) -> Result<(), Failure>
     Ok(())
 }
 
-// Whether the command line has an option, or the word beside options. (A flag that it lacks has a
-// default.)
+// Whether the command line gives an option or the positional argument. (An absent flag still has a
+// default value.)
 fn is_given(given: &ArgMatches<'_>, name: &str) -> bool {
     given.value_source(name.trim_start_matches('-')) == Some(ValueSource::CommandLine)
 }
 
-/// Where the data comes from.
+/// Returns the source of the data.
 pub fn source_of<'a>(given: &ArgMatches<'a>) -> Source<'a> {
     match (given.get_str("TEXT"), given.get_str("input")) {
         (Some(text), _) => Source::Text(text),
@@ -165,7 +168,7 @@ fn target_of<'a>(alloc: Global, given: &ArgMatches<'a>) -> Result<Target<'a>, Fa
     }
 }
 
-// Which version is taken: the one that is asked for, or the least from one on.
+// Returns how the version is chosen: exactly this one, or the smallest that fits, from a minimum up.
 fn choice_of(alloc: Global, given: &ArgMatches<'_>) -> Result<Choice, Failure> {
     if let Some(version) = version_of(alloc, given, "symbol-version")? {
         return Ok(Choice::At(version));
@@ -182,7 +185,7 @@ fn choice_of(alloc: Global, given: &ArgMatches<'_>) -> Result<Choice, Failure> {
     }
 }
 
-/// The versions of several symbols.
+/// Returns the range of versions for structured append.
 pub fn versions_of(
     alloc: Global,
     given: &ArgMatches<'_>,
@@ -205,7 +208,7 @@ pub fn versions_of(
     }
 }
 
-// The version that an option names, where it is given.
+// Returns the version that an option names, if it is given.
 fn version_of(
     alloc: Global,
     given: &ArgMatches<'_>,
@@ -252,9 +255,10 @@ fn request_of<'a>(
     Ok(request)
 }
 
-// Refuses options that a format does not have.
+// Checks that the format supports the given options.
 #[rattlefmt::skip]
 fn check_format(alloc: Global, given: &ArgMatches<'_>, format: Format) -> Result<(), Failure> {
+    // (No option is called "".)
     let part = part_colour(given).unwrap_or("");
     let is_svg = format == Format::SvgPath;
     let rows: [(&[&str], bool, &str); 8] = [
@@ -285,8 +289,9 @@ fn check_format(alloc: Global, given: &ArgMatches<'_>, format: Format) -> Result
     Ok(())
 }
 
-// The level that is asked for. Where none is, it is M, of version M1 L, and with a logo H, which
-// leaves room for a larger one, unless the format of a payload says the level. M1 to M4 have no H.
+// Returns the level: the given one, or by default M; L for version M1, which has no other; and H
+// with a logo, to leave room for it, unless the payload's format fixes the level or the code is a
+// Micro one, which has no H.
 fn level_of(task: &Task, given: &ArgMatches<'_>, choice: Choice) -> EcLevel {
     let has_middle = given.contains_id("logo") || given.get_flag("logo-area");
     match (given.get_str("level"), choice) {
@@ -299,7 +304,7 @@ fn level_of(task: &Task, given: &ArgMatches<'_>, choice: Choice) -> EcLevel {
     }
 }
 
-// The version of a name: 1 to 40, or M1 to M4.
+// Parses a version: 1 to 40, or M1 to M4.
 fn version(name: &str) -> Option<Version> {
     let number = name.strip_prefix('M').or(name.strip_prefix('m'));
     let version = match number {
@@ -309,7 +314,7 @@ fn version(name: &str) -> Option<Version> {
     version.ok().filter(|version| version.is_valid())
 }
 
-// The format that is named, or that of the file extension, or that of the terminal.
+// Returns the format: the given one, or that of the file extension, or the one for terminals.
 fn format(rt: &HostRuntime, name: Option<&str>, target: Target<'_>) -> Result<Format, Failure> {
     if let Some(format) = name.and_then(format_named) {
         return Ok(format);
@@ -341,7 +346,7 @@ fn format(rt: &HostRuntime, name: Option<&str>, target: Target<'_>) -> Result<Fo
     )?))
 }
 
-/// The format of the file extension of a path.
+/// Returns the format that belongs to the file extension of `path`.
 pub fn ending_format(path: &str) -> Option<Format> {
     let (_, ending) = path.rsplit_once('.')?;
     format_of_ending(ending)

@@ -1,4 +1,4 @@
-//! Colours of the command line.
+//! The colour options.
 
 use crate::nearest::nearest;
 use crate::options::PART_COLOURS;
@@ -8,8 +8,9 @@ use goqlanis_core::{Format, Ink, PartInk, Request};
 use goqlanis_files::failure::{Failure, usage};
 use std::alloc::{AllocError, Global};
 
-/// The colours of parts that the command line gives: what is dark is light where both are
-/// exchanged.
+/// Returns the colours of parts that the command line gives; `--invert` swaps dark and light.
+///
+/// Errors: `Usage` for an unknown colour; `OutOfMemory`.
 pub fn part_inks<'a>(alloc: Global, given: &ArgMatches<'a>) -> Result<Vec<PartInk<'a>>, Failure> {
     let mut inks = Vec::new(alloc);
     for colour in PART_COLOURS {
@@ -28,7 +29,9 @@ pub fn part_inks<'a>(alloc: Global, given: &ArgMatches<'a>) -> Result<Vec<PartIn
     Ok(inks)
 }
 
-/// The colour that the text of an option names.
+/// Parses `text`, the value of `--option`, as a colour.
+///
+/// Errors: `Usage` for an unknown colour; `OutOfMemory`.
 pub fn ink_of<'a>(alloc: Global, option: &str, text: &'a str) -> Result<Ink<'a>, Failure> {
     match colour_named(text) {
         Some(colour) => Ok(Ink {
@@ -42,8 +45,8 @@ pub fn ink_of<'a>(alloc: Global, option: &str, text: &'a str) -> Result<Ink<'a>,
     }
 }
 
-// How SVG writes the colour of a text: as it is, but digits behind #, in a text that is not freed,
-// and none for no colour.
+// Returns the colour as SVG writes it: the given text, with # before digits (in a string that is
+// leaked), or `none` for transparent.
 fn svg_name<'a>(alloc: Global, text: &'a str, colour: Colour) -> Result<&'a str, AllocError> {
     if colour.opacity == 0 {
         return Ok("none");
@@ -55,7 +58,7 @@ fn svg_name<'a>(alloc: Global, text: &'a str, colour: Colour) -> Result<&'a str,
     Ok(str::from_utf8(digits).unwrap_or(text))
 }
 
-// What is said of a text that names no colour.
+// Explains that a text is not a colour.
 fn unknown_colour(alloc: Global, option: &str, text: &str) -> Result<String, AllocError> {
     let names = NAMES.iter().map(|row| row.0).collect::<Vec<&str>>(alloc)?;
     match nearest(alloc, text, &names)? {
@@ -67,7 +70,9 @@ fn unknown_colour(alloc: Global, option: &str, text: &str) -> Result<String, All
     }
 }
 
-/// Refuses colours that a format does not have: those that are not opaque.
+/// Checks that the format supports the colours: not all support transparency.
+///
+/// Errors: `Usage`, with what would help; `OutOfMemory`.
 pub fn check_colours(alloc: Global, request: &Request<'_>) -> Result<(), Failure> {
     let is_opaque = request.dark.opacity == 255 && request.light.opacity == 255;
     if matches!(request.format, Format::Eps | Format::Pdf | Format::Ppm) && !is_opaque {
@@ -86,7 +91,7 @@ pub fn check_colours(alloc: Global, request: &Request<'_>) -> Result<(), Failure
     Ok(())
 }
 
-/// The first option that gives the colour of a part.
+/// Returns the first option on the command line that colours a part.
 pub fn part_colour(given: &ArgMatches<'_>) -> Option<&'static str> {
     let found = PART_COLOURS
         .iter()

@@ -1,11 +1,13 @@
-//! The command line, as `clap` reads it.
+//! The command line as a `clap` command.
 
 use crate::options::{EXAMPLES, Entry, OTHER_NAMES, Purpose, TASKS, Takes, Task};
 use clap::builder::ValueParser;
 use clap::{Arg, ArgAction, Command};
 use std::alloc::{AllocError, Global};
 
-/// The command line of a task, whose help ends with a text, unless memory runs out.
+/// Builds the `clap` command of `task`, whose help ends with `end`.
+///
+/// Errors: only `AllocError`.
 pub fn command_of<'a>(alloc: Global, task: &Task, end: &'a str) -> Result<Command<'a>, AllocError> {
     let command = Command::new(alloc, "goqlanis")
         .about(task.about)
@@ -19,7 +21,9 @@ pub fn command_of<'a>(alloc: Global, task: &Task, end: &'a str) -> Result<Comman
     Ok(command)
 }
 
-/// The end of a task's help: of plain codes the commands, and examples.
+/// Returns the end of a task's help: for plain codes the list of commands, and examples.
+///
+/// Errors: only `AllocError`.
 pub fn end_of_help(alloc: Global, task: &Task) -> Result<String, AllocError> {
     let mut text = String::new(alloc);
     if task.word.is_empty() {
@@ -33,7 +37,7 @@ pub fn end_of_help(alloc: Global, task: &Task) -> Result<String, AllocError> {
     Ok(text)
 }
 
-// What a task takes: its operand, and options.
+// Builds the arguments of a task: the positional one, and its options.
 fn arguments<'a>(alloc: Global, task: &Task) -> Result<Vec<Arg<'a>>, AllocError> {
     let mut arguments = Vec::new(alloc);
     if let Some((name, help)) = task.operand() {
@@ -55,7 +59,7 @@ fn arguments<'a>(alloc: Global, task: &Task) -> Result<Vec<Arg<'a>>, AllocError>
     Ok(arguments)
 }
 
-// An option. A negative number behind it is its value.
+// Builds an option. A negative number after it is its value.
 fn argument<'a>(alloc: Global, entry: Entry) -> Result<Arg<'a>, AllocError> {
     let arg = Arg::new(alloc, entry.long)
         .long(entry.long)
@@ -68,7 +72,7 @@ fn argument<'a>(alloc: Global, entry: Entry) -> Result<Arg<'a>, AllocError> {
     Ok(with_values(with_other_names(arg, entry.long)?, entry.takes))
 }
 
-// An option with what it takes.
+// Adds what an option takes.
 fn with_values<'a>(arg: Arg<'a>, takes: Takes) -> Arg<'a> {
     match takes {
         Takes::Nothing => arg.action(ArgAction::SetTrue),
@@ -83,7 +87,7 @@ fn with_values<'a>(arg: Arg<'a>, takes: Takes) -> Arg<'a> {
     }
 }
 
-// The option of a name, with the letters and names that other programs have for it.
+// Adds the hidden aliases of the option called `name`.
 fn with_other_names<'a>(mut arg: Arg<'a>, name: &str) -> Result<Arg<'a>, AllocError> {
     for (other, option) in OTHER_NAMES {
         if *option == name {

@@ -1,4 +1,4 @@
-//! The completions of shells, made from the tables of options.
+//! Shell completions, generated from the option tables.
 
 use crate::options::{DRAWING, Entry, TASKS, Takes, Task, task_words};
 use std::alloc::{AllocError, Global};
@@ -11,7 +11,7 @@ pub enum Shell {
     Fish,
 }
 
-/// The shell of a name, in capitals or not.
+/// Returns the shell called `name`, ignoring case.
 pub fn shell_named(name: &str) -> Option<Shell> {
     if name.eq_ignore_ascii_case("bash") {
         Some(Shell::Bash)
@@ -24,7 +24,7 @@ pub fn shell_named(name: &str) -> Option<Shell> {
     }
 }
 
-// What stands before the commands, and after them.
+// The script before and after the list of commands.
 static BASH: (&str, &str) = (
     "_goqlanis_option() {
   names+=\" $2\"
@@ -60,7 +60,9 @@ complete -c goqlanis -n __fish_use_subcommand -a '",
     "'\n",
 );
 
-/// The completions of a shell, unless memory runs out.
+/// Returns the completion script for `shell`.
+///
+/// Errors: only `AllocError`.
 pub fn completions_of(alloc: Global, shell: Shell) -> Result<String, AllocError> {
     let ((start, middle), end) = match shell {
         Shell::Bash => (BASH, BASH_END),
@@ -77,7 +79,8 @@ pub fn completions_of(alloc: Global, shell: Shell) -> Result<String, AllocError>
     Ok(text)
 }
 
-// The options of a task, which these commands ask for. Plain codes stand last, for all other words.
+// Appends the options of a task, to be completed after `words`. Plain codes come last: they match
+// all other words.
 fn push_task(text: &mut String, shell: Shell, task: &Task, words: &str) -> Result<(), AllocError> {
     let (pattern, not) = if task.word.is_empty() {
         ("*", "not ")
@@ -108,7 +111,7 @@ fn push_task(text: &mut String, shell: Shell, task: &Task, words: &str) -> Resul
     }
 }
 
-// An option, and what may stand behind it; for fish, where these words are seen.
+// Appends an option and its values; `seen` is fish's condition.
 fn push_option(
     text: &mut String,
     shell: Shell,
@@ -148,7 +151,7 @@ fn push_option(
     }
 }
 
-// What may stand behind an option, as a shell wants it said.
+// Returns the possible values of an option, in the shell's syntax.
 fn value_of(alloc: Global, shell: Shell, takes: Takes) -> Result<String, AllocError> {
     let words = match takes {
         Takes::Word(_, words) => words.join(alloc, " ")?,
@@ -164,13 +167,12 @@ fn value_of(alloc: Global, shell: Shell, takes: Takes) -> Result<String, AllocEr
     }
 }
 
-// What stands for characters between single quotes: a quote stands between their end and their new
-// beginning.
+// Escapes inside single quotes: to write a quote, close them, escape it, and open them again.
 const ESCAPES: &[(char, &str)] = &[('\'', "'\\''")];
 
 const ZSH_ESCAPES: &[(char, &str)] = &[('\'', "'\\''"), ('[', "\\["), (']', "\\]"), (':', "\\:")];
 
-/// Appends a text, in which other texts stand for some characters.
+/// Appends `plain`, with the characters of `escapes` replaced.
 pub(crate) fn push_escaped(
     text: &mut String,
     plain: &str,

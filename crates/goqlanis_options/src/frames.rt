@@ -1,11 +1,13 @@
-//! Where a drawing stands on a label, and what is said at the element of SVG and of a PDF file.
+//! The options for positions on labels, and for titles and attributes of SVG and PDF.
 
 use clap::ArgMatches;
 use goqlanis_files::failure::Failure;
 use qrcode::render::svg::{Frame, Size};
 use std::alloc::Global;
 
-/// The dots from the left and from the top of a label that the command line gives.
+/// Returns the position on a label, in dots from the left and from the top.
+///
+/// Errors: `Usage` if `--at` is malformed or beyond 32,000 dots; `OutOfMemory`.
 pub fn place_of(alloc: Global, given: &ArgMatches<'_>) -> Result<(u32, u32), Failure> {
     let Some(text) = given.get_str("at") else {
         return Ok((0, 0));
@@ -19,7 +21,10 @@ pub fn place_of(alloc: Global, given: &ArgMatches<'_>) -> Result<(u32, u32), Fai
     }
 }
 
-/// What the command line says at the element of SVG; in PDF its title.
+/// Returns the attributes and texts of the SVG element; of a PDF file, the title.
+///
+/// Errors: `Usage` for a text that is empty, has line breaks, or characters that XML forbids;
+/// `OutOfMemory`.
 pub fn frame_of<'a>(alloc: Global, given: &ArgMatches<'a>) -> Result<Frame<'a>, Failure> {
     let [id, class, in_svg, description, in_pdf] = [
         text_of(alloc, given, "svg-id")?,
@@ -43,7 +48,7 @@ pub fn frame_of<'a>(alloc: Global, given: &ArgMatches<'a>) -> Result<Frame<'a>, 
     })
 }
 
-// The text of an option, of one line of XML; empty where it is not given.
+// Returns the text of an option, one line that XML allows; empty if the option is absent.
 fn text_of<'a>(alloc: Global, given: &ArgMatches<'a>, option: &str) -> Result<&'a str, Failure> {
     let Some(text) = given.get_str(option) else {
         return Ok("");
@@ -60,7 +65,7 @@ fn text_of<'a>(alloc: Global, given: &ArgMatches<'a>, option: &str) -> Result<&'
     Ok(text)
 }
 
-// Whether no text of XML in one line has a character.
+// Whether a character cannot occur in one line of XML.
 fn is_foreign(character: &char) -> bool {
     matches!(character, '\0'..='\x1f' | '\u{fffe}' | '\u{ffff}')
 }

@@ -1,4 +1,4 @@
-//! The command line of `goqlanis`: its options, as tables, and what they ask for.
+//! The command line of `goqlanis`: tables of options, parsing, and warnings.
 #![tactic(auto)]
 
 pub mod advice;

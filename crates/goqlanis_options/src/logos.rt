@@ -1,4 +1,4 @@
-//! Logos of the command line.
+//! The logo options.
 
 use clap::ArgMatches;
 use goqlanis_core::areas::LogoSize;
@@ -6,40 +6,42 @@ use goqlanis_files::failure::{Failure, usage};
 use qrcode_area::rectangles::Kept;
 use std::alloc::Global;
 
-/// A logo as its file is drawn: as pixels in PNG, and as an element in SVG.
+/// A logo, ready to draw: pixels for PNG, or an element for SVG.
 #[derive(Drop)]
 pub enum Logo {
-    /// The red, green, blue and opacity of its pixels, row by row, of so many across and down.
+    /// Red, green, blue and opacity of each pixel, row by row; then width and height in pixels.
     Pixels(Vec<[u8; 4]>, u16, u16),
-    /// How wide and how high it is, in proportion, and what follows the place of its `svg` element:
-    /// the box of its units, and an image of the file.
+    /// Width and height, in proportion; and the rest of its `svg` element after the position: the
+    /// `viewBox`, and the file as an image.
     Element(u32, u32, String),
 }
 
-/// What stands in the middle of a code.
+/// The middle of a code.
 #[derive(Clone, Copy)]
 pub enum Middle<'a> {
-    /// Nothing: light modules.
+    /// An empty area of light modules.
     Light,
     Logo(&'a Logo),
     /// The Swiss cross of a bill.
     Cross,
 }
 
-/// What is asked of the middle of a code.
+/// The logo or empty area that the command line asks for.
 #[derive(Clone, Copy)]
 pub struct AskedLogo<'a> {
-    /// What stands there: light modules until the file is read.
+    /// What to draw there; `Light` until the logo file is read.
     pub middle: Middle<'a>,
     pub size: LogoSize,
-    /// Which patterns the area leaves alone.
+    /// The patterns that the area must not cover.
     pub kept: Kept,
-    /// The modules around a logo.
+    /// The light modules around the logo.
     pub margin: u8,
 }
 
-/// What the command line asks of the middle of a code, where it asks for something, before a logo
-/// is read.
+/// Returns the logo or empty area that the command line asks for, if any; the file is read later.
+///
+/// Errors: `Usage` for a size that is not one, or options that need `--logo` or `--logo-area`;
+/// `OutOfMemory`.
 pub fn logo_of(
     alloc: Global,
     given: &ArgMatches<'_>,
@@ -66,7 +68,7 @@ pub fn logo_of(
     Ok(None)
 }
 
-// The size that a text says: modules, or a part of the side in percent.
+// Parses the size of the area: modules, or percent of the side.
 fn size_of(alloc: Global, text: Option<&str>) -> Result<LogoSize, Failure> {
     let Some(text) = text else {
         return Ok(LogoSize::Largest);

@@ -30,7 +30,9 @@ command line is wrong.
 .nf
 ";
 
-/// The manual page, in the language of `man`, unless memory runs out.
+/// Returns the manual page, as roff.
+///
+/// Errors: only `AllocError`.
 pub fn manual_page(alloc: Global) -> Result<String, AllocError> {
     let mut text = String::from_str(alloc, START)?;
     for (_, entry) in &DRAWING.all_options(alloc)? {
@@ -46,7 +48,7 @@ pub fn manual_page(alloc: Global) -> Result<String, AllocError> {
     Ok(text)
 }
 
-// A command, and its own options.
+// Appends a command and its own options.
 fn push_task(text: &mut String, task: &Task) -> Result<(), AllocError> {
     let (word, about) = (task.word, task.about);
     write!(text, ".SS goqlanis {word}\n{about}.\n")?;
@@ -60,7 +62,7 @@ fn push_task(text: &mut String, task: &Task) -> Result<(), AllocError> {
     Ok(())
 }
 
-// An option and what it does.
+// Appends an option and its help text.
 fn push_option(text: &mut String, entry: &Entry) -> Result<(), AllocError> {
     let alloc = *text.allocator();
     let (long, help) = (entry.long, entry.help);
@@ -81,10 +83,10 @@ fn push_option(text: &mut String, entry: &Entry) -> Result<(), AllocError> {
     push_plain(text, plain.as_str())
 }
 
-// The most words of an option that stand in the line of its name.
+// Up to this many values are listed right after an option's name.
 const FEW: usize = 6;
 
-// What an option takes, behind its name.
+// Appends what an option takes.
 fn push_value(text: &mut String, takes: Takes) -> Result<(), AllocError> {
     match takes {
         Takes::Nothing => Ok(()),
@@ -99,7 +101,7 @@ fn push_value(text: &mut String, takes: Takes) -> Result<(), AllocError> {
     }
 }
 
-// Text whose hyphens are hyphens, and no line of which is a request.
+// Appends text with roff's special characters escaped.
 fn push_plain(text: &mut String, plain: &str) -> Result<(), AllocError> {
     push_escaped(text, plain, &[('-', "\\-"), ('\\', "\\e"), ('.', "\\&.")])
 }

@@ -1,13 +1,15 @@
-//! Which name somebody may have meant.
+//! Suggestions for misspelled names.
 
 use std::alloc::{AllocError, Global};
 use strsim::damerau_levenshtein;
 
-// Longer words are no misspelt names.
+// Words longer than this get no suggestion.
 const LONGEST: usize = 32;
 
-/// The name in small letters that is nearest to a word, where one is near: with one letter wrong,
-/// or two of a word of more than four, in capitals or not.
+/// Returns the name nearest to `word`, if it differs by one edit, or by two in a word of more than
+/// four letters. Case is ignored; `names` are in lower case.
+///
+/// Errors: only `AllocError`.
 pub fn nearest(
     alloc: Global,
     word: &str,

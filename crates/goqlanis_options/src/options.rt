@@ -1,12 +1,11 @@
-//! What the program can be asked for, with the options of each task: the tables from which the
-//! command line, the manual page and the completions of shells are made. (A command of `clap` tells
-//! neither the names of values nor which values are paths, so they cannot be made from it.)
+//! The tables of tasks and options, which generate the command line, the manual page and the shell
+//! completions. (A `clap` command does not expose value names, or which values are paths, so the
+//! last two cannot be made from it.)
 
 use qrcode_payloads::kinds::{Kind, fields_of};
 use std::alloc::{AllocError, Global};
 
-// A row of a table of options: its name, its letter where it has one, what it takes and what help
-// says of it.
+// A row of an options table: long name, letter (if any), what it takes, and help text.
 macro_rules! entry {
     ($long:literal, $takes:expr, $help:literal) => {
         Entry {
@@ -38,80 +37,82 @@ use symbols::{ABOUT, DATA, LEVELS, LOOKS, MARKS, MASKS, NORMAL_LEVELS, ONE_CODE,
 pub use symbols::{DRAWING, EXAMPLES};
 pub use tasks::{TASKS, entry_of};
 
-/// What an option takes.
+/// The value that an option takes.
 #[derive(Clone, Copy)]
 pub enum Takes {
     /// Nothing.
     Nothing,
-    /// A text, for which help shows this name.
+    /// Any text; help shows this name for it.
     Text(&'static str),
-    /// The same, and it must be given.
+    /// Any text, and the option is required.
     Wanted(&'static str),
-    /// The same, and it may be given more than once.
+    /// Any text, and the option may be repeated.
     Texts(&'static str),
     /// The path of a file.
     Path,
-    /// One of these words, for which help shows this name.
+    /// One of these words; help shows this name for it.
     Word(&'static str, &'static [&'static str]),
-    /// A whole number from one to another, for which help shows this name.
+    /// An integer between two bounds, both included; help shows this name for it.
     Number(&'static str, u64, u64),
 }
 
 /// An option.
 #[derive(Clone, Copy)]
 pub struct Entry {
-    /// Its name, after two hyphens.
+    /// The long name, without hyphens.
     pub long: &'static str,
-    /// Its letter, after one hyphen.
+    /// The short name, without a hyphen.
     pub short: Option<char>,
-    /// What follows it.
+    /// The value that follows.
     pub takes: Takes,
-    /// What help and the manual say of it.
+    /// The text shown in help and the manual.
     pub help: &'static str,
 }
 
-/// An option, and its heading in the help.
+/// An option under its heading in the help.
 pub type Headed = (&'static str, Entry);
 
-/// What a task does.
+/// The kinds of task.
 #[derive(Clone, Copy)]
 pub enum Purpose {
-    /// It makes a code of data.
+    /// Makes a code from data.
     Draw,
-    /// It splits data over several codes.
+    /// Splits data over several codes.
     Several,
-    /// It reads a picture.
+    /// Decodes a picture.
     Read,
-    /// It says what of a picture's codes departs from the standard.
+    /// Reports where the codes in a picture depart from the standard.
     Check,
-    /// It reads the pictures of a split.
+    /// Decodes the codes of a split and joins their data.
     Join,
-    /// It makes a code of a payload, whose fields options give.
+    /// Makes a code from a payload whose fields are given by options.
     Content(Kind),
-    /// It makes a code of a GS1 element string.
+    /// Makes a code from a GS1 element string.
     Elements,
 }
 
-/// What the program can be asked for.
+/// A task of the program: a plain code, or a command.
 #[derive(Clone, Copy)]
 pub struct Task {
-    /// The command that asks for it; empty for a plain code, which needs none.
+    /// The command's name; empty for a plain code, which needs no command.
     pub word: &'static str,
-    /// What help and the manual say of it.
+    /// The text shown in help and the manual.
     pub about: &'static str,
-    /// What is done.
+    /// What the task does.
     pub purpose: Purpose,
-    /// Its own options, without those of drawing that go with it; none of a payload, whose fields
-    /// say them.
+    /// Its own options, without the drawing options. Empty for payloads, whose options follow from
+    /// their fields.
     pub options: &'static [Entry],
 }
 
-/// The commands, unless memory runs out.
+/// Returns the names of the commands.
+///
+/// Errors: only `AllocError`.
 pub fn task_words(alloc: Global) -> Result<Vec<&'static str>, AllocError> {
     TASKS.iter().map(|task| task.word).collect(alloc)
 }
 
-/// The task of a command, by its name or by an older one, where there is such a command.
+/// Returns the task of a command, by its name or an alias.
 pub fn task_named(word: &str) -> Option<&'static Task> {
     let older = OTHER_WORDS.iter().find(|(older, _)| *older == word);
     let word = older.map_or(word, |(_, newer)| *newer);
@@ -119,13 +120,12 @@ pub fn task_named(word: &str) -> Option<&'static Task> {
 }
 
 impl Task {
-    /// Whether it draws.
+    /// Whether the task draws a code.
     pub fn draws(&self) -> bool {
         !matches!(self.purpose, Purpose::Read | Purpose::Check | Purpose::Join)
     }
 
-    /// The argument that it takes besides options: what help calls it, and what help and the manual
-    /// say of it.
+    /// Returns the positional argument, if there is one: its name and its help text.
     pub fn operand(&self) -> Option<(&'static str, &'static str)> {
         Some(match self.purpose {
             Purpose::Draw | Purpose::Several => (
@@ -151,7 +151,9 @@ impl Task {
         })
     }
 
-    /// Its own options, unless memory runs out.
+    /// Returns the task's own options, without the drawing options.
+    ///
+    /// Errors: only `AllocError`.
     pub fn own_options(&self, alloc: Global) -> Result<Vec<Entry>, AllocError> {
         match self.purpose {
             Purpose::Content(kind) => {
@@ -162,9 +164,10 @@ impl Task {
         }
     }
 
-    /// Its own options, and those of drawing that go with them: none that gives the data where its
-    /// own do, and none that says the level where the format does. It fails only where memory runs
-    /// out.
+    /// Returns the task's own options and the drawing options that apply: no input options if its
+    /// own options give the data, and no level if the payload's format fixes it.
+    ///
+    /// Errors: only `AllocError`.
     pub fn all_options(&self, alloc: Global) -> Result<Vec<Headed>, AllocError> {
         let own = self.own_options(alloc)?;
         let mut all = Vec::new(alloc);
@@ -186,7 +189,7 @@ impl Task {
         Ok(all)
     }
 
-    // Its own options and those of drawing, each group under its heading.
+    // Returns the task's own options and the drawing options, in groups with their headings.
     fn groups<'a>(&self, own: &'a [Entry]) -> [(&'static str, &'a [Entry]); 8] {
         let (place, data, mark, level, text, one) = match self.purpose {
             Purpose::Draw => ("Code", DATA, MARKS, LEVELS, TEXTS, ONE_CODE),
@@ -215,13 +218,12 @@ impl Task {
         ]
     }
 
-    /// Whether its format says the level of a code.
+    /// Whether the payload's format fixes the error correction level.
     pub fn has_its_level(&self) -> bool {
         matches!(self.purpose, Purpose::Content(Kind::Payment | Kind::Bill))
     }
 }
 
-// Appends options under a heading.
 fn push_under(
     all: &mut Vec<Headed>,
     heading: &'static str,
@@ -233,5 +235,4 @@ fn push_under(
     Ok(())
 }
 
-// No options.
 const NONE: &[Entry] = &[];

@@ -1,4 +1,4 @@
-//! What was made, on standard error: `--verbose` and `--json`.
+//! The report on standard error: `--verbose` and `--json`.
 
 use crate::asked::Asked;
 use crate::warnings::{Decimal, hundredths_of, warn_of_sizes};
@@ -8,28 +8,29 @@ use qrcode::types::EcLevel;
 use qrcode_area::areas::Rectangle;
 use std::alloc::{AllocError, Global};
 
-// What is reported of a code.
+// The facts to report about a code.
 #[derive(Clone, Copy)]
 struct Report {
     version: VersionName,
     level: EcLevel,
     mask: usize,
-    // The modules of a side, those of the quiet zone at each side, and the pixels of a module.
+    // Modules per side, width of the quiet zone in modules, and pixels per module.
     modules: u32,
     zone: u32,
     scale: u32,
-    // The pixels of a side, and those of a printed inch where they are known.
+    // Pixels per side, and pixels per inch if known.
     side: u32,
     dots: Option<u32>,
-    // Whether pixels are parts of a length.
+    // Whether the size is an exact length, so that pixels mean nothing.
     is_length: bool,
-    // The modules that are left to what stands in the middle.
+    // The area reserved in the middle.
     area: Option<Rectangle>,
 }
 
-/// Says on standard error what was made, where that is asked for, with the area in its middle, and
-/// warns of a size that differs from the one that is asked for, and of one that printers may
-/// refuse.
+/// Reports what was drawn on standard error, with the area in its middle, if `--verbose` or
+/// `--json` asks for it; and warns of sizes in any case.
+///
+/// Errors: only `AllocError`.
 pub fn show_report(
     rt: &HostRuntime,
     asked: &Asked<'_, '_>,
@@ -67,7 +68,7 @@ pub fn show_report(
     Ok(())
 }
 
-// The number of the mask of least penalty.
+// Returns the number of the code's own mask, the one with the lowest penalty.
 fn own_mask(code: &QrCode) -> usize {
     if code.version().is_micro() {
         code.mask().micro_number()
@@ -76,7 +77,7 @@ fn own_mask(code: &QrCode) -> usize {
     }
 }
 
-// A report in lines.
+// Formats a report as lines of text.
 fn lines(alloc: Global, report: &Report) -> Result<String, AllocError> {
     let (version, level, mask) = (report.version, report.level, report.mask);
     let mut text = format!(in alloc; "version {version}, level {level:?}, mask {mask}\n")?;
@@ -91,7 +92,7 @@ fn lines(alloc: Global, report: &Report) -> Result<String, AllocError> {
     Ok(text)
 }
 
-// The sizes of a report, in two lines.
+// Appends the sizes, in two lines.
 fn push_sizes(text: &mut String, report: &Report) -> Result<(), AllocError> {
     let (modules, zone, scale, side) = (report.modules, report.zone, report.scale, report.side);
     let length = Decimal(hundredths_of(side, report.dots.unwrap_or(0)));
@@ -109,7 +110,7 @@ fn push_sizes(text: &mut String, report: &Report) -> Result<(), AllocError> {
     text.push_str("\n")
 }
 
-// A report as a line of JSON.
+// Formats a report as one line of JSON.
 fn json(alloc: Global, report: &Report) -> Result<String, AllocError> {
     let (version, level, mask) = (report.version, report.level, report.mask);
     let mut text = format!(in alloc;

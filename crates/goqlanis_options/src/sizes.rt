@@ -1,4 +1,4 @@
-//! Sizes of the command line.
+//! The size options: `--scale`, `--size`, `--module` and `--dpi`.
 
 use clap::ArgMatches;
 use goqlanis_core::{Format, Length};
@@ -6,23 +6,25 @@ use goqlanis_files::failure::Failure;
 use qrcode_payloads::numbers::decimal;
 use std::alloc::Global;
 
-/// How large a drawing is.
+/// The size of a drawing.
 #[derive(Clone, Copy)]
 pub struct Sizes {
-    /// The pixels of a module.
+    /// Pixels per module, or its length in the unit that `length` gives.
     pub scale: u16,
-    /// The pixels that a side may have, where that is asked for.
+    /// The maximum side in pixels, if given.
     pub side: Option<u16>,
-    /// The same in hundredths of millimetres, where it is asked for as a length of whole pixels.
+    /// The maximum side in hundredths of a millimetre, if given as a length in whole pixels.
     pub hundredths: Option<u64>,
-    /// The pixels of a printed inch, where they are known.
+    /// Pixels per printed inch, if known.
     pub dots: Option<u16>,
-    /// Whether the pixels of a module are a length.
+    /// The exact length of the side or of a module, if given; `scale` counts its units.
     pub length: Option<Length>,
 }
 
-/// The sizes that the command line gives. SVG, EPS and PDF have any length, where no pixels of an
-/// inch are given.
+/// Parses the size options. SVG, EPS and PDF take exact lengths unless `--dpi` is given.
+///
+/// Errors: `Usage` for a size that is malformed, out of range, or that needs `--dpi`;
+/// `OutOfMemory`.
 pub fn sizes_of(alloc: Global, given: &ArgMatches<'_>, format: Format) -> Result<Sizes, Failure> {
     let dpi = given.get_one::<u16>("dpi");
     let is_paper = matches!(format, Format::Eps | Format::Pdf);
@@ -49,7 +51,7 @@ pub fn sizes_of(alloc: Global, given: &ArgMatches<'_>, format: Format) -> Result
     Ok(sizes)
 }
 
-// Takes the size of a side or of a module, or says what to write instead.
+// Parses the size of a side or a module into `sizes`, or explains what to write instead.
 fn take_size(
     sizes: &mut Sizes,
     text: &str,
@@ -77,8 +79,8 @@ fn take_size(
     Ok(())
 }
 
-// Takes a length that a drawing has, or its modules: in micrometres, or in ten or a hundred of them
-// where it is long.
+// Takes an exact length of the side or of a module: in micrometres, or if it is long in units of 10
+// or 100 micrometres.
 fn take_length(sizes: &mut Sizes, parts: u64, is_side: bool) -> Result<(), &'static str> {
     for (unit, dots) in [(1_800, 25_400), (18_000, 2_540), (180_000, 254)] {
         match u16::try_from(parts.saturating_add(unit / 2) / unit) {
@@ -94,7 +96,7 @@ fn take_length(sizes: &mut Sizes, parts: u64, is_side: bool) -> Result<(), &'sta
     Err(size_help(true, is_side))
 }
 
-// What to write for a size that is no such.
+// Explains which sizes are valid.
 fn size_help(is_exact: bool, is_side: bool) -> &'static str {
     match (is_exact, is_side) {
         (true, true) => "use pixels, 1 to 65,535, or a length, 0.001mm to 6553.5mm, e.g. 30mm",
@@ -104,11 +106,11 @@ fn size_help(is_exact: bool, is_side: bool) -> &'static str {
     }
 }
 
-// The parts of an inch in which lengths are counted: whole numbers of them are a micrometre, a
-// thousandth of a point and a ten-thousandth of an inch.
+// Lengths are counted in these parts of an inch, of which a micrometre, 0.001 pt and 0.0001 in are
+// whole multiples.
 const INCH: u64 = 45_720_000;
 
-// Units of length, each with the decimals that are taken, and the parts of the last one.
+// Units of length: name, decimals allowed, and the parts in one unit of the last decimal.
 static UNITS: &[(&str, usize, u64)] = &[
     ("mm", 3, 1_800),
     ("cm", 4, 1_800),
@@ -116,7 +118,7 @@ static UNITS: &[(&str, usize, u64)] = &[
     ("pt", 3, 635),
 ];
 
-// The parts of a length.
+// Parses a length, into parts of an inch.
 fn parts_of(text: &str) -> Option<u64> {
     let end = text.len().checked_sub(2)?;
     let (number, unit) = text.get(..end).zip(text.get(end..))?;
@@ -128,8 +130,7 @@ fn parts_of(text: &str) -> Option<u64> {
     None
 }
 
-// The pixels of a length, of which an inch has so many: of a side rounded down, and of a module to
-// the nearest.
+// Converts a length to pixels: rounded down for a side, to the nearest for a module.
 fn pixels_of(parts: u64, dots: u16, is_side: bool) -> Result<u16, &'static str> {
     let parts = parts.saturating_mul(dots as u64);
     let more = if is_side { 0 } else { INCH / 2 };

@@ -1,4 +1,4 @@
-//! Warnings on standard error, after which the code is drawn.
+//! Warnings on standard error; the code is drawn anyway.
 
 use crate::asked::{Asked, Target, ending_format};
 use clap::ArgMatches;
@@ -7,8 +7,8 @@ use goqlanis_files::streams::shown;
 use qrcode::types::Color;
 use std::fmt;
 
-/// Warns of colours that readers hardly tell apart, of text in another character set than the one
-/// that is named, and of a picture in a file whose extension is that of another format.
+/// Warns of colours with too little contrast, of UTF-8 text after the ECI of another character set,
+/// and of a file extension that belongs to another format.
 pub fn warn(rt: &HostRuntime, asked: &Asked<'_, '_>) {
     let request = &asked.request;
     if let Some((dark, light)) = close_colours(request) {
@@ -41,8 +41,8 @@ pub fn warn(rt: &HostRuntime, asked: &Asked<'_, '_>) {
     }
 }
 
-// Warns of the first text of segments by hand that follows the number of another character set
-// (ECI): words are UTF-8. Numbers from 899 on name no character set.
+// Warns of the first `--segment byte:` with more than ASCII after an ECI that is not UTF-8, since
+// arguments are UTF-8. ECI numbers from 899 on name no character set.
 fn warn_of_character_set(rt: &HostRuntime, words: &[&str]) {
     let mut set = 26;
     for word in words {
@@ -60,7 +60,7 @@ fn warn_of_character_set(rt: &HostRuntime, words: &[&str]) {
     }
 }
 
-/// Warns of a network's password that is too short for WPA.
+/// Warns of a Wi-Fi password that is too short for WPA.
 pub fn warn_of_password(rt: &HostRuntime, given: &ArgMatches<'_>) {
     let password = given.get_str("password").unwrap_or("");
     let security = given.get_str("security").unwrap_or("WPA");
@@ -72,14 +72,14 @@ pub fn warn_of_password(rt: &HostRuntime, given: &ArgMatches<'_>) {
     }
 }
 
-// The most bytes of a graphic field in ZPL, by the format of its command ^GF.
+// The largest size of a graphic in ZPL, in bytes: ^GF takes five digits.
 const MOST_FIELD: u32 = 99_999;
 
-/// Warns of the sizes of a code of so many modules a side with its quiet zone, of so many pixels
-/// each, and of so many pixels to an inch where that is known: of a side in millimetres that
-/// differs from the one that is asked for by a tenth or more, of modules under a quarter of a
-/// millimetre, and of a label whose side has so many dots that printers that speak ZPL may refuse
-/// it.
+/// Warns of sizes that may be unexpected or unreadable: a side at least 0.1 mm below `--size`,
+/// modules under 0.25 mm, and a ZPL graphic that is too large for printers.
+///
+/// The code has `modules` modules a side, quiet zone included, each of `scale` pixels; `dots` is
+/// the number of pixels per inch, if known.
 pub fn warn_of_sizes(
     rt: &HostRuntime,
     asked: &Asked<'_, '_>,
@@ -116,7 +116,7 @@ pub fn warn_of_sizes(
     }
 }
 
-/// The hundredths of millimetres of so many pixels, of which an inch has so many.
+/// Converts `pixels` to hundredths of a millimetre, at `dots` pixels per inch.
 pub fn hundredths_of(pixels: u32, dots: u32) -> u64 {
     if dots == 0 {
         return 0;
@@ -124,7 +124,7 @@ pub fn hundredths_of(pixels: u32, dots: u32) -> u64 {
     pixels as u64 * 2540 / dots as u64
 }
 
-/// Hundredths, as a number with two digits after its point.
+/// A number of hundredths, displayed with two decimals.
 #[derive(Clone, Copy)]
 pub struct Decimal(pub u64);
 
@@ -135,7 +135,7 @@ impl fmt::Display for Decimal {
     }
 }
 
-// What a colour is called.
+// The name of a colour in warnings.
 fn name_of(ink: Ink<'_>) -> &str {
     if ink.opacity == 0 {
         "transparent"
@@ -144,12 +144,12 @@ fn name_of(ink: Ink<'_>) -> &str {
     }
 }
 
-// The least difference of brightness, of 255: two fifths, below which ISO/IEC 15415 grades the
-// contrast of a symbol D or F.
+// The minimum difference in brightness, out of 255: 40 %, below which ISO/IEC 15415 grades symbol
+// contrast D or F.
 const CONTRAST: u32 = 102;
 
-// The brightest colour of dark modules and the darkest of light ones, where these are too close.
-// Where both are exchanged because that was asked for, all dark ones may be the brighter ones.
+// Returns the brightest dark colour and the darkest light colour if they are too close. With
+// `--invert`, dark modules may also all be lighter than the light ones.
 fn close_colours<'a>(request: &Request<'a>) -> Option<(Ink<'a>, Ink<'a>)> {
     let (dark, light) = (
         extremes(request, Color::Dark),
@@ -164,8 +164,8 @@ fn close_colours<'a>(request: &Request<'a>) -> Option<(Ink<'a>, Ink<'a>)> {
     }
 }
 
-// A colour that is not on its own side of halfway between the darkest and the brightest colour, where
-// readers of pictures part dark from light, and what a better one is.
+// Returns a colour on the wrong side of the threshold halfway between the darkest and the brightest
+// colour, and whether it should be darker or lighter.
 fn stray_colour<'a>(request: &Request<'a>) -> Option<(Ink<'a>, &'static str)> {
     let (dark, light) = (
         extremes(request, Color::Dark),
@@ -186,7 +186,7 @@ fn stray_colour<'a>(request: &Request<'a>) -> Option<(Ink<'a>, &'static str)> {
     }
 }
 
-// Of the colours of dark or of light modules the darkest one and the brightest.
+// Returns the darkest and the brightest colour of dark (or of light) modules.
 fn extremes<'a>(request: &Request<'a>, tone: Color) -> (Ink<'a>, Ink<'a>) {
     let ink = match tone {
         Color::Dark => request.dark,
@@ -206,12 +206,12 @@ fn extremes<'a>(request: &Request<'a>, tone: Color) -> (Ink<'a>, Ink<'a>) {
     (darkest, brightest)
 }
 
-// Whether a colour is brighter than another one by enough.
+// Whether a colour is sufficiently brighter than another.
 fn is_brighter(ink: Ink<'_>, other: Ink<'_>) -> bool {
     brightness(ink) >= brightness(other).saturating_add(CONTRAST)
 }
 
-// How bright a colour is on white, 0 to 255, by the weights of ITU-R BT.601.
+// The brightness of a colour on white, 0 to 255, weighted as in ITU-R BT.601.
 fn brightness(ink: Ink<'_>) -> u32 {
     let red = on_white(ink.red, ink.opacity).saturating_mul(299);
     let green = on_white(ink.green, ink.opacity).saturating_mul(587);
@@ -219,14 +219,14 @@ fn brightness(ink: Ink<'_>) -> u32 {
     red.saturating_add(green).saturating_add(blue) / 1000
 }
 
-// How bright a part of a colour is on white, 0 to 255.
+// The value of one channel on white, 0 to 255.
 fn on_white(part: u8, opacity: u8) -> u32 {
     let opacity = opacity as u32;
     let white = 255 * (255 - opacity);
     (part as u32).saturating_mul(opacity).saturating_add(white) / 255
 }
 
-// Whether a path has the file extension of another format. A .txt file may have any text.
+// Whether a path has the file extension of another format. A .txt file may be of any text format.
 fn is_named_otherwise(path: &str, format: Format) -> bool {
     match ending_format(path) {
         Some(Format::HalfBlocks) => !format.is_text(),

@@ -1,4 +1,4 @@
-//! The options that give the fields of payloads.
+//! The option of each payload field.
 
 ghost use Rattle.std.specs.Prelude.{◌≡◌};
 ghost use Rattle.goqlanis_options.specs.Fields.{name_of};
@@ -6,8 +6,7 @@ ghost use Rattle.goqlanis_options.specs.Fields.{name_of};
 use super::Takes::{self, Nothing, Text, Word};
 use qrcode_contents::fields::errors::Field;
 
-/// The option that gives a field: its name, which is empty for the whole text, what it takes, and
-/// what help says of it.
+/// Returns the option of `field`: its name (empty for `Whole`), what it takes, and its help text.
 #[rattlefmt::skip]
 pub fn option_of(field: Field) -> (&'static str, Takes, &'static str)
     ensures name { result.0.now ≡ name_of field }

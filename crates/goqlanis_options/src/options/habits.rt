@@ -1,6 +1,6 @@
-//! What people type who know other programs, or older names.
+//! Names that users of other programs, or of older versions, may type.
 
-/// Letters and names for an option that are taken too, and that no help shows.
+/// Hidden aliases of options: short and long names.
 #[rattlefmt::skip]
 pub static OTHER_NAMES: &[(&str, &str)] = &[
     ("r", "input"), ("read-from", "input"),
@@ -19,13 +19,13 @@ pub static OTHER_NAMES: &[(&str, &str)] = &[
     ("label", "account"), ("key", "secret"),
 ];
 
-/// Older names of commands, and other spellings, that are taken too, and that no help shows.
+/// Hidden aliases of commands.
 #[rattlefmt::skip]
 pub static OTHER_WORDS: &[(&str, &str)] = &[
     ("several", "split"), ("payment", "epc"), ("mail", "email"), ("place", "geo"),
 ];
 
-/// Words that are not taken, and what to write instead.
+/// Words that are rejected, with the advice that users get instead.
 #[rattlefmt::skip]
 pub static ADVICE: &[(&str, &str)] = &[
     ("-M", "for Micro QR, add --micro"),

@@ -1,11 +1,11 @@
-//! Colours of the parts of a code.
+//! The colour options of patterns and data.
 
 use super::Entry;
 use super::Takes::Text;
 use goqlanis_core::Part;
 use qrcode::types::Color;
 
-/// An option that gives the colour of the dark or of the light modules of a part.
+/// The option for the colour of the dark or the light modules of one part of a code.
 #[derive(Clone, Copy)]
 pub struct PartColour {
     pub entry: Entry,
@@ -13,7 +13,7 @@ pub struct PartColour {
     pub tone: Color,
 }
 
-// A row of the table: the option's name, whose modules it colours, and what help says of it.
+// A row of the table: option name, part, tone, and help text.
 macro_rules! colour {
     ($long:literal, $part:ident, $tone:ident, $help:literal) => {
         PartColour {
@@ -24,7 +24,7 @@ macro_rules! colour {
     };
 }
 
-/// The colours of parts, in PNG, SVG, EPS and PDF.
+/// The colour options of parts, for PNG, SVG, EPS and PDF.
 #[rattlefmt::skip]
 pub static PART_COLOURS: &[PartColour] = &[
     colour!("finder-dark", Finder, Dark, "Dark modules of finder patterns [default: as --dark]"),

@@ -1,4 +1,4 @@
-//! Plain codes, and pictures that are read.
+//! The options of codes: input, level and version, output.
 
 use super::Takes::{self, Nothing, Number, Path, Text, Texts, Word};
 use super::{Entry, Purpose, Task};
@@ -24,7 +24,7 @@ const FORMATS: &[&str] = &[
 ];
 // Up to here.
 
-/// A code of data.
+/// The task without a command: a plain code.
 #[rattlefmt::skip]
 pub static DRAWING: Task = Task {
     word: "",
@@ -33,7 +33,7 @@ pub static DRAWING: Task = Task {
     options: &[],
 };
 
-/// What gives the data.
+/// Input options.
 #[rattlefmt::skip]
 pub static DATA: &[Entry] = &[
     entry!("input", 'i', Path, "Encode the contents of a file"),
@@ -42,7 +42,7 @@ pub static DATA: &[Entry] = &[
     entry!("bytes", Nothing, "Use the fewest bits, even if some readers then show UTF-8 wrongly"),
 ];
 
-/// What gives the data of plain codes alone.
+/// Input options of plain codes only.
 #[rattlefmt::skip]
 pub static ONE_CODE: &[Entry] = &[
     entry!("segment", Texts("MODE:DATA"),
@@ -56,10 +56,10 @@ pub static ONE_CODE: &[Entry] = &[
         "Separator of the fields in a line [default: ,]"),
 ];
 
-// The levels.
+// The value of `--level`.
 const LEVEL: Takes = Word("LEVEL", &["L", "M", "Q", "H"]);
 
-/// The level and the version.
+/// Level and version options.
 #[rattlefmt::skip]
 pub static LEVELS: &[Entry] = &[
     entry!("level", 'l', LEVEL,
@@ -70,7 +70,7 @@ pub static LEVELS: &[Entry] = &[
         "Smallest version to try, in the order M1 to M4, 1 to 40"),
 ];
 
-/// The level and the version of what Micro QR cannot say.
+/// Level and version options of tasks that Micro QR does not support.
 #[rattlefmt::skip]
 pub static NORMAL_LEVELS: &[Entry] = &[
     entry!("level", 'l', LEVEL, "Error correction level [default: M; H with a logo]"),
@@ -79,7 +79,7 @@ pub static NORMAL_LEVELS: &[Entry] = &[
     entry!("min-version", Text("VERSION"), "Smallest version to try, 1 to 40"),
 ];
 
-/// What goes with a text in one code.
+/// Options of tasks that make a single code.
 #[rattlefmt::skip]
 pub static TEXTS: &[Entry] = &[
     entry!("micro", Nothing, "Allow Micro QR (--min-version M1); M1 needs --level L"),
@@ -87,19 +87,19 @@ pub static TEXTS: &[Entry] = &[
         "Raise the level above --level as far as the code gets no larger; not with -v"),
 ];
 
-/// How a text in one code is marked.
+/// The option that marks data as UTF-8.
 #[rattlefmt::skip]
 pub static MARKS: &[Entry] = &[
     entry!("eci", Nothing, "Mark the data as UTF-8 (ECI 26); helps if readers show it wrongly"),
 ];
 
-/// The mask.
+/// The mask option.
 #[rattlefmt::skip]
 pub static MASKS: &[Entry] = &[
     entry!("mask", Number("0-7", 0, 7), "Mask pattern [default: lowest penalty]"),
 ];
 
-/// How a code is drawn, and where it goes.
+/// Output options.
 #[rattlefmt::skip]
 pub static LOOKS: &[Entry] = &[
     entry!("output", 'o', Path,
@@ -144,7 +144,7 @@ pub static LOOKS: &[Entry] = &[
     entry!("json", Nothing, "Report like --verbose, as a line of JSON on standard error"),
 ];
 
-/// Texts about the program.
+/// Options that print something about the program.
 #[rattlefmt::skip]
 pub static ABOUT: &[Entry] = &[
     entry!("completions", Word("SHELL", &["bash", "zsh", "fish"]), "Write shell completions"),
@@ -152,7 +152,7 @@ pub static ABOUT: &[Entry] = &[
     entry!("version", 'V', Nothing, "Print the version"),
 ];
 
-/// Examples, as the help shows them.
+/// The examples at the end of the help.
 pub const EXAMPLES: &str = "Examples:
   goqlanis \"https://example.org\"
       show a code in the terminal

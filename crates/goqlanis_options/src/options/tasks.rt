@@ -1,4 +1,4 @@
-//! The commands, in the order of the help and the manual.
+//! The commands, in the order of help and manual.
 
 use super::Takes::{Nothing, Number, Path, Text, Wanted};
 use super::fields::option_of;
@@ -6,7 +6,7 @@ use super::{Entry, Purpose, Task};
 use qrcode_contents::fields::errors::Field;
 use qrcode_payloads::kinds::Kind;
 
-// A row of the table: its command, what is done, what help says of it, and its own options.
+// A row of the table: command, purpose, help text, and its own options.
 macro_rules! task {
     ($word:literal, $purpose:expr, $about:literal $(, $option:expr)*) => {
         Task {
@@ -18,7 +18,7 @@ macro_rules! task {
     };
 }
 
-/// What commands ask for.
+/// The tasks of the commands.
 #[rattlefmt::skip]
 pub static TASKS: &[Task] = &[
     task!("read", Purpose::Read, "Decode the QR codes in a picture",
@@ -56,7 +56,7 @@ pub static TASKS: &[Task] = &[
             indicator: two digits or a letter")),
 ];
 
-/// The option of a field of a kind.
+/// Returns the option of `field` in payloads of `kind`, with the help that this kind has for it.
 pub fn entry_of(kind: Kind, field: Field) -> Entry {
     let (long, value, help) = option_of(field);
     let (value, help) = match own_help(kind, field) {
@@ -75,7 +75,7 @@ pub fn entry_of(kind: Kind, field: Field) -> Entry {
     }
 }
 
-// Whether a kind needs a field.
+// Whether payloads of `kind` need `field`.
 #[rattlefmt::skip]
 fn is_wanted(kind: Kind, field: Field) -> bool {
     match kind {
@@ -97,7 +97,7 @@ fn is_wanted(kind: Kind, field: Field) -> bool {
     }
 }
 
-// What the option of a field takes and what help says of it, where a kind has its own.
+// The value name and help text of a field, if a kind has its own.
 #[rattlefmt::skip]
 fn own_help(kind: Kind, field: Field) -> Option<(&'static str, &'static str)> {
     Some(match (kind, field) {
