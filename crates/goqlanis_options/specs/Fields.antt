@@ -1,9 +1,9 @@
--- The options that give the fields of a payload.
+-- The option of each payload field.
 use Rattle.std.specs.Prelude.{ℕ, List, [], codes}
 use Rattle.qrcode_contents.specs.declared.fields.errors.Field.{Field}
 use Rattle.qrcode_contents.specs.declared.fields.errors.Field.TheVariants.{Account, Algorithm, Amount, Begin, Bic, Birthday, Category, City, Counter, Country, Currency, DebtorCity, DebtorCountry, DebtorName, DebtorNumber, DebtorPostalCode, DebtorStreet, Description, Digits, Email, End, Family, Given, Hidden, HomePhone, Iban, Information, Issuer, Latitude, Location, Longitude, Message, Mobile, Name, Note, Number, Organisation, Password, Payee, Period, Phone, PostalCode, Purpose, Reference, Region, Secret, Security, Ssid, Stamp, Street, Subject, Summary, Title, Uid, Url, Whole, WorkPhone}
 
-abbrev pub name_of : Field → List ℕ  -- the option that gives a field, and none of the whole text
+abbrev pub name_of : Field → List ℕ  -- the name of the option that gives a field; empty for the whole text
 name_of Ssid = codes "ssid"
 name_of Password = codes "password"
 name_of Security = codes "security"

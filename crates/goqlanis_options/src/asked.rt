@@ -168,7 +168,8 @@ fn target_of<'a>(alloc: Global, given: &ArgMatches<'a>) -> Result<Target<'a>, Fa
     }
 }
 
-// Returns how the version is chosen: exactly this one, or the smallest that fits, from a minimum up.
+// Returns how the version is chosen: exactly the given one, or the smallest from a minimum up that
+// fits.
 fn choice_of(alloc: Global, given: &ArgMatches<'_>) -> Result<Choice, Failure> {
     if let Some(version) = version_of(alloc, given, "symbol-version")? {
         return Ok(Choice::At(version));

@@ -1,4 +1,4 @@
-//! `goqlanis check`: what of a picture's codes departs from the standard.
+//! `goqlanis check`: reports where the codes in a picture depart from the standard.
 
 use crate::reading::{picture_of, warn_of_missed};
 use clap::ArgMatches;
@@ -13,8 +13,8 @@ use qrcode_check::{Check, Content};
 use std::alloc::{AllocError, Global};
 use std::process::ExitCode;
 
-/// Checks the codes of the picture that the command line names, and says what departs from the
-/// standard: status 1 where something does, or a code is not read.
+/// Checks the codes in the picture that the command line names and prints a report. The status is 1
+/// if a code departs from the standard or is not decoded.
 pub(crate) fn check(rt: &HostRuntime, given: &ArgMatches<'_>) -> Result<ExitCode, Failure> {
     let alloc = rt.alloc();
     let (name, bytes) = picture_of(rt, given.get_str("PICTURE").unwrap_or("-"))?;
@@ -36,7 +36,7 @@ pub(crate) fn check(rt: &HostRuntime, given: &ArgMatches<'_>) -> Result<ExitCode
     }
 }
 
-// What is said of codes: as a list of JSON, or in lines, with a heading where there are several.
+// Reports on codes, as a JSON list, or as lines of text with a heading for each of several codes.
 fn report(alloc: Global, checks: &[Check], is_json: bool) -> Result<String, AllocError> {
     let mut text = String::from_str(alloc, if is_json { "[" } else { "" })?;
     let count = checks.len();
@@ -56,7 +56,7 @@ fn report(alloc: Global, checks: &[Check], is_json: bool) -> Result<String, Allo
     Ok(text)
 }
 
-// What is said of a code, as an object of JSON in a line.
+// Appends the report on a code as a JSON object, on one line.
 fn push_object(text: &mut String, check: &Check) -> Result<(), AllocError> {
     let (version, level, mask) = (
         VersionName(check.version),
@@ -83,7 +83,7 @@ fn push_object(text: &mut String, check: &Check) -> Result<(), AllocError> {
     )
 }
 
-// What is said of the data, as members of an object.
+// Appends the findings about the data as JSON members.
 fn push_members(text: &mut String, content: &Option<Content>) -> Result<(), AllocError> {
     let Some(content) = content else {
         return text.push_str("\"segments\": false");
@@ -101,7 +101,8 @@ fn push_members(text: &mut String, content: &Option<Content>) -> Result<(), Allo
     )
 }
 
-// What is said of a code, in lines. Where modules are wrong, so are the penalties of masks.
+// Appends the report on a code as lines of text. If modules are wrong, the penalties of masks mean
+// nothing and are left out.
 fn push_lines(text: &mut String, check: &Check) -> Result<(), AllocError> {
     let (version, level, mask) = (
         VersionName(check.version),
@@ -126,7 +127,7 @@ fn push_lines(text: &mut String, check: &Check) -> Result<(), AllocError> {
     Ok(())
 }
 
-// Whether a code meets the standard, and if not, why.
+// Appends whether a code meets the standard, and if not, why.
 fn push_verdict(text: &mut String, check: &Check) -> Result<(), AllocError> {
     if check.is_standard() {
         return text.push_str("meets the standard: yes\n");
@@ -162,12 +163,12 @@ fn push_verdict(text: &mut String, check: &Check) -> Result<(), AllocError> {
     text.push_str("\n")
 }
 
-// Whether no codeword is wrong, and no module outside of them.
+// Whether no codeword and no module outside the codewords is wrong.
 fn is_whole(check: &Check) -> bool {
     check.modules.are_right() && check.wrong.iter().all(|count| *count == 0)
 }
 
-// Numbers, with commas between them.
+// Lists numbers, separated by commas.
 fn numbers(alloc: Global, numbers: &[usize]) -> Result<String, AllocError> {
     let mut text = String::new(alloc);
     for number in numbers {
@@ -177,8 +178,7 @@ fn numbers(alloc: Global, numbers: &[usize]) -> Result<String, AllocError> {
     Ok(text)
 }
 
-// How many modules are wrong, each number behind its name, which has something before and behind
-// it.
+// Appends how many modules of each pattern are wrong; `before` and `behind` enclose its name.
 fn push_modules(
     text: &mut String,
     modules: WrongModules,
@@ -201,7 +201,7 @@ fn push_modules(
     Ok(())
 }
 
-// What is said of the data, in lines behind a line that is not ended.
+// Appends the findings about the data as lines of text, after ending the current line.
 fn push_content(text: &mut String, content: &Option<Content>) -> Result<(), AllocError> {
     let Some(content) = content else {
         return text.push_str("\ndata: its bits are not segments and a terminator\n");
@@ -226,8 +226,8 @@ fn push_content(text: &mut String, content: &Option<Content>) -> Result<(), Allo
     )
 }
 
-// How many masks have a lower penalty: by the standard's balance, and by that of this project,
-// where it differs.
+// Appends how many masks have a lower penalty: with the dark share rounded as in the standard, and
+// if that differs, unrounded as in this project.
 fn push_ranks(text: &mut String, stepped: usize, own: usize) -> Result<(), AllocError> {
     write!(text, "masks with a lower penalty: {stepped}")?;
     if own != stepped {

@@ -1,5 +1,4 @@
-//! What `goqlanis wifi` and its kin draw: from options to the text of a payload, or why there is
-//! none.
+//! Payload commands such as `goqlanis wifi`: from options to the text of the payload.
 
 mod elements;
 mod options;

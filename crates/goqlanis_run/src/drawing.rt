@@ -1,4 +1,4 @@
-//! Drawings, made and written.
+//! Draws codes and writes them.
 
 ghost use Rattle.std.specs.Prelude.{◌≡◌, ℕ, List, Some, IfOk};
 ghost use Rattle.qrcode_gs1.specs.Elements.{Item};
@@ -29,7 +29,7 @@ use std::alloc::Global;
 use std::io::IsTerminal;
 use std::process::ExitCode;
 
-/// Draws one symbol, and writes it.
+/// Encodes `bytes`, draws the code and writes it.
 pub(crate) fn draw_one(
     rt: &HostRuntime,
     asked: &Asked<'_, '_>,
@@ -47,7 +47,9 @@ pub(crate) fn draw_one(
     }
 }
 
-/// A symbol drawn as a request asks for, unless a side would have too many pixels, or too few.
+/// Draws `code` as `request` asks.
+///
+/// Errors: `Refused` if a side would have too many pixels, or fewer than modules; `OutOfMemory`.
 pub(crate) fn drawn(alloc: Global, request: &Request<'_>, code: QrCode) -> Result<Drawing, Failure>
     ensures symbol { IfOk result (λ drawing. drawing.code ≡ code) }
     ensures shown { IfOk result (IsShownIn request.now) }
@@ -59,11 +61,10 @@ pub(crate) fn drawn(alloc: Global, request: &Request<'_>, code: QrCode) -> Resul
     }
 }
 
-// The most pixels along a side of pictures that are not compressed, and stand in memory whole: PPM
-// has then 0.8 GB.
+// The maximum side, in pixels, of uncompressed formats, which are drawn in memory: 0.8 GB for PPM.
 const GREATEST_WHOLE: u32 = 16_384;
 
-// Refuses a side of more pixels than a format has, or of fewer than it has modules.
+// Checks that a side has no more pixels than the format allows, and at least one per module.
 fn check_side(alloc: Global, request: &Request<'_>, code: &QrCode) -> Result<(), Failure> {
     let modules = code.width() as u32 + 2 * quiet_zone(request, code);
     let scale = scale(request, code);
@@ -94,7 +95,7 @@ fn check_side(alloc: Global, request: &Request<'_>, code: &QrCode) -> Result<(),
     Err(Failure::Refused(why))
 }
 
-/// Refuses data that is empty, unless that is allowed.
+/// Checks that data is not empty, unless `--allow-empty` is given.
 pub(crate) fn check_empty(
     alloc: Global,
     asked: &Asked<'_, '_>,
@@ -113,7 +114,7 @@ pub(crate) fn check_empty(
     )
 }
 
-/// The drawing of segments by hand, of words MODE:TEXT or eci:NUMBER.
+/// Draws a code of chosen segments, given as words MODE:DATA or eci:NUMBER.
 pub(crate) fn segments_drawing(
     alloc: Global,
     asked: &Asked<'_, '_>,
@@ -148,7 +149,7 @@ pub(crate) fn segments_drawing(
     }
 }
 
-/// The drawing of elements of GS1, of a text that has them.
+/// Draws a code of the GS1 element string in `text`, with identifiers in round brackets.
 pub(crate) fn elements_drawing(
     alloc: Global,
     request: &Request<'_>,
@@ -173,16 +174,16 @@ pub(crate) fn elements_drawing(
     }
 }
 
-/// The drawing of data of an application, by the application's indicator.
+/// Draws a code of `text` in an industry's own format, which `indicator` names.
 pub(crate) fn application_drawing(
     alloc: Global,
     request: &Request<'_>,
     indicator: &str,
-    data: &str,
+    text: &str,
 ) -> Result<Drawing, Failure>
     ensures symbol { IfOk result (λ drawing. (application : ℕ)
         × ((indicator_of indicator.now ≡ Some application)
-        × IsApplicationIn request.now.choice application request.now.level data.now drawing.code)) }
+        × IsApplicationIn request.now.choice application request.now.level text.now drawing.code)) }
     ensures shown { IfOk result (IsShownIn request.now) }
 {
     let Some(application) = indicator_of(indicator.as_bytes()) else {
@@ -190,13 +191,13 @@ pub(crate) fn application_drawing(
             "--application {indicator}: an indicator is two digits or one letter, as 37 or a"
         )?));
     };
-    if data.is_empty() {
+    if text.is_empty() {
         return refused(
             alloc,
             "ELEMENTS: after --application, give its data, e.g. \"AA1234BBB112text\"",
         );
     }
-    let bytes = data.as_bytes();
+    let bytes = text.as_bytes();
     match symbol_for_application(alloc, request.choice, request.level, application, bytes) {
         Ok(code) => drawn(alloc, request, code),
         Err(QrError::OutOfMemory) => Err(Failure::OutOfMemory),
@@ -207,7 +208,7 @@ pub(crate) fn application_drawing(
     }
 }
 
-/// Writes a drawing.
+/// Writes a drawing to its target, with the logo or area in its middle, and reports it.
 pub(crate) fn write_drawing(
     rt: &HostRuntime,
     asked: &Asked<'_, '_>,
@@ -228,13 +229,13 @@ pub(crate) fn write_drawing(
                 add --output FILE, or --output - to write it there anyway",
             )
         }
-        // Its title may have characters that hide or reorder others.
+        // Its title may have characters that hide or reorder others on a terminal.
         Target::Terminal if asked.request.format == Format::SvgPath => write_data(rt, None, bytes),
         Target::Terminal | Target::StandardOutput => print(rt, bytes),
     }
 }
 
-/// How data is written.
+/// Chooses how data is encoded: as bytes, text, or text marked as UTF-8.
 pub(crate) fn manner(
     alloc: Global,
     asked: &Asked<'_, '_>,

@@ -1,4 +1,4 @@
-//! What `goqlanis` does: it reads data and draws it or reads a picture, and writes files.
+//! The tasks of `goqlanis`: reads data, draws codes, decodes pictures, and writes files.
 #![tactic(auto)]
 
 mod checking;

@@ -1,4 +1,4 @@
-//! A symbol of each line.
+//! `--lines`: one code for each line.
 
 use crate::drawing::draw_one;
 use crate::names::{check_made, check_names, field_of, name_of, take_name};
@@ -13,12 +13,12 @@ use std::fs;
 use std::io::{BufRead, BufReader, IsTerminal, Read};
 use std::process::ExitCode;
 
-// The most bytes of a line that is read, far more than a symbol holds.
+// The maximum length of a line in bytes, far more than a code holds.
 const MOST_IN_LINE: usize = 100_000;
 
-/// Draws each line as it comes, without its line feed, or carriage return and line feed. A line
-/// that is refused is reported with its number, and the others are drawn; where a drawing cannot be
-/// written, the lines behind it are not drawn.
+/// Draws a code of each line as it arrives, without its LF or CR LF. A line that is refused is
+/// reported by number and skipped; if a drawing cannot be written, the remaining lines are not
+/// drawn.
 pub(crate) fn draw_lines(rt: &HostRuntime, asked: &Asked<'_, '_>) -> Result<ExitCode, Failure> {
     let alloc = rt.alloc();
     check_names(rt, asked)?;
@@ -35,7 +35,7 @@ pub(crate) fn draw_lines(rt: &HostRuntime, asked: &Asked<'_, '_>) -> Result<Exit
     }
 }
 
-// Draws each line of what has a name.
+// Draws each line of an input, which `name` names in messages.
 fn draw_from<R: Read + Drop>(
     rt: &HostRuntime,
     asked: &Asked<'_, '_>,
@@ -50,7 +50,7 @@ fn draw_from<R: Read + Drop>(
     drawn
 }
 
-// Draws each line, and reports those that are refused.
+// Draws each line, and reports the refused ones.
 fn draw_each<R: BufRead>(
     rt: &HostRuntime,
     asked: &Asked<'_, '_>,
@@ -79,7 +79,7 @@ fn draw_each<R: BufRead>(
     Ok(code)
 }
 
-// Draws a line, to the file of its name where drawings go to files.
+// Draws a line, to a file named after it if `--output` is given.
 fn draw_line(
     rt: &HostRuntime,
     asked: &Asked<'_, '_>,
@@ -100,7 +100,7 @@ fn draw_line(
     draw_one(rt, &Asked { target, ..*asked }, data)
 }
 
-// The field of a line that is asked for, if one is.
+// Returns the field of a line that `--field` selects, if it is given.
 fn field_in(alloc: Global, asked: &Asked<'_, '_>, line: &[u8]) -> Result<Option<String>, Failure> {
     let Some(number) = asked.given.get_one::<u16>("field") else {
         return Ok(None);
@@ -111,7 +111,7 @@ fn field_in(alloc: Global, asked: &Asked<'_, '_>, line: &[u8]) -> Result<Option<
     }
 }
 
-// Reads a line with its ending, in place of another one. At the end there is none.
+// Replaces `line` with the next line, line ending included. Returns `false` at the end.
 fn next_line<R: BufRead>(
     alloc: Global,
     name: &str,
@@ -138,7 +138,7 @@ fn next_line<R: BufRead>(
     }
 }
 
-// A line without its ending; the first one without the mark that spreadsheets put before UTF-8.
+// Strips the line ending, and from the first line the byte order mark that spreadsheets write.
 fn text_of(line: &[u8], number: usize) -> &[u8] {
     match without_ending(line) {
         [0xef, 0xbb, 0xbf, text @ ..] if number == 1 => text,
@@ -146,7 +146,7 @@ fn text_of(line: &[u8], number: usize) -> &[u8] {
     }
 }
 
-// A line without its line feed, or its carriage return and line feed.
+// Strips a final LF or CR LF.
 fn without_ending(line: &[u8]) -> &[u8] {
     match line {
         [text @ .., b'\r', b'\n'] | [text @ .., b'\n'] => text,

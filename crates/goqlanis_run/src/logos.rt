@@ -1,4 +1,4 @@
-//! Files of logos.
+//! Logo files: PNG and SVG.
 
 use base64::engine::general_purpose::STANDARD;
 use goqlanis_files::failure::Failure;
@@ -6,7 +6,7 @@ use goqlanis_options::logos::Logo;
 use qrcode_png::{Picture, Unread, read};
 use std::alloc::{AllocError, Global};
 
-/// The pixels of a logo in a PNG file of a path, in which these bytes stand.
+/// Decodes a PNG logo to pixels; `path` names the file in messages, and `file` is its content.
 pub(crate) fn pixels_of(alloc: Global, path: &str, file: &[u8]) -> Result<Logo, Failure> {
     let why = "a PNG file takes a PNG logo; save it as PNG, or use --format svg";
     let picture = picture_of(alloc, path, file, why)?;
@@ -14,7 +14,8 @@ pub(crate) fn pixels_of(alloc: Global, path: &str, file: &[u8]) -> Result<Logo, 
     Ok(Logo::Pixels(picture.pixels(alloc)?, across as u16, down as u16))
 }
 
-/// The logo of the file of a path, in which these bytes stand, as an element of SVG.
+/// Makes an SVG element of a PNG or SVG logo; `path` names the file in messages, and `file` is its
+/// content.
 pub(crate) fn element_of(alloc: Global, path: &str, file: &[u8]) -> Result<Logo, Failure> {
     let Ok(text) = str::from_utf8(file) else {
         let (across, down) = picture_of(alloc, path, file, UNKNOWN)?.sides();
@@ -26,7 +27,7 @@ pub(crate) fn element_of(alloc: Global, path: &str, file: &[u8]) -> Result<Logo,
     }
 }
 
-// The picture of a PNG file of a path; `other` says what is wrong with any other file.
+// Decodes a PNG file; `other` is the message for any other kind of file.
 fn picture_of(alloc: Global, path: &str, file: &[u8], other: &str) -> Result<Picture, Failure> {
     match read(alloc, file) {
         Ok(picture) => Ok(picture),
@@ -38,18 +39,18 @@ fn picture_of(alloc: Global, path: &str, file: &[u8], other: &str) -> Result<Pic
     }
 }
 
-// Why a file is no logo.
+// Messages for files that cannot be logos.
 const UNKNOWN: &str = "it is neither a PNG file nor SVG in UTF-8";
 
 const SCRIPTS: &str = "it has scripts or entities; save it as plain SVG";
 
 const SIZELESS: &str = "its svg element needs a viewBox, or width and height in pixels";
-// No browser draws it as an image then.
+// Without it, no browser draws the file as an image.
 const NAMELESS: &str =
     "its svg element needs xmlns=\"http://www.w3.org/2000/svg\", as every SVG file has";
 
-// The logo of the bytes of a picture of so many units across and down. As an image it draws nothing
-// outside, and its styles hold for itself alone.
+// Embeds a picture file of this width and height as an image: so it draws nothing outside its box,
+// and its styles do not affect the code.
 fn image(
     alloc: Global,
     across: u32,
@@ -66,7 +67,7 @@ fn image(
     Ok(Logo::Element(across, down, rest))
 }
 
-// What the root element of an SVG text says of its size, while its attributes are read.
+// The attributes of the root element of an SVG file that give its size, and its namespace.
 #[derive(Clone, Copy)]
 struct Root<'a> {
     view: &'a str,
@@ -75,7 +76,7 @@ struct Root<'a> {
     space: &'a str,
 }
 
-// How wide and how high an SVG text is, in proportion.
+// Returns the width and height of an SVG file, in proportion.
 fn svg_sides(text: &str) -> Result<(u32, u32), &'static str> {
     if text.contains("<script") || text.contains("<!ENTITY") || has_handler(text) {
         return Err(SCRIPTS);
@@ -109,7 +110,7 @@ fn svg_sides(text: &str) -> Result<(u32, u32), &'static str> {
     Err(UNKNOWN)
 }
 
-// Whether a text has an attribute that a browser runs, as onload.
+// Whether an SVG file has an attribute that browsers execute, such as `onload`.
 fn has_handler(text: &str) -> bool {
     let mut begins = false;
     for word in text.split_whitespace() {
@@ -124,7 +125,7 @@ fn has_handler(text: &str) -> bool {
     text.contains("javascript:")
 }
 
-// What stands behind the declaration, comments and document type of an XML text.
+// Skips the declaration, comments and document type of an XML file.
 fn behind_prolog(text: &str) -> Option<&str> {
     let mut left = text.strip_prefix('\u{feff}').unwrap_or(text);
     for _ in 0..100 {
@@ -143,7 +144,7 @@ fn behind_prolog(text: &str) -> Option<&str> {
     None
 }
 
-// The first attribute, its value, and what stands behind it.
+// Parses an attribute: returns its name, its value, and the rest.
 fn next_attribute(text: &str) -> Option<(&str, &str, &str)> {
     let (name, behind) = text.split_once('=')?;
     let behind = behind.trim_start();
@@ -156,7 +157,7 @@ fn next_attribute(text: &str) -> Option<(&str, &str, &str)> {
     Some((name, value, rest))
 }
 
-// How wide and how high a root element is, in proportion: by its sides in pixels, or by its units.
+// Returns the proportions of a root element: of its width and height in pixels, or of its viewBox.
 fn sides(root: &Root<'_>) -> Result<(u32, u32), &'static str> {
     let mut units = root
         .view
@@ -171,7 +172,7 @@ fn sides(root: &Root<'_>) -> Result<(u32, u32), &'static str> {
     whole(across).zip(whole(down)).ok_or(SIZELESS)
 }
 
-// The text of a number of pixels, without their name, where it is one.
+// Strips the unit of a number of pixels; `None` if it is not one.
 fn pixels(text: &str) -> Option<&str> {
     let number = match text.strip_suffix("px") {
         Some(number) => number.trim_end(),
@@ -183,7 +184,7 @@ fn pixels(text: &str) -> Option<&str> {
     (is_number && !number.is_empty()).then_some(number)
 }
 
-// The whole part of a number, at least 1, where it is written with digits and a point.
+// Returns the integer part of a decimal number, at least 1.
 fn whole(number: &str) -> Option<u32> {
     let digits = match number.split_once('.') {
         Some((digits, _)) => digits,

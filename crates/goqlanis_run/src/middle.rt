@@ -1,4 +1,4 @@
-//! What stands in the middle of a code: a logo, the Swiss cross, or light modules.
+//! The middle of a code: a logo, the Swiss cross, or an empty area.
 
 ghost use Rattle.std.specs.Prelude.{IfOk};
 ghost use Rattle.goqlanis_core.specs.Places.{HasPixels};
@@ -21,7 +21,7 @@ use qrcode_area::excess::Excess;
 use qrcode_area::rectangles::Kept;
 use std::alloc::{AllocError, Global};
 
-// The most bytes of a logo's file that are read, 1 MiB.
+// The maximum size of a logo file: 1 MiB.
 const MOST_LOGO: usize = 1_048_576;
 
 /// The Swiss cross in the middle of a bill.
@@ -32,12 +32,12 @@ pub(crate) const SWISS_CROSS: AskedLogo<'static> = AskedLogo {
     margin: 0,
 };
 
-/// Whether the cross is drawn in a format.
+/// Whether the format supports the Swiss cross.
 pub(crate) fn has_cross(format: Format) -> bool {
     format.has_colours() && format != Format::Ppm
 }
 
-/// The logo that is asked for, read once for all codes; none where none is.
+/// Reads the logo file, once for all codes; returns `None` without `--logo`.
 pub(crate) fn read_logo(rt: &HostRuntime, asked: &Asked<'_, '_>) -> Result<Option<Logo>, Failure> {
     let Some(path) = asked.given.get_str("logo") else {
         return Ok(None);
@@ -50,7 +50,7 @@ pub(crate) fn read_logo(rt: &HostRuntime, asked: &Asked<'_, '_>) -> Result<Optio
     }
 }
 
-/// What is asked of the middle of a code, with the logo that was read.
+/// Puts the logo that was read into the request for it.
 pub(crate) fn with_read<'a>(
     asked: Option<AskedLogo<'a>>,
     read: &'a Option<Logo>,
@@ -64,8 +64,8 @@ pub(crate) fn with_read<'a>(
     }
 }
 
-/// The area in the middle of a code, and the code drawn with what is asked of it, where something
-/// is.
+/// Draws a code with the requested logo, cross or empty area, and returns the area with the bytes
+/// of the drawing; `None` if nothing is requested.
 pub(crate) fn redrawn(
     alloc: Global,
     asked: &Asked<'_, '_>,
@@ -106,7 +106,7 @@ pub(crate) fn redrawn(
     Ok(Some((area, bytes?)))
 }
 
-// A code drawn with the Swiss cross in the middle of its area, as a PNG file.
+// Draws a code with the Swiss cross, as a PNG file.
 fn cross_in_pixels(
     alloc: Global,
     request: &Request<'_>,
@@ -124,7 +124,7 @@ fn cross_in_pixels(
     inset_drawn(alloc, request, code, area, &inset)
 }
 
-// A code drawn with a picture in its area, as a PNG file.
+// Draws a code with a picture in its area, as a PNG file.
 fn inset_drawn(
     alloc: Global,
     request: &Request<'_>,
@@ -142,7 +142,7 @@ fn inset_drawn(
     pasted(alloc, request, code, area, inset).map_err(|_| Failure::OutOfMemory)
 }
 
-// A code drawn with what stands in its area, where that is not drawn in pixels.
+// Draws a code with something other than pixels in its area.
 fn drawn(
     alloc: Global,
     request: &Request<'_>,
@@ -157,7 +157,7 @@ fn drawn(
     }
 }
 
-// What is asked of the area of a code.
+// Returns the size and proportions wanted for the area.
 fn wish_of(asked: &AskedLogo<'_>, code: &QrCode) -> LogoWish {
     let (across, down) = match asked.middle {
         Middle::Logo(Logo::Pixels(_, across, down)) => (*across as u32, *down as u32),
@@ -176,7 +176,7 @@ fn wish_of(asked: &AskedLogo<'_>, code: &QrCode) -> LogoWish {
     }
 }
 
-// That an area leaves no room within a margin.
+// The message for an area too small for a logo within its margin.
 fn no_room(alloc: Global, area: Rectangle) -> Result<Failure, AllocError> {
     let (width, height) = (area.width, area.height);
     Ok(Failure::Refused(format!(in alloc;
@@ -185,7 +185,7 @@ fn no_room(alloc: Global, area: Rectangle) -> Result<Failure, AllocError> {
     )?))
 }
 
-// The pixels of an area within a margin.
+// Returns the place of an area within a margin, in pixels.
 fn place_of(
     alloc: Global,
     request: &Request<'_>,
@@ -201,7 +201,7 @@ fn place_of(
     }
 }
 
-// The area of a code that is asked for.
+// Returns the requested area of a code.
 fn area_of(alloc: Global, code: &QrCode, wish: LogoWish) -> Result<Rectangle, Failure> {
     let (version, level) = (code.version(), code.error_correction_level());
     match logo_area(alloc, version, level, wish) {
@@ -211,7 +211,7 @@ fn area_of(alloc: Global, code: &QrCode, wish: LogoWish) -> Result<Rectangle, Fa
     }
 }
 
-// Why a code has no such area, and which has.
+// Explains why a code has no such area, and which version and level has room for it.
 fn refusal_text(
     alloc: Global,
     code: &QrCode,

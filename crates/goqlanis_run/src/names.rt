@@ -1,4 +1,4 @@
-//! The names of several files, made of the one that the command line gives.
+//! Names of numbered files, and of files named after lines, from the pattern in `--output`.
 
 use goqlanis_files::failure::{Failure, refused, usage};
 use goqlanis_files::files::is_stream;
@@ -8,19 +8,19 @@ use std::alloc::{AllocError, Global};
 use std::collections::BTreeSet;
 use std::fs;
 
-// The most bytes of a file's name, as Linux has it.
+// The maximum length of a file name on Linux, in bytes.
 const MOST_IN_NAME: usize = 255;
 
-// What a path has a place for.
+// A placeholder in a path: `{}`, `{text}` or `{1}`.
 #[derive(Clone, Copy)]
 enum Place {
     Number,
     Text,
-    /// A field of the text, counted from 1.
+    /// A field of the line, counted from 1.
     Field(usize),
 }
 
-/// Refuses a path of which no names of files can be made.
+/// Checks that file names can be made from the path in `--output`.
 pub(crate) fn check_names(rt: &HostRuntime, asked: &Asked<'_, '_>) -> Result<(), Failure> {
     let Target::File(path) = asked.target else {
         return Ok(());
@@ -51,7 +51,7 @@ pub(crate) fn check_names(rt: &HostRuntime, asked: &Asked<'_, '_>) -> Result<(),
     }
 }
 
-// The first word in brackets that names no place.
+// Returns the first placeholder that is unknown.
 fn unknown_word(path: &str) -> Option<&str> {
     path.split('{').skip(1).find_map(|piece| {
         let (word, _) = piece.split_once('}')?;
@@ -59,7 +59,8 @@ fn unknown_word(path: &str) -> Option<&str> {
     })
 }
 
-/// Refuses a file that an earlier line has, where its name is made of their texts.
+/// Records `name` in `taken`, if it depends on the line's text; refuses it if an earlier line has
+/// the same.
 pub(crate) fn take_name(
     alloc: Global,
     taken: &mut BTreeSet<String>,
@@ -74,7 +75,7 @@ pub(crate) fn take_name(
     )?))
 }
 
-/// Refuses a name that was made if it is no file of its own: a line is to lead nowhere else.
+/// Checks that a generated name is a plain file, and not the input: no line may write elsewhere.
 pub(crate) fn check_made(
     rt: &HostRuntime,
     asked: &Asked<'_, '_>,
@@ -92,8 +93,8 @@ pub(crate) fn check_made(
     Err(Failure::Refused(format!(in rt.alloc(); "{name} is {what}; each code gets its own file")?))
 }
 
-/// The file of a number, counted from 1, and of a line with its delimiter: a path with them in its
-/// places, or with the number before its file extension.
+/// Returns the file name for a line: `path` with its placeholders filled in, or else with `number`
+/// before the file extension. Numbers count from 1; `delimiter` separates the fields of `line`.
 pub(crate) fn name_of(
     alloc: Global,
     path: &str,
@@ -112,7 +113,7 @@ pub(crate) fn name_of(
     Ok(name)
 }
 
-// Refuses a path whose file can have no such name.
+// Checks the last part of a generated path: not too long, not empty, and not `.` or `..`.
 fn check_name(alloc: Global, path: &str) -> Result<(), Failure> {
     let name = path.rsplit('/').next().unwrap_or("");
     if name.len() > MOST_IN_NAME {
@@ -124,7 +125,7 @@ fn check_name(alloc: Global, path: &str) -> Result<(), Failure> {
     }
 }
 
-// A path with a number before its file extension.
+// Inserts a number before the file extension.
 fn numbered(alloc: Global, path: &str, number: usize) -> Result<String, AllocError> {
     match path.rsplit_once('.') {
         Some((stem, ending)) if !ending.contains('/') => {
@@ -134,7 +135,7 @@ fn numbered(alloc: Global, path: &str, number: usize) -> Result<String, AllocErr
     }
 }
 
-// Whether a path has a place for text.
+// Whether a path has a placeholder for text of the line.
 fn has_text(path: &str) -> bool {
     path.split('{').skip(1).any(|piece| matches!(
         place_of(piece),
@@ -142,7 +143,7 @@ fn has_text(path: &str) -> bool {
     ))
 }
 
-// The place whose opening bracket stands before a piece, and what stands behind it.
+// Parses the placeholder whose `{` precedes `piece`; returns it and the rest after its `}`.
 fn place_of(piece: &str) -> Option<(Place, &str)> {
     let (word, rest) = piece.split_once('}')?;
     let place = match (word, word.parse::<usize>()) {
@@ -154,8 +155,8 @@ fn place_of(piece: &str) -> Option<(Place, &str)> {
     Some((place, rest))
 }
 
-// Writes what stands in the place that a piece of a path begins with, and the rest of the piece;
-// or, if there is none, the piece after its bracket.
+// Appends the value of the placeholder at the start of `piece`, and the rest of `piece`; or `{` and
+// `piece` if it is not a placeholder.
 fn push_piece(
     name: &mut String,
     piece: &str,
@@ -177,8 +178,8 @@ fn push_piece(
     Ok(name.push_str(rest)?)
 }
 
-/// The field of a line, counted from 1, of those that a text separates. In quotation marks a field
-/// may have that text, and two quotation marks for one.
+/// Returns a field of `line`, counted from 1. As in CSV, a quoted field may contain the delimiter,
+/// and a quotation mark that is doubled.
 pub(crate) fn field_of(
     alloc: Global,
     line: &str,
@@ -211,12 +212,11 @@ pub(crate) fn field_of(
     )?))
 }
 
-// Whether the number of quotation marks in a text is odd.
 fn has_odd_quotes(text: &str) -> bool {
     text.bytes().filter(|byte| *byte == b'"').count() % 2 == 1
 }
 
-// A field without the quotation marks about it, in which two stand for one.
+// Removes the quotation marks around a field, and undoubles those inside.
 fn unquoted(alloc: Global, field: &str) -> Result<String, AllocError> {
     let inner = field
         .strip_prefix('"')
@@ -232,8 +232,8 @@ fn unquoted(alloc: Global, field: &str) -> Result<String, AllocError> {
     Ok(text)
 }
 
-// Writes a text, in which what a file name cannot have on some system is a _, and so is a point
-// that would hide the file, and a hyphen that would make it an option of other programs.
+// Appends text to a file name. `_` replaces characters that some systems forbid, invisible ones, a
+// leading `.`, which would hide the file, and a leading `-`, which would look like an option.
 fn push_clean(name: &mut String, text: &str) -> Result<(), AllocError> {
     for character in text.chars() {
         let is_first = name.is_empty() || name.ends_with('/');

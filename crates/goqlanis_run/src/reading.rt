@@ -1,4 +1,4 @@
-//! `goqlanis read`: the codes of a picture, read back.
+//! `goqlanis read`: decodes pictures.
 
 use crate::readings::{other_set, report};
 use clap::ArgMatches;
@@ -8,7 +8,7 @@ use goqlanis_files::streams::{MOST_PICTURE, read_file, read_standard_input, writ
 use qrcode::types::Version;
 use std::process::ExitCode;
 
-/// Reads the picture that the command line names, and writes the data of its codes.
+/// Decodes the picture that the command line names, and writes the data of its codes.
 pub(crate) fn read(rt: &HostRuntime, given: &ArgMatches<'_>) -> Result<ExitCode, Failure> {
     let codes = codes_of(rt, given.get_str("PICTURE").unwrap_or("-"))?;
     let scans = codes.scans.as_slice();
@@ -38,7 +38,7 @@ pub(crate) fn read(rt: &HostRuntime, given: &ArgMatches<'_>) -> Result<ExitCode,
     }
 }
 
-// Writes the data of codes: as it is where there is one, and otherwise each in a line.
+// Writes the data of one code unchanged, or of several codes one per line.
 fn write_all(rt: &HostRuntime, output: Option<&str>, scans: &[Scan]) -> Result<ExitCode, Failure> {
     if let [only] = scans {
         return write_data(rt, output, &only.any.reading.data);
@@ -51,8 +51,8 @@ fn write_all(rt: &HostRuntime, output: Option<&str>, scans: &[Scan]) -> Result<E
     write_data(rt, output, &lines)
 }
 
-/// What is read of a picture, which a file holds, or standard input where its name is -. It warns
-/// of codes that are not read.
+/// Decodes the picture in the file at `path`, or in standard input for `-`. Warns of codes that are
+/// found but not decoded.
 pub(crate) fn codes_of(rt: &HostRuntime, path: &str) -> Result<Codes, Failure> {
     let alloc = rt.alloc();
     let (name, bytes) = picture_of(rt, path)?;
@@ -66,14 +66,14 @@ pub(crate) fn codes_of(rt: &HostRuntime, path: &str) -> Result<Codes, Failure> {
     }
 }
 
-// The most codes of a picture that are found whatever stands beside them.
+// Up to this many codes are found, whatever else is in the picture.
 const MOST_SURE: usize = 64;
 
-// The most bytes of a PBM file of packed pixels: a PNG file may have as many pixels, 67,108,864.
+// The maximum size of a binary PBM file, in bytes: 67,108,864 pixels, as for PNG.
 const MOST_PACKED: usize = 8_389_632;
 
-/// The bytes of a picture, and what a refusal calls it: a file, or standard input where its name is
-/// -.
+/// Reads the bytes of a picture from the file at `path`, or from standard input for `-`; returns
+/// them with the name that messages use.
 pub(crate) fn picture_of<'a>(
     rt: &HostRuntime,
     path: &'a str,
@@ -96,7 +96,7 @@ pub(crate) fn picture_of<'a>(
     Ok((name, bytes))
 }
 
-/// Warns of codes that are not read, and answers whether there is none.
+/// Warns of codes that are found but not decoded; returns whether there are none.
 pub(crate) fn warn_of_missed(rt: &HostRuntime, codes: &Codes) -> bool {
     let mut is_none = true;
     if codes.scans.len() > MOST_SURE {

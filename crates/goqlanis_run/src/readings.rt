@@ -1,4 +1,4 @@
-//! What was read, in lines or as JSON.
+//! Reports on decoded codes, as text or JSON.
 
 use crate::segments::mode_name;
 use goqlanis_core::{Scan, VersionName};
@@ -10,7 +10,7 @@ use qrcode_reader::{Position, WrongCodeword};
 use std::alloc::{AllocError, Global};
 use std::fmt;
 
-// The character sets and their numbers (ECI), as AIM lists them, by the names that IANA registers.
+// ECI numbers of character sets, as AIM assigns them, with the names that IANA registers.
 #[rattlefmt::skip]
 static CHARACTER_SETS: &[(u32, &str)] = &[
     (0, "IBM437"), (1, "ISO-8859-1"), (2, "IBM437"), (3, "ISO-8859-1"), (4, "ISO-8859-2"),
@@ -23,12 +23,12 @@ static CHARACTER_SETS: &[(u32, &str)] = &[
     (34, "UTF-32BE"), (35, "UTF-32LE"), (170, "ISO 646 invariant"), (899, "bytes"),
 ];
 
-/// The number of a character set (ECI), written with its name.
+/// The ECI number of a character set; displayed with its name.
 #[derive(Clone, Copy)]
 pub(crate) struct CharacterSet(u32);
 
 impl CharacterSet {
-    // Its name, where it has one.
+    // Returns the name, if it is known.
     fn name(self) -> Option<&'static str> {
         let (_, name) = CHARACTER_SETS.iter().find(|(known, _)| *known == self.0)?;
         Some(*name)
@@ -45,8 +45,7 @@ impl fmt::Display for CharacterSet {
     }
 }
 
-/// The first character set among headers that is neither UTF-8 nor ASCII, nor says that there is no
-/// text.
+/// Returns the first character set in the headers other than UTF-8, ASCII and binary data.
 pub(crate) fn other_set(parts: &[Part]) -> Option<CharacterSet> {
     for part in parts {
         if let Part::Front(Header::Eci(number)) = *part {
@@ -58,8 +57,7 @@ pub(crate) fn other_set(parts: &[Part]) -> Option<CharacterSet> {
     None
 }
 
-// Whether data is UTF-8 by headers and modes: they name no other character set, and nothing is
-// Kanji.
+// Whether headers and modes allow UTF-8: no other character set is named, and no segment is Kanji.
 fn is_in_utf8(parts: &[Part]) -> bool {
     parts.iter().all(|part| match *part {
         Part::Front(Header::Eci(number)) => matches!(number, 26 | 27 | 170),
@@ -68,7 +66,7 @@ fn is_in_utf8(parts: &[Part]) -> bool {
     })
 }
 
-/// What was read of codes: as a list of JSON, or in lines.
+/// Reports on decoded codes, as a JSON list or as lines of text.
 pub(crate) fn report(alloc: Global, scans: &[Scan], is_json: bool) -> Result<String, AllocError> {
     let mut text = String::from_str(alloc, if is_json { "[" } else { "" })?;
     for (place, scan) in scans.iter().enumerate() {
@@ -81,7 +79,7 @@ pub(crate) fn report(alloc: Global, scans: &[Scan], is_json: bool) -> Result<Str
     Ok(text)
 }
 
-// What was read: as an object of JSON in a line, with the data, or in lines.
+// Appends the report on one code: a JSON object with the data, on one line, or lines of text.
 fn push_scan(text: &mut String, scan: &Scan, is_json: bool) -> Result<(), AllocError> {
     let reading = &scan.any.reading;
     push_symbol(text, scan, is_json)?;
@@ -103,7 +101,7 @@ fn push_scan(text: &mut String, scan: &Scan, is_json: bool) -> Result<(), AllocE
     write!(text, "\"hex\": \"{data}\"}}")
 }
 
-// What a symbol is, the square of modules, and how it stands in its picture.
+// Appends version, level, mask, sizes and position of a code.
 fn push_symbol(text: &mut String, scan: &Scan, is_json: bool) -> Result<(), AllocError> {
     let (square, reading) = (&scan.square, &scan.any.reading);
     let (version, level) = (VersionName(reading.version), reading.ec_level);
@@ -138,7 +136,7 @@ fn push_symbol(text: &mut String, scan: &Scan, is_json: bool) -> Result<(), Allo
     write!(text, "\nposition: {place}{shades}\n")
 }
 
-// How many codewords are wrong, and which, by their block and their place there.
+// Appends the wrong codewords: their number, and the block and place of each.
 fn push_wrong(text: &mut String, wrong: &[WrongCodeword], is_json: bool) -> Result<(), AllocError> {
     let count = wrong.len();
     let mut sign = "";
@@ -160,7 +158,7 @@ fn push_wrong(text: &mut String, wrong: &[WrongCodeword], is_json: bool) -> Resu
     text.push_str(if is_json { "], \"parts\": [" } else { "\n" })
 }
 
-// A header or a segment.
+// Appends a header or a segment.
 fn push_part(text: &mut String, part: Part, is_json: bool) -> Result<(), AllocError> {
     match (part, is_json) {
         (Part::Bytes(mode, count), true) => {
@@ -176,7 +174,7 @@ fn push_part(text: &mut String, part: Part, is_json: bool) -> Result<(), AllocEr
     }
 }
 
-// What a header says, in a line.
+// Appends a header as a line of text.
 fn push_header(text: &mut String, header: Header) -> Result<(), AllocError> {
     match header {
         Header::Eci(number) => {
@@ -205,7 +203,7 @@ fn push_header(text: &mut String, header: Header) -> Result<(), AllocError> {
     }
 }
 
-// What a header says, as an object.
+// Appends a header as a JSON object.
 fn push_object(text: &mut String, header: Header) -> Result<(), AllocError> {
     match header {
         Header::Eci(number) => match CharacterSet(number).name() {
@@ -234,7 +232,7 @@ fn push_object(text: &mut String, header: Header) -> Result<(), AllocError> {
     }
 }
 
-// The indicator of an application: two digits, or a letter, which stands as its code and 100.
+// An application indicator: two digits, or a letter, encoded as its ASCII code plus 100.
 #[derive(Clone, Copy)]
 struct Application(u8);
 
@@ -250,7 +248,7 @@ impl fmt::Display for Application {
     }
 }
 
-// How a symbol stands in its picture.
+// Names a position.
 fn position_text(position: Position) -> &'static str {
     match position {
         Position::Upright => "upright",
@@ -264,7 +262,7 @@ fn position_text(position: Position) -> &'static str {
     }
 }
 
-// The data as a text, where it is one.
+// Appends the data as a JSON member, if it is UTF-8.
 fn push_text(text: &mut String, data: &[u8]) -> Result<(), AllocError> {
     if let Ok(known) = std::str::from_utf8(data) {
         text.push_str("\"text\": \"")?;
@@ -276,7 +274,7 @@ fn push_text(text: &mut String, data: &[u8]) -> Result<(), AllocError> {
     Ok(())
 }
 
-// A character in a string of JSON. What a terminal would not show is its number there, as in C.
+// Appends a character of a JSON string. Control and invisible characters become `\u` escapes.
 fn push_escaped(text: &mut String, character: char) -> Result<(), AllocError> {
     match character {
         '"' => text.push_str("\\\""),

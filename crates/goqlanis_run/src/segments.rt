@@ -1,4 +1,4 @@
-//! `--segment`: data in segments by hand.
+//! `--segment`: segments chosen by the user.
 
 use goqlanis_core::Segment;
 use goqlanis_files::failure::Failure;
@@ -6,8 +6,8 @@ use hex::FromHexError;
 use qrcode::types::Mode;
 use std::alloc::Global;
 
-// The segment of a word MODE:TEXT, of which the text of Kanji is Shift JIS in digits to the base
-// 16, in a list that is not freed; or of eci:NUMBER, the number of a character set.
+// Parses a segment: MODE:DATA, where the data of Kanji is Shift JIS in hex (decoded into a buffer
+// that is leaked), or eci:NUMBER.
 fn segment_of<'a>(alloc: Global, word: &'a str) -> Result<Segment<'a>, Failure> {
     let (name, text) = word.split_once(':').unwrap_or(("", ""));
     let why = match mode_named(name) {
@@ -26,7 +26,7 @@ fn segment_of<'a>(alloc: Global, word: &'a str) -> Result<Segment<'a>, Failure> 
     Err(Failure::Usage(format!(in alloc; "--segment {word}: {why}")?))
 }
 
-/// The segments of words.
+/// Parses segments.
 pub(crate) fn segments_of<'a>(
     alloc: Global,
     words: &[&'a str],
@@ -38,7 +38,7 @@ pub(crate) fn segments_of<'a>(
     Ok(segments)
 }
 
-/// Whether a segment writes no data: it is empty, or the number of a character set.
+/// Whether a segment holds no data: it is empty, or an ECI header.
 pub(crate) fn is_empty(segment: &Segment<'_>) -> bool {
     match *segment {
         Segment::Data(_, bytes) => bytes.is_empty(),
@@ -46,7 +46,6 @@ pub(crate) fn is_empty(segment: &Segment<'_>) -> bool {
     }
 }
 
-// Names of modes.
 static MODES: &[(&str, Mode)] = &[
     ("numeric", Mode::Numeric),
     ("alphanumeric", Mode::Alphanumeric),
@@ -54,7 +53,7 @@ static MODES: &[(&str, Mode)] = &[
     ("kanji", Mode::Kanji),
 ];
 
-/// The name of a mode.
+/// Returns the name of a mode.
 pub(crate) fn mode_name(mode: Mode) -> &'static str {
     match MODES.iter().find(|(_, known)| *known == mode) {
         Some((name, _)) => *name,
@@ -62,7 +61,7 @@ pub(crate) fn mode_name(mode: Mode) -> &'static str {
     }
 }
 
-// The mode of a name.
+// Returns the mode called `name`, ignoring case.
 fn mode_named(name: &str) -> Option<Mode> {
     let (_, mode) = MODES
         .iter()
@@ -70,7 +69,7 @@ fn mode_named(name: &str) -> Option<Mode> {
     Some(*mode)
 }
 
-/// Why a mode does not write a text.
+/// Says which characters a mode holds, for data that it cannot hold.
 pub(crate) fn characters_of(mode: Mode) -> &'static str {
     match mode {
         Mode::Numeric => "numeric holds only digits",

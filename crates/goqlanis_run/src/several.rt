@@ -1,4 +1,4 @@
-//! `goqlanis several`: data in several symbols; and `goqlanis join`: the data of such symbols.
+//! `goqlanis split` and `goqlanis join`: structured append.
 
 use crate::drawing::{check_empty, drawn, manner, write_drawing};
 use crate::names::{check_made, check_names, name_of};
@@ -17,13 +17,13 @@ use std::alloc::{AllocError, Global};
 use std::fs;
 use std::process::ExitCode;
 
-// The most symbols of one text.
+// The maximum number of codes in a split.
 const MOST_SYMBOLS: usize = 16;
 
-/// The most bytes of data that are read: as many as for 16 symbols.
+/// The maximum number of input bytes of `split`: 16 codes' worth.
 pub(crate) const MOST_IN_SEVERAL: usize = MOST_SYMBOLS * MOST_DATA;
 
-/// Draws data in several symbols, each to the file of its number.
+/// Splits `bytes` over several codes, each written to a numbered file.
 pub(crate) fn draw_several(
     rt: &HostRuntime,
     asked: &Asked<'_, '_>,
@@ -51,7 +51,7 @@ pub(crate) fn draw_several(
     }
 }
 
-// Draws symbols one after the other, each to the file of its number where drawings go to files.
+// Draws codes one after another, each to a numbered file if `--output` is given.
 fn draw_each(
     rt: &HostRuntime,
     asked: &Asked<'_, '_>,
@@ -75,7 +75,7 @@ fn draw_each(
     Ok(ExitCode::SUCCESS)
 }
 
-// Says which files of further numbers there are, as of an earlier run: they are of other data.
+// Warns of files with higher numbers, left by an earlier run.
 fn warn_of_others(rt: &HostRuntime, path: &str, count: usize) -> Result<(), Failure> {
     let mut others = String::new(rt.alloc());
     for number in count.saturating_add(1)..MOST_SYMBOLS + 1 {
@@ -91,8 +91,8 @@ fn warn_of_others(rt: &HostRuntime, path: &str, count: usize) -> Result<(), Fail
     Ok(())
 }
 
-/// Joins the data of the symbols that pictures show, and writes it. A single one may be without a
-/// place, as `several` draws it.
+/// Decodes the codes of a split and writes their joined data. A single code may lack the structured
+/// append header, as `split` makes it.
 pub(crate) fn join_pictures(rt: &HostRuntime, given: &ArgMatches<'_>) -> Result<ExitCode, Failure> {
     let names = given.get_strs("PICTURE").unwrap_or(&[]);
     let output = given.get_str("output");
@@ -115,7 +115,7 @@ pub(crate) fn join_pictures(rt: &HostRuntime, given: &ArgMatches<'_>) -> Result<
     }
 }
 
-// The data of pictures of these names, one behind the other by their headers.
+// Joins the data of codes, found in pictures of these names, in the order of their headers.
 fn joined(alloc: Global, names: &[&str], scans: &[Scan]) -> Result<Vec<u8>, Failure> {
     let mut parts = Vec::with_capacity(alloc, scans.len())?;
     for (name, scan) in names.iter().zip(scans) {
@@ -132,7 +132,7 @@ fn joined(alloc: Global, names: &[&str], scans: &[Scan]) -> Result<Vec<u8>, Fail
     }
 }
 
-// The part of a split that a picture shows, where it shows one.
+// Returns the part of a split that a code holds, if it has that header.
 fn part_of(scan: &Scan) -> Option<Part<'_>> {
     for part in &scan.parts {
         if let spell::Part::Front(
@@ -154,7 +154,7 @@ fn part_of(scan: &Scan) -> Option<Part<'_>> {
     None
 }
 
-// Why pictures of these names, which show these parts, are not joined.
+// Explains why parts, found in pictures of these names, cannot be joined.
 fn not_joined(
     alloc: Global,
     names: &[&str],
@@ -185,7 +185,7 @@ fn not_joined(
     Ok(Failure::Refused(text))
 }
 
-// The names of the pictures that show parts of a place, each behind a space.
+// Lists the pictures that show the part at `place`, each after a space.
 fn names_at(
     alloc: Global,
     names: &[&str],
@@ -201,7 +201,7 @@ fn names_at(
     Ok(text)
 }
 
-// The numbers of parts that are missing.
+// Lists the numbers of missing parts.
 fn missing_places(alloc: Global, parts: &[Part<'_>]) -> Result<String, AllocError> {
     let mut text = String::new(alloc);
     let last = parts.first().map_or(0, |part| part.last);

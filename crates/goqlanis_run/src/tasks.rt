@@ -1,4 +1,4 @@
-//! What the command line asks for, done.
+//! Runs what the command line asks for.
 
 use crate::checking::check;
 use crate::contents::payload_of;
@@ -28,16 +28,16 @@ use std::alloc::{AllocError, Global};
 use std::process::ExitCode;
 use std::{env, io};
 
-// The version of the program and of all that is installed with it.
+// The version of the program and everything installed with it.
 const VERSION: &str = "1.0.0";
 
-/// Does what the command line asks for, and returns the exit status. A failure is reported in a
-/// line on standard error.
+/// Runs the program and returns its exit status. A failure is reported on one line of standard
+/// error.
 pub fn run(rt: &HostRuntime) -> ExitCode {
     status(rt, run_words(rt))
 }
 
-// The same, unless it fails.
+// Runs the program; the error says why it failed.
 fn run_words(rt: &HostRuntime) -> Result<ExitCode, Failure> {
     let mut words = all_words(rt)?;
     let task = take_command(rt.alloc(), &mut words)?;
@@ -53,8 +53,8 @@ fn run_words(rt: &HostRuntime) -> Result<ExitCode, Failure> {
     done
 }
 
-// The task of the command line. The first word after the program's name may be a command, which
-// then goes into that name; `clap` reads the words after it.
+// Returns the task of the command line. If its first word is a command, the word moves into the
+// program's name, so that `clap` parses the rest.
 fn take_command(alloc: Global, words: &mut Vec<String>) -> Result<&'static Task, AllocError> {
     if words.len() > 1 && words[1].as_str() == "help" {
         words.remove(1);
@@ -70,7 +70,7 @@ fn take_command(alloc: Global, words: &mut Vec<String>) -> Result<&'static Task,
     }
 }
 
-// The words of the command line.
+// Returns the words of the command line.
 fn all_words(rt: &HostRuntime) -> Result<Vec<String>, Failure> {
     match env::args(rt) {
         Ok(words) => Ok(words.collect(rt.alloc())?),
@@ -82,7 +82,7 @@ fn all_words(rt: &HostRuntime) -> Result<Vec<String>, Failure> {
     }
 }
 
-// Says what is wrong with words that `clap` refuses, or writes its text, as of `--help`.
+// Explains a command line that `clap` rejects, or prints the text that it asks for (`--help`).
 fn refuse(
     rt: &HostRuntime,
     task: &Task,
@@ -107,7 +107,7 @@ fn refuse(
     Ok(ExitCode::from(error.exit_code() as u8))
 }
 
-// Does a task with the options that are given.
+// Runs a task.
 fn perform(rt: &HostRuntime, task: &Task, given: &ArgMatches<'_>) -> Result<ExitCode, Failure> {
     match task.purpose {
         Purpose::Read => read(rt, given),
@@ -121,7 +121,7 @@ fn perform(rt: &HostRuntime, task: &Task, given: &ArgMatches<'_>) -> Result<Exit
     }
 }
 
-// Makes codes, with the logo of its file where one is asked for.
+// Makes codes, after reading the logo file if there is one.
 fn make(rt: &HostRuntime, task: &Task, given: &ArgMatches<'_>) -> Result<ExitCode, Failure> {
     let asked = asked_for(rt, task, given)?;
     let file = read_logo(rt, &asked)?;
@@ -129,7 +129,7 @@ fn make(rt: &HostRuntime, task: &Task, given: &ArgMatches<'_>) -> Result<ExitCod
     draw(rt, task, &Asked { logo, ..asked })
 }
 
-// Makes what is asked for.
+// Makes codes.
 fn draw(rt: &HostRuntime, task: &Task, asked: &Asked<'_, '_>) -> Result<ExitCode, Failure> {
     let given = asked.given;
     match task.purpose {
@@ -147,7 +147,7 @@ fn draw(rt: &HostRuntime, task: &Task, asked: &Asked<'_, '_>) -> Result<ExitCode
     }
 }
 
-// The text about the program that is asked for, where one is.
+// Returns the text about the program that an option asks for, if any.
 fn text_about(alloc: Global, given: &ArgMatches<'_>) -> Result<Option<String>, AllocError> {
     if let Some(shell) = given.get_str("completions").and_then(shell_named) {
         Ok(Some(completions_of(alloc, shell)?))
@@ -160,7 +160,7 @@ fn text_about(alloc: Global, given: &ArgMatches<'_>) -> Result<Option<String>, A
     }
 }
 
-// Draws the text of a kind, of the fields that are given.
+// Draws a payload.
 fn draw_content(rt: &HostRuntime, kind: Kind, asked: &Asked<'_, '_>) -> Result<ExitCode, Failure> {
     let text = payload_of(rt.alloc(), kind, asked.given)?;
     if matches!(kind, Kind::Bill) {
@@ -172,7 +172,7 @@ fn draw_content(rt: &HostRuntime, kind: Kind, asked: &Asked<'_, '_>) -> Result<E
     draw_one(rt, asked, text.as_bytes())
 }
 
-// Draws the text of a bill, with the Swiss cross where the format has one.
+// Draws a Swiss QR-bill, with the Swiss cross if the format supports it.
 fn draw_bill(rt: &HostRuntime, asked: &Asked<'_, '_>, text: &str) -> Result<ExitCode, Failure> {
     check_bill(rt.alloc(), text)?;
     if asked.logo.is_some() {
@@ -192,10 +192,10 @@ fn draw_bill(rt: &HostRuntime, asked: &Asked<'_, '_>, text: &str) -> Result<Exit
     draw_one(rt, &Asked { logo, ..*asked }, text.as_bytes())
 }
 
-// The bytes that a symbol of a bill's level and largest version always holds.
+// The bytes that fit in any case in a code of a bill's level and largest version.
 const BILL_ROOM: usize = 997;
 
-// Refuses the text of a bill that the largest version of bills does not hold.
+// Checks that a bill's text fits in the largest version that bills may have.
 fn check_bill(alloc: Global, text: &str) -> Result<(), Failure> {
     if text.len() <= BILL_ROOM {
         return Ok(());
@@ -213,7 +213,7 @@ fn check_bill(alloc: Global, text: &str) -> Result<(), Failure> {
     }
 }
 
-// Draws elements of GS1, or data of an application.
+// Draws a GS1 element string, or data in an industry's own format.
 fn draw_gs1(rt: &HostRuntime, asked: &Asked<'_, '_>) -> Result<ExitCode, Failure> {
     let text = asked.given.get_str("ELEMENTS").unwrap_or("");
     let drawing = match asked.given.get_str("application") {
@@ -223,7 +223,7 @@ fn draw_gs1(rt: &HostRuntime, asked: &Asked<'_, '_>) -> Result<ExitCode, Failure
     write_drawing(rt, asked, &drawing)
 }
 
-// The data that is asked about, of at most so many bytes where it is read.
+// Returns the data to encode; at most `most` bytes are read.
 fn data(rt: &HostRuntime, given: &ArgMatches<'_>, most: usize) -> Result<Vec<u8>, Failure> {
     let mut bytes = match source_of(given) {
         Source::Text(text) => Vec::from_slice(rt.alloc(), text.as_bytes())?,

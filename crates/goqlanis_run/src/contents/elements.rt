@@ -1,4 +1,4 @@
-//! Elements of GS1 as people write them, and why they are refused.
+//! Parses GS1 element strings as people write them, and explains errors in them.
 
 ghost use Rattle.std.specs.Prelude.{◌≡◌, ◌≢◌, [], ◌∷◌, ◌++◌, map, true, encode_utf8, string_bytes, IfOk};
 ghost use Rattle.qrcode_gs1.specs.Items.{item};
@@ -11,29 +11,28 @@ use qrcode_gs1::errors::Cause;
 use qrcode_gs1::table::rule_of;
 use std::alloc::{AllocError, Global};
 
-/// Elements: of each its identifier and its value.
+/// A GS1 element string: the identifier and value of each element.
 #[derive(Drop)]
 pub(crate) struct Elements {
     items: Vec<(String, String)>,
 }
 
-// The beginning of an element.
+// An element, as far as it has been parsed.
 #[derive(Drop)]
 enum Part {
-    // Nothing of it.
+    // Nothing yet.
     Nothing,
-    // Its opening bracket, and the beginning of its identifier.
+    // `(` and the start of the identifier.
     Identifier(String),
-    // Its identifier in brackets, and the beginning of its value.
+    // The identifier in brackets, and the start of the value.
     Value(String, String),
 }
 
 impl Elements {
-    /// The elements of a text: each identifier in round brackets, and behind it its value, in which
-    /// `\(` stands for `(`. Whether there is such an identifier, with such a value, is not looked
-    /// at.
+    /// Parses `text`: each identifier in round brackets, then its value, in which `\(` means `(`.
+    /// Does not check whether such identifiers and values exist.
     ///
-    /// `Refused`: there is no element, or something else. `OutOfMemory`: memory ran out.
+    /// Errors: `Refused` if there is no element, or something else than elements; `OutOfMemory`.
     pub(crate) fn read(alloc: Global, text: &str) -> Result<Elements, Failure>
         ensures written { IfOk result (λ elements.
             label_text (items_of elements.items.items) ≡ text.now) }
@@ -53,7 +52,9 @@ impl Elements {
         }
     }
 
-    /// The elements, as a symbol is made of them. It fails only where memory runs out.
+    /// Returns the elements as the encoder takes them.
+    ///
+    /// Errors: only `AllocError`.
     pub(crate) fn elements(&self, alloc: Global) -> Result<Vec<Element<'_>>, AllocError>
         ensures value { IfOk result (λ elements. map item elements.items
             ≡ items_of self.now.items.items) }
@@ -68,8 +69,10 @@ impl Elements {
         Ok(elements)
     }
 
-    /// Why the element at an index is refused: which one it is, what is wrong and what would help;
-    /// empty where there is no such element. It fails only where memory runs out.
+    /// Explains why the element at `index` is refused: which one, what is wrong, and what would
+    /// help. Empty if there is no such element.
+    ///
+    /// Errors: only `AllocError`.
     pub(crate) fn refusal(
         &self,
         alloc: Global,
@@ -109,8 +112,7 @@ impl Elements {
     }
 }
 
-// The beginning of an element with one more character of the text, which may end it and begin
-// another.
+// Takes one more character of the text, which may complete an element and begin another.
 fn next(
     alloc: Global,
     items: &mut Vec<(String, String)>,
@@ -144,14 +146,13 @@ fn next(
     }
 }
 
-// Whether the last byte is a backslash.
 fn ends_with_backslash(value: &str) -> bool
     ensures { result ≡ ends_with_backslash value.now }
 {
     value.ends_with('\\')
 }
 
-// A value with one more character.
+// Appends a character to a value.
 #[tactic(auto, using(crate::proofs::Labelling::value_more))]
 fn with_character(mut value: String, character: char) -> Result<String, Failure>
     requires { character ≢ 40 }
@@ -162,7 +163,7 @@ fn with_character(mut value: String, character: char) -> Result<String, Failure>
     Ok(value)
 }
 
-// A value with an opening bracket in place of the backslash at its end, which is written as both.
+// Replaces the backslash at the end of a value with `(`, since `\(` means `(`.
 fn with_bracket(mut value: String) -> Result<String, Failure>
     requires { ends_with_backslash (string_bytes value) ≡ true }
     ensures appends { IfOk result (λ more. value_text (string_bytes more)
@@ -173,20 +174,20 @@ fn with_bracket(mut value: String) -> Result<String, Failure>
     Ok(value)
 }
 
-// What is said of a text that does not begin with a bracket, and of a bracket that is not closed.
+// Messages for a text that does not start with a bracket, and for a bracket that is never closed.
 const NO_BRACKET: &str =
     "ELEMENTS: start with an identifier in round brackets, e.g. (01)09521234543213";
 
 const NOT_CLOSED: &str = "ELEMENTS: an opening bracket is never closed; write ( in a value as \\(";
 
-// Appends the first character of a value that may not stand there, of which so many are digits.
+// Appends which character of a value is not allowed; the first `digits` have to be digits.
 fn push_character(text: &mut String, digits: usize, value: &str) -> Result<(), AllocError> {
     for (index, character) in value.chars().enumerate() {
         let place = index.saturating_add(1);
         if index < digits && !character.is_ascii_digit() {
             return write!(text, "{character} at place {place} is no digit");
         }
-        // One of the 82 of GS1.
+        // GS1's character set 82.
         if !matches!(character, '!' | '"' | '%'..='?' | 'A'..='Z' | '_' | 'a'..='z') {
             return write!(
                 text,
@@ -198,7 +199,7 @@ fn push_character(text: &mut String, digits: usize, value: &str) -> Result<(), A
     Ok(())
 }
 
-// The check digit that would be right at a place, from 1.
+// Returns the digit that would be right at `place`, counted from 1.
 fn right_digit(
     alloc: Global,
     identifier: &str,

@@ -1,4 +1,4 @@
-//! The options that give the fields of a payload.
+//! Makes payloads from the options that give their fields.
 
 ghost use Rattle.std.specs.Prelude.{◌≡◌, IfOk, string_bytes};
 ghost use Rattle.qrcode_payloads.specs.Texts.{payload_text};
@@ -14,7 +14,7 @@ use qrcode_payloads::kinds::Kind;
 use qrcode_payloads::texts::text_of;
 use std::alloc::Global;
 
-// The options that are given.
+// The parsed options, as the source of a payload's fields.
 #[derive(Drop)]
 struct Options<'m, 'a> {
     given: &'m ArgMatches<'a>,
@@ -32,11 +32,11 @@ impl Given for Options<'_, '_> {
     }
 }
 
-// The options without which a payload means something else: an open network or amount, or another
+// Options whose absence changes what a payload means: an open network, an open amount, or another
 // kind of one-time password.
 const DECISIVE: &[&str] = &["password", "amount", "counter", "period"];
 
-// Refuses one of these that is given and empty.
+// Checks that none of these is given and empty.
 fn check_given(alloc: Global, given: &ArgMatches<'_>) -> Result<(), Failure> {
     for name in DECISIVE {
         if given.get_str(name) == Some("") {
@@ -48,11 +48,10 @@ fn check_given(alloc: Global, given: &ArgMatches<'_>) -> Result<(), Failure> {
     Ok(())
 }
 
-/// The text of a payload, of the options that are given: an option that is not given is an empty
+/// Returns the text of a payload, whose fields the options give; an absent option is an empty
 /// field.
 ///
-/// `Refused`: the format refuses a field, or an option is empty without which the text means
-/// something else. `OutOfMemory`: memory ran out.
+/// Errors: `Refused` if the format rejects a field, or one of [`DECISIVE`] is empty; `OutOfMemory`.
 pub(crate) fn payload_of(
     alloc: Global,
     kind: Kind,

@@ -1,4 +1,4 @@
-//! Why there is no text: which option is wrong, and what would help.
+//! Explains why a payload is refused: which option is wrong, and what would help.
 
 use goqlanis_files::failure::Failure;
 use goqlanis_options::options::entry_of;
@@ -6,8 +6,8 @@ use qrcode_contents::fields::errors::{Cause, ContentError, Field};
 use qrcode_payloads::kinds::Kind;
 use std::alloc::{AllocError, Global};
 
-/// The refusal of a kind's text, for an error of its format: which option, what is wrong with it,
-/// and what its help says.
+/// Turns an error of a payload format into a message: the option, what is wrong with it, and what
+/// its help says.
 pub(crate) fn refusal_of(
     alloc: Global,
     kind: Kind,
@@ -29,7 +29,7 @@ pub(crate) fn refusal_of(
     Ok(Failure::Refused(text?))
 }
 
-// What is wrong with a field of a kind; where that says no more, by its cause.
+// Says what is wrong with a field, more precisely than its cause if possible.
 fn what_is_wrong(kind: Kind, field: Field, cause: Cause) -> &'static str {
     match (kind, field, cause) {
         (_, Field::Reference, Cause::Unused) => "it does not go with this account",
@@ -46,7 +46,7 @@ fn what_is_wrong(kind: Kind, field: Field, cause: Cause) -> &'static str {
     }
 }
 
-// What is wrong, by its cause.
+// Says what is wrong, by the cause alone.
 fn cause_text(cause: Cause) -> &'static str {
     match cause {
         Cause::Empty => "it is missing or empty",
