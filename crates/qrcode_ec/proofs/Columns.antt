@@ -1,4 +1,4 @@
--- Bytes that stand one in each row of a list.
+-- The columns of a list in rows: one byte from each row.
 use Rattle.std.proofs.Common.{◌≡◌, ◌≢◌, ℕ, ◌+◌, ◌*◌, ◌<◌, ◌≤◌, List, length, take, ◌++◌, map, get_or, set, get_or-set_other, get_or-set_same, inl, inr, subst, sym, ap, ◌∙◌, arith}
 use Rattle.std.proofs.lemmas.Nat.{same_from_place}
 use Rattle.std.specs.List.{range_with_len}
@@ -9,7 +9,7 @@ use Rattle.std.proofs.lemmas.Bool.{cases_lt}
 use Rattle.qrcode_ec.specs.Codes.{Vanishes}
 use Rattle.qrcode_ec.proofs.Bytes.{byte_at, map_bytes}
 
--- the column at a place, of n rows, where a row has as many places as there are blocks
+-- the column `at` of a list of n rows, each with a place for every block
 abbrev pub column : ℕ → ℕ → ℕ → List ℕ → List ℕ
 column n count place words = map (λ i. get_or words (i * count + place) 0) (range_with_len 0 n)
 
@@ -28,7 +28,7 @@ column_kept n count place other old new within apart kept =
     fill_by_all (λ i. get_or new (i * count + other) 0) (map before (range_with_len 0 n)) n 0 (length-map-range_with_len before 0 n)
     (λ i below. get_or-map-range_with_len before 0 n i i 0 below (omega arith) ∙ sym (kept i other within apart))
 
--- one column more, which makes its block vanish
+-- one more column, which makes its block vanish
 pub vanishes_next : (n count at : ℕ) (block : ℕ → List ℕ) (old new : List ℕ) → at < count → Vanishes (block at ++ column n count at new) n
     → ((i k : ℕ) → k < count → k ≢ at → get_or new (i * count + k) 0 ≡ get_or old (i * count + k) 0)
     → ((b : ℕ) → b < at → Vanishes (block b ++ column n count b old) n)
@@ -38,7 +38,7 @@ vanishes_next n count at block old new within here kept before b below = elim (c
   | inr most ↦ let same : at ≡ b = omega arith in subst (λ k. Vanishes (block k ++ column n count k new) n) same here
 ]
 
--- the same of error correction bytes that are written there
+-- one more column written with error correction bytes makes its block vanish
 pub vanishes_more : (n count at : ℕ) (block : ℕ → List ℕ) (ec old new : List ℕ) → n ≤ length ec → at < count → Vanishes (block at ++ take n ec) n
     → ((i : ℕ) → i < length (take n ec) → get_or new (i * count + at) 0 ≡ get_or (take n ec) i 0)
     → ((i k : ℕ) → k < count → k ≢ at → get_or new (i * count + k) 0 ≡ get_or old (i * count + k) 0)
@@ -50,7 +50,7 @@ vanishes_more n count at block ec old new long within here written =
 pub column_bytes : (n count place : ℕ) (words : List ℕ) → AreBytes words → AreBytes (column n count place words)
 column_bytes n count place words all = map_bytes (λ i. get_or words (i * count + place) 0) (range_with_len 0 n) (λ i. byte_at words (i * count + place) all)
 
--- one item more of a list is written at its place, the row-th one of a column
+-- one more item of a list is written at its place in the column, in the given row
 pub spread_written : (step first row place : ℕ) (bytes old : List ℕ) → first < step → place ≡ row * step + first → place < length old
     → ((i : ℕ) → i < row → get_or old (i * step + first) 0 ≡ get_or bytes i 0)
     → (i : ℕ) → i < row + 1 → get_or (set old place (get_or bytes row 0)) (i * step + first) 0 ≡ get_or bytes i 0
@@ -63,7 +63,7 @@ spread_written step first row place bytes old begins at inside before i below = 
       ∙ get_or-set_same old place (get_or bytes row 0) 0 inside ∙ ap (λ k. get_or bytes k 0) (sym last)
 ]
 
--- and nothing else
+-- and nothing else changes
 pub spread_kept : (step first row place byte : ℕ) (old : List ℕ) → first < step → place ≡ row * step + first
     → (i k : ℕ) → k < step → k ≢ first → get_or (set old place byte) (i * step + k) 0 ≡ get_or old (i * step + k) 0
 spread_kept step first row place byte old begins at i k within other =

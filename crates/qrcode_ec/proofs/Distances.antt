@@ -25,7 +25,7 @@ unfolding weight
 weight_one zero cs h = absurd (omega arith)
 weight_one (suc c) cs h = refl
 
--- ---- to take one term out: each other term is multiplied by the difference of its place and that one's
+-- ---- removing one term: each other term is multiplied by the difference between its place and that one's
 weigh : ℕ → List ℕ → List ℕ
 weigh x [] = []
 weigh x (c ∷ cs) = product c (bit_xor (power (length cs)) x) ∷ weigh x cs
@@ -88,8 +88,8 @@ weight_zero i [] h = syndrome_nil i
 weight_zero i (zero ∷ cs) h = syndrome_zero i cs ∙ weight_zero i cs h
 weight_zero i (suc c ∷ cs) h = absurd (omega arith)
 
--- ---- a list that vanishes at as many places as it has items that are not 0 has none
--- what the other terms sum to where the whole sum is 0
+-- ---- a list that vanishes at as many places as it has nonzero items has none
+-- the sum of the other terms, if the whole sum is 0
 rest_is : (i c : ℕ) (cs : List ℕ) → syndrome i (c ∷ cs) ≡ 0 → product c (power (i * length cs)) ≡ syndrome i cs
 rest_is i c cs h = same_from_xor (product c (power (i * length cs))) (syndrome i cs) (sym (syndrome_cons i c cs) ∙ h)
 
@@ -184,7 +184,7 @@ same_from_weight (x ∷ xs) (y ∷ ys) h w =
       | inr p ↦ absurd (let e = weight_one (bit_xor x y) (difference xs ys) p in omega arith)
     ]
 
--- lists that differ in at most n places are one, where their sums at n powers are
+-- lists that differ in at most n places are equal if their syndromes at n powers are
 pub same_within : (n : ℕ) (xs ys : List ℕ) → AreBytes xs → AreBytes ys → length xs ≡ length ys → length xs ≤ 255
     → ((i : ℕ) → i < n → syndrome i xs ≡ syndrome i ys) → distance xs ys ≤ n → xs ≡ ys
 same_within n xs ys a b h l same d =
@@ -193,7 +193,7 @@ same_within n xs ys a b h l same d =
     (λ i p. difference_syndrome i xs ys h ∙ ap (bit_xor (syndrome i xs)) (sym (same i p)) ∙ xor_self (syndrome i xs)) in
     same_from_weight xs ys h z
 
--- a list that vanishes is the only one near to it
+-- a list that vanishes is the only one within n places of it
 pub distance_above : (n : ℕ) (xs : List ℕ) → AreBytes xs → length xs ≤ 255 → Vanishes xs n → HasDistanceAbove n xs
 distance_above n xs a l v other b k w d = sym (same_within n xs other a b (sym k) l (λ i below. v i below ∙ sym (w i below)) d)
 
@@ -206,7 +206,7 @@ distance_le [] ys = omega arith
 distance_le (x ∷ xs) [] = omega arith
 distance_le (x ∷ xs) (y ∷ ys) = omega (arith, distance_le xs ys, cond_le (eqb x y))
 
--- data has one list of n bytes behind it that makes it vanish
+-- only one list of n bytes makes the data vanish when appended to it
 pub one_code : (n : ℕ) (p xs ys : List ℕ) → AreBytes xs → AreBytes ys → length xs ≡ n → length ys ≡ n → n ≤ 255
     → Vanishes (p ++ xs) n → Vanishes (p ++ ys) n → xs ≡ ys
 one_code n p xs ys xb yb lx ly most v w =

@@ -1,4 +1,4 @@
--- What division by a generator keeps: where a list of data and a remainder vanishes.
+-- The invariant of division by a generator: the data so far and the remainder vanish together.
 use Rattle.std.proofs.Common.{◌≡◌, ℕ, suc, ◌+◌, ◌*◌, ◌<◌, sym, ap, ap₂, ◌∙◌, arith, List, [], ◌∷◌, ◌++◌, length, get_or, length-append}
 use Rattle.std.specs.Int.Bits.{bit_xor, xor_self, xor_comm, xor_assoc, xor_zero_r}
 use Rattle.qrcode_ec.specs.Field.{product, power}
@@ -8,14 +8,14 @@ use Rattle.qrcode_ec.proofs.Products.{product_assoc, product_one_l, product_xor_
 use Rattle.qrcode_ec.proofs.Powers.{power_lt, power_add}
 use Rattle.qrcode_ec.proofs.Syndromes.{syndrome_cons, syndrome_append, syndrome_last, syndrome_combine, get_or-pad}
 
--- the generator's other coefficients make up for its leading one
+-- the generator's other coefficients cancel its leading 1
 other_coefficients : (i : ℕ) (g : List ℕ) → syndrome i (1 ∷ g) ≡ 0 → syndrome i g ≡ power (i * length g)
 other_coefficients i g vanishes =
     let lead = power (i * length g) in
     sym (same_from_xor lead (syndrome i g)
     (ap (λ y. bit_xor y (syndrome i g)) (sym (product_one_l lead (power_lt (i * length g)))) ∙ sym (syndrome_cons i 1 g) ∙ vanishes))
 
--- a remainder moves on: it loses its first item and gains f times the generator
+-- a step of the remainder: it loses its first item and gains f times the generator
 register_step : (i b r : ℕ) (rs g new : List ℕ) → suc (length rs) ≡ length new → length g ≡ length new → syndrome i (1 ∷ g) ≡ 0
     → ((j : ℕ) → j < length new → get_or new j 0 ≡ bit_xor (get_or rs j 0) (product (bit_xor b r) (get_or g j 0)))
     → syndrome i new ≡ bit_xor (product (power i) (syndrome i (r ∷ rs))) (product b (power (i * length new)))

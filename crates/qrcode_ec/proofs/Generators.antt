@@ -1,4 +1,4 @@
--- A generator is built by one factor after the other.
+-- A generator is built factor by factor.
 use Rattle.std.proofs.Common.{◌≡◌, ℕ, zero, suc, ◌+◌, ◌*◌, ◌<◌, ◌≤◌, inl, inr, sym, ap, ap₂, ◌∙◌, arith, List, [], ◌∷◌, ◌++◌, length, get_or, take, length-append}
 use Rattle.std.proofs.lemmas.Bool.{cases_lt}
 use Rattle.std.proofs.lemmas.List.{get_or-take, get_or_past, length-take}
@@ -23,7 +23,7 @@ factor_step n root old new p h e v i l =
       | inr k ↦ let y : n ≡ i = omega arith in ap (λ y. bit_xor (product (power i) s) (product y s)) (e ∙ ap power y) ∙ xor_self (product (power i) s)
     ]
 
--- the same of coefficients behind a leading one, which stand at the front of lists
+-- `factor_step` for coefficients after a leading 1, at the front of longer lists
 pub next_generator : (n root : ℕ) (old new : List ℕ) → n < length old → length new ≡ length old
     → ((j : ℕ) → j < n + 1 → get_or new j 0 ≡ bit_xor (get_or old j 0) (product root (get_or (1 ∷ old) j 0)))
     → ((j : ℕ) → n ≤ j → get_or old j 0 ≡ 0)

@@ -1,4 +1,4 @@
--- The blocks of codewords that were interleaved.
+-- Blocks taken back out of interleaved codewords.
 use Rattle.std.proofs.Common.{◌≡◌, ℕ, zero, suc, ◌+◌, ◌*◌, ◌-◌, ◌<◌, ◌≤◌, nat_le, cond, Bool, true, false, List, ◌++◌, length, map, take, drop, get_or, replicate, inl, inr, refl, subst, sym, ap, ap₂, ◌∙◌, append_assoc, length-append, arith}
 use Rattle.std.specs.List.{range_with_len, flat_map, slice_range, AllByRecursion}
 use Rattle.std.proofs.lemmas.Bool.{cases_lt}
@@ -23,7 +23,7 @@ use Rattle.qrcode_ec.proofs.Distances.{distance_above}
 use Rattle.qrcode_ec.proofs.Parts.{more, length-data_block}
 use Rattle.qrcode_ec.proofs.Places.{short_and_long, row_place, end_place, length_at}
 
--- the blocks of a version and level, their data bytes, and the list in which they stand interleaved
+-- the blocks of a version and level, their data bytes, and the list of interleaved codewords
 pub record IsInterleaved (v : Version) (l : EcLevel) (b : Blocks) (bytes words : List ℕ) : Type 0 where
   pub entry : AreBlocks v l b
   pub whole : length bytes ≡ data_length_of b
@@ -39,11 +39,11 @@ lengths_are v l b e = ap (λ t. replicate t.1 t.2 ++ replicate t.3 (t.2 + 1)) e
 count_is : (v : Version) (l : EcLevel) (b : Blocks) → AreBlocks v l b → length (block_lengths v l) ≡ count_of b
 count_is v l b e = length-block_lengths v l ∙ ap (λ t. t.1 + t.3) e
 
--- the first i bytes of all blocks stand at the front
+-- byte i of any block, if every block has one, is inside the list
 row_inside : (b : Blocks) (i k : ℕ) → i < b.short_length → k < count_of b → i * (count_of b) + k < data_length_of b
 row_inside b i k within exists = omega (arith, mul-add-lt i (count_of b) k b.short_length within exists)
 
--- a byte of a block stands at its place
+-- a byte of a block is at its index
 byte_at_place : (v : Version) (l : EcLevel) (b : Blocks) (bytes words ec : List ℕ) → IsInterleaved v l b bytes words
     → (k i : ℕ) → k < count_of b → i < length_of b k
     → get_or (words ++ ec) (interleaved_place (short_and_long b.short_blocks b.long_blocks b.short_length) i k) 0 ≡ get_or (data_block b bytes k) i 0
@@ -93,7 +93,7 @@ block_is v l b bytes words ec is k exists =
     (ap (λ ls. map (λ i. get_or (words ++ ec) (interleaved_place ls i k) 0) (range_with_len 0 (get_or ls k 0))) (lengths_are v l b is.entry) ∙ front)
     (ap₂ (λ d m. map (λ i. get_or (words ++ ec) (d + i * m + k) 0) (range_with_len 0 n)) (is.all ∙ sym is.as_long) (count_is v l b is.entry) ∙ back ∙ ap (λ m. column m count k ec) (ec_length_is v l b is.entry))
 
--- what holds of each block
+-- what holds for each number holds for the whole range
 each_number : (P : List ℕ → Type 0) (f : ℕ → List ℕ) (a n : ℕ) → ((k : ℕ) → k < a + n → P (f k)) → AllByRecursion P (map f (range_with_len a n))
 each_number P f a zero h = tt
 each_number P f a (suc n) h = (h a (omega arith), each_number P f (a + 1) n (λ k below. h k (omega arith)))
@@ -107,7 +107,7 @@ each_block P v l b bytes words ec is holds =
     each_number P (block v l (words ++ ec)) 0 (length (block_lengths v l))
     (λ k below. subst P (sym (block_is v l b bytes words ec is k (omega (arith, count, below)))) (holds k (omega (arith, count, below))))
 
--- the blocks of data are the data
+-- the data blocks, one after the other, are the data
 joined_from : (b : Blocks) (bytes : List ℕ) (a n : ℕ) → flat_map (data_block b bytes) (range_with_len a n) ++ drop (start_of b (a + n)) bytes ≡ drop (start_of b a) bytes
 unfolding data_block
 joined_from b bytes a zero = ap (λ k. drop (start_of b k) bytes) (let z : a + 0 ≡ a = omega arith in z)
@@ -168,11 +168,11 @@ only_block b bytes whole single =
       size,
     )
 
--- where a row has one place
+-- a row of one place
 only_place : (b : Blocks) (i : ℕ) → count_of b ≡ 1 → i * (count_of b) + 0 ≡ i
 only_place b i single = ap (λ m. i * m + 0) single ∙ omega arith
 
--- a single block stands as it is
+-- a single block is not changed by interleaving
 pub one_block : (v : Version) (l : EcLevel) (b : Blocks) (bytes words : List ℕ) → IsInterleaved v l b bytes words
     → length (block_lengths v l) ≡ 1 → words ≡ bytes
 one_block v l b bytes words is one =
@@ -183,7 +183,7 @@ one_block v l b bytes words is one =
     (λ i below.
     ap (λ p. get_or words p 0) (sym (only_place b i single)) ∙ is.rows i 0 (omega (arith, below, is.as_long, only.1)) (omega (arith, single)) ∙ ap (λ (xs : List ℕ). get_or xs i 0) only.0)
 
--- a block is of bytes, and not too long for the law of distance
+-- a block consists of bytes, and is short enough for the theorem on distance
 block_bytes : (b : Blocks) (bytes : List ℕ) (k : ℕ) → AreBytes bytes → AreBytes (data_block b bytes k)
 unfolding data_block
 block_bytes b bytes k all = take_bytes (start_of b k + length_of b k - start_of b k) (drop (start_of b k) bytes) (drop_bytes (start_of b k) bytes all)
@@ -205,7 +205,7 @@ length-block_with b bytes k ec exists whole =
       length-map-range_with_len (λ i. get_or ec (i * count_of b + k) 0) 0 b.ec_length,
     )
 
--- words in which data bytes stand interleaved, and error correction bytes that make each block vanish, are codewords
+-- interleaved data bytes, and error correction bytes that make each block vanish, are codewords
 pub are_codewords : (v : Version) (l : EcLevel) (b : Blocks) (bytes words ec : List ℕ) → IsInterleaved v l b bytes words
     → AreBytes bytes → AreBytes words → AreBytes ec → length ec ≡ b.ec_length * count_of b → MakeVanish b bytes ec → AreCodewords v l bytes words ec
 are_codewords v l b bytes words ec is bb wb eb long make =

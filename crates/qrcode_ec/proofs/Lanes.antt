@@ -7,7 +7,7 @@ use Rattle.std.specs.List.{range_with_len}
 use Rattle.qrcode_ec.proofs.Syndromes.{zeros_at}
 use lib.Lanes.{zip2, chunk, pick_l}
 
--- zeros behind a list change none of its items
+-- zeros after a list do not change its items
 pub get_or-zeros : (xs : List ℕ) (n j : ℕ) → get_or (xs ++ replicate n 0) j 0 ≡ get_or xs j 0
 get_or-zeros [] n j = zeros_at n j
 get_or-zeros (x ∷ xs) n zero = refl
@@ -16,7 +16,7 @@ get_or-zeros (x ∷ xs) n (suc j) = get_or-zeros xs n j
 zeros_long : length {A = ℕ} (replicate 32 0) ≡ 32
 zeros_long = refl
 
--- the lanes of a register, each taken from the one behind it
+-- the lanes of a register, each moved to the one before it
 abbrev moved : List ℕ → List ℕ
 moved register = pick_l 0 (register ++ replicate 32 0) (range_with_len 1 32)
 

@@ -1,4 +1,4 @@
--- Multiples of a generator, which are made one after the other.
+-- Multiples of a generator, built one after the other.
 use Rattle.std.proofs.Common.{◌≡◌, ℕ, ◌+◌, ◌-◌, ◌*◌, ◌%◌, ◌<◌, eqb, true, List, [], get_or, set, length, refl, sym, subst, ap, ◌∙◌, ◌⊎◌, arith, inl, inr}
 use Rattle.std.specs.Int.Bits.{bit_xor}
 use Rattle.std.proofs.lemmas.Bool.{agree_below, agree_below_at, eqb-true}
@@ -9,7 +9,7 @@ use Rattle.qrcode_ec.specs.Field.{product}
 use Rattle.qrcode_ec.specs.Dividing.{AreMultiples}
 use Rattle.qrcode_ec.proofs.Products.{product_xor_l}
 
--- one more, which is put behind the others
+-- one more multiple, after the others
 pub one_more : (coefficients : List ℕ) (unit n : ℕ) (rows : List (List ℕ)) (row : List ℕ) → n < length rows → AreMultiples coefficients unit n rows
     → ((j : ℕ) → j < 32 → get_or row j 0 ≡ product (n * unit) (get_or coefficients j 0)) → AreMultiples coefficients unit (n + 1) (set rows n row)
 one_more coefficients unit n rows row inside below here = record {
@@ -28,13 +28,13 @@ units = refl
 sixteens : agree_below (λ k. eqb (k * 16) (bit_xor ((k - k % 4) * 16) (k % 4 * 16))) (λ k. true) 16 ≡ true
 sixteens = refl
 
--- a number of units is the sum of its multiple of four and of the rest
+-- a number of units is the sum of a multiple of four units and the rest
 parted : (unit k : ℕ) → (unit ≡ 1) ⊎ (unit ≡ 16) → k < 16 → k * unit ≡ bit_xor ((k - k % 4) * unit) (k % 4 * unit)
 parted unit k which less = elim which [
   | inl e ↦ subst (λ u. k * u ≡ bit_xor ((k - k % 4) * u) (k % 4 * u)) (sym e) (eqb-true _ _ (agree_below_at (λ k. eqb (k * 1) (bit_xor ((k - k % 4) * 1) (k % 4 * 1))) (λ k. true) 16 k units less))
   | inr e ↦ subst (λ u. k * u ≡ bit_xor ((k - k % 4) * u) (k % 4 * u)) (sym e) (eqb-true _ _ (agree_below_at (λ k. eqb (k * 16) (bit_xor ((k - k % 4) * 16) (k % 4 * 16))) (λ k. true) 16 k sixteens less))
 ]
 
--- so is the row
+-- so is the product by it
 pub product_parted : (unit k a : ℕ) → (unit ≡ 1) ⊎ (unit ≡ 16) → k < 16 → bit_xor (product ((k - k % 4) * unit) a) (product (k % 4 * unit) a) ≡ product (k * unit) a
 product_parted unit k a which less = sym (product_xor_l ((k - k % 4) * unit) (k % 4 * unit) a) ∙ ap (λ n. product n a) (sym (parted unit k which less))

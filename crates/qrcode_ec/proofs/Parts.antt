@@ -1,4 +1,4 @@
--- The data is parted into its blocks.
+-- The data is divided into its blocks.
 use Rattle.std.proofs.Common.{◌≡◌, ℕ, ◌+◌, ◌*◌, ◌-◌, ◌<◌, ◌≤◌, nat_le, cond, inl, inr, ap, List, length, drop, length-drop, arith}
 use Rattle.std.proofs.lemmas.List.{length-take}
 use Rattle.qrcode_types.specs.Blocks.{count_of, data_length_of}
@@ -7,7 +7,7 @@ use Rattle.qrcode_ec.specs.Interleaving.{data_block, start_of, length_of}
 use Rattle.std.proofs.lemmas.Bool.Decides.{leb_tells}
 use Rattle.std.proofs.lemmas.Nat.{mul-le}
 
--- the byte that the blocks from `short` on have more
+-- the extra byte of the blocks from `short` on
 abbrev pub more : ℕ → ℕ → ℕ
 more short b = cond (nat_le short b) 1 0
 

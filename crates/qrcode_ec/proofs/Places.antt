@@ -1,4 +1,4 @@
--- Where the bytes of blocks stand, as numbers of rows and columns.
+-- Where the bytes of blocks are, by row and column.
 use Rattle.std.proofs.Common.{◌≡◌, ℕ, ◌+◌, ◌*◌, ◌-◌, ◌<◌, ◌≤◌, nat_le, nat_lt, min, cond, List, ◌++◌, length, take, get_or, replicate, inl, inr, sym, ap, ap₂, ◌∙◌, arith}
 use Rattle.std.specs.List.{sum_by, count_by}
 use Rattle.std.proofs.Math.Seq.{take-append-add}
@@ -9,7 +9,7 @@ use Rattle.std.proofs.lemmas.List.Folds.{sum_by-replicate}
 use Rattle.std.proofs.lemmas.List.Sums.{sum_by-append}
 use Rattle.qrcode_ec.specs.Blocks.{interleaved_place}
 
--- one where m is less than n, and zero elsewhere
+-- 1 if m is less than n, otherwise 0
 abbrev less : ℕ → ℕ → ℕ
 less m n = cond (nat_lt m n) 1 0
 

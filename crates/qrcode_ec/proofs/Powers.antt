@@ -52,7 +52,7 @@ power_at (suc e) l =
 power_255 : power 255 ≡ 1
 power_255 = power_next 254 ∙ ap times_x (sym (power_at 254 (omega arith))) ∙ last
 
--- the exponent of each power, and the power of each exponent
+-- `LOGARITHMS` has the exponent of each power, and `POWERS` the power of each exponent
 abbrev is_exponent : ℕ → Bool
 is_exponent e = get_or LOGARITHMS (get_or POWERS e 0) 0 == e
 

@@ -54,7 +54,7 @@ with_bit p c l =
     let b : c ≡ 0 * 2 ^ 1 + c = omega arith in
     ap₂ bit_xor a b ∙ xor_block 1 p 0 0 c (omega arith) (omega arith) ∙ ap (λ x. x * 2 ^ 1 + c) (xor_zero_r p) ∙ omega arith
 
--- a number, less the divisor where that makes it less
+-- a number, minus the divisor if that makes it smaller
 abbrev reduced : ℕ → ℕ → ℕ
 reduced divisor n = min n (bit_xor n divisor)
 

@@ -1,4 +1,4 @@
--- What a register of a division has after each byte.
+-- The register of a division after each byte.
 use Rattle.std.proofs.Common.{◌≡◌, ℕ, zero, suc, ◌/◌, ◌%◌, ◌<◌, ◌≤◌, ◌∷◌, [], ◌++◌, List, take, length, get_or, replicate, inl, inr, subst, sym, ap, ap₂, ◌∙◌, arith}
 use Rattle.std.proofs.lemmas.Bool.{cases_lt}
 use Rattle.std.proofs.lemmas.List.{get_or_past, get_or-take, length-take-le, take-append-le}
@@ -18,7 +18,7 @@ first_register n room register long zeros = record {
   ends = λ j _. zeros j;
 }
 
--- two rows are together the generator times a factor
+-- one row of each table, added, are the generator times the factor
 pub by_rows : (n room byte f : ℕ) (done old new g : List ℕ) (low high : List (List ℕ)) → AreOfGenerator n g low high → byte < 256 → f ≡ bit_xor byte (get_or old 0 0) → IsRegister n room done old
     → ((j : ℕ) → j < 32 → get_or new j 0 ≡ bit_xor (get_or old (suc j) 0) (bit_xor (get_or (get_or low (f % 16) []) j 0) (get_or (get_or high (f / 16) []) j 0)))
     → (j : ℕ) → j < 32 → get_or new j 0 ≡ bit_xor (get_or old (suc j) 0) (product f (get_or g j 0))
@@ -26,7 +26,7 @@ by_rows n room byte f done old new g low high are small sum before at j less =
     let few : f < 256 = subst (λ x. x < 256) (sym sum) (xor_lt 8 byte (get_or old 0 0) small (before.bytes 0)) in
     at j less ∙ ap (bit_xor (get_or old (suc j) 0)) (ap₂ bit_xor (are.units.at (f % 16) j (omega arith) less) (are.sixteens.at (f / 16) j (omega arith) less) ∙ product_halves f (get_or g j 0))
 
--- the generator and the remainder are zeros from `reach` on
+-- the step holds at every place, since the generator and the remainder are zero from `reach` on
 step : (n f reach : ℕ) (old new g : List ℕ) → n ≤ reach → ((j : ℕ) → n ≤ j → get_or g j 0 ≡ 0)
     → ((j : ℕ) → j < reach → get_or new j 0 ≡ bit_xor (get_or old (suc j) 0) (product f (get_or g j 0)))
     → ((j : ℕ) → reach ≤ j → get_or new j 0 ≡ get_or old j 0) → ((j : ℕ) → n ≤ j → get_or old j 0 ≡ 0)
@@ -36,7 +36,7 @@ step n f reach old new g reached zeros at kept ends j = elim (cases_lt j reach) 
   | inr most ↦ kept j most ∙ ends j (omega arith) ∙ sym (ap₂ bit_xor (ends (suc j) (omega arith)) (ap (product f) (zeros j (omega arith)) ∙ product_zero_r f))
 ]
 
--- one more byte of the data, where the register has at least as many places as are moved
+-- one more byte of the data; the register has at least as many places as are shifted
 pub next_register : (n room reach byte f : ℕ) (done old new g : List ℕ) → IsGenerator n g → n ≤ reach → reach ≤ room → room ≤ 72 → 0 < room → byte < 256
     → f ≡ bit_xor byte (get_or old 0 0) → length new ≡ room
     → ((j : ℕ) → j < reach → get_or new j 0 ≡ bit_xor (get_or old (suc j) 0) (product f (get_or g j 0)))
@@ -66,7 +66,7 @@ next_register n room reach byte f done old new g are reached inside most some sm
     behind g ends zero over = absurd (omega arith)
     behind g ends (suc j) over = ends j (omega arith)
 
--- the remainder that a register of 32 places has, with zeros behind it
+-- the remainder in a register of 32 places, filled up with zeros
 pub vanishes_in_room : (n : ℕ) (done register row : List ℕ) → n ≤ 32 → IsRegister n 32 done register → row ≡ register ++ replicate 40 0 → Vanishes (done ++ take n row) n
 vanishes_in_room n done register row few is same =
     let within : n ≤ length register = omega (arith, is.long, few) in

@@ -1,4 +1,4 @@
--- The sums that say where a list vanishes: by the first item, of two lists in a row, of lists combined place by place.
+-- Syndromes: of a list and its first item, of two lists joined, of two lists combined item by item.
 use Rattle.std.proofs.Common.{◌≡◌, ℕ, zero, suc, ◌+◌, ◌-◌, ◌*◌, ◌<◌, ◌≤◌, refl, sym, ap, ap₂, subst, ◌∙◌, arith, List, [], ◌∷◌, ◌++◌, length, get_or, take, drop, replicate, length-append, length-drop}
 use Rattle.std.proofs.Math.Seq.{take-append-add}
 use Rattle.std.proofs.lemmas.List.{get_or-drop, get_or-append_right, take-append-drop}
@@ -45,7 +45,7 @@ syndrome_last i c xs l =
     ∙ ap₂ bit_xor (ap (λ n. product (syndrome i xs) (power n)) e ∙ product_comm (syndrome i xs) (power i))
     (syndrome_cons i c [] ∙ ap₂ bit_xor (ap (λ n. product c (power n)) z ∙ ap (product c) power_zero ∙ product_one_r c l) (syndrome_nil i) ∙ xor_zero_r c)
 
--- zs is xs and f times ys
+-- zs is xs plus f times ys
 pub syndrome_combine : (i f : ℕ) (xs ys zs : List ℕ) → length xs ≡ length zs → length ys ≡ length zs
     → ((j : ℕ) → j < length zs → get_or zs j 0 ≡ bit_xor (get_or xs j 0) (product f (get_or ys j 0)))
     → syndrome i zs ≡ bit_xor (syndrome i xs) (product f (syndrome i ys))
@@ -79,7 +79,7 @@ syndrome_lt i (c ∷ cs) =
     subst (λ s. s < 256) (sym (syndrome_cons i c cs))
     (xor_lt 8 (product c (power (i * length cs))) (syndrome i cs) (product_lt c (power (i * length cs))) (syndrome_lt i cs))
 
--- zeros behind a list shift its sum
+-- zeros after a list multiply its syndrome by a power
 pub syndrome_front : (i n : ℕ) (c : List ℕ) → n ≤ length c → ((j : ℕ) → n ≤ j → get_or c j 0 ≡ 0)
     → syndrome i c ≡ product (syndrome i (take n c)) (power (i * (length c - n)))
 syndrome_front i n c most zeros =
@@ -90,7 +90,7 @@ syndrome_front i n c most zeros =
     ∙ ap₂ (λ s l. bit_xor (product (syndrome i front) (power (i * l))) s) none (length-drop n c)
     ∙ xor_zero_r (product (syndrome i front) (power (i * (length c - n))))
 
--- a list vanishes with zeros behind it or without them
+-- a list that vanishes still does with zeros appended
 pub vanishes_padded : (n k : ℕ) (c : List ℕ) → n ≤ length c → ((j : ℕ) → n ≤ j → get_or c j 0 ≡ 0) → Vanishes (take n c) k → Vanishes c k
 vanishes_padded n k c most zeros v i l =
     syndrome_front i n c most zeros ∙ ap (λ s. product s (power (i * (length c - n)))) (v i l) ∙ product_zero_l (power (i * (length c - n)))
@@ -106,7 +106,7 @@ zeros_at zero j = refl
 zeros_at (suc m) zero = refl
 zeros_at (suc m) (suc j) = zeros_at m j
 
--- the same of zeros behind the second of two lists
+-- zeros at the end of the second of two lists may be left out
 pub vanishes_behind : (n : ℕ) (xs ys : List ℕ) → n ≤ length ys → ((j : ℕ) → n ≤ j → get_or ys j 0 ≡ 0) → Vanishes (xs ++ ys) n → Vanishes (xs ++ take n ys) n
 vanishes_behind n xs ys most zeros v =
     let at = length xs + n in

@@ -7,15 +7,15 @@ use Rattle.qrcode_types.specs.declared.types.Version.{Version}
 use Rattle.qrcode_types.specs.declared.types.EcLevel.{EcLevel}
 use Rattle.qrcode_ec.specs.Codes.{Vanishes, HasDistanceAbove}
 
--- the codewords of a stream of bits: those of data, a half one with four zeros behind its four bits, then those of error correction
+-- the codewords in a stream of bits: those of data, a half codeword filled up with four zeros, then those of error correction
 unfoldable pub codewords : Version → EcLevel → List Bool → List ℕ
 codewords v l bits = bytes_of (take (capacity v l) bits) ++ bytes_of (take (8 * total_ec_length v l) (drop (capacity v l) bits))
 
--- where byte i of block b stands in blocks that are interleaved: behind the first i bytes of each block, and byte i of each block before b
+-- the index of byte i of block b among interleaved bytes: after the first i bytes of each block, and after byte i of each block before b
 unfoldable pub interleaved_place : List ℕ → ℕ → ℕ → ℕ
 interleaved_place lengths i b = sum_by (λ len. min len i) lengths + count_by (nat_lt i) (take b lengths)
 
--- block b of the codewords: its data bytes, then its error correction bytes, which are interleaved behind all data bytes
+-- block b of the codewords: its data bytes, then its error correction bytes, which are interleaved after all data bytes
 unfoldable pub block : Version → EcLevel → List ℕ → ℕ → List ℕ
 block v l words b =
     let lengths = block_lengths v l in
@@ -28,11 +28,11 @@ blocks v l words = map (block v l words) (range_with_len 0 (length (block_length
 unfoldable pub data_bytes : Version → EcLevel → List (List ℕ) → List ℕ  -- the data bytes of blocks, in block order
 data_bytes v l bs = flat_map (λ b. take (length b - ec_length v l) b) bs
 
-unfoldable pub data_bits : Version → EcLevel → List (List ℕ) → List Bool  -- the same as bits, a half codeword as four
+unfoldable pub data_bits : Version → EcLevel → List (List ℕ) → List Bool  -- the data bytes of blocks as bits; four for a half codeword
 data_bits v l bs = take (capacity v l) (bits_of (data_bytes v l bs))
 
--- The data codewords and the error correction codewords of bytes: their blocks hold the bytes in order, each of them is a
--- codeword of the Reed-Solomon code, and any other such codeword is farther from it than there are error correction bytes.
+-- The data codewords and the error correction codewords of bytes. Their blocks hold the bytes, in order; each block is a Reed-Solomon codeword, and
+-- any other one of the same length differs from it in more places than there are error correction bytes.
 pub record AreCodewords (v : Version) (l : EcLevel) (bytes data_words ec_words : List ℕ) : Type 0 where
   pub data_long : length data_words ≡ data_length v l
   pub ec_long : length ec_words ≡ total_ec_length v l

@@ -1,11 +1,11 @@
--- The field of bytes: polynomials over two elements, modulo x^8 + x^4 + x^3 + x^2 + 1.
+-- GF(2^8): bytes as polynomials modulo x^8 + x^4 + x^3 + x^2 + 1.
 use Rattle.std.specs.Prelude.{◌≡◌, ℕ, zero, suc, ◌<◌, bit_xor}
 use Rattle.qrcode_types.specs.Polynomials.{carryless, remainder}
 
-abbrev pub modulus : ℕ  -- what products are divided by
+abbrev pub modulus : ℕ  -- the divisor of products
 modulus = 0x11d
 
--- p is the product of a and b: the byte that differs from their carryless product by a carryless multiple of the modulus
+-- p is the product of a and b: a byte that differs from their carryless product by a carryless multiple of the modulus
 pub record IsProduct (a b p : ℕ) : Type 0 where
   pub byte : p < 256
   pub quotient : ℕ
@@ -18,7 +18,7 @@ unfoldable pub power : ℕ → ℕ  -- the powers of 2, which is x
 power zero = 1
 power (suc e) = product 2 (power e)
 
--- the product p of a and b has the laws of a field: it commutes, associates, and distributes over the sum
+-- the product p of a and b obeys the laws of a field: it is commutative, associative, and distributive over the sum
 pub record HasFieldLaws (a b p : ℕ) : Type 0 where
   pub commutes : p ≡ product b a
   pub associates : (c : ℕ) → product p c ≡ product a (product b c)

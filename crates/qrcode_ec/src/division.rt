@@ -1,4 +1,4 @@
-//! Division by generators, whose remainders are the error correction bytes.
+//! Division by generator polynomials. The remainders are the error correction bytes.
 
 ghost use Rattle.std.specs.Prelude.{◌≡◌, ◌⊎◌, ℕ, suc, ◌*◌, ◌<◌, ◌≤◌, ◌++◌, ◌∷◌, length, take, replicate, slice_index, bit_xor};
 ghost use Rattle.qrcode_types.specs.Bits.{AreBytes};
@@ -9,22 +9,21 @@ ghost use Rattle.qrcode_ec.specs.Dividing.{AreMultiples, AreOfGenerator, IsGener
 use crate::field::{power, product};
 use std::simd::u8x32;
 
-/// The coefficients that a generator or a remainder has room for, the highest power first. Zeros
-/// stand behind the last one.
+/// Number of coefficients that a generator or a remainder has room for, highest power first. Unused
+/// places at the end are zero.
 pub const ROOM: usize = 72;
 
-// The coefficients that a vector has room for. No block of a symbol has more error correction
-// bytes.
+// Number of coefficients that a vector holds. No block of a symbol has more error correction bytes.
 const LANES: usize = 32;
 
-// Each lane takes the one behind it, and the last one the first of a second vector.
+// Each lane takes the next one; the last takes the first of a second vector.
 const NEXT_LANES: [usize; LANES] = [
     1, 2, 3, 4, 5, 6, 7, 8, 9, 10, 11, 12, 13, 14, 15, 16, 17, 18, 19, 20, 21, 22, 23, 24, 25, 26,
     27, 28, 29, 30, 31, 32,
 ];
 
-// Multiplies the polynomial of a leading one and these coefficients, of which there are fewer than
-// `length`, by x - root.
+// Multiplies a polynomial by x - root, in place. `coefficients` are those after its leading 1, and
+// `length` is how many there are afterwards.
 fn multiply(coefficients: &mut [u8; ROOM], length: usize, root: u8)
     requires { length ≤ 72 }
     ensures below { (j : ℕ) → j < length → slice_index coefficients.new j
@@ -41,8 +40,8 @@ fn multiply(coefficients: &mut [u8; ROOM], length: usize, root: u8)
     }
 }
 
-// The generator of this degree without its leading one: the product of x - 2^i for each i below the
-// degree.
+// Returns the generator of this degree, without its leading 1: the product of x - 2^i for all i
+// below `degree`.
 fn generator(degree: usize) -> [u8; ROOM]
     requires { degree ≤ 69 }
     ensures vanishes { Vanishes (1 ∷ result) degree }
@@ -55,7 +54,7 @@ fn generator(degree: usize) -> [u8; ROOM]
     coefficients
 }
 
-// The multiple by a byte of what a vector has room for of a generator.
+// Returns `factor` times the first `LANES` coefficients of `generator`.
 fn multiple(generator: &[u8; ROOM], degree: usize, factor: u8) -> [u8; LANES]
     requires { (j : ℕ) → degree ≤ j → slice_index generator.now j ≡ 0 }
     ensures { (j : ℕ) → j < 32
@@ -68,7 +67,8 @@ fn multiple(generator: &[u8; ROOM], degree: usize, factor: u8) -> [u8; LANES]
     row
 }
 
-// Moves a remainder on by one byte, and subtracts a multiple of the generator from it.
+// Does a step of long division: shifts a remainder by one byte, and subtracts `factor` times the
+// generator.
 fn advance(register: &mut [u8; ROOM], generator: &[u8; ROOM], degree: usize, factor: u8)
     requires { degree ≤ 69 }
     ensures below { (j : ℕ) → j < degree → slice_index register.new j
@@ -82,7 +82,7 @@ fn advance(register: &mut [u8; ROOM], generator: &[u8; ROOM], degree: usize, fac
     }
 }
 
-// The same in a vector, which has the first `LANES` coefficients.
+// Does the same step as `advance` on a vector of the first `LANES` coefficients.
 #[inline(always)]
 fn advanced(register: u8x32, multiple: u8x32) -> u8x32
     requires register { length register ≡ 32 }
@@ -94,7 +94,7 @@ fn advanced(register: u8x32, multiple: u8x32) -> u8x32
     register.shuffle(u8x32::splat(0), NEXT_LANES) ^ multiple
 }
 
-// The sum of two rows.
+// Returns the sum of two rows.
 #[inline(always)]
 fn sum(first: &[u8; LANES], second: &[u8; LANES]) -> u8x32
     ensures length { length result ≡ 32 }
@@ -104,8 +104,8 @@ fn sum(first: &[u8; LANES], second: &[u8; LANES]) -> u8x32
     u8x32::from_slice(first) ^ u8x32::from_slice(second)
 }
 
-// The multiple by `k` units of a generator, where the rows have those by fewer. Most are the sum of
-// two of these, which takes less than products.
+// Returns `k * unit` times the generator's first `LANES` coefficients. `rows` already has the
+// multiples by fewer units; most are the sum of two of these, which is faster than multiplying.
 fn next_multiple(
     rows: &[[u8; LANES]; 16],
     generator: &[u8; ROOM],
@@ -127,7 +127,7 @@ fn next_multiple(
     sum(&rows[k - rest], &rows[rest]).to_array()
 }
 
-// The lanes of a vector, with zeros behind them.
+// Copies the lanes of a vector, and fills up with zeros.
 #[inline(always)]
 fn in_room(lanes: u8x32) -> [u8; ROOM]
     requires { length lanes ≡ 32 }
@@ -138,8 +138,8 @@ fn in_room(lanes: u8x32) -> [u8; ROOM]
     row
 }
 
-// The remainder by a generator of any degree, by products: the bytes that, put behind the others,
-// make the whole vanish where the generator does.
+// Returns the remainder for a generator of any degree, computed without the tables of multiples.
+// Appended to `bytes`, it makes the whole vanish where the generator does.
 fn divided(generator: &[u8; ROOM], degree: usize, bytes: &[u8]) -> [u8; ROOM]
     requires at_most { degree ≤ 69 }
     requires generator { IsGenerator degree generator.now }
@@ -154,12 +154,14 @@ fn divided(generator: &[u8; ROOM], degree: usize, bytes: &[u8]) -> [u8; ROOM]
     register
 }
 
-/// A generator without its leading one, and multiples of what a vector has room for of it: those by
-/// the bytes below 16, and those by the multiples of 16. Any byte is the sum of one of the first
-/// and one of the second.
+/// Computes error correction bytes with the generator of one degree.
+///
+/// Holds the generator without its leading 1, and multiples of as many of its coefficients as a
+/// vector has room for: `low` by the bytes below 16, `high` by the multiples of 16. Any byte is the
+/// sum of one of each.
 #[derive(Drop)]
 pub struct Divider {
-    /// The degree of the generator, and the length of a remainder.
+    /// The degree of the generator, which is the number of error correction bytes.
     pub degree: usize,
     generator: [u8; ROOM],
     low: [[u8; LANES]; 16],
@@ -169,7 +171,7 @@ pub struct Divider {
 }
 
 impl Divider {
-    /// Divides by the generator of this degree.
+    /// Prepares division by the generator of this degree, at most 69.
     pub fn new(degree: usize) -> Divider
         requires { degree ≤ 69 }
         ensures { result.degree ≡ degree }
@@ -189,8 +191,9 @@ impl Divider {
         }
     }
 
-    /// The remainder of these bytes with as many zeros behind them as the generator's degree. Put
-    /// behind the bytes, it makes the whole vanish where the generator does.
+    /// Returns the error correction bytes for `bytes`: the first `degree` bytes of the result.
+    /// Appended to `bytes`, they make a Reed-Solomon codeword: the whole vanishes at `degree`
+    /// powers of 2.
     pub fn remainder(&self, bytes: &[u8]) -> [u8; ROOM]
         ensures vanishes { Vanishes (bytes.now ++ take self.now.degree result) self.now.degree }
         ensures bytes { AreBytes result }
@@ -202,7 +205,7 @@ impl Divider {
         }
     }
 
-    // The same of a degree up to `LANES`, as all symbols have: a vector holds the remainder.
+    // Computes `remainder` for a degree up to `LANES`, as all symbols have, in one vector.
     fn short_remainder(&self, bytes: &[u8]) -> [u8; ROOM]
         requires { self.now.degree ≤ 32 }
         ensures vanishes { Vanishes (bytes.now ++ take self.now.degree result) self.now.degree }

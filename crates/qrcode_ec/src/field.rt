@@ -1,9 +1,9 @@
-//! The field of bytes: polynomials over two elements, modulo x^8 + x^4 + x^3 + x^2 + 1.
+//! Arithmetic in GF(2^8): bytes as polynomials modulo x^8 + x^4 + x^3 + x^2 + 1.
 
 ghost use Rattle.std.specs.Prelude.{◌≡◌, ◌≢◌, ℕ, ◌+◌, ◌%◌, ◌<◌, ◌≤◌, ◌⊎◌};
 ghost use Rattle.qrcode_ec.specs.Field.{IsProduct, HasFieldLaws, product, power};
 
-// The powers of 2, from exponent 0 on. They come round after 255.
+// The powers of 2, from exponent 0 on. They repeat after 255.
 static POWERS: [u8; 255] = [
     1, 2, 4, 8, 16, 32, 64, 128, 29, 58, 116, 232, 205, 135, 19, 38, 76, 152, 45, 90, 180, 117,
     234, 201, 143, 3, 6, 12, 24, 48, 96, 192, 157, 39, 78, 156, 37, 74, 148, 53, 106, 212, 181,
@@ -20,7 +20,7 @@ static POWERS: [u8; 255] = [
     131, 27, 54, 108, 216, 173, 71, 142,
 ];
 
-// The exponent of each byte as a power of 2. Zero is no power: what stands for it is never read.
+// The exponent of each byte as a power of 2. Zero is not a power of 2; its entry is never read.
 static LOGARITHMS: [u8; 256] = [
     0, 0, 1, 25, 2, 50, 26, 198, 3, 223, 51, 238, 27, 104, 199, 75, 4, 100, 224, 14, 52, 141, 239,
     129, 28, 193, 105, 248, 200, 8, 76, 113, 5, 138, 101, 47, 225, 36, 15, 33, 53, 147, 142, 218,
@@ -37,20 +37,20 @@ static LOGARITHMS: [u8; 256] = [
     214, 244, 234, 168, 80, 88, 175,
 ];
 
-/// The power of 2, which is x, with this exponent.
+/// Returns 2 to the power of `exponent`; as a polynomial, 2 is x.
 #[inline(always)]
 pub fn power(exponent: usize) -> u8
     ensures value { result ≡ power exponent }
     ensures sum { (other : ℕ) → power (exponent + other) ≡ product result (power other) }
 
-    // The first 255 powers differ from one another.
+    // The first 255 powers are all different.
     ensures apart { (other : ℕ) → exponent < 255 → other < 255 → other ≢ exponent
         → power other ≢ result }
 {
     POWERS[exponent % 255]
 }
 
-// The exponent below 255 of a byte that is not zero.
+// Returns the exponent, below 255, for which the power of 2 is `byte`, which must not be zero.
 #[inline(always)]
 fn logarithm(byte: u8) -> usize
     requires { 0 < byte }
@@ -60,7 +60,7 @@ fn logarithm(byte: u8) -> usize
     LOGARITHMS[usize::from(byte)].into()
 }
 
-// A number below 510 modulo 255, with no division.
+// Returns `sum` modulo 255, without a division.
 #[inline(always)]
 fn come_round(sum: usize) -> usize
     requires { sum < 510 }
@@ -69,7 +69,7 @@ fn come_round(sum: usize) -> usize
     if sum < 255 { sum } else { sum - 255 }
 }
 
-// The power of 2 whose exponent is the sum of two below 255.
+// Returns 2 to the power of `first + second`, both below 255.
 #[inline(always)]
 fn power_of_sum(first: usize, second: usize) -> u8
     requires first { first < 255 }
@@ -79,7 +79,7 @@ fn power_of_sum(first: usize, second: usize) -> u8
     POWERS[come_round(first + second)]
 }
 
-/// The product of two bytes in the field.
+/// Returns the product of two bytes in the field.
 #[inline(always)]
 pub fn product(a: u8, b: u8) -> u8
     ensures value { result ≡ product a b }
@@ -93,7 +93,7 @@ pub fn product(a: u8, b: u8) -> u8
     power_of_sum(logarithm(a), logarithm(b))
 }
 
-/// The byte whose product with `b` is `a`.
+/// Returns `a` divided by `b` in the field. `b` must not be zero.
 #[inline(always)]
 pub fn quotient(a: u8, b: u8) -> u8
     requires { 0 < b }

@@ -1,4 +1,5 @@
-//! The order of the codewords: the first bytes of all blocks, then the second ones, and so on.
+//! Interleaves the codewords: first the first byte of each block, then the second of each, and so
+//! on.
 
 ghost use Rattle.std.specs.Prelude.{◌≡◌, ◌≢◌, ℕ, ◌+◌, ◌*◌, ◌<◌, ◌≤◌, length, slice_index, IfOk};
 ghost use Rattle.qrcode_types.specs.Bits.{AreBytes};
@@ -9,7 +10,7 @@ use crate::division::Divider;
 use qrcode_types::tables::Blocks;
 use std::alloc::{AllocError, Global};
 
-/// The data bytes of a symbol, which stand block by block.
+/// The data bytes of a symbol, block by block.
 #[derive(Drop)]
 pub(crate) struct DataBlocks<'a> {
     pub(crate) blocks: Blocks,
@@ -18,7 +19,7 @@ pub(crate) struct DataBlocks<'a> {
 }
 
 impl<'a> DataBlocks<'a> {
-    // The data bytes of a block.
+    // Returns the data bytes of block `index`.
     fn block(&self, index: usize) -> &'a [u8]
         requires { index < count_of self.now.blocks }
         ensures length { length result.now ≡ length_of self.now.blocks index }
@@ -34,7 +35,7 @@ impl<'a> DataBlocks<'a> {
         &self.bytes[start..start + length]
     }
 
-    // Writes the bytes that each block has.
+    // Writes the bytes that every block has.
     fn write_rows(&self, codewords: &mut [u8])
         requires { length codewords.old ≡ data_length_of self.now.blocks }
         ensures { HasRows self.now.blocks self.now.bytes.now codewords.new }
@@ -46,7 +47,7 @@ impl<'a> DataBlocks<'a> {
         }
     }
 
-    // Writes the last bytes of the long blocks behind the rows.
+    // Writes the last byte of each long block, after the rows.
     fn write_ends(&self, codewords: &mut [u8])
         requires { length codewords.old ≡ data_length_of self.now.blocks }
         ensures ends { HasEnds self.now.blocks self.now.bytes.now codewords.new }
@@ -61,7 +62,7 @@ impl<'a> DataBlocks<'a> {
         }
     }
 
-    // Writes the data bytes of all blocks.
+    // Writes the data bytes of all blocks, interleaved.
     fn write_data(&self, codewords: &mut [u8])
         requires { length codewords.old ≡ data_length_of self.now.blocks }
         ensures rows { HasRows self.now.blocks self.now.bytes.now codewords.new }
@@ -72,7 +73,7 @@ impl<'a> DataBlocks<'a> {
         self.write_ends(codewords);
     }
 
-    // Writes the error correction bytes of each block.
+    // Writes the error correction bytes of all blocks, interleaved.
     fn write_ec(&self, codewords: &mut [u8])
         requires { length codewords.old ≡ self.now.blocks.ec_length * count_of self.now.blocks }
         ensures bytes { AreBytes codewords.new }
@@ -86,7 +87,7 @@ impl<'a> DataBlocks<'a> {
         }
     }
 
-    /// The data codewords of the symbol and its error correction codewords.
+    /// Returns the data codewords and the error correction codewords of the symbol.
     pub(crate) fn codewords(&self, alloc: Global) -> Result<(Vec<u8>, Vec<u8>), AllocError>
         ensures { IfOk result (λ words.
             AreWordsOf self.now.blocks self.now.bytes.now words.0.items words.1.items) }
@@ -99,7 +100,7 @@ impl<'a> DataBlocks<'a> {
     }
 }
 
-// Writes bytes at every `step`-th place, beginning with `first`.
+// Writes `bytes` to every `step`-th place, starting at `first`.
 fn spread(bytes: &[u8], codewords: &mut [u8], first: usize, step: usize)
     requires begins { first < step }
     requires fits { length bytes.now * step ≤ length codewords.old }

@@ -21,11 +21,11 @@ use qrcode_types::tables::Blocks;
 use qrcode_types::types::{EcLevel, QrError, QrResult, Version};
 use std::alloc::Global;
 
-/// The error correction bytes of a block of data bytes, `ec_code_size` of them, which is to be at
-/// most 69: the only ones that, behind the data bytes, make the whole vanish at as many powers of 2
-/// (ISO/IEC 18004:2006, 6.5.2).
+/// Returns the `ec_code_size` error correction bytes (at most 69) for a block of data bytes: the
+/// only bytes which, appended to `bytes`, make the whole vanish at that many powers of 2 (ISO/IEC
+/// 18004:2006, 6.5.2).
 ///
-/// `OutOfMemory` is the only error.
+/// Errors: only `OutOfMemory`.
 pub fn create_error_correction_code(
     alloc: Global,
     bytes: &[u8],
@@ -45,12 +45,12 @@ pub fn create_error_correction_code(
     Ok(Vec::from_slice(alloc, &ec[..ec_code_size])?)
 }
 
-/// The data codewords of a symbol and its error correction codewords, each with their blocks
-/// interleaved, from the data bytes of all blocks, which are as many as the symbol holds (ISO/IEC
-/// 18004:2006, 6.6).
+/// Returns the data codewords and the error correction codewords of a symbol, each list with its
+/// blocks interleaved (ISO/IEC 18004:2006, 6.6). `bytes` are the data bytes of all blocks, exactly
+/// as many as the symbol holds.
 ///
-/// `InvalidVersion`: there is no such version, or it lacks the level. `OutOfMemory` is the only
-/// other error.
+/// Errors: `InvalidVersion` if there is no such version, or it lacks the level; otherwise only
+/// `OutOfMemory`.
 pub fn construct_codewords(
     alloc: Global,
     bytes: &[u8],
@@ -64,7 +64,7 @@ pub fn construct_codewords(
     ensures value { IfOk result (λ words.
         AreCodewords version ec_level bytes.now words.0.items words.1.items) }
 
-    // One block is not interleaved.
+    // A single block is not interleaved.
     ensures one_block { length (block_lengths version ec_level) ≡ 1
         → IfOk result (λ words. words.0.items ≡ bytes.now) }
 {
@@ -75,11 +75,11 @@ pub fn construct_codewords(
     Ok(words)
 }
 
-/// How many wrong codewords the standard allows over all blocks: half of the error correction
-/// codewords, without those that small symbols keep to tell wrong corrections (ISO/IEC 18004:2006,
-/// 6.5.1).
+/// Returns how many wrong codewords the standard allows over all blocks: half of the error
+/// correction codewords, not counting those that small symbols keep for misdecode protection
+/// (ISO/IEC 18004:2006, 6.5.1).
 ///
-/// `InvalidVersion`: there is no such version, or it lacks the level.
+/// Errors: `InvalidVersion` if there is no such version, or it lacks the level.
 pub fn max_allowed_errors(version: Version, ec_level: EcLevel) -> QrResult<usize>
     ensures no_level { has_level version ec_level ≡ false → result ≡ Err InvalidVersion }
     ensures accepts { IsTrue (has_level version ec_level) → IsTrue (is_ok result) }
@@ -95,7 +95,7 @@ pub fn max_allowed_errors(version: Version, ec_level: EcLevel) -> QrResult<usize
     Ok(usable / 2)
 }
 
-// The error correction codewords that are kept to tell wrong corrections.
+// Returns how many error correction codewords are kept to detect wrong corrections.
 fn misdecode_protection(version: Version, ec_level: EcLevel) -> usize
     requires { IsTrue (is_valid version) }
     ensures { result ≡ misdecode_protection version ec_level }

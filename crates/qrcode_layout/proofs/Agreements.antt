@@ -1,4 +1,4 @@
--- Where figures meet they agree, and no figure of a pattern meets a place of the format word: computed for each version.
+-- Where figures overlap they agree, and no figure of a pattern overlaps a place of the format word: computed for each version.
 use Rattle.std.proofs.Common.{◌≡◌, ℕ, zero, suc, ◌+◌, ◌-◌, ◌*◌, ◌<◌, ◌≤◌, nat_abs, nat_le, Bool, true, false, ◌&&◌, ◌||◌, not, pos, negsuc, List, [], ◌∷◌, ◌++◌, fold, length, get_or, Option, Some, None, is_some, arith, refl, sym, ap, subst, ◌∙◌, IsTrue, inl, inr, ◌⊎◌, true≢false, if◌then◌else◌, cond}
 use Rattle.std.specs.Bool.{beq}
 use Rattle.std.specs.List.{list_all, list_any, Contains}
@@ -24,7 +24,7 @@ use Rattle.qrcode_layout.proofs.Below.{passes_below, below}
 use Rattle.qrcode_layout.proofs.Versions.{all_normal, all_micro, each_version}
 use Rattle.qrcode_layout.proofs.FigurePlaces.{any_has, pattern_some, format_some}
 
--- what all pass, each of them passes
+-- a test that all items pass, each passes
 pub all_at : {X : Type 0} (test : X → Bool) (xs : List X) (i : ℕ) (d : X) → list_all test xs ≡ true → i < length xs → test (get_or xs i d) ≡ true
 all_at test xs i d all lt = go (test (get_or xs i d)) refl where
   go : (b : Bool) → test (get_or xs i d) ≡ b → b ≡ true

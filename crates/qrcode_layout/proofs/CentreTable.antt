@@ -1,4 +1,4 @@
--- The table of alignment centres of the code is that of the definitions.
+-- The table of alignment centres in the code is that of the definitions.
 use Rattle.std.proofs.Common.{◌≡◌, ℕ, zero, suc, ◌-◌, ◌≤◌, pos, List, [], ◌∷◌, map, get_or, Bor, refl, arith}
 use Rattle.std.proofs.lemmas.Bool.{le-leb}
 use Rattle.qrcode_layout.specs.Centres.{centre_table}
@@ -10,7 +10,7 @@ row_now [] i d e = e
 row_now (x ∷ xs) zero d e = refl
 row_now (x ∷ xs) (suc i) d e = row_now xs i d e
 
--- what is read of a static table of slices
+-- reading a static table of slices
 pub row_read : (xs : List (Bor (List ℕ))) (i : ℕ) → (get_or xs i (record { ref_ptr = (0, 0); now = [] })).now ≡ get_or (map (λ r. r.now) xs) i []
 row_read xs i = row_now xs i (record { ref_ptr = (0, 0); now = [] }) refl
 

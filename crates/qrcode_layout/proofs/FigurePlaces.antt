@@ -1,4 +1,4 @@
--- Which places the figures have.
+-- Which places the figures cover.
 use Rattle.std.proofs.Common.{◌≡◌, ℕ, zero, suc, ℤ, ◌+◌, ◌*◌, ◌<◌, ◌≤◌, nat_abs, nat_le, Bool, IsTrue, true, false, cond, not, ◌&&◌, ◌||◌, List, [], ◌∷◌, ◌++◌, map, take, length, get_or, Option, Some, None, is_some, arith, refl, sym, ap, ap₂, ◌∙◌, fold, if◌then◌else◌}
 use Rattle.std.specs.List.{list_any, filter, flat_map}
 use Rattle.std.proofs.lemmas.Bool.{or_left, or_right}
@@ -15,7 +15,7 @@ use Rattle.qrcode_layout.specs.Figures.{has, figures, format_figures, normal_fig
 use Rattle.qrcode_layout.specs.Patterns.{drawn_over, pattern, format_index, is_functional_place}
 use Rattle.qrcode_layout.proofs.FormatPlaces.{normal_cases, micro_cases, normal_index, micro_index}
 
--- a figure has the place
+-- one of the figures covers the place
 abbrev pub any_has : ℕ → ℕ → List Figure → Bool
 any_has x y fs = list_any (λ f. has f x y) fs
 
@@ -70,7 +70,7 @@ row_has v b x y (a ∷ cs) = go (not (is_corner_centre (side v) a b)) (row_has v
   go true e = ap (λ r. has (alignment a b) x y || r) e
   go false e = e
 
--- what is in one row is in all
+-- what is in one row is in the list of all rows
 pub row_among : (f : ℕ → List Figure) (cs : List ℕ) (x y i d : ℕ) → i < length cs → any_has x y (f (get_or cs i d)) ≡ true → any_has x y (flat_map f cs) ≡ true
 row_among f [] x y i d lt e = absurd (omega arith)
 row_among f (c ∷ cs) x y zero d lt e = list_any-append (λ f. has f x y) (f c) (flat_map f cs) ∙ or_left _ _ e

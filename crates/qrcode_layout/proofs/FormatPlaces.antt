@@ -1,4 +1,4 @@
--- The places of the format word, from the bit and from the place.
+-- The places of the format word: from a bit to its place, and from a place to its bit.
 use Rattle.std.proofs.Common.{◌≡◌, ℕ, zero, suc, ◌+◌, ◌-◌, ◌*◌, ◌<◌, ◌≤◌, ◌≢◌, ◌==◌, nat_le, nat_lt, nat_abs, Bool, true, false, cond, ◌&&◌, ◌||◌, pos, negsuc, true≢false, refl, arith, sym, ap₂, ◌∙◌, subst, map, get_or, List, [], ◌∷◌, Option, Some, None, inl, inr, if◌then◌else◌}
 use Rattle.std.specs.Prelude.{slice_get}
 use Rattle.std.specs.List.{range_with_len, position_from, filter_map, list_any, cons_option}
@@ -16,7 +16,7 @@ use Rattle.qrcode_layout.proofs.Formats.{within}
 abbrev is_at : ℕ → ℕ → ℕ × ℕ → Bool
 is_at x y place = place.0 == x && place.1 == y
 
--- which bit stands at a place of Normal with w modules along a side, by cases of the row and the column
+-- the bit at a place of a Normal symbol with w modules along a side, by cases of the row and the column
 abbrev pub normal_cases : ℕ → ℕ → ℕ → Option ℕ
 normal_cases w x y =
     elim (y == 8) [
@@ -25,7 +25,7 @@ normal_cases w x y =
           elim (x == 8) [ true ↦ (if y == 7 then Some 8 else (if nat_le y 5 then Some (14 - y) else (if nat_le (w - 7) y && nat_lt y w then Some (w - 1 - y) else None))) | false ↦ None ]
     ]
 
--- which bit stands at a place of Micro
+-- the bit at a place of a Micro symbol
 abbrev pub micro_cases : ℕ → ℕ → Option ℕ
 micro_cases x y =
     elim (y == 8) [
@@ -47,7 +47,7 @@ found_at test f a (suc n) i e = go (test (f a)) refl e (found_at test f (a + 1) 
   go true h s later = let same : a ≡ i = cc in (omega arith, subst (λ (k : ℕ). test (f k) ≡ true) same h)
   go false h s later = let r = later s in (omega (arith, r.0), r.1)
 
--- a search that finds nothing has gone over no place that passes
+-- if a search finds nothing, none of the places passes
 missed : (test : ℕ × ℕ → Bool) (f : ℕ → ℕ × ℕ) (a n i : ℕ) → position_from test a (map f (range_with_len a n)) ≡ None → a ≤ i → i < a + n → test (f i) ≡ false
 missed test f a zero i e low high = absurd (omega arith)
 missed test f a (suc n) i e low high = go (test (f a)) refl e (λ s other. missed test f (a + 1) n i s (omega (arith, other)) (omega arith)) where
@@ -56,7 +56,7 @@ missed test f a (suc n) i e low high = go (test (f a)) refl e (λ s other. misse
   go true h s later = absurd (cc)
   go false h s later = elim (cases_eq a i) [ inl same ↦ subst (λ (k : ℕ). test (f k) ≡ false) same h | inr other ↦ later s other ]
 
--- the search in copies gives what tests of the bits give
+-- the search in all copies gives what tests of each bit give
 in_copies : (test : ℕ × ℕ → Bool) (fs : List (ℕ → ℕ × ℕ)) (r : Option ℕ) → ((i : ℕ) → i < 15 → list_any (λ f. test (f i)) fs ≡ true → r ≡ Some i)
     → ((i : ℕ) → r ≡ Some i → (i < 15) × (list_any (λ f. test (f i)) fs ≡ true)) → slice_get (filter_map (position_from test 0) (map copy fs)) 0 ≡ r
 in_copies test [] None hit whole = refl
@@ -73,7 +73,7 @@ or_none : (b : Bool) → (b || false) ≡ true → b ≡ true
 or_none true h = refl
 or_none false h = absurd (cc)
 
--- a place that is a copy's has that copy's bit
+-- a place of a copy has the bit of that copy
 
 first_hit : (w x y i : ℕ) → 17 ≤ w → i < 15 → is_at x y (first_format_place i) ≡ true → normal_cases w x y ≡ Some i
 first_hit w x y i wide lt e = grind (arith, nat_tests)
@@ -84,7 +84,7 @@ second_hit w x y i wide lt e = grind (arith, nat_tests)
 micro_hit : (x y i : ℕ) → i < 15 → is_at x y (micro_format_place i) ≡ true → micro_cases x y ≡ Some i
 micro_hit x y i lt e = grind (arith, nat_tests)
 
--- a place that has a bit is a copy's
+-- a place that has a bit is in a copy
 
 normal_lt : (w x y i : ℕ) → 17 ≤ w → normal_cases w x y ≡ Some i → i < 15
 normal_lt w x y i wide e = grind (arith, nat_tests)

@@ -35,7 +35,7 @@ valid_of v l h = (and_parts (is_valid v) (not ((blocks_entry v l).0 == 0)) h).0
 pub within : (n most : ℕ) → IsTrue (nat_le 1 n && nat_le n most) → (1 ≤ n) × (n ≤ most)
 within n most h = let p = and_parts (nat_le 1 n) (nat_le n most) h in (leb-true 1 n p.0, leb-true n most p.1)
 
--- the number of a pair of Micro is below eight where the pair exists
+-- the number of a Micro version and level is below eight if the version has the level
 abbrev pair_small : EcLevel → ℕ → Bool
 pair_small l i = not (has_level (Micro (pos i)) l) || nat_lt (2 * i - 3 + level_number l) 8
 

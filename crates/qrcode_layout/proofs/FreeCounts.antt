@@ -1,4 +1,4 @@
--- The free places of each version are as many as its bits and its remainder.
+-- Each version has as many free places as codeword and remainder bits.
 use Rattle.std.proofs.Common.{◌≡◌, ℕ, ◌+◌, ◌-◌, ◌*◌, ◌==◌, nat_le, pos, negsuc, Bool, true, not, ◌&&◌, ◌||◌, List, map, length, arith, refl, ap, ap₂, ◌∙◌, inl, inr}
 use Rattle.std.specs.List.{range_with_len}
 use Rattle.std.proofs.lemmas.Bool.{and_parts, or_cases, both_ways, not-true, eqb-true}
@@ -63,7 +63,7 @@ normal_free n =
     free_by_columns (Normal (pos n))
     ∙ ap₂ (λ a b. a + b) (columns_are n (λ p. right_column (Normal (pos n)) p)) (columns_are n (λ p. right_column (Normal (pos n)) p - 1))
 
--- a count is what a version's levels need
+-- the count is what this level of the version needs
 abbrev fills : Version → ℕ → EcLevel → Bool
 fills v count l = not (has_level v l) || count == capacity v l + 8 * total_ec_length v l + remainder_bits v
 

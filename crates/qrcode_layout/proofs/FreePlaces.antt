@@ -1,4 +1,4 @@
--- The list of free places has each free place once.
+-- The list of free places has each free place exactly once.
 use Rattle.std.proofs.Common.{◌≡◌, ◌≢◌, ℕ, zero, suc, ◌-◌, ◌*◌, ◌<◌, Bool, true, false, not, cond, List, [], ◌∷◌, length, get_or, arith, sym, ap, ◌∙◌, subst}
 use Rattle.std.specs.List.{filter, Contains}
 use Rattle.std.proofs.lemmas.Bool.{not_from_false, both_ways}
@@ -12,7 +12,7 @@ use Rattle.qrcode_layout.specs.Laws.{left_out, FreePlacesAreApart, FreePlacesAre
 use Rattle.qrcode_layout.proofs.Zigzag.{walk_is_apart, walk_is_whole}
 use Rattle.qrcode_layout.proofs.LeftOut.{left_out_is_functional}
 
--- an element that passes stays in a filtered list
+-- an element that passes the test stays in a filtered list
 kept : {X : Type 0} (p : X → Bool) (xs : List X) (k : ℕ) (x : X) → k < length xs → get_or xs k x ≡ x → p x ≡ true → Contains (filter p xs) x
 kept p [] k x lt e h = absurd (omega arith)
 kept p (y ∷ xs) zero x lt e h = go (p y) (ap p e ∙ h) where

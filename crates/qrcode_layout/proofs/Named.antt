@@ -1,4 +1,4 @@
--- The five bits of a format word tell what it names.
+-- The five bits of a format word determine what it names.
 use Rattle.std.proofs.Common.{◌≡◌, ℕ, zero, suc, ◌+◌, ◌-◌, ◌*◌, pos, negsuc, refl, sym, ap, ◌∙◌, arith, IsTrue}
 use Rattle.qrcode_types.specs.Tables.{block_table}
 use Rattle.qrcode_types.specs.Versions.{is_micro, level_number, blocks_entry, has_level}

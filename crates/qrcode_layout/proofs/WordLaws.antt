@@ -1,4 +1,4 @@
--- How far the words are from one another.
+-- How far apart the words are.
 use Rattle.std.proofs.Common.{◌≡◌, ℕ, ◌⊎◌, ◌-◌, ◌≤◌, ◌<◌, ◌==◌, nat_le, Bool, true, ◌||◌, get_or, List, refl, arith, inl, inr}
 use Rattle.std.proofs.lemmas.Bool.{or_cases, leb-true, eqb-true}
 use Rattle.qrcode_types.specs.Bits.{number_bits, bit_distance}
@@ -12,14 +12,14 @@ use Rattle.qrcode_layout.proofs.Formats.{format_bits_small}
 use Rattle.qrcode_layout.proofs.Named.{same_names}
 use Rattle.qrcode_layout.proofs.WordTables.{word, normal_at, micro_at, version_at}
 
--- words i and j of a list differ in at least so many bits, unless i is j
+-- words i and j of a list differ in at least that many bits, unless i is j
 abbrev are_apart : ℕ → ℕ → List ℕ → ℕ → ℕ → Bool
 are_apart bits least words i j = i == j || nat_le least (bit_distance (number_bits bits (get_or words i 0)) (number_bits bits (get_or words j 0)))
 
 abbrev all_apart : ℕ → ℕ → List ℕ → ℕ → Bool
 all_apart bits least words count = passes_below (λ i. passes_below (are_apart bits least words i) count) count
 
--- words that are apart, and nearer than that, are one
+-- if words are that far apart, two that are nearer are the same word
 far : (bits least : ℕ) (words : List ℕ) (count : ℕ) → all_apart bits least words count ≡ true → (i j : ℕ) → i < count → j < count
     → (i ≡ j) ⊎ (least ≤ bit_distance (number_bits bits (get_or words i 0)) (number_bits bits (get_or words j 0)))
 far bits least words count all i j p q =

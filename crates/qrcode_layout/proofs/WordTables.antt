@@ -1,4 +1,4 @@
--- The tables of words of the code are those of the definitions.
+-- The tables of words in the code are those of the definitions.
 use Rattle.std.proofs.Common.{◌≡◌, ℕ, ℤ, ◌+◌, ◌-◌, ◌<◌, ◌≤◌, ◌==◌, true, get_or, refl, ap, ◌∙◌, arith, IsTrue}
 use Rattle.std.specs.Prelude.{bit_xor}
 use Rattle.std.proofs.lemmas.Bool.{eqb-true}

@@ -1,4 +1,4 @@
--- Where the walk goes: inside the square, to no place twice, and to each place outside the column that it leaves out.
+-- Where the walk goes: it stays inside the square, visits no place twice, and visits each place outside the column that it skips.
 use Rattle.std.proofs.Common.{◌≡◌, ℕ, ◌+◌, ◌-◌, ◌*◌, ◌/◌, ◌%◌, ◌<◌, ◌≤◌, ◌≢◌, nat_abs, nat_le, arith, sym, subst, ap, ap₂, refl, ◌==◌, if◌then◌else◌, ◌∙◌, inl, inr}
 use Rattle.std.proofs.Math.Nat.{div-lt_iff_lt-mul}
 use Rattle.std.proofs.lemmas.Nat.{div-add-mod', div-mul-add, mod-mul-add, mul-add-lt}
@@ -46,7 +46,7 @@ pair_small w h t e lt =
 pair_of_small : (v : Version) (t : ℕ) → t < steps v → 2 * (t / (2 * side v)) + 3 ≤ side v
 pair_of_small v t lt = pair_small (side v) (half v) t (side_odd v) lt
 
--- a column tells its pair and its side
+-- a column determines its pair, and which of the two it is
 same_column : (v : Version) (h p q a b : ℕ) → side v ≡ 2 * h + 1 → 2 * p + 3 ≤ side v → 2 * q + 3 ≤ side v → a < 2 → b < 2
     → right_column v p - a ≡ right_column v q - b → (p ≡ q) × (a ≡ b)
 same_column (Normal v) h p q a b odd pw qw a2 b2 e = (grind (arith, nat_tests), grind (arith, nat_tests))
@@ -64,7 +64,7 @@ same_row : (w p a b : ℕ) → a < 2 * w → b < 2 * w → row w p a ≡ row w p
 unfolding row
 same_row w p a b al bl e = grind (arith, nat_tests)
 
--- two numbers with one pair and one step are one
+-- numbers with the same quotient and remainder are the same
 same_number : (n s t : ℕ) → s / n ≡ t / n → s % n ≡ t % n → s ≡ t
 same_number n s t d m = let e : s / n * n + s % n ≡ t / n * n + t % n = cc in sym (div-add-mod' s n) ∙ e ∙ div-add-mod' t n
 
@@ -92,7 +92,7 @@ walk_is_apart v s t valid sl tl e =
     let halves : s % n / 2 ≡ t % n / 2 = same_row (side v) (s / n) (s % n) (t % n) (omega arith) (omega arith) rows in
     same_number n s t columns.0 (omega arith)
 
--- how many columns the walk has gone over before it comes to a column
+-- how many columns the walk has done before it reaches a column
 passed : Version → ℕ → ℕ
 passed (Normal v) x = if nat_le x 6 then 4 * nat_abs v + 15 - x else 4 * nat_abs v + 16 - x
 passed (Micro v) x = 2 * nat_abs v + 8 - x
@@ -109,7 +109,7 @@ unfolding passed
 passed_column (Normal v) x c p a lt other ec ep ea = grind (arith, nat_tests)
 passed_column (Micro v) x c p a lt other ec ep ea = omega arith
 
--- the step of a pair that comes to a row
+-- the step of a pair that reaches a row
 step_to : ℕ → ℕ → ℕ → ℕ → ℕ
 step_to w p a y = if p % 2 == 0 then 2 * (w - 1 - y) + a else 2 * y + a
 

@@ -1,7 +1,7 @@
--- Where alignment patterns have their centres.
+-- The centres of alignment patterns.
 use Rattle.std.specs.Prelude.{ℕ, List, [], ◌∷◌}
 
--- for each version from Normal 7 to 40 the coordinates, in columns and in rows alike, of the centres of its alignment patterns
+-- the coordinates of the alignment centres of Normal 7 to 40; they serve as columns and as rows
 unfoldable pub centre_table : List (List ℕ)
 centre_table =
     (6 ∷ 22 ∷ 38 ∷ []) ∷ (6 ∷ 24 ∷ 42 ∷ []) ∷ (6 ∷ 26 ∷ 46 ∷ []) ∷ (6 ∷ 28 ∷ 50 ∷ []) ∷ (6 ∷ 30 ∷ 54 ∷ []) ∷ (6 ∷ 32 ∷ 58 ∷ []) ∷ (6 ∷ 34 ∷ 62 ∷ []) ∷

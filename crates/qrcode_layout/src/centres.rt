@@ -1,4 +1,4 @@
-//! Where alignment patterns have their centres.
+//! The centres of alignment patterns.
 
 ghost use Rattle.std.specs.Prelude.{◌≡◌, ◌≤◌, pos, IsTrue};
 ghost use Rattle.std.specs.List.{list_all};
@@ -8,7 +8,7 @@ ghost use Rattle.qrcode_layout.specs.Figures.{centres, is_centre_inside};
 
 use qrcode_types::types::Version;
 
-// For each version from Normal 1 to Normal 40, the coordinates of the alignment centres.
+// The coordinates of the alignment centres of Normal 1 to 40.
 static CENTRES: [&[u8]; 40] = [
     &[],
     &[6, 18],
@@ -52,7 +52,7 @@ static CENTRES: [&[u8]; 40] = [
     &[6, 30, 58, 86, 114, 142, 170],
 ];
 
-// The coordinates for Normal, by the number of the version.
+// Returns the coordinates for Normal version `number`.
 fn normal_centres(number: usize) -> &'static [u8]
     requires at_least { 1 ≤ number }
     requires at_most { number ≤ 40 }
@@ -61,9 +61,9 @@ fn normal_centres(number: usize) -> &'static [u8]
     CENTRES[number - 1]
 }
 
-/// The coordinates, in columns and in rows alike, of the alignment centres of a version, in rising
-/// order, the first where finder patterns are (ISO/IEC 18004:2006, annex E). A version without
-/// alignment patterns has none. The version is one that exists.
+/// Returns the coordinates of the alignment centres of `version`, in rising order (ISO/IEC
+/// 18004:2006, annex E). They serve as columns and as rows; the first is also that of the finder
+/// patterns. The list is empty for a version without alignment patterns. The version must exist.
 #[tactic(auto, using(crate::proofs::Agreements::centres_inside))]
 pub fn centres(version: Version) -> &'static [u8]
     requires { IsTrue (is_valid version) }

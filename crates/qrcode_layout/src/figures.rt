@@ -14,9 +14,9 @@ use qrcode_types::types::{Color, Version};
 /// How the modules of a figure are coloured.
 #[derive(Copy, Clone)]
 pub enum Coloring {
-    /// Concentric squares, dark and light by turns, and dark at the centre.
+    /// A dark frame, inside it a light frame, and a dark centre.
     Squares,
-    /// Dark and light by turns.
+    /// Dark and light alternating.
     Turns,
     /// All light.
     Light,
@@ -28,7 +28,8 @@ pub enum Coloring {
     WordDown,
 }
 
-/// A rectangle of functional modules, by its first column and row, and how many it has of both.
+/// A rectangle of functional modules: its first column and row, and its width and height in
+/// modules.
 #[derive(Copy, Clone)]
 pub struct Figure {
     pub left: usize,
@@ -39,15 +40,15 @@ pub struct Figure {
 }
 
 impl Figure {
-    /// Whether the figure has the module in column `x` and row `y`.
+    /// Returns whether the figure contains the module in column `x` and row `y`.
     pub fn has(&self, x: usize, y: usize) -> bool
         ensures { result ≡ has self.now x y }
     {
         self.left <= x && x - self.left < self.across && self.top <= y && y - self.top < self.down
     }
 
-    /// The colour of a module `x` columns and `y` rows from the corner of the figure, in a symbol
-    /// of the version.
+    /// Returns the colour of the module `x` columns and `y` rows from the figure's top left corner,
+    /// in a symbol of `version`.
     #[inline(always)]
     pub fn color(&self, version: Version, x: usize, y: usize) -> Color
         requires fits { IsTrue (fits version self.now) }
@@ -71,14 +72,14 @@ impl Figure {
     }
 }
 
-/// Dark where the test holds.
+/// Returns `Dark` for `true`, and `Light` for `false`.
 pub fn color_of(dark: bool) -> Color
     ensures { result ≡ color_of dark }
 {
     if dark { Color::Dark } else { Color::Light }
 }
 
-// Whether a bit of the version word is a one.
+// Returns whether this bit of the version word is 1.
 fn has_word_bit(version: Version, bit: usize) -> bool
     requires at_least { 7 ≤ number version }
     requires at_most { number version ≤ 40 }
@@ -92,7 +93,7 @@ fn has_word_bit(version: Version, bit: usize) -> bool
     }
 }
 
-// A figure with one rule, by its place.
+// A figure, by its rule and its place.
 #[inline(always)]
 fn bar(coloring: Coloring, left: usize, top: usize, across: usize, down: usize) -> Figure
     ensures { result ≡ bar coloring left top across down }
@@ -106,7 +107,7 @@ fn bar(coloring: Coloring, left: usize, top: usize, across: usize, down: usize) 
     }
 }
 
-// Concentric squares.
+// Concentric squares, by their place and the modules along a side.
 #[inline(always)]
 fn square(left: usize, top: usize, side: usize) -> Figure
     ensures { result ≡ square left top side }
@@ -114,8 +115,9 @@ fn square(left: usize, top: usize, side: usize) -> Figure
     bar(Coloring::Squares, left, top, side, side)
 }
 
-/// What each Normal symbol has: the places of the format word, three finder patterns with their
-/// separators, the timing modules and the dark module. `width` is its side.
+/// Returns what every Normal symbol has: the places of the format word (all light), three finder
+/// patterns with their separators, the timing patterns and the dark module. `width` is the symbol's
+/// side.
 #[rattlefmt::skip]
 pub fn normal_figures(width: usize) -> [Figure; 18]
     requires { 21 ≤ width }
@@ -132,7 +134,7 @@ pub fn normal_figures(width: usize) -> [Figure; 18]
     ]
 }
 
-/// The copies of the version word, which Normal 7 and larger symbols have.
+/// Returns the two copies of the version word, which Normal 7 and larger versions have.
 pub fn word_figures(width: usize) -> [Figure; 2]
     requires { 11 ≤ width }
     ensures { result ≡ word_figures width }
@@ -143,8 +145,8 @@ pub fn word_figures(width: usize) -> [Figure; 2]
     ]
 }
 
-/// What each Micro symbol has: the places of the format word, a finder pattern with its separator,
-/// and the timing modules.
+/// Returns what every Micro symbol has: the places of the format word (all light), a finder pattern
+/// with its separator, and the timing patterns. `width` is the symbol's side.
 #[rattlefmt::skip]
 pub fn micro_figures(width: usize) -> [Figure; 7]
     requires { 8 ≤ width }
@@ -158,8 +160,8 @@ pub fn micro_figures(width: usize) -> [Figure; 7]
     ]
 }
 
-/// Whether two coordinates of alignment centres meet in a corner where a finder pattern is; `width`
-/// is the side of the version.
+/// Returns whether an alignment centre with these coordinates would be in the corner of a finder
+/// pattern. `width` is the symbol's side.
 pub fn is_corner_centre(width: usize, a: usize, b: usize) -> bool
     requires { 7 ≤ width }
     ensures { result ≡ is_corner_centre width a b }
@@ -168,7 +170,7 @@ pub fn is_corner_centre(width: usize, a: usize, b: usize) -> bool
     (a == 6 && (b == 6 || b == last)) || (a == last && b == 6)
 }
 
-/// The alignment pattern round a centre.
+/// Returns the alignment pattern centred at column `a` and row `b`.
 #[inline(always)]
 pub fn alignment(a: usize, b: usize) -> Figure
     ensures { result ≡ alignment a b }

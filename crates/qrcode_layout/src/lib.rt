@@ -1,5 +1,5 @@
-//! What stands where in a symbol: functional patterns, format and version words, masks, and the
-//! order of the free places.
+//! The layout of a symbol: functional patterns, format and version words, masks, and the order of
+//! the free places.
 #![tactic(auto)]
 
 pub mod centres;

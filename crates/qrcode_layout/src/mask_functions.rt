@@ -1,19 +1,20 @@
-//! The formulas of the masks, each of a column `x` and a row `y` (ISO/IEC 18004:2006, 6.8.1).
-//! They take coordinates below 0, too: the diagonal lines go on there by the same formula, and the
+//! The formulas of the masks, by column `x` and row `y` (ISO/IEC 18004:2006, 6.8.1).
+//!
+//! Coordinates may be negative: the diagonal lines continue there by the same formula, and the
 //! other masks are mirrored.
 
 ghost use Rattle.std.specs.Prelude.{◌≡◌, nat_abs};
 ghost use Rattle.qrcode_layout.specs.Masks.{turns_at};
 ghost use Rattle.qrcode_layout.specs.declared.masks.MaskPattern.TheVariants.{Checkerboard, HorizontalLines, VerticalLines, DiagonalLines, LargeCheckerboard, Fields, Diamonds, Meadow};
 
-// A coordinate without its sign.
+// Returns the absolute value of a coordinate.
 fn size(x: i16) -> u32
     ensures { result ≡ nat_abs x }
 {
     u32::from(x.unsigned_abs())
 }
 
-/// Whether `MaskPattern::Checkerboard` turns the module.
+/// Returns whether `MaskPattern::Checkerboard` reverses the module.
 pub fn checkerboard(x: i16, y: i16) -> bool
     ensures { result ≡ turns_at Checkerboard x y }
 {
@@ -21,7 +22,7 @@ pub fn checkerboard(x: i16, y: i16) -> bool
     (x + y) % 2 == 0
 }
 
-/// Whether `MaskPattern::HorizontalLines` turns the module.
+/// Returns whether `MaskPattern::HorizontalLines` reverses the module.
 pub fn horizontal_lines(_x: i16, y: i16) -> bool
     ensures { result ≡ turns_at HorizontalLines _x y }
 {
@@ -29,7 +30,7 @@ pub fn horizontal_lines(_x: i16, y: i16) -> bool
     y % 2 == 0
 }
 
-/// Whether `MaskPattern::VerticalLines` turns the module.
+/// Returns whether `MaskPattern::VerticalLines` reverses the module.
 pub fn vertical_lines(x: i16, _y: i16) -> bool
     ensures { result ≡ turns_at VerticalLines x _y }
 {
@@ -37,7 +38,7 @@ pub fn vertical_lines(x: i16, _y: i16) -> bool
     x % 3 == 0
 }
 
-/// Whether `MaskPattern::DiagonalLines` turns the module.
+/// Returns whether `MaskPattern::DiagonalLines` reverses the module.
 pub fn diagonal_lines(x: i16, y: i16) -> bool
     ensures { result ≡ turns_at DiagonalLines x y }
 {
@@ -45,7 +46,7 @@ pub fn diagonal_lines(x: i16, y: i16) -> bool
     (x + y) % 3 == 0
 }
 
-/// Whether `MaskPattern::LargeCheckerboard` turns the module.
+/// Returns whether `MaskPattern::LargeCheckerboard` reverses the module.
 pub fn large_checkerboard(x: i16, y: i16) -> bool
     ensures { result ≡ turns_at LargeCheckerboard x y }
 {
@@ -53,7 +54,7 @@ pub fn large_checkerboard(x: i16, y: i16) -> bool
     (y / 2 + x / 3) % 2 == 0
 }
 
-/// Whether `MaskPattern::Fields` turns the module.
+/// Returns whether `MaskPattern::Fields` reverses the module.
 pub fn fields(x: i16, y: i16) -> bool
     ensures { result ≡ turns_at Fields x y }
 {
@@ -61,7 +62,7 @@ pub fn fields(x: i16, y: i16) -> bool
     (x * y) % 2 + (x * y) % 3 == 0
 }
 
-/// Whether `MaskPattern::Diamonds` turns the module.
+/// Returns whether `MaskPattern::Diamonds` reverses the module.
 pub fn diamonds(x: i16, y: i16) -> bool
     ensures { result ≡ turns_at Diamonds x y }
 {
@@ -69,7 +70,7 @@ pub fn diamonds(x: i16, y: i16) -> bool
     ((x * y) % 2 + (x * y) % 3) % 2 == 0
 }
 
-/// Whether `MaskPattern::Meadow` turns the module.
+/// Returns whether `MaskPattern::Meadow` reverses the module.
 pub fn meadow(x: i16, y: i16) -> bool
     ensures { result ≡ turns_at Meadow x y }
 {

@@ -1,4 +1,4 @@
-//! The masks.
+//! The eight masks, and which of them a version has.
 
 ghost use Rattle.std.specs.Prelude.{◌≡◌, ◌<◌, ◌≤◌, pos, ◌≤ℤ◌, nat_abs, IsTrue};
 ghost use Rattle.qrcode_types.specs.Versions.{is_valid};
@@ -7,7 +7,8 @@ ghost use Rattle.qrcode_layout.specs.Masks.{turns, mask_number, micro_mask_numbe
 use crate::mask_functions;
 use qrcode_types::types::Version;
 
-/// A mask, which turns the modules of a regular pattern (ISO/IEC 18004:2006, 6.8).
+/// A data mask pattern: a regular pattern of modules that the mask reverses (ISO/IEC 18004:2006,
+/// 6.8).
 #[derive(Copy, Clone, Debug)]
 pub enum MaskPattern {
     /// Number 0: `(x + y) % 2 == 0`.
@@ -29,14 +30,14 @@ pub enum MaskPattern {
 }
 
 impl MaskPattern {
-    /// The number of the mask, 0 to 7.
+    /// Returns the number of the mask, 0 to 7.
     pub fn number(self) -> usize
         ensures { result ≡ mask_number self }
     {
         self as usize
     }
 
-    /// The number of the mask in Micro, 0 to 3, or 4 for a mask that Micro lacks.
+    /// Returns the number of the mask in Micro, 0 to 3, or 4 if Micro lacks it.
     pub fn micro_number(self) -> usize
         ensures { result ≡ micro_mask_number self }
     {
@@ -47,15 +48,15 @@ impl MaskPattern {
             .unwrap_or(4)
     }
 
-    /// Whether the version is valid and has the mask: Normal has all, Micro `HorizontalLines`,
-    /// `LargeCheckerboard`, `Diamonds` and `Meadow`.
+    /// Returns whether `version` exists and has this mask: Normal versions have all, Micro versions
+    /// `HorizontalLines`, `LargeCheckerboard`, `Diamonds` and `Meadow`.
     pub fn exists_in(self, version: Version) -> bool
         ensures { result ≡ exists_in version self }
     {
         version.is_valid() && (!version.is_micro() || self.micro_number() < 4)
     }
 
-    /// Whether the mask turns the module in column `x` and row `y`.
+    /// Returns whether the mask reverses the module in column `x` and row `y`.
     pub fn turns(self, x: i16, y: i16) -> bool
         ensures value { result ≡ turns_at self x y }
         ensures inside { pos 0 ≤ℤ x → pos 0 ≤ℤ y → result ≡ turns self (nat_abs x) (nat_abs y) }
@@ -73,7 +74,7 @@ impl MaskPattern {
     }
 }
 
-// The masks of Normal, in the order of their numbers.
+// The masks of Normal, by number.
 static NORMAL_MASKS: [MaskPattern; 8] = [
     MaskPattern::Checkerboard,
     MaskPattern::HorizontalLines,
@@ -85,7 +86,7 @@ static NORMAL_MASKS: [MaskPattern; 8] = [
     MaskPattern::Meadow,
 ];
 
-// The masks of Micro, in the order of their numbers there.
+// The masks of Micro, by their number there.
 static MICRO_MASKS: [MaskPattern; 4] = [
     MaskPattern::HorizontalLines,
     MaskPattern::LargeCheckerboard,
@@ -93,7 +94,7 @@ static MICRO_MASKS: [MaskPattern; 4] = [
     MaskPattern::Meadow,
 ];
 
-/// The masks of a version, in the order of their numbers.
+/// Returns the masks of `version`, in the order of their numbers.
 pub fn masks_of(version: Version) -> &'static [MaskPattern]
     ensures { result.now ≡ masks_of version }
 {
@@ -103,7 +104,7 @@ pub fn masks_of(version: Version) -> &'static [MaskPattern]
     }
 }
 
-/// How many masks a version has: eight in Normal, four in Micro.
+/// Returns how many masks `version` has: eight in Normal, four in Micro.
 pub fn mask_count(version: Version) -> usize
     ensures value { result ≡ mask_count version }
     ensures at_least { 1 ≤ result }
@@ -111,7 +112,8 @@ pub fn mask_count(version: Version) -> usize
     masks_of(version).len()
 }
 
-/// The mask of a valid version that has a number, which is below `mask_count`.
+/// Returns the mask of `version` with this number, which must be below `mask_count`. The version
+/// must exist.
 pub fn nth_mask(version: Version, number: usize) -> MaskPattern
     requires valid { IsTrue (is_valid version) }
     requires exists { number < mask_count version }

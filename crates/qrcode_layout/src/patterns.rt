@@ -1,4 +1,4 @@
-//! The functional patterns, place by place.
+//! The functional patterns, looked up module by module.
 
 ghost use Rattle.std.specs.Prelude.{◌≡◌, ◌+◌, ◌*◌, ◌<◌, ◌≤◌, IfSome, IsTrue, None, true, false};
 ghost use Rattle.std.specs.List.{list_any};
@@ -12,7 +12,8 @@ use crate::figures::{
 };
 use qrcode_types::types::{Color, Version};
 
-/// The module of Normal that is always dark; `width` is the side of the version, which exists.
+/// Returns the colour of the dark module of Normal versions if it is at column `x` and row `y`.
+/// `width` is the side of the version, which must exist.
 #[tactic(auto, unfolding(crate::specs::Patterns::dark_module))]
 pub fn dark_module(version: Version, width: usize, x: usize, y: usize) -> Option<Color>
     requires valid { IsTrue (is_valid version) }
@@ -25,7 +26,7 @@ pub fn dark_module(version: Version, width: usize, x: usize, y: usize) -> Option
     }
 }
 
-// Which bit of the format word of Normal stands at a place, if any, the highest being 0.
+// Returns which bit of Normal's format word is at this place, if any; bit 0 is the highest.
 #[tactic(auto, using(crate::proofs::FormatPlaces::normal_index))]
 fn normal_format_index(version: Version, width: usize, x: usize, y: usize) -> Option<usize>
     requires normal { is_micro version ≡ false }
@@ -54,7 +55,7 @@ fn normal_format_index(version: Version, width: usize, x: usize, y: usize) -> Op
     }
 }
 
-// The same of Micro.
+// Returns which bit of Micro's format word is at this place, if any; bit 0 is the highest.
 #[tactic(auto, using(crate::proofs::FormatPlaces::micro_index))]
 fn micro_format_index(version: Version, x: usize, y: usize) -> Option<usize>
     requires { is_micro version ≡ true }
@@ -70,8 +71,8 @@ fn micro_format_index(version: Version, x: usize, y: usize) -> Option<usize>
     }
 }
 
-/// Which bit of the format word stands at a place, if any, the highest being 0; `width` is the side
-/// of the version, which exists.
+/// Returns which bit of the format word is at this place, if any; bit 0 is the highest. `width` is
+/// the side of the version, which must exist.
 pub fn format_index(version: Version, width: usize, x: usize, y: usize) -> Option<usize>
     requires valid { IsTrue (is_valid version) }
     requires width { width ≡ side version }
@@ -86,8 +87,8 @@ pub fn format_index(version: Version, width: usize, x: usize, y: usize) -> Optio
     }
 }
 
-/// The bit of a place that no mask decides, of the format word or of the dark module, if it has
-/// one; `width` is the side of the version, which exists.
+/// Returns the bit at this place if it belongs to the format word or is the dark module; no mask
+/// changes these. `width` is the side of the version, which must exist.
 #[tactic(auto, unfolding(crate::specs::Patterns::decided_bit))]
 pub fn decided_bit(version: Version, width: usize, word: u16, x: usize, y: usize) -> Option<bool>
     requires valid { IsTrue (is_valid version) }
@@ -101,14 +102,14 @@ pub fn decided_bit(version: Version, width: usize, word: u16, x: usize, y: usize
     dark_module(version, width, x, y).map(|color| color == Color::Dark)
 }
 
-// Whether one of the figures has a place.
+// Returns whether one of the figures covers this place.
 fn has_any(figures: &[Figure], x: usize, y: usize) -> bool
     ensures { result ≡ list_any (λ f. has f x y) figures.now }
 {
     figures.iter().any(|figure| figure.has(x, y))
 }
 
-// Whether an alignment pattern with its centre in row `b` has a place.
+// Returns whether an alignment pattern centred in row `b` covers this place.
 fn is_in_alignment_row(version: Version, width: usize, b: usize, x: usize, y: usize) -> bool
     requires valid { IsTrue (is_valid version) }
     requires width { width ≡ side version }
@@ -123,7 +124,7 @@ fn is_in_alignment_row(version: Version, width: usize, b: usize, x: usize, y: us
     false
 }
 
-// Whether an alignment pattern has a place.
+// Returns whether an alignment pattern covers this place.
 fn is_in_alignment(version: Version, width: usize, x: usize, y: usize) -> bool
     requires valid { IsTrue (is_valid version) }
     requires width { width ≡ side version }
@@ -137,8 +138,8 @@ fn is_in_alignment(version: Version, width: usize, x: usize, y: usize) -> bool
     false
 }
 
-/// Whether a pattern or the format word has a place; `width` is the side of the version, which
-/// exists.
+/// Returns whether a pattern or the format word covers this place. `width` is the side of the
+/// version, which must exist.
 #[tactic(auto, using(crate::proofs::FigurePlaces::micro_functional, crate::proofs::FigurePlaces::normal_functional))]
 pub fn is_functional_place(version: Version, width: usize, x: usize, y: usize) -> bool
     requires valid { IsTrue (is_valid version) }

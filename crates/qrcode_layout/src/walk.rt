@@ -1,4 +1,4 @@
-//! The walk through the places that hold the bits of a symbol.
+//! The zigzag walk through the modules that hold data.
 
 ghost use Rattle.std.specs.Prelude.{◌≡◌, ◌+◌, ◌*◌, ◌<◌, ◌≤◌};
 ghost use Rattle.qrcode_types.specs.Versions.{side};
@@ -6,8 +6,8 @@ ghost use Rattle.qrcode_layout.specs.Stream.{right_column};
 
 use qrcode_types::types::Version;
 
-/// The right column of a pair of columns of the walk; pairs are numbered from the right, and
-/// `width` is the side of the version.
+/// Returns the right column of a pair of columns of the walk. Pairs are numbered from the right,
+/// from 0; `width` is the side of the version.
 pub fn right_column(version: Version, width: usize, pair: usize) -> usize
     requires width { width ≡ side version }
     requires pair { 2 * pair + 3 ≤ width }

@@ -1,4 +1,4 @@
-//! The words that name level and mask, and the version.
+//! Format words (level and mask) and version words.
 
 ghost use Rattle.std.specs.Prelude.{◌≡◌, ◌+◌, ◌*◌, ◌≤◌, IsTrue};
 ghost use Rattle.qrcode_types.specs.Versions.{has_level};
@@ -8,8 +8,7 @@ ghost use Rattle.qrcode_layout.specs.Words.{level_bits, format_bits, format_word
 use crate::masks::MaskPattern;
 use qrcode_types::types::{EcLevel, Version};
 
-// The format words of Normal: in each row those of a level, M, L, H and Q, and in it those of the
-// masks by their numbers.
+// The format words of Normal. One row for each level: M, L, H, Q; in it the masks by number.
 #[rattlefmt::skip]
 static NORMAL_WORDS: [u16; 32] = [
     0x5412, 0x5125, 0x5e7c, 0x5b4b, 0x45f9, 0x40ce, 0x4f97, 0x4aa0,
@@ -18,8 +17,8 @@ static NORMAL_WORDS: [u16; 32] = [
     0x355f, 0x3068, 0x3f31, 0x3a06, 0x24b4, 0x2183, 0x2eda, 0x2bed,
 ];
 
-// The format words of Micro: in each row those of a version and level, from Micro 1 at L to Micro 4
-// at Q, and in it those of the masks by their numbers in Micro.
+// The format words of Micro. One row for each version and level, from Micro 1 at L to Micro 4 at Q;
+// in it the masks by their number in Micro.
 #[rattlefmt::skip]
 static MICRO_WORDS: [u16; 32] = [
     0x4445, 0x4172, 0x4e2b, 0x4b1c,
@@ -32,7 +31,7 @@ static MICRO_WORDS: [u16; 32] = [
     0x34e3, 0x31d4, 0x3e8d, 0x3bba,
 ];
 
-// The version words from Normal 7 to Normal 40.
+// The version words of Normal 7 to 40.
 #[rattlefmt::skip]
 static VERSION_WORDS: [u32; 34] = [
     0x07c94, 0x085bc, 0x09a99, 0x0a4d3, 0x0bbf6, 0x0c762,
@@ -43,7 +42,7 @@ static VERSION_WORDS: [u32; 34] = [
     0x2542e, 0x26a64, 0x27541, 0x28c69,
 ];
 
-// The row of a level among the format words of Normal.
+// Returns the row of a level in `NORMAL_WORDS`.
 fn normal_row(ec_level: EcLevel) -> usize
     ensures { result ≡ level_bits ec_level }
 {
@@ -55,7 +54,7 @@ fn normal_row(ec_level: EcLevel) -> usize
     }
 }
 
-// Where the format word stands in the table of Normal or in that of Micro.
+// Returns the index of a format word in `NORMAL_WORDS` or `MICRO_WORDS`.
 fn word_index(version: Version, ec_level: EcLevel, mask: MaskPattern) -> usize
     requires level { IsTrue (has_level version ec_level) }
     requires mask { IsTrue (exists_in version mask) }
@@ -70,8 +69,8 @@ fn word_index(version: Version, ec_level: EcLevel, mask: MaskPattern) -> usize
     }
 }
 
-/// The format word: the fifteen bits that name a level and a mask of a version that has both
-/// (ISO/IEC 18004:2006, 6.9).
+/// Returns the format word (format information): the fifteen bits that name `ec_level` and `mask`
+/// (ISO/IEC 18004:2006, 6.9). The version must have both.
 #[tactic(auto, using(crate::proofs::Formats::format_bits_small))]
 pub fn format_word(version: Version, ec_level: EcLevel, mask: MaskPattern) -> u16
     requires level { IsTrue (has_level version ec_level) }
@@ -85,8 +84,8 @@ pub fn format_word(version: Version, ec_level: EcLevel, mask: MaskPattern) -> u1
     }
 }
 
-/// The version word: the eighteen bits that name a version from Normal 7 to Normal 40
-/// (ISO/IEC 18004:2006, 6.10).
+/// Returns the version word (version information): the eighteen bits that name Normal version
+/// `number`, 7 to 40 (ISO/IEC 18004:2006, 6.10).
 #[tactic(auto, using(crate::proofs::WordTables::version_at))]
 pub fn version_word(number: usize) -> u32
     requires at_least { 7 ≤ number }

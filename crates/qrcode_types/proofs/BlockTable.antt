@@ -1,4 +1,4 @@
--- What holds of each version and level by the table of blocks.
+-- Facts about every version and level, computed from the table of blocks.
 use Rattle.std.proofs.Common.{subst, add-one, lt_trans, le_antisymm, ◌≡◌, ℕ, zero, suc, ◌+◌, ◌-◌, ◌*◌, ◌<◌, ◌≤◌, ◌==◌, nat_le, nat_lt, pos, negsuc, Bool, true, false, ◌&&◌, ◌||◌, not, IsTrue, [], length, slice_index, slice_index_or, refl, ap, ◌∙◌, inl, inr, arith, length-append}
 use Rattle.std.proofs.lemmas.Bool.{cases_lt, agree_below, agree_below_at, and_parts, or_cases, both_ways, not-true, leb-true, ltb-true, eqb-true}
 use Rattle.std.proofs.lemmas.List.{length-replicate}
@@ -11,7 +11,7 @@ use Rattle.qrcode_types.specs.declared.types.Version.TheVariants.{Normal, Micro}
 use Rattle.qrcode_types.specs.declared.types.EcLevel.{EcLevel}
 use Rattle.qrcode_types.specs.declared.types.EcLevel.TheVariants.{L, M, Q, H}
 
--- the entry at a row and a level
+-- the table's entry at a row and a level
 entry_at : ℕ → ℕ → (ℕ × ℕ × ℕ × ℕ)
 entry_at row level = slice_index_or (slice_index_or block_table row []) level (0, 0, 0, 0)
 
@@ -51,7 +51,7 @@ level_number-lt M = omega arith
 level_number-lt Q = omega arith
 level_number-lt H = omega arith
 
--- a test passes at each level of the first `rows` rows
+-- the test passes at each level of the first `rows` rows
 abbrev passes : (ℕ → ℕ → Bool) → ℕ → Bool
 passes test rows = agree_below (λ i. agree_below (test i) (λ j. true) 4) (λ i. true) rows
 
@@ -60,7 +60,7 @@ at_each test rows e i lt l =
     let row = agree_below_at (λ i. agree_below (test i) (λ j. true) 4) (λ i. true) rows i e lt in
     agree_below_at (test i) (λ j. true) 4 (level_number l) row (level_number-lt l)
 
--- a test of a row's number and an entry passes where the entry has blocks
+-- if the entry has blocks, the test passes for the row's number and the entry
 abbrev if_some : (ℕ → (ℕ × ℕ × ℕ × ℕ) → Bool) → ℕ → ℕ → Bool
 if_some test i j = (entry_at i j).0 == 0 || test i (entry_at i j)
 
@@ -129,7 +129,7 @@ all_less : passes is_less_than_next 39 ≡ true
 unfolding entry_at block_table
 all_less = refl
 
--- a number that grows at each step is greater after more steps
+-- a function that grows at each step grows over several
 rising : (f : ℕ → ℕ) (top : ℕ) → ((i : ℕ) → i < top → f i < f (i + 1)) → (m n : ℕ) → m < n → n ≤ top → f m < f n
 rising f top step m zero lt le = absurd (omega arith)
 rising f top step m (suc n) lt le =
@@ -139,7 +139,7 @@ rising f top step m (suc n) lt le =
       | inr above ↦ subst (λ k. f k < f (suc n)) (le_antisymm above (omega arith)) next
     ]
 
--- a higher version of Normal holds more
+-- a higher Normal version holds more
 pub capacity_ascends : (l : EcLevel) (m n : ℕ) → 1 ≤ m → m < n → n ≤ 40 → capacity (Normal (pos m)) l < capacity (Normal (pos n)) l
 unfolding capacity
 capacity_ascends l m n some lt le =

@@ -1,4 +1,4 @@
--- Characters that a symbol has room for have a count that fits their length field.
+-- If a symbol has room for some number of characters, that number fits the length field.
 use Rattle.std.proofs.Common.{◌≡◌, ℕ, zero, suc, ◌+◌, ◌^◌, ◌<◌, ◌≤◌, nat_le, nat_lt, pos, negsuc, Bool, true, ◌&&◌, IsTrue, refl, inl, inr, arith}
 use Rattle.std.proofs.lemmas.Bool.{agree_below, agree_below_at, and_parts, cases_lt, leb-true, ltb-true}
 use Rattle.qrcode_types.specs.Tables.{block_table}
@@ -12,13 +12,13 @@ use Rattle.qrcode_types.specs.declared.types.EcLevel.TheVariants.{L, M, Q, H}
 use Rattle.qrcode_types.specs.declared.types.Mode.{Mode}
 use Rattle.qrcode_types.specs.declared.types.Mode.TheVariants.{Numeric, Alphanumeric, Byte, Kanji}
 
--- a symbol has no room for the least count that does not fit
+-- a symbol has no room for the smallest number of characters that does not fit the length field
 abbrev is_enough : Version → EcLevel → Mode → Bool
 is_enough v l m =
     let field = length_bits_count m v in
     nat_lt (capacity v l) (mode_bits_count v + field + data_bits_count m (2 ^ field))
 
--- that holds at each level and mode
+-- so at each level and in each mode
 abbrev all_enough : Version → Bool
 all_enough v = for_all (is_enough v L) && (for_all (is_enough v M) && (for_all (is_enough v Q) && for_all (is_enough v H)))
 
@@ -48,7 +48,7 @@ enough (Micro (pos (suc n))) l m e =
     enough_in (Micro (pos (suc n))) (agree_below_at (λ n. all_enough (Micro (pos (suc n)))) (λ n. true) 4 n in_micro below) l m
 enough (Micro (negsuc n)) l m e = cc
 
--- more characters have no fewer bits
+-- more characters take no fewer bits
 data_bits_count-le : (m : Mode) (a b : ℕ) → a ≤ b → data_bits_count m a ≤ data_bits_count m b
 data_bits_count-le Numeric a b le = omega arith
 data_bits_count-le Alphanumeric a b le = omega arith

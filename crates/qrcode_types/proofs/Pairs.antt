@@ -8,7 +8,7 @@ use Rattle.qrcode_types.specs.Characters.{is_between, is_kanji, are_kanji, kanji
 pub in_range : (low high b : ℕ) → is_between low high b ≡ true → (low ≤ b) × (b ≤ high)
 in_range low high b h = let p = and_parts (nat_le low b) (nat_le b high) h in (leb-true low b p.0, leb-true b high p.1)
 
--- where a pair stands: rows of 192, of which the first 31 begin at 0x81 and the others at 0xe0
+-- the row of a pair: rows of 192 numbers, the first 31 for lead bytes from 0x81 on, the others for those from 0xe0 on
 pub record IsPair (b c n : ℕ) : Type 0 where
   pub row : ℕ
   pub number : n ≡ row * 192 + (c - 64)
@@ -64,7 +64,7 @@ pair_at b c h =
           high_pair b c (omega (arith, e)) s.0 (omega (arith, s.1)) (omega (arith, e, s.1))
     ]
 
--- the least pair is 0x8140, and no pair has a number of more than 13 bits
+-- the lowest pair is 0x8140, and the number of every pair has at most 13 bits
 pub least_pair : (b c : ℕ) → is_kanji b c ≡ true → 0x8140 ≤ 256 * b + c
 least_pair b c h =
     let p = pair_at b c h in
@@ -83,7 +83,7 @@ same_pair a b c d p q e =
       omega (arith, r.1, p.least, q.least),
     )
 
--- what stands behind the first pair are pairs
+-- what follows the first pair are pairs
 pub pairs_behind : (pairs : List ℕ) → 2 ≤ length pairs → are_kanji pairs ≡ true → are_kanji (take (length pairs - 2) (drop 2 pairs)) ≡ true
 pairs_behind [] some are = absurd (omega arith)
 pairs_behind (b ∷ []) some are = absurd (omega arith)

@@ -21,7 +21,7 @@ digits_are_alphanumeric (b ∷ bytes) e =
     let parts = and_parts (is_digit b) (list_all is_digit bytes) e in
     and_from _ _ (digit_is_alphanumeric b parts.0) (digits_are_alphanumeric bytes parts.1)
 
--- the items of a slice of bytes
+-- if each item is below 256, they are bytes
 pub are_bytes : (numbers : List ℕ) → ((i : ℕ) → get_or numbers i 0 < 256) → AreBytes numbers
 are_bytes [] each = tt
 are_bytes (n ∷ numbers) each = (each 0, are_bytes numbers (λ i. each (suc i)))
@@ -45,7 +45,7 @@ writes Byte Kanji e bytes are written = cc
 writes Kanji Numeric e bytes are written = cc
 writes Kanji Alphanumeric e bytes are written = cc
 
--- the characters in so many bytes, by the bytes of each
+-- the number of characters is the number of bytes divided by the bytes of each
 pub counted : (m : Mode) (n : ℕ) → n / bytes_each m ≡ character_count m n
 counted Numeric n = omega arith
 counted Alphanumeric n = omega arith

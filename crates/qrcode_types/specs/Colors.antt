@@ -15,6 +15,6 @@ abbrev pub is_dark : Color → Bool  -- the colour is dark
 is_dark Dark = true
 is_dark Light = false
 
-abbrev pub color_of : Bool → Color  -- dark where the test holds
+abbrev pub color_of : Bool → Color  -- dark for true, light for false
 color_of true = Dark
 color_of false = Light

@@ -1,4 +1,4 @@
--- The texts of refusals.
+-- The error messages.
 use Rattle.std.specs.Prelude.{ℕ, List, codes}
 use Rattle.qrcode_types.specs.declared.types.QrError.{QrError}
 use Rattle.qrcode_types.specs.declared.types.QrError.TheVariants.{DataTooLong, InvalidVersion, UnsupportedCharacterSet, InvalidEciDesignator, InvalidCharacter, OutOfMemory}

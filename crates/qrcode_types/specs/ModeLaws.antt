@@ -1,4 +1,4 @@
--- The order of modes is a partial order, in which no two modes stand equal.
+-- The order of modes is a partial order, and no two different modes compare as equal.
 use Rattle.std.specs.Prelude.{◌≡◌, Bool, true, false, not, ◌&&◌, ◌||◌, Option, Some, None, refl}
 use Rattle.std.proofs.Common.{ap}
 use Rattle.std.proofs.Math.Bool.{beq}
@@ -12,7 +12,7 @@ use Rattle.qrcode_types.specs.Modes.{is_at_most, order_by, mode_order}
 use Rattle.qrcode_types.specs.declared.types.Mode.{Mode}
 use Rattle.qrcode_types.specs.declared.types.Mode.TheVariants.{Numeric, Alphanumeric, Byte, Kanji}
 
-abbrev pub for_all : (Mode → Bool) → Bool  -- a test passes for every mode
+abbrev pub for_all : (Mode → Bool) → Bool  -- the test passes for every mode
 for_all test = test Numeric && (test Alphanumeric && (test Byte && test Kanji))
 
 pub at_each : (test : Mode → Bool) → for_all test ≡ true → (m : Mode) → test m ≡ true
@@ -22,7 +22,7 @@ at_each test e =
     let third = and_parts (test Byte) (test Kanji) second.1 in
     elim [ Numeric ↦ first.0 | Alphanumeric ↦ second.0 | Byte ↦ third.0 | Kanji ↦ third.1 ]
 
-abbrev is_below : Mode → Mode → Bool  -- how two modes stand, as two tests
+abbrev is_below : Mode → Mode → Bool  -- how two modes compare, as two tests: less, and equal
 is_below a b = is_some_and is_lt (mode_order a b)
 
 abbrev is_same : Mode → Mode → Bool
@@ -60,13 +60,13 @@ mode_trans : (x y z : Mode) → mode_order x y ≡ Some Less → mode_order y z 
 mode_trans x y z p q =
     less_from (mode_order x z) (from_implied (is_below x y) (is_below y z) (is_below x z) (is_below-trans x y z) (ap (is_some_and is_lt) p) (ap (is_some_and is_lt) q))
 
-same_mode : (x y : Mode) → is_same x y ≡ true → x ≡ y  -- modes that stand equal are one
+same_mode : (x y : Mode) → is_same x y ≡ true → x ≡ y  -- modes that compare as equal are the same
 same_mode Numeric y = elim y as (λ y. is_same Numeric y ≡ true → Numeric ≡ y) [ Numeric ↦ λ e. refl | Alphanumeric ↦ λ e. cc | Byte ↦ λ e. cc | Kanji ↦ λ e. cc ]
 same_mode Alphanumeric y = elim y as (λ y. is_same Alphanumeric y ≡ true → Alphanumeric ≡ y) [ Numeric ↦ λ e. cc | Alphanumeric ↦ λ e. refl | Byte ↦ λ e. cc | Kanji ↦ λ e. cc ]
 same_mode Byte y = elim y as (λ y. is_same Byte y ≡ true → Byte ≡ y) [ Numeric ↦ λ e. cc | Alphanumeric ↦ λ e. cc | Byte ↦ λ e. refl | Kanji ↦ λ e. cc ]
 same_mode Kanji y = elim y as (λ y. is_same Kanji y ≡ true → Kanji ≡ y) [ Numeric ↦ λ e. cc | Alphanumeric ↦ λ e. cc | Byte ↦ λ e. cc | Kanji ↦ λ e. refl ]
 
--- a test that agrees at each pair of modes tells which stand equal
+-- a test that agrees with `is_same` on `for_all` modes agrees with it on any two
 pub mode_ties : (equal : Mode → Mode → Bool) → for_all (λ x. for_all (λ y. beq (equal x y) (is_same x y))) ≡ true → (x y : Mode) → equal x y ≡ is_same x y
 mode_ties equal e x y =
     let agree = at_each (λ y. beq (equal x y) (is_same x y)) (at_each (λ x. for_all (λ y. beq (equal x y) (is_same x y))) e x) y in

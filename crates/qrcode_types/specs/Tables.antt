@@ -1,11 +1,12 @@
--- How the codewords of each version and level are parted into blocks, and other tables by version.
+-- How the codewords of each version and level are divided into blocks, and other tables by version.
 use Rattle.std.specs.Prelude.{ℕ, List, [], ◌∷◌}
 
-abbrev pub levels : (l m q h : ℕ × ℕ × ℕ × ℕ) → List (ℕ × ℕ × ℕ × ℕ)  -- a row: a version at each of the four levels
+abbrev pub levels : (l m q h : ℕ × ℕ × ℕ × ℕ) → List (ℕ × ℕ × ℕ × ℕ)  -- a row: one version at each of the four levels
 levels l m q h = l ∷ m ∷ q ∷ h ∷ []
 
--- A row for each version, Normal 1 to 40 and then Micro 1 to 4, two rows a line, and in it for each of the levels L, M, Q, H: the error correction bytes of
--- each block, the short blocks, the data bytes of each of them, and the long blocks, which have one data byte more; four zeros where the level is lacking.
+-- One row for each version, Normal 1 to 40 and then Micro 1 to 4, two rows to a line. In each row, for each of the levels L, M, Q, H: the number of
+-- error correction bytes in each block, of short blocks, of data bytes in a short block, and of long blocks, which have one more data byte; four
+-- zeros where the version lacks the level.
 unfoldable pub block_table : List (List (ℕ × ℕ × ℕ × ℕ))
 block_table =
     levels (7, 1, 19, 0) (10, 1, 16, 0) (13, 1, 13, 0) (17, 1, 9, 0) ∷ levels (10, 1, 34, 0) (16, 1, 28, 0) (22, 1, 22, 0) (28, 1, 16, 0) ∷
@@ -31,14 +32,14 @@ block_table =
     levels (2, 1, 3, 0) (0, 0, 0, 0) (0, 0, 0, 0) (0, 0, 0, 0) ∷ levels (5, 1, 5, 0) (6, 1, 4, 0) (0, 0, 0, 0) (0, 0, 0, 0) ∷
     levels (6, 1, 11, 0) (8, 1, 9, 0) (0, 0, 0, 0) (0, 0, 0, 0) ∷ levels (8, 1, 16, 0) (10, 1, 14, 0) (14, 1, 10, 0) (0, 0, 0, 0) ∷ []
 
--- the codewords of each version, data and error correction together, in the same order of versions
+-- the number of codewords of each version, data and error correction together; versions in the same order
 unfoldable pub codeword_table : List ℕ
 codeword_table =
     26 ∷ 44 ∷ 70 ∷ 100 ∷ 134 ∷ 172 ∷ 196 ∷ 242 ∷ 292 ∷ 346 ∷ 404 ∷ 466 ∷ 532 ∷ 581 ∷ 655 ∷ 733 ∷ 815 ∷ 901 ∷ 991 ∷ 1085 ∷
     1156 ∷ 1258 ∷ 1364 ∷ 1474 ∷ 1588 ∷ 1706 ∷ 1828 ∷ 1921 ∷ 2051 ∷ 2185 ∷ 2323 ∷ 2465 ∷ 2611 ∷ 2761 ∷ 2876 ∷ 3034 ∷ 3196 ∷ 3362 ∷ 3532 ∷ 3706 ∷
     5 ∷ 10 ∷ 17 ∷ 24 ∷ []
 
--- the remainder bits of each version, the free modules behind the last codeword, in the same order of versions
+-- the number of remainder bits of each version, the free modules after the last codeword; versions in the same order
 abbrev pub remainder_table : List ℕ
 remainder_table =
     0 ∷ 7 ∷ 7 ∷ 7 ∷ 7 ∷ 7 ∷ 0 ∷ 0 ∷ 0 ∷ 0 ∷ 0 ∷ 0 ∷ 0 ∷ 3 ∷ 3 ∷ 3 ∷ 3 ∷ 3 ∷ 3 ∷ 3 ∷

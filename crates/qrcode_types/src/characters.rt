@@ -1,4 +1,4 @@
-//! The characters that the modes write, and their numbers.
+//! The characters that each mode can write, and their numbers.
 
 ghost use Rattle.std.specs.Prelude.{◌≡◌, ◌+◌, ◌-◌, ◌*◌, ◌/◌, ◌%◌, ◌<◌, ◌≤◌, IsTrue};
 ghost use Rattle.std.specs.List.{list_all};
@@ -6,7 +6,7 @@ ghost use Rattle.qrcode_types.specs.Characters as characters;
 
 use crate::types::Mode;
 
-/// Whether the mode can write the bytes.
+/// Returns whether `mode` can write `bytes`.
 pub fn can_write(mode: Mode, bytes: &[u8]) -> bool
     ensures { result ≡ characters.can_write mode bytes.now }
 {
@@ -18,7 +18,7 @@ pub fn can_write(mode: Mode, bytes: &[u8]) -> bool
     }
 }
 
-/// The bytes of a character: two in Kanji, and else one.
+/// Returns how many bytes a character takes in `mode`: two in Kanji, otherwise one.
 pub fn bytes_each(mode: Mode) -> usize
     ensures value { result ≡ characters.bytes_each mode }
     ensures at_least { 1 ≤ result }
@@ -29,7 +29,7 @@ pub fn bytes_each(mode: Mode) -> usize
     }
 }
 
-/// The characters in so many bytes.
+/// Returns how many characters `bytes` bytes are in `mode`.
 #[tactic(auto, using(crate::proofs::Writing::counted))]
 pub fn character_count(mode: Mode, bytes: usize) -> usize
     ensures { result ≡ characters.character_count mode bytes }
@@ -55,14 +55,14 @@ fn is_between(low: u8, high: u8, byte: u8) -> bool
     low <= byte && byte <= high
 }
 
-/// Whether the byte is one of the characters 0 to 9.
+/// Returns whether `byte` is one of the characters `0` to `9`.
 pub fn is_digit(byte: u8) -> bool
     ensures { result ≡ characters.is_digit byte }
 {
     byte.is_ascii_digit()
 }
 
-/// The number of a digit, which the byte is.
+/// Returns the value of a digit. `byte` must be one.
 pub fn digit_number(byte: u8) -> u32
     requires { IsTrue (characters.is_digit byte) }
     ensures value { result ≡ byte - 48 }
@@ -71,7 +71,7 @@ pub fn digit_number(byte: u8) -> u32
     u32::from(byte - b'0')
 }
 
-/// Whether the mode Alphanumeric has the character.
+/// Returns whether Alphanumeric mode can write `byte`.
 #[tactic(auto, using(crate::proofs::Alphabet::is_alphanumeric_by_cases))]
 pub fn is_alphanumeric(byte: u8) -> bool
     ensures { result ≡ characters.is_alphanumeric byte }
@@ -79,7 +79,7 @@ pub fn is_alphanumeric(byte: u8) -> bool
     matches!(byte, b'0'..=b'9' | b'A'..=b'Z' | b' ' | b'$' | b'%' | b'*' | b'+' | b'-'..=b'/' | b':')
 }
 
-/// The number of a character of the mode Alphanumeric, and 0 for any other byte (ISO/IEC
+/// Returns the number of a character in Alphanumeric mode, or 0 for any other byte (ISO/IEC
 /// 18004:2006, table 5).
 #[tactic(auto, using(crate::proofs::Alphabet::alphanumeric_number_by_cases))]
 pub fn alphanumeric_number(byte: u8) -> u32
@@ -102,14 +102,14 @@ pub fn alphanumeric_number(byte: u8) -> u32
     }
 }
 
-/// Whether the byte can begin a pair.
+/// Returns whether `byte` can be the first byte of a Kanji pair.
 pub fn is_lead(byte: u8) -> bool
     ensures { result ≡ characters.is_lead byte }
 {
     is_between(0x81, 0x9f, byte) || is_between(0xe0, 0xeb, byte)
 }
 
-/// Whether two bytes are a pair that the mode Kanji writes.
+/// Returns whether Kanji mode can write this pair of bytes.
 #[tactic(auto, unfolding(crate::specs::Characters::is_kanji))]
 pub fn is_kanji(first: u8, second: u8) -> bool
     ensures { result ≡ characters.is_kanji first second }
@@ -132,8 +132,8 @@ fn are_kanji(bytes: &[u8]) -> bool
     rest.is_empty()
 }
 
-/// The number of a pair, which the bytes are: pairs from 0x8140 on are numbered in rows of 192, and
-/// behind them those from 0xe040 on (ISO/IEC 18004:2006, 6.4.6).
+/// Returns the 13-bit number of a pair that Kanji mode can write (ISO/IEC 18004:2006, 6.4.6). Pairs
+/// from 0x8140 on are numbered in rows of 192; those from 0xe040 on follow them.
 #[tactic(auto, using(crate::proofs::Pairs::least_pair), unfolding(crate::specs::Characters::kanji_number))]
 pub fn kanji_number(first: u8, second: u8) -> u32
     requires { IsTrue (characters.is_kanji first second) }

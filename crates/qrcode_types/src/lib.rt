@@ -1,5 +1,5 @@
-//! What all layers of the encoder speak of: refusals, colours, error correction levels, versions
-//! and modes.
+//! The types that all layers of the encoder share: errors, colours, error correction levels,
+//! versions and modes.
 #![tactic(auto)]
 
 pub mod characters;

@@ -1,4 +1,4 @@
-//! What a version knows of a mode: whether it has it, and the number that announces it.
+//! Which modes a version has, and their mode indicators.
 
 ghost use Rattle.std.specs.Prelude.{◌≡◌, ◌<◌, ◌^◌, IsTrue};
 ghost use Rattle.qrcode_types.specs.Versions.{is_valid};
@@ -6,10 +6,8 @@ ghost use Rattle.qrcode_types.specs.Modes as modes;
 
 use crate::types::{Mode, Version};
 
-/// Whether the version has the mode: all are in Normal, and in Micro those whose number fits the
-/// mode indicator.
-///
-/// The version is one that exists.
+/// Returns whether `version`, which must exist, has `mode`. Normal versions have all modes; Micro
+/// versions have those whose number fits the mode indicator.
 pub fn has_mode(version: Version, mode: Mode) -> bool
     requires { IsTrue (is_valid version) }
     ensures { result ≡ modes.has_mode version mode }
@@ -20,7 +18,7 @@ pub fn has_mode(version: Version, mode: Mode) -> bool
     }
 }
 
-/// The number that the mode indicator writes (ISO/IEC 18004:2006, table 2).
+/// Returns the value of the mode indicator for `mode` (ISO/IEC 18004:2006, table 2).
 pub fn indicator(version: Version, mode: Mode) -> u32
     ensures { result ≡ modes.indicator version mode }
 {
@@ -40,9 +38,8 @@ pub fn indicator(version: Version, mode: Mode) -> u32
     }
 }
 
-/// The mode of a version that can write all that its other modes can.
-///
-/// The version is one that exists.
+/// Returns the mode of `version` that can write everything its other modes can. The version must
+/// exist.
 pub fn widest_mode(version: Version) -> Mode
     requires { IsTrue (is_valid version) }
     ensures { result ≡ modes.widest_mode version }

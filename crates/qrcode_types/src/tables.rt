@@ -1,4 +1,4 @@
-//! How the codewords of a symbol are parted into blocks.
+//! How the codewords of a symbol are divided into blocks.
 
 ghost use Rattle.std.specs.Prelude.{◌≡◌, ℕ, ◌+◌, ◌*◌, ◌<◌, ◌≤◌, pos, length, is_some, IfSome, IsTrue};
 ghost use Rattle.qrcode_types.specs.Versions.{is_valid, has_level, blocks_entry, has_half_codeword, block_lengths, data_length, total_ec_length, codeword_count, capacity};
@@ -8,17 +8,17 @@ ghost use Rattle.qrcode_types.specs.declared.types.EcLevel.{EcLevel};
 
 use crate::types::{EcLevel, Version};
 
-/// The blocks of a version at a level. The short blocks come before the long ones, which have one
-/// data byte more.
+/// The blocks of a version at a level. The short blocks come first; each long block has one more
+/// data byte.
 #[derive(Copy, Clone, Debug)]
 pub struct Blocks {
-    /// The error correction bytes of each block.
+    /// Number of error correction bytes in each block.
     pub ec_length: usize,
-    /// How many short blocks there are.
+    /// Number of short blocks.
     pub short_blocks: usize,
-    /// The data bytes of a short block.
+    /// Number of data bytes in a short block.
     pub short_length: usize,
-    /// How many long blocks there are.
+    /// Number of long blocks.
     pub long_blocks: usize,
     pub ghost some_ec: { 1 ≤ ec_length },
     pub ghost ec_at_most: { ec_length ≤ 30 },
@@ -31,14 +31,14 @@ pub struct Blocks {
 impl Blocks {
     ghost use Rattle.qrcode_types.specs.Blocks.{AreBlocks, count_of, data_length_of};
 
-    /// The blocks of a version at a level, or `None` where there is no such version or it lacks the
-    /// level.
+    /// Returns the blocks of `version` at `ec_level`, or `None` if there is no such version or it
+    /// lacks the level.
     #[tactic(auto, using(crate::proofs::BlockTable::all_codewords))]
     pub fn of(version: Version, ec_level: EcLevel) -> Option<Self>
         ensures exists { is_some result ≡ has_level version ec_level }
         ensures value { IfSome result (AreBlocks version ec_level) }
 
-        // The data and error correction bytes of all blocks are the codewords of the version.
+        // The data and error correction bytes of all blocks are all codewords of the version.
         ensures adds_up { IsTrue (has_level version ec_level)
             → data_length version ec_level + total_ec_length version ec_level
             ≡ codeword_count version }
@@ -58,7 +58,7 @@ impl Blocks {
         })
     }
 
-    /// The number of blocks.
+    /// Returns the number of blocks.
     pub fn count(self) -> usize
         ensures value { result ≡ count_of self }
         ensures of_version { (v : Version) (l : EcLevel)
@@ -67,7 +67,7 @@ impl Blocks {
         self.short_blocks + self.long_blocks
     }
 
-    /// The data bytes of all blocks.
+    /// Returns the number of data bytes in all blocks together.
     pub fn data_length(self) -> usize
         ensures value { result ≡ data_length_of self }
         ensures of_version { (v : Version) (l : EcLevel)
@@ -76,7 +76,7 @@ impl Blocks {
         self.count() * self.short_length + self.long_blocks
     }
 
-    /// The error correction bytes of all blocks.
+    /// Returns the number of error correction bytes in all blocks together.
     pub fn total_ec_length(self) -> usize
         ensures value { result ≡ self.ec_length * count_of self }
         ensures of_version { (v : Version) (l : EcLevel)
@@ -86,8 +86,8 @@ impl Blocks {
     }
 }
 
-// For each version, Normal 1 to 40 and then Micro 1 to 4, and in each for L, M, Q and H, the fields
-// of `Blocks` in their order. Zeros stand where the version lacks the level.
+// One row for each version, Normal 1 to 40 and then Micro 1 to 4. Each has the fields of `Blocks`,
+// in order, for L, M, Q and H; zeros where the version lacks the level.
 #[rattlefmt::skip]
 static BLOCKS: [[(u8, u8, u8, u8); 4]; 44] = [
     [(7, 1, 19, 0), (10, 1, 16, 0), (13, 1, 13, 0), (17, 1, 9, 0)],
@@ -136,7 +136,7 @@ static BLOCKS: [[(u8, u8, u8, u8); 4]; 44] = [
     [(8, 1, 16, 0), (10, 1, 14, 0), (14, 1, 10, 0), (0, 0, 0, 0)],
 ];
 
-// What the table has for a version at a level.
+// Looks up a version at a level.
 fn entry(version: Version, ec_level: EcLevel) -> (u8, u8, u8, u8)
     requires { IsTrue (is_valid version) }
     ensures { result ≡ blocks_entry version ec_level }
@@ -144,15 +144,15 @@ fn entry(version: Version, ec_level: EcLevel) -> (u8, u8, u8, u8)
     BLOCKS[version.row()][ec_level.number()]
 }
 
-/// The data bits that a symbol of a version and level holds, or `None` where there is no such
-/// version or it lacks the level.
+/// Returns how many data bits a symbol of `version` at `ec_level` holds, or `None` if there is no
+/// such version or it lacks the level.
 #[tactic(auto, using(crate::proofs::BlockTable::capacity_ascends))]
 pub fn capacity(version: Version, ec_level: EcLevel) -> Option<usize>
     ensures exists { is_some result ≡ has_level version ec_level }
     ensures value { IfSome result (λ bits. bits ≡ capacity version ec_level) }
     ensures at_most { IfSome result (λ bits. bits ≤ 23648) }
 
-    // A higher version of Normal holds more.
+    // Each Normal version holds more than the one before it.
     ensures ascends { (m n : ℕ) → 1 ≤ m → m < n → n ≤ 40
         → capacity (Normal (pos m)) ec_level < capacity (Normal (pos n)) ec_level }
 {
@@ -165,7 +165,7 @@ pub fn capacity(version: Version, ec_level: EcLevel) -> Option<usize>
     Some(8 * blocks.data_length() - half)
 }
 
-/// Whether the last data codeword of a symbol has four bits. The version is one that exists.
+/// Returns whether the last data codeword of a symbol has only four bits. The version must exist.
 pub fn has_half_codeword(version: Version, ec_level: EcLevel) -> bool
     requires { IsTrue (is_valid version) }
     ensures { result ≡ has_half_codeword version ec_level }

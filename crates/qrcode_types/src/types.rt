@@ -1,4 +1,4 @@
-//! Refusals, colours, error correction levels, versions and modes.
+//! Errors, colours, error correction levels, versions and modes.
 
 ghost use Rattle.std.specs.Prelude.{◌≡◌, ℕ, ◌<◌, ◌≤◌, ◌↔◌, pos, nat_abs, false, length, List, Some, IsTrue, IfOk, refl};
 ghost use Rattle.std.specs.Cmp.{partial_order_from_own_ties};
@@ -23,7 +23,7 @@ use std::error::Error;
 use std::fmt;
 use std::ops::Not;
 
-/// Why a call refuses its input, or `OutOfMemory`.
+/// Why a call failed.
 #[derive(Debug, PartialEq, Eq, Copy, Clone)]
 pub enum QrError {
     /// The data is too long for the symbol, for a length field, for a list of bits, or for the
@@ -31,19 +31,19 @@ pub enum QrError {
     DataTooLong,
     /// There is no such version, or it lacks the level.
     InvalidVersion,
-    /// The version lacks a mode that the data needs, or what stands in front of it: the number of a
-    /// character set, FNC1 or the place among several symbols.
+    /// The version lacks a mode that the data needs, or the header before it: an ECI designator,
+    /// FNC1 or structured append.
     UnsupportedCharacterSet,
-    /// The number of the character set is 1,000,000 or more.
+    /// The ECI designator is 1,000,000 or more.
     InvalidEciDesignator,
     /// The mode cannot write a byte of the data.
     InvalidCharacter,
-    /// Memory was refused.
+    /// Memory ran out.
     OutOfMemory,
 }
 
 impl QrError {
-    // What is printed.
+    // Returns the message that `Display` writes.
     fn text(&self) -> &'static str
         ensures { result.now ≡ error_text self.now }
     {
@@ -58,13 +58,13 @@ impl QrError {
     }
 }
 
-/// The answer of a call that may refuse its input.
+/// The result of a call that can fail with a `QrError`.
 pub type QrResult<T> = Result<T, QrError>;
 
 impl fmt::Display for QrError {
     ghost output = { λ e. Some (error_text e) };
 
-    // A width, a fill and a precision change nothing.
+    // Width, fill and precision have no effect.
     ghost styled_output = { λ e _. Some (error_text e) };
 
     fn fmt<W: fmt::Write>(&self, f: &mut fmt::Formatter<W>) -> fmt::Result {
@@ -93,14 +93,14 @@ impl<T: Drop> From<AllocFailed<T>> for QrError {
 /// The colour of a module.
 #[derive(Copy, Clone, PartialEq, Eq, Hash, Debug)]
 pub enum Color {
-    /// A light module, which stands for 0.
+    /// A light module: bit 0.
     Light,
-    /// A dark module, which stands for 1.
+    /// A dark module: bit 1.
     Dark,
 }
 
 impl Color {
-    /// `dark` for `Dark`, and `light` for `Light`.
+    /// Returns `dark` for `Dark`, and `light` for `Light`.
     pub fn select<T: Drop>(self, dark: T, light: T) -> T
         ensures { result ≡ select_of self dark light }
     {
@@ -114,7 +114,7 @@ impl Color {
 impl Not for Color {
     type Output = Color;
 
-    // The other colour, whose other colour is this one.
+    // The opposite colour; the opposite of that is the colour itself.
     ghost not_gives = { λ c other. (other ≡ opposite c) × (opposite other ≡ c) };
 
     fn not(self) -> Color {
@@ -125,7 +125,7 @@ impl Not for Color {
     }
 }
 
-/// An error correction level, from the least correction to the most.
+/// An error correction level. They are ordered from the lowest to the highest.
 #[derive(Copy, Clone, PartialEq, Eq, PartialOrd, Ord, Debug)]
 pub enum EcLevel {
     /// Low: about 7 % of the codewords can be restored.
@@ -139,8 +139,7 @@ pub enum EcLevel {
 }
 
 impl EcLevel {
-    /// The number of the level, 0 to 3 in the order L, M, Q, H. Levels are compared as their
-    /// numbers.
+    /// Returns the number of the level: 0 to 3 for L, M, Q, H. Levels compare as their numbers do.
     pub fn number(self) -> usize
         ensures value { result ≡ level_number self }
         ensures equal { (other : EcLevel)
@@ -155,17 +154,17 @@ impl EcLevel {
     }
 }
 
-/// The version of a symbol, which decides its size: `Normal` from 1 to 40, or `Micro` from 1 to 4.
+/// The version of a symbol, which determines its size: `Normal` 1 to 40 or `Micro` 1 to 4.
 #[derive(Copy, Clone, PartialEq, Eq, Debug)]
 pub enum Version {
-    /// A QR code of this version, from 1 to 40.
+    /// A QR code of this version, 1 to 40.
     Normal(i16),
-    /// A Micro QR code of this version, from 1 to 4.
+    /// A Micro QR code of this version, 1 to 4.
     Micro(i16),
 }
 
 impl Version {
-    /// Whether there is such a version.
+    /// Returns whether this version exists.
     pub fn is_valid(self) -> bool
         ensures { result ≡ is_valid self }
     {
@@ -175,7 +174,7 @@ impl Version {
         }
     }
 
-    /// Whether this is a version of Micro QR.
+    /// Returns whether this is a Micro version.
     pub fn is_micro(self) -> bool
         ensures { result ≡ is_micro self }
     {
@@ -185,17 +184,17 @@ impl Version {
         }
     }
 
-    /// Whether there is such a version, and it has the level.
+    /// Returns whether this version exists and has the level.
     pub fn has_level(self, ec_level: EcLevel) -> bool
         ensures value { result ≡ has_level self ec_level }
 
-        // How many pairs of a version and a level there are.
+        // There are 168 pairs of a version and a level that it has.
         ensures levels { level_count ≡ 168 }
     {
         Blocks::of(self, ec_level).is_some()
     }
 
-    /// The modules along a side of a version that exists.
+    /// Returns the number of modules along a side, without the quiet zone. The version must exist.
     pub fn width(self) -> i16
         requires { IsTrue (is_valid self) }
         ensures { result ≡ pos (side self) }
@@ -206,7 +205,8 @@ impl Version {
         }
     }
 
-    // The row of this version in a table with a row for each, Normal 1 to 40 and then Micro 1 to 4.
+    // Returns the row of this version in a table with a row for each: Normal 1 to 40, then Micro 1
+    // to 4.
     pub(crate) fn row(self) -> usize
         requires { IsTrue (is_valid self) }
         ensures value { result ≡ row_of self }
@@ -218,10 +218,10 @@ impl Version {
         }
     }
 
-    /// The entry of this version and a level in a table with a row for each version, Normal 1 to 40
-    /// and then Micro 1 to 4, 44 in all, and in each an entry for L, M, Q and H.
+    /// Looks up this version and `ec_level` in `table`. The table has one row for each of the 44
+    /// versions, Normal 1 to 40 and then Micro 1 to 4, and in each row an entry for L, M, Q and H.
     ///
-    /// `InvalidVersion`: there is no such version, or the entry is the default.
+    /// Errors: `InvalidVersion` if there is no such version, or if the entry equals `T::default()`.
     pub fn fetch<T: PartialEq + Default + Copy>(
         self,
         ec_level: EcLevel,
@@ -243,7 +243,7 @@ impl Version {
         Ok(entry)
     }
 
-    /// The bits of a mode indicator in a version that exists.
+    /// Returns the number of bits in a mode indicator. The version must exist.
     pub fn mode_bits_count(self) -> usize
         requires { IsTrue (is_valid self) }
         ensures { result ≡ mode_bits_count self }
@@ -255,7 +255,7 @@ impl Version {
     }
 }
 
-/// How characters are written as bits.
+/// How characters are encoded as bits.
 #[derive(Copy, Clone, PartialEq, Eq, Debug)]
 pub enum Mode {
     /// Digits.
@@ -264,13 +264,13 @@ pub enum Mode {
     Alphanumeric,
     /// Any bytes.
     Byte,
-    /// Pairs of bytes of Shift JIS.
+    /// Pairs of bytes in Shift JIS.
     Kanji,
 }
 
 impl Mode {
-    /// The bits of the length field that stands before characters in this mode, in a version that
-    /// exists.
+    /// Returns the number of bits in the length field (character count indicator) before characters
+    /// in this mode. The version must exist.
     pub fn length_bits_count(self, version: Version) -> usize
         requires { IsTrue (is_valid version) }
         ensures value { result ≡ length_bits_count self version }
@@ -282,7 +282,7 @@ impl Mode {
         }
     }
 
-    // The same of a version of Normal.
+    // Returns the length of the field in Normal version `number`.
     fn normal_length_bits(self, number: i16) -> usize
         requires { IsTrue (is_valid (Normal number)) }
         ensures { result ≡ length_bits_count self (Normal number) }
@@ -295,7 +295,7 @@ impl Mode {
         }
     }
 
-    // The same of a version of Micro.
+    // Returns the length of the field in Micro version `number`.
     fn micro_length_bits(self, number: i16) -> usize
         requires { IsTrue (is_valid (Micro number)) }
         ensures { result ≡ length_bits_count self (Micro number) }
@@ -308,8 +308,8 @@ impl Mode {
         }
     }
 
-    /// The bits of so many characters in this mode; in Kanji a character is a pair of bytes.
-    /// At most 134,217,728 of them.
+    /// Returns how many bits `raw_data_len` characters take in this mode, at most 134,217,728
+    /// characters. In Kanji mode a character is a pair of bytes.
     pub fn data_bits_count(self, raw_data_len: usize) -> usize
         requires { raw_data_len ≤ 134217728 }
         ensures { result ≡ data_bits_count self raw_data_len }
@@ -322,7 +322,8 @@ impl Mode {
         }
     }
 
-    /// The least mode that can write what either of two can: their least upper bound.
+    /// Returns the smallest mode that can write whatever either of the two can: their least upper
+    /// bound.
     pub fn max(self, other: Self) -> Self
         ensures value { result ≡ mode_max self other }
         ensures least_upper_bound { IsLeastUpperBound self other result }
@@ -331,7 +332,7 @@ impl Mode {
             → mode_max result third ≡ mode_max self (mode_max other third) }
         ensures same { self ≡ other → result ≡ self }
 
-        // What either mode can write, the answer can write too.
+        // The result can write whatever either mode can.
         ensures writes_first { (bytes : List ℕ)
             → AreBytes bytes → IsTrue (can_write self bytes) → IsTrue (can_write result bytes) }
         ensures writes_second { (bytes : List ℕ)
@@ -347,8 +348,8 @@ impl Mode {
     }
 }
 
-/// A mode is less than another that can write all that it can, and more: `Numeric` < `Alphanumeric`
-/// < `Byte`, and `Kanji` < `Byte`.
+/// A mode is less than another that can write everything it can, and more: `Numeric` <
+/// `Alphanumeric` < `Byte`, and `Kanji` < `Byte`.
 impl PartialOrd for Mode {
     ghost partial_cmp = { mode_order };
 
@@ -364,7 +365,7 @@ impl PartialOrd for Mode {
     }
 }
 
-// One of three numbers, for Normal 1 to 9, 10 to 26 and 27 to 40.
+// Selects a number for Normal 1 to 9, 10 to 26, or 27 to 40.
 fn by_band(number: i16, small: usize, middle: usize, large: usize) -> usize
     requires { IsTrue (is_valid (Normal number)) }
     ensures { result ≡ by_band (nat_abs number) small middle large }

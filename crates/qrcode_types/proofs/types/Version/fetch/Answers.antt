@@ -10,7 +10,7 @@ use Rattle.qrcode_types.specs.declared.types.QrError.TheVariants.{InvalidVersion
 use Rattle.qrcode_types.proofs.BlockTable.{level_number-lt}
 use Rattle.qrcode_types.proofs.types.Version.fetch.Goals as goal
 
--- what stands at a place of a table is its entry there
+-- the item at that row and column of a table is the entry of the version and level
 entry_at : {T : Type 0} (table : List (List T)) (v : Version) (l : EcLevel) (i j : ℕ) (d : T) → i ≡ row_of v → j ≡ level_number l → i < length table → 4 ≡ length (get_or table i []) → IsEntry table v l (get_or (get_or table i []) j d)
 entry_at table v l i j d is_row is_level inside four =
     let within : j < length (get_or table i []) = omega (arith, is_level, level_number-lt l, four) in

@@ -1,4 +1,4 @@
--- The levels are counted by computing.
+-- The pairs of a version and a level are counted by computing.
 use Rattle.std.proofs.Common.{refl}
 use Rattle.qrcode_types.specs.Tables.{block_table}
 use Rattle.qrcode_types.specs.Versions.{blocks_entry, level_count}
