@@ -1,4 +1,4 @@
--- The words of the code for columns, place by place.
+-- The intermediate words of the code for columns, bit by bit.
 use Rattle.std.proofs.Common.{◌≡◌, ℕ, zero, suc, ◌+◌, ◌-◌, ◌*◌, ◌≤◌, Bool, true, false, not, ◌&&◌, ◌||◌, List, refl, ap, ap₂, ◌∙◌, arith, count_ones, if◌then◌else◌, bit_and, bit_or, bit_xor, add_assoc, slice_index_or, length, le-leb}
 use Rattle.std.proofs.lemmas.List.{get_or_past}
 use Rattle.std.proofs.lemmas.Nat.{or_lt}
@@ -34,14 +34,14 @@ upper_test false false false true e = refl
 upper_test false false false false true = refl
 upper_test false false false false false = refl
 
--- the row of a place
+-- row y as a number
 abbrev pub row : List ℕ → ℕ → ℕ
 row rows y = slice_index_or rows y 0
 
 pub or_fits : (n a b w : ℕ) → w ≡ bit_or a b → FitsWidth n a → FitsWidth n b → FitsWidth n w
 or_fits n a b w e h k = rw e (or_lt n a b h k)
 
--- the words of mixed_from
+-- the intermediate words of `mixed_from`
 abbrev pub change : List ℕ → ℕ → ℕ
 change rows y = bit_xor (row rows y) (row rows (y + 1))
 
@@ -52,7 +52,7 @@ pub upper_at : (rows : List ℕ) (y x : ℕ) → not (is_set (bit_or (inner rows
 unfolding dark_in
 upper_at rows y x = simp (has_or, has_xor, add_assoc) (upper_test (is_set (row rows y) x) (is_set (row rows (y + 1)) x) (is_set (row rows (y + 2)) x) (is_set (row rows (y + 3)) x) (is_set (row rows (y + 4)) x))
 
--- the words of column_finders
+-- the intermediate words of `column_finders`
 padded_at : (rows : List ℕ) (x k : ℕ) → is_set (padded_row rows k) x ≡ pad (dark_in rows x) k
 unfolding dark_in
 padded_at rows x zero = has_zero x
@@ -72,7 +72,7 @@ columns_crowded rows y = bit_and (four_rows rows y) (four_rows rows (y + 11))
 abbrev pub column_forms : List ℕ → ℕ → ℕ
 column_forms rows y = without (columns_alike rows y) (columns_crowded rows y)
 
--- the form in column x, by the rows
+-- a finder form in column x, by the rows
 abbrev form_of : List ℕ → ℕ → ℕ → Bool
 form_of rows y x = (((((dark_in rows x y && dark_in rows x (y + 2)) && (dark_in rows x (y + 4) && dark_in rows x (y + 6))) && dark_in rows x (y + 3)) && not (dark_in rows x (y + 1) || dark_in rows x (y + 5))) && not (four (pad (dark_in rows x)) y && four (pad (dark_in rows x)) (y + 11)))
 
@@ -102,7 +102,7 @@ column_finders_of rows y n e within =
     (λ x h. lone_form_at rows x y n e)
     (λ x h. lone_form_beside rows x y n within h)
 
--- the blocks of two rows, by what the rows are
+-- the blocks of two rows, if these are rows y and y + 1
 pub blocks_shown : (rows : List ℕ) (y n m a b v : ℕ) → m ≡ n → a ≡ row rows y → b ≡ row rows (y + 1) →
     v ≡ sum_below (m - 1) (block_penalty_in (is_set a) (is_set b)) → v ≡ sum_below (n - 1) (block_penalty_at (dark_in rows) y)
 unfolding block_penalty_at dark_in

@@ -1,4 +1,4 @@
--- The finder form in a line, with four places put before it.
+-- Finder forms in a line with four light places before it.
 use Rattle.std.proofs.Common.{◌≡◌, ℕ, zero, suc, ◌+◌, ◌-◌, ◌*◌, ◌/◌, ◌^◌, ◌<◌, ◌≤◌, Bool, true, false, not, ◌&&◌, ◌||◌, refl, ap, ap₂, sym, ◌∙◌, arith, count_ones, bit_and, bit_or, add_assoc, nat_le, leb-true}
 use Rattle.std.proofs.lemmas.Nat.{or_lt, and_le_r, pow_below}
 use Rattle.std.proofs.Math.Pow.{pow_mono}
@@ -8,7 +8,7 @@ use Rattle.qrcode_penalty.specs.Penalty.{is_finder_like, finder_penalty_at, find
 use Rattle.qrcode_penalty.proofs.Sums.{weigh_places}
 use Rattle.qrcode_penalty.proofs.Lines.{without, edges, and_false, finder_test, fits_up}
 
--- a line with four light places put before it
+-- a line with four light places before it
 abbrev pub pad : (ℕ → Bool) → ℕ → Bool
 pad line zero = false
 pad line (suc zero) = false
@@ -16,7 +16,7 @@ pad line (suc (suc zero)) = false
 pad line (suc (suc (suc zero))) = false
 pad line (suc (suc (suc (suc k)))) = line k
 
--- whether one of four places is dark
+-- one of the four places from k on is dark
 abbrev pub four : (ℕ → Bool) → ℕ → Bool
 four f k = (f k || f (k + 1)) || (f (k + 2) || f (k + 3))
 
@@ -90,7 +90,7 @@ module _ (line : ℕ → Bool) (n : ℕ) (outside : (j : ℕ) → n ≤ j → li
       finder_test (line k) (line (k + 1)) (line (k + 2)) (line (k + 3)) (line (k + 4)) (line (k + 5)) (line (k + 6)) (not (four (pad line) k && four (pad line) (k + 11)))
       ∙ ap (λ q. is_finder_like line k && q) (not_both (four (pad line) k) (four (pad line) (k + 11)) ∙ ap₂ (λ (a b : Bool). a || b) (sym (light_before k)) (sym (light_after k)))
 
--- the words of finder_penalty
+-- the intermediate words of `finder_penalties`
 abbrev pub twos : ℕ → ℕ
 twos a = bit_or a (a * 2 ^ 1)
 
@@ -100,11 +100,11 @@ fours a = bit_or (twos a) (twos a * 2 ^ 2)
 abbrev pub crowded : ℕ → ℕ
 crowded a = bit_and (fours a) (fours a / 2 ^ 11) * 2 ^ 1
 
--- where the next place is of the other colour, and the one behind it of the same again
+-- the places where the colour changes to the next place, and changes back after it
 abbrev pub turns : ℕ → ℕ
 turns a = bit_and (edges a) (edges a / 2 ^ 1)
 
--- the dark places from whose second next on three are alike
+-- the dark places k for which k + 2, k + 3 and k + 4 have one colour
 abbrev pub middles : ℕ → ℕ
 middles a = without a (bit_or (edges a) (edges a / 2 ^ 1) / 2 ^ 2)
 
@@ -200,7 +200,7 @@ finders_of a n w =
     (λ k h. forms_at a k ∙ finder_at (is_set a) n (λ j l. has_above a n j w l) k)
     (λ k h. forms_above a n k w h)
 
--- what the words need of room
+-- the room that these words need
 twos_below : (a w : ℕ) → a < 2 ^ w → twos a < 2 ^ (w + 1)
 twos_below a w h = or_lt (w + 1) a (a * 2 ^ 1) (omega (arith, h, pow_below w (w + 1) (omega arith))) (fits_up a w 1 (w + 1) h (omega arith))
 

@@ -1,4 +1,4 @@
--- The runs of a line by the modules inside them: each window of five counts with the two places behind it.
+-- The penalty of runs as the number of modules inside them: each window of five counts for its first place and the two after it.
 use Rattle.std.proofs.Common.{◌≡◌, ℕ, zero, suc, ◌+◌, ◌*◌, ◌^◌, ◌<◌, ◌≤◌, Bool, true, false, not, ◌&&◌, ◌||◌, refl, ap, ap₂, sym, ◌∙◌, arith, bit_or, if◌then◌else◌}
 use Rattle.qrcode_penalty.specs.Rows.{is_set}
 use Rattle.qrcode_penalty.proofs.Places.{has_or, has_shl, has_shl_below}
@@ -7,14 +7,14 @@ use Rattle.qrcode_penalty.specs.Inside.{before, two, three, run_from, inside_row
 use Rattle.qrcode_penalty.proofs.Runs.{is_run-same}
 use Rattle.qrcode_penalty.proofs.Sums.{sum_same, sum_plus, sum_swap}
 
--- a number with itself, shifted by one place
+-- a number, or-ed with another shifted by one place
 pub shifted_at : (a b k : ℕ) → is_set (bit_or a (b * 2 ^ 1)) k ≡ (is_set a k || before (is_set b) k)
 shifted_at a b zero = has_or a (b * 2 ^ 1) 0 ∙ ap (λ t. is_set a 0 || t) (has_shl_below b 1 0 (omega arith))
 shifted_at a b (suc k) =
     let e : suc k ≡ k + 1 = omega arith in
     has_or a (b * 2 ^ 1) (suc k) ∙ ap (λ t. is_set a (suc k) || t) (ap (λ i. is_set (b * 2 ^ 1) i) e ∙ has_shl b 1 k)
 
--- what is still to count behind the first n places
+-- what remains to be counted after the first n places
 abbrev pub behind : (ℕ → Bool) → ℕ → ℕ
 behind v n = count_if (before (two v) n) 1 + count_if (before v n) 1
 
@@ -41,11 +41,11 @@ later_cost true true true true true true = refl
 later_cost false true true true true true = refl
 later_cost q false true true true true = refl
 
--- the window from place k on, by which places are like the next
+-- the window from place k on, given which places equal the next
 abbrev window : (ℕ → Bool) → ℕ → Bool
 window line k = same (line (suc (suc (suc k)))) (line (suc (suc (suc (suc k))))) && (same (line (suc (suc k))) (line (suc (suc (suc k)))) && (same (line (suc k)) (line (suc (suc k))) && same (line k) (line (suc k))))
 
--- a place more: what counts now, with what is left for later, is what had been left and what its window costs
+-- one more place: its count and what then remains are what remained before and the cost of its window
 more : (line v : ℕ → Bool) (k : ℕ) → ((j : ℕ) → j ≤ k → v j ≡ window line j) → count_if (three v k) 1 + behind v (suc k) ≡ behind v k + count_if (v k) (if begins_run line k then 3 else 1)
 more line v zero h = first_cost (v 0)
 more line v (suc zero) h =
@@ -56,7 +56,7 @@ more line v (suc (suc k)) h =
     rw (h k (omega arith)) (rw (h (suc k) (omega arith)) (rw (h (suc (suc k)) (omega arith))
     (later_cost (s k) (s (suc k)) (s (suc (suc k))) (s (suc (suc (suc k)))) (s (suc (suc (suc (suc k))))) (s (suc (suc (suc (suc (suc k)))))))))
 
--- the windows that begin in the first n places count as many as their places and the two behind each
+-- the windows that begin in the first n places cost as much as the places they count for
 pub inside_runs : (line v : ℕ → Bool) (n : ℕ) → ((k : ℕ) → k < n → v k ≡ is_run line k 5) → sum_below n (λ k. count_if (three v k) 1) + behind v n ≡ sum_below n (run_penalty_at line)
 unfolding sum_below run_penalty_at
 inside_runs line v zero h = refl
@@ -65,7 +65,7 @@ inside_runs line v (suc n) h =
     let now = ap (λ b. count_if b (if begins_run line n then 3 else 1)) (h n (omega arith)) in
     omega (arith, inside_runs line v n (λ k l. h k (omega (arith, l))), step, now)
 
--- the same where the test holds of no place from n on
+-- `inside_runs` if the test fails at all places from n on
 pub inside_sum : (line v : ℕ → Bool) (n : ℕ) → ((k : ℕ) → k < n → v k ≡ is_run line k 5) → ((k : ℕ) → n ≤ k → v k ≡ false) → sum_below (n + 2) (λ k. count_if (three v k) 1) ≡ sum_below n (run_penalty_at line)
 unfolding sum_below
 inside_sum line v n h none =
@@ -74,7 +74,7 @@ inside_sum line v n h none =
     let same_next = ap₂ (λ (a b : Bool). count_if (a || (b || before v n)) 1) (none (suc n) (omega arith)) (none n (omega arith)) in
     ap (λ m. sum_below m (λ k. count_if (three v k) 1)) e ∙ omega (arith, inside_runs line v n h, here, same_next)
 
--- how many have one in the row before n, and in that or the one before it
+-- the number of columns with such a window in the row before n, or in one of the two before it
 abbrev pub last_row : (ℕ → ℕ → Bool) → ℕ → ℕ → ℕ
 last_row dark m n = sum_below m (λ x. count_if (before (run_from dark x) n) 1)
 

@@ -6,7 +6,7 @@ use Rattle.qrcode_penalty.proofs.Places.{has_and, has_or, has_shr, has_zero, has
 use Rattle.qrcode_penalty.proofs.Lines.{without, without_at, without_above}
 use Rattle.qrcode_penalty.proofs.ColumnWords.{row}
 
--- the modules of the first y rows stand in the last y bits of w, the newest last
+-- the modules of the first y rows are the last y bits of w, the newest one last
 pub record IsColumnUpTo (rows : List ℕ) (w column y : ℕ) : Type 0 where
   pub inside : (k : ℕ) → k < w → w ≤ k + y → is_set column k ≡ dark_in rows (w - 1) (k + y - w)
   pub above : (k : ℕ) → w ≤ k → is_set column k ≡ false
@@ -30,7 +30,7 @@ new_bit false = refl
 bit_of : (rows : List ℕ) (w column y k : ℕ) → is_set (bit_or (column / 2 ^ 1) (bit_and (row rows y) (last w))) k ≡ (is_set column (k + 1) || (is_set (row rows y) k && is_set (last w) k))
 bit_of rows w column y k = simp (has_or, has_and, has_shr)
 
--- one row more
+-- one more row
 pub column_more : (rows : List ℕ) (w column y : ℕ) → 0 < w → IsColumnUpTo rows w column y →
     IsColumnUpTo rows w (bit_or (column / 2 ^ 1) (bit_and (row rows y) (last w))) (y + 1)
 unfolding dark_in

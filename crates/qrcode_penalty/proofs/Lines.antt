@@ -1,4 +1,4 @@
--- The words of the code, place by place.
+-- The intermediate words of the code for rows, bit by bit.
 use Rattle.std.proofs.Common.{◌≡◌, ℕ, zero, suc, ◌+◌, ◌-◌, ◌*◌, ◌/◌, ◌^◌, ◌<◌, ◌≤◌, Bool, true, false, not, ◌&&◌, ◌||◌, refl, ap, ap₂, sym, ◌∙◌, arith, count_ones, bit_and, bit_or, bit_xor, add_assoc}
 use Rattle.std.proofs.lemmas.Nat.{or_lt, pow-add, pow_pos}
 use Rattle.std.proofs.Math.Nat.{mul-lt-mul_of_pos_right}
@@ -29,7 +29,7 @@ pub and_false : (a : Bool) → (a && false) ≡ false
 and_false true = refl
 and_false false = refl
 
--- where two tests hold, each of them does
+-- if two tests pass, each does
 pub both_left : (a b : Bool) → (a && b) ≡ true → a ≡ true
 both_left true b h = refl
 both_left false b h = h
@@ -67,7 +67,7 @@ block_test false false true false = refl
 block_test false false false true = refl
 block_test false false false false = refl
 
--- the words of run_penalty
+-- the intermediate words of `run_penalties`
 abbrev pub edges : ℕ → ℕ
 edges a = bit_xor a (a / 2 ^ 1)
 
@@ -77,7 +77,7 @@ spread a = bit_or (bit_or (edges a) (edges a / 2 ^ 1)) (bit_or (edges a) (edges 
 abbrev pub without : ℕ → ℕ → ℕ
 without a b = bit_xor a (bit_and a b)
 
--- of no places none are left
+-- taking bits away from 0 leaves 0
 pub none_left : (a b : ℕ) → a ≡ 0 → count_ones (without a b) ≡ 0
 unfolding ones
 none_left a b h = ap (λ n. count_ones (without n b)) h
@@ -85,7 +85,7 @@ none_left a b h = ap (λ n. count_ones (without n b)) h
 spread_at : (a k : ℕ) → not (is_set (spread a) k) ≡ is_run (is_set a) k 5
 spread_at a k = simp (has_or, has_xor, has_shr, add_assoc) (run_test (is_set a k) (is_set a (k + 1)) (is_set a (k + 2)) (is_set a (k + 3)) (is_set a (k + 4)))
 
--- the first n places but those of b
+-- the first n places except those of b
 pub without_at : (n b k : ℕ) → k < n → is_set (without (2 ^ n - 1) b) k ≡ not (is_set b k)
 without_at n b k h = has_without (2 ^ n - 1) b k ∙ ap (λ t. t && not (is_set b k)) (has_first n k h)
 
@@ -95,7 +95,7 @@ without_above n b k h = has_without (2 ^ n - 1) b k ∙ ap (λ t. t && not (is_s
 abbrev pub windows : ℕ → ℕ → ℕ
 windows a n = without (2 ^ (n - 4) - 1) (spread a)
 
--- the windows and the place behind each, and the same with the two places behind each
+-- the windows' places and the next ones; and those with the next but one
 abbrev pub two_places : ℕ → ℕ → ℕ
 two_places a n = bit_or (windows a n) (windows a n * 2 ^ 1)
 
@@ -122,7 +122,7 @@ runs_of a n room =
     ∙ inside_sum (is_set a) (is_set (windows a n)) (n - 4) (λ k h. without_at (n - 4) (spread a) k h ∙ spread_at a k) (λ k h. without_above (n - 4) (spread a) k h)
     ∙ sym (run_penalty-windows n (is_set a))
 
--- the words of blocks_between
+-- the intermediate words of `two_block_penalties`
 abbrev pub mixed : ℕ → ℕ → ℕ
 mixed a b = bit_or (bit_xor a b) (bit_or (edges a) (edges b))
 
@@ -135,7 +135,7 @@ blocks_of a b n =
     (λ k h. without_at (n - 1) (mixed a b) k h ∙ mixed_at a b k)
     (λ k h. without_above (n - 1) (mixed a b) k h)
 
--- what the words need of room
+-- the room that these words need
 pub fits_up : (a w j room : ℕ) → a < 2 ^ w → w + j ≤ room → a * 2 ^ j < 2 ^ room
 fits_up a w j room h k =
     let below : a * 2 ^ j < 2 ^ w * 2 ^ j = mul-lt-mul_of_pos_right h (pow_pos j) in

@@ -1,4 +1,4 @@
--- The places of a line, by the operations that made it.
+-- The bits of a line, by the operation that made it.
 use Rattle.std.proofs.Common.{◌≡◌, ℕ, zero, suc, ◌+◌, ◌-◌, ◌*◌, ◌/◌, ◌%◌, ◌^◌, ◌<◌, ◌≤◌, Bool, true, false, not, ◌==◌, ◌&&◌, ◌||◌, refl, ap, sym, ◌∙◌, arith, min, max, bit_and, bit_or, bit_xor}
 use Rattle.std.specs.Int.{bit_at}
 use Rattle.std.proofs.lemmas.Nat.{shr-shr, shr_split, mod_below, pow_pos}
@@ -94,7 +94,7 @@ zero_bit zero h e = refl
 zero_bit (suc zero) h e = cc
 zero_bit (suc (suc x)) h e = absurd (omega arith)
 
--- a line without places from w on is below 2 ^ w
+-- a number whose bits from w on are 0 is below 2 ^ w
 pub below_from_places : (n w : ℕ) → ((k : ℕ) → w ≤ k → is_set n k ≡ false) → n < 2 ^ w
 unfolding is_set
 below_from_places n w h =

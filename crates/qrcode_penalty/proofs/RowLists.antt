@@ -1,15 +1,15 @@
--- Lists of rows, as their numbers: what is read and what is written.
+-- Lists of rows as lists of numbers: reading and writing an item.
 use Rattle.std.proofs.Common.{◌≡◌, ℕ, ◌+◌, ◌-◌, ◌^◌, ◌<◌, List, length, map, slice_index_or, slice_set, bit_and, ap, sym, ◌∙◌, arith, subst, below_more, inl, inr}
 use Rattle.std.proofs.lemmas.Nat.{pow_pos, and_le_r}
 use Rattle.std.proofs.lemmas.List.{get_or-map, length-map, map-set, get_or-set_same, get_or-set_other, get_or_past}
 use Rattle.std.proofs.lemmas.Bool.Decides.{leb_tells}
 use Rattle.qrcode_penalty.specs.Rows.{FitsWidth}
 
--- what an index reads, as a row
+-- reading an item, as a number
 pub read : {A : Type 0} (f : A → ℕ) (rows : List A) (i : ℕ) (x : A) → i < length rows → x ≡ slice_index_or rows i x → f x ≡ slice_index_or (map f rows) i 0
 read f rows i x h e = ap f e ∙ sym (get_or-map f rows i x 0 h)
 
--- a fact of the rows before y, and of the row that is written there
+-- a fact about the rows before y, and about the row that is written at y
 pub rows_more : {A : Type 0} (f : A → ℕ) (P : ℕ → ℕ → Type 0) (rows : List A) (y : ℕ) (r : A) → y < length rows →
     ((k : ℕ) → k < y → P k (slice_index_or (map f rows) k 0)) → P y (f r) → (k : ℕ) → k < y + 1 → P k (slice_index_or (map f (slice_set rows y r)) k 0)
 rows_more f P rows y r inside before here =

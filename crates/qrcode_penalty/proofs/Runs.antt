@@ -1,18 +1,18 @@
--- The runs of a line by windows of five.
+-- The runs of a line, counted by windows of five places.
 use Rattle.std.proofs.Common.{◌≡◌, ℕ, zero, suc, ◌+◌, ◌-◌, ◌<◌, ◌≤◌, Bool, true, false, not, ◌==◌, ◌&&◌, ◌||◌, refl, ap, ap₂, sym, ◌∙◌, arith, add-one, eq-eqb, if◌then◌else◌}
 use Rattle.std.proofs.lemmas.Bool.{ne_eqb}
 use Rattle.std.proofs.lemmas.Bool.Decides.{nat_tests}
 use Rattle.qrcode_penalty.specs.Penalty.{sum_below, count_if, same, is_run, begins_run, run_length, run_cost, run_penalty, run_penalty_at}
 use Rattle.qrcode_penalty.proofs.Sums.{sum_same, sum_zero}
 
--- the run with the next place, of the same colour or not
+-- the length of the run once the next place is added, of the same colour or not
 abbrev next : Bool → ℕ → ℕ
 next s r = if s then suc r else 1
 
 no_cost : (r : ℕ) → r < 5 → run_cost r ≡ 0
 no_cost r h = grind (arith, nat_tests)
 
--- what a place more costs: 3 where it makes a run of five, and 1 where the run goes on
+-- what one more place costs: 3 if it completes five, 1 if it continues a longer run
 cost_more : (a b c d : Bool) (r : ℕ) (begins : Bool) → (begins ≡ true → r ≡ 1) → (begins ≡ false → 2 ≤ r) →
     count_if (not d) (run_cost (next c (next b (next a r)))) + run_cost (next d (next c (next b (next a r))))
     ≡ run_cost (next c (next b (next a r))) + count_if (d && (c && (b && a))) (if begins then 3 else 1)
@@ -98,7 +98,7 @@ unfolding run_length
 run_length-le line zero = omega arith
 run_length-le line (suc i) = next_le (same (line i) (line (suc i))) (run_length line i) (suc i) (run_length-le line i)
 
--- what the runs cost that end before place m
+-- the penalty of the runs that end before place m
 abbrev closed : (ℕ → Bool) → ℕ → ℕ
 closed line m = sum_below m (λ i. count_if (not (same (line i) (line (suc i)))) (run_cost (run_length line i)))
 
@@ -132,7 +132,7 @@ windows line (suc zero) = few line 1 (omega arith)
 windows line (suc (suc zero)) = few line 2 (omega arith)
 windows line (suc (suc (suc j))) = let e : suc (suc (suc j)) - 3 ≡ j = omega arith in rw e (by_windows line j)
 
--- a run of five or more counts as many windows as begin in it, and 2 more
+-- a run of five or more costs as much as the windows that begin in it, plus 2
 pub run_penalty-windows : (n : ℕ) (line : ℕ → Bool) → run_penalty n line ≡ sum_below (n - 4) (run_penalty_at line)
 unfolding run_penalty sum_below
 run_penalty-windows zero line = refl

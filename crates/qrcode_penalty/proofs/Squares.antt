@@ -1,4 +1,4 @@
--- The sums over a square.
+-- Sums over a square.
 use Rattle.std.proofs.Common.{◌≡◌, ℕ, suc, ◌+◌, ◌-◌, ◌*◌, ◌/◌, ◌^◌, ◌<◌, Bool, List, ◌&&◌, length, ap, ap₂, sym, ◌∙◌, arith, count_ones, not, max, nat_lt, inl, inr}
 use Rattle.std.specs.Int.{abs_diff}
 use mathlib.Core.Path.{fun_ext}
@@ -35,12 +35,12 @@ light_places a n =
     (λ k h. without_at (n - 1) (a / 2 ^ 1) k h ∙ ap not (has_shr a 1 k))
     (λ k h. without_above (n - 1) (a / 2 ^ 1) k h)
 
--- the light modules of the last row and of the last column give the penalty of Micro
+-- the light modules of the last row and of the last column give the Micro penalty
 pub micro_cost : (dark : ℕ → ℕ → Bool) (n h v : ℕ) → h ≡ light_count n (λ x. dark x (n - 1)) → v ≡ light_count n (dark (n - 1)) → h + v + 15 * max h v ≡ micro_penalty n dark
 unfolding micro_penalty
 micro_cost dark n h v a b = ap₂ (λ (x y : ℕ). x + y + 15 * max x y) a b
 
--- lines of the same places have as many light ones
+-- two lines that agree at all places have as many light ones
 pub light_same : (n : ℕ) (f g : ℕ → Bool) → ((k : ℕ) → k < n → f k ≡ g k) → light_count n f ≡ light_count n g
 unfolding light_count
 light_same n f g same = sum_same _ _ (n - 1) (λ k h. ap (λ b. count_if (not b) 1) (same (k + 1) (omega arith)))
@@ -49,7 +49,7 @@ pub balance_of : (dark : ℕ → ℕ → Bool) (w result darks : ℕ) → result
 unfolding balance_penalty
 balance_of dark w result darks e f = e ∙ ap (λ d. abs_diff (200 * d / (w * w)) 100) f
 
--- rows show a square that is false outside
+-- the rows have no dark place outside the square
 same_place : (w : ℕ) (rows : List ℕ) (dark : ℕ → ℕ → Bool) → length rows ≡ w → ((y : ℕ) → FitsWidth w (row rows y)) → Shows w rows dark → (x y : ℕ) → dark_in rows x y ≡ inside w dark x y
 unfolding dark_in
 same_place w rows dark square ends shows x y =

@@ -1,4 +1,4 @@
--- Sums over the numbers below a bound, and the places of a packed line as such a sum.
+-- Sums over the numbers below a bound, and the bits of a packed line as such a sum.
 use Rattle.std.proofs.Common.{◌≡◌, ℕ, zero, suc, ◌+◌, ◌*◌, ◌/◌, ◌%◌, ◌^◌, ◌<◌, ◌≤◌, Bool, true, false, not, ◌==◌, refl, ap, ap₂, sym, ◌∙◌, arith, count_ones}
 use Rattle.std.specs.Int.{bit_at}
 use Rattle.std.specs.Int.Count.{ones, ones_step}
@@ -43,7 +43,7 @@ bit_value zero h = refl
 bit_value (suc zero) h = refl
 bit_value (suc (suc x)) h = absurd (omega arith)
 
--- the ones of a number are its places that are one
+-- the bits of a number that are 1, as a sum over its places
 ones_sum : (w n : ℕ) → n < 2 ^ w → ones n ≡ sum_below w (λ k. count_if (is_set n k) 1)
 unfolding ones is_set sum_below
 ones_sum zero n h = let e : n ≡ 0 = omega arith in rw e refl
@@ -54,7 +54,7 @@ ones_sum (suc w) n h =
     ∙ ap₂ (λ (a b : ℕ). a + b) low (ones_sum w (n / 2) half ∙ sum_same (λ k. count_if (bit_at (n / 2) k == 1) 1) (λ k. count_if (bit_at n (suc k) == 1) 1) w (λ k l. ap (λ x. count_if (x == 1) 1) (sym (bit_at-suc n k))))
     ∙ sym (sum_front (λ k. count_if (bit_at n k == 1) 1) w)
 
--- the ones of a line, where its places are a test's answers at the first places
+-- the bits that are 1, if the first w bits are the results of a test and the rest are 0
 pub count_places : (n : ℕ) (f : ℕ → Bool) (w : ℕ) → ((k : ℕ) → k < w → is_set n k ≡ f k) → ((k : ℕ) → w ≤ k → is_set n k ≡ false) → count_ones n ≡ sum_below w (λ k. count_if (f k) 1)
 count_places n f w inside above =
     ones_sum w n (below_from_places n w above)
@@ -64,28 +64,28 @@ times_if : (c : ℕ) (b : Bool) → c * count_if b 1 ≡ count_if b c
 times_if c true = omega arith
 times_if c false = omega arith
 
--- the same, where each such place counts c
+-- `count_places` where each such place counts c
 pub weigh_places : (c n : ℕ) (f : ℕ → Bool) (w : ℕ) → ((k : ℕ) → k < w → is_set n k ≡ f k) → ((k : ℕ) → w ≤ k → is_set n k ≡ false) → c * count_ones n ≡ sum_below w (λ k. count_if (f k) c)
 weigh_places c n f w inside above =
     ap (λ a. c * a) (count_places n f w inside above)
     ∙ sym (sum_times c (λ k. count_if (f k) 1) w)
     ∙ sum_same (λ k. c * count_if (f k) 1) (λ k. count_if (f k) c) w (λ k l. times_if c (f k))
 
--- a sum goes on with the next number
+-- a sum with one more term
 pub sum_step : (f : ℕ → ℕ) (n s v : ℕ) → s ≡ sum_below n f → v ≡ f n → s + v ≡ sum_below (n + 1) f
 unfolding sum_below
 sum_step f n s v h k =
     let e : n + 1 ≡ suc n = omega arith in
     ap₂ (λ (a b : ℕ). a + b) h k ∙ ap (λ m. sum_below m f) (sym e)
 
--- the same with the next two
+-- a sum with two more terms
 pub sum_two : (f : ℕ → ℕ) (n s v : ℕ) → s ≡ sum_below n f → v ≡ f n + f (n + 1) → s + v ≡ sum_below (n + 2) f
 sum_two f n s v h k =
     let e : n + 1 + 1 ≡ n + 2 = omega arith in
     let one : s + f n ≡ sum_below (n + 1) f = sum_step f n s (f n) h refl in
     omega (arith, k, sum_step f (n + 1) (s + f n) (f (n + 1)) one refl, ap (λ m. sum_below m f) e)
 
--- the places where a test does not hold, and those where it holds
+-- the places where a test fails and those where it passes are all places
 pub sum_others : (f : ℕ → Bool) (n : ℕ) → sum_below n (λ k. count_if (not (f k)) 1) + sum_below n (λ k. count_if (f k) 1) ≡ n
 unfolding sum_below
 sum_others f zero = refl

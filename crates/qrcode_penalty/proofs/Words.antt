@@ -29,7 +29,7 @@ mod-add u l j =
     let e : u * 2 ^ j + l ≡ (u + l / 2 ^ j) * 2 ^ j + l % 2 ^ j = omega (arith, add-mul u (l / 2 ^ j) (2 ^ j), shr_split l j) in
     ap (λ n. n % 2 ^ j) e ∙ mod_low (u + l / 2 ^ j) j (l % 2 ^ j) (mod_below l (2 ^ j) (pow_pos j))
 
--- the same, as words of k + j bits are shifted, with a higher part h behind the word m
+-- `shr_parts` for words of k + j bits, with a higher word h after m
 word_parts : (h m l j k : ℕ) → l < 2 ^ (k + j) → ((h * 2 ^ (k + j) + m) * 2 ^ (k + j) + l) / 2 ^ j ≡ (h * 2 ^ (k + j) + m) / 2 ^ j * 2 ^ (k + j) + bit_or (m * 2 ^ k % 2 ^ (k + j)) (l / 2 ^ j)
 word_parts h m l j k p =
     let turn : k + j ≡ j + k = omega arith in
@@ -50,7 +50,7 @@ shr_top w m l j k e p =
     let P : ℕ → Type 0 = λ n. (n * 2 ^ w + l) / 2 ^ j ≡ n / 2 ^ j * 2 ^ w + bit_or (m * 2 ^ k % 2 ^ w) (l / 2 ^ j) in
     subst P none (shr_words w 0 m l j k e p)
 
--- a word that is shifted to the left: what goes over its edge, and what stays
+-- a word shifted to the left: the bits that leave it, and those that stay
 pub word_shl : (l j k : ℕ) → (l / 2 ^ k) * 2 ^ (j + k) + l * 2 ^ j % 2 ^ (j + k) ≡ l * 2 ^ j
 word_shl l j k =
     let over : l * 2 ^ j / 2 ^ (j + k) ≡ l / 2 ^ k = sym (shr-shr (l * 2 ^ j) j k) ∙ ap (λ n. n / 2 ^ k) (shl-shr l j) in

@@ -1,4 +1,5 @@
-//! What the columns of a square cost: they lie side by side in the words of its rows.
+//! Counts the penalty of columns. All columns are counted at once, bit by bit in the words of the
+//! rows.
 
 ghost use Rattle.std.specs.Prelude.{◌≡◌, ℕ, ◌+◌, ◌-◌, ◌*◌, ◌/◌, ◌<◌, ◌≤◌, ◌^◌, bit_xor, false, not, slice_index_or};
 ghost use Rattle.qrcode_penalty.specs.Rows.{FitsWidth, is_set, dark_in};
@@ -8,7 +9,7 @@ ghost use Rattle.qrcode_penalty.specs.Padding.{padded_row, four_rows};
 use crate::row::PackedRow;
 use crate::square::PackedSquare;
 
-// Where row y and the next are of two colours.
+// Returns the columns where rows `y` and `y + 1` differ.
 #[inline(always)]
 fn changes<R: PackedRow>(square: &PackedSquare<'_, R>, y: usize) -> R
     requires { y + 1 < square.now.width }
@@ -20,7 +21,7 @@ fn changes<R: PackedRow>(square: &PackedSquare<'_, R>, y: usize) -> R
     square.row(y).xor(square.row(y + 1))
 }
 
-// How many columns are not mixed.
+// Returns the number of columns that are not in `mixed`.
 #[inline(always)]
 fn unmixed<R: PackedRow>(width: u32, mixed: R) -> u32
     requires room { width ≤ 189 }
@@ -31,7 +32,7 @@ fn unmixed<R: PackedRow>(width: u32, mixed: R) -> u32
     width - mixed.count_ones()
 }
 
-// Where the five modules from row y on are not of one colour.
+// Returns the columns whose five modules from row `y` on are not all of one colour.
 #[inline(always)]
 fn mixed_from<R: PackedRow>(square: &PackedSquare<'_, R>, y: usize) -> R
     requires { y + 4 < square.now.width }
@@ -46,7 +47,7 @@ fn mixed_from<R: PackedRow>(square: &PackedSquare<'_, R>, y: usize) -> R
     inner.or(changes(square, y))
 }
 
-// The k-th row of a square with four light rows before it and light rows behind it.
+// Returns row `k - 4` of the square; for a row before or after the square, an all-light one.
 #[inline(always)]
 fn padded_row<R: PackedRow>(square: &PackedSquare<'_, R>, k: usize) -> R
     ensures { R.bits result ≡ padded_row square.now.rows k }
@@ -58,7 +59,7 @@ fn padded_row<R: PackedRow>(square: &PackedSquare<'_, R>, k: usize) -> R
     R::first(0)
 }
 
-// Where one of the four rows from the k-th on is dark, light rows being put around the square.
+// Returns the columns with a dark module in one of the padded rows `k` to `k + 3`.
 #[inline(always)]
 fn four_rows<R: PackedRow>(square: &PackedSquare<'_, R>, k: usize) -> R
     requires { k < 2 ^ 32 }
@@ -69,7 +70,7 @@ fn four_rows<R: PackedRow>(square: &PackedSquare<'_, R>, k: usize) -> R
     first.or(second)
 }
 
-// What the finder forms that begin in row y cost, over all columns.
+// Returns the penalty of the finder forms that begin in row `y`, over all columns.
 fn column_finders<R: PackedRow>(square: &PackedSquare<'_, R>, y: usize) -> u32
     requires { y + 6 < square.now.width }
     ensures value { result ≡ sum_below square.now.width
@@ -89,17 +90,17 @@ fn column_finders<R: PackedRow>(square: &PackedSquare<'_, R>, y: usize) -> u32
     40 * forms.without(crowded).count_ones()
 }
 
-/// What the runs of all columns cost: as many modules as lie inside runs of five or more, neither
-/// first nor last. Five equal modules begin n - 4 times in a run of n, and with the two rows behind
-/// each it is n - 2.
+/// Returns the penalty of the runs in all columns. A run of n >= 5 modules costs n - 2, which is
+/// the number of its modules without the first and the last. Five equal modules begin at n - 4 of
+/// its rows; these and the two rows after each are n - 2.
 pub(crate) fn column_run_penalties<R: PackedRow>(square: &PackedSquare<'_, R>) -> u32
     ensures value { result ≡ sum_below (square.now.width - 4)
         (λ y. sum_below square.now.width (λ x. run_penalty_at (dark_in square.now.rows x) y)) }
     ensures at_most { result ≤ 10000 * square.now.width }
 {
     let width = square.width();
-    // Where the five from the row before on are mixed, and where those from each of the two rows
-    // before on are.
+    // The columns where the five modules from the row before on are mixed, and those where the five
+    // from each of the two rows before are.
     let mut last = R::first(width);
     let mut both = last;
     let mut total = 0;
@@ -112,7 +113,7 @@ pub(crate) fn column_run_penalties<R: PackedRow>(square: &PackedSquare<'_, R>) -
     total + unmixed(width, both) + unmixed(width, last)
 }
 
-/// What the finder forms of all columns cost, by the rows in which they begin.
+/// Returns the penalty of the finder forms in all columns, row by row of where they begin.
 #[tactic(auto, using(crate::proofs::Sums::sum_step), unfolding(crate::specs::Penalty::sum_below))]
 pub(crate) fn column_finder_penalties<R: PackedRow>(square: &PackedSquare<'_, R>) -> u32
     ensures value { let width = square.now.width in result ≡ sum_below (width - 6)
@@ -126,7 +127,7 @@ pub(crate) fn column_finder_penalties<R: PackedRow>(square: &PackedSquare<'_, R>
     total
 }
 
-/// The last column as a row: bit y stands for its module in row y.
+/// Returns the last column as a row: bit y is the module in row y.
 pub fn last_column<R: PackedRow>(square: &PackedSquare<'_, R>) -> R
     ensures { (y : ℕ) → y < square.now.width
         → is_set (R.bits result) y ≡ dark_in square.now.rows (square.now.width - 1) y }

@@ -1,5 +1,4 @@
-//! What decides the mask of a symbol: its modules in rows packed into words, and the penalty of
-//! such rows.
+//! The penalty of a symbol, which decides its mask, counted on rows of modules packed into words.
 #![tactic(auto)]
 
 mod columns;

@@ -1,53 +1,53 @@
-//! Two rows of modules side by side: each word of a vector of two lanes belongs to one of them.
+//! Two rows of modules next to each other in vectors of two words, one for each row.
 
 ghost use Rattle.std.proofs.Common.{lit≤};
 ghost use Rattle.std.specs.Prelude.{◌≡◌, ℕ, ◌+◌, ◌-◌, ◌*◌, ◌/◌, ◌%◌, ◌<◌, ◌≤◌, ◌^◌, ◌==◌, ◌&&◌, ◌∷◌, [], bit_and, bit_or, bit_xor, count_ones};
 
 use std::simd::u64x2;
 
-/// Two rows of modules, an upper one and a lower one, packed into words: what is done, is done to
+/// Two rows of modules, an upper and a lower one, packed into words. Each operation applies to
 /// both.
 pub trait RowPair: Copy {
-    // How many bits each row has room for.
+    // Number of bits that each row has room for.
     ghost room: { ℕ };
 
-    // The number that has the bits of the upper row.
+    // The upper row as a number.
     ghost upper: { Self → ℕ };
 
-    // The number that has the bits of the lower row.
+    // The lower row as a number.
     ghost lower: { Self → ℕ };
 
-    /// The bits that are set in both.
+    /// Returns the bits that are set in both.
     fn and(self, other: Self) -> Self
         ensures upper { upper result ≡ bit_and (upper self) (upper other) }
         ensures lower { lower result ≡ bit_and (lower self) (lower other) };
 
-    /// The bits that are set in either.
+    /// Returns the bits that are set in either.
     fn or(self, other: Self) -> Self
         ensures upper { upper result ≡ bit_or (upper self) (upper other) }
         ensures lower { lower result ≡ bit_or (lower self) (lower other) };
 
-    /// The bits that are set in one of them alone.
+    /// Returns the bits that are set in only one of the two.
     fn xor(self, other: Self) -> Self
         ensures upper { upper result ≡ bit_xor (upper self) (upper other) }
         ensures lower { lower result ≡ bit_xor (lower self) (lower other) };
 
-    /// The bits that are set here and not in the other.
+    /// Returns the bits of `self` that are not set in `other`.
     fn without(self, other: Self) -> Self
         ensures upper { upper result
             ≡ bit_xor (upper self) (bit_and (upper self) (upper other)) }
         ensures lower { lower result
             ≡ bit_xor (lower self) (bit_and (lower self) (lower other)) };
 
-    /// Each bit moves down by `count`, from 1 to 63; what goes below bit 0 is left out.
+    /// Moves each bit down by `count`, 1 to 63. Bits that would go below bit 0 are dropped.
     fn down(self, count: u32) -> Self
         requires at_least { 0 < count }
         requires at_most { count < 64 }
         ensures upper { upper result ≡ upper self / 2 ^ count }
         ensures lower { lower result ≡ lower self / 2 ^ count };
 
-    /// Each bit moves up by `count`, from 1 to 63, and the last bits of the words below come
-    /// behind; none may go past the room.
+    /// Moves each bit up by `count`, 1 to 63, and fills the lowest bits with the highest `count`
+    /// bits of the words in `below`. No bit may leave the room.
     fn up_over(self, below: WordPair, count: u32) -> Self
         requires at_least { 0 < count }
         requires at_most { count < 64 }
@@ -58,7 +58,7 @@ pub trait RowPair: Copy {
         ensures lower { lower result
             ≡ lower self * 2 ^ count + below.lower / 2 ^ (64 - count) };
 
-    /// Each bit moves up by `count`, from 1 to 63; none may go past the room.
+    /// Moves each bit up by `count`, 1 to 63. No bit may leave the room.
     fn up(self, count: u32) -> Self
         requires at_least { 0 < count }
         requires at_most { count < 64 }
@@ -67,24 +67,24 @@ pub trait RowPair: Copy {
         ensures upper { upper result ≡ upper self * 2 ^ count }
         ensures lower { lower result ≡ lower self * 2 ^ count };
 
-    /// How many bits are set in the two rows together.
+    /// Returns how many bits are set in the two rows together.
     fn count_ones(self) -> u32
         ensures value { result ≡ count_ones (upper self) + count_ones (lower self) }
         ensures at_most { result ≤ 2 * room };
 
-    /// Whether no bit is set in either row.
+    /// Returns whether both rows are zero.
     fn is_zero(self) -> bool
         ensures { result ≡ (upper self == 0 && lower self == 0) };
 
-    /// The first word of each row.
+    /// Returns the first 64 bits of each row.
     fn first_words(self) -> WordPair
         ensures upper { result.upper ≡ upper self % 2 ^ 64 }
         ensures lower { result.lower ≡ lower self % 2 ^ 64 };
 }
 
-/// Two rows of few words, before which more may stand.
+/// Two rows short enough to be extended by `Longer`.
 pub trait ShortPair: RowPair {
-    // Two words are enough.
+    // At most two words each.
     ghost short: { Self.RowPair.room ≤ 128 };
 }
 
@@ -95,7 +95,7 @@ pub struct WordPair {
     pub(crate) lower: u64,
 }
 
-// The words as a vector.
+// Returns the two words as a vector.
 #[inline(always)]
 fn lanes(pair: WordPair) -> u64x2
     ensures { result ≡ pair.upper ∷ pair.lower ∷ [] }
@@ -103,7 +103,7 @@ fn lanes(pair: WordPair) -> u64x2
     u64x2::from_array([pair.upper, pair.lower])
 }
 
-// Each word moves up; what goes past it is left out.
+// Moves each word up by `count`. Bits that would leave the word are dropped.
 #[inline(always)]
 fn words_up(pair: WordPair, count: u32) -> WordPair
     requires { count < 64 }
@@ -191,7 +191,7 @@ impl RowPair for WordPair {
     }
 }
 
-/// Two rows that have 64 bits more before those of a pair.
+/// Two rows with 64 more bits, which come before those of `P`.
 #[derive(Copy, Clone)]
 pub struct Longer<P: ShortPair> {
     pub(crate) low: WordPair,

@@ -1,4 +1,4 @@
-//! What a square costs.
+//! The penalty of a square.
 
 ghost use Rattle.std.specs.Prelude.{◌≡◌, ℕ, ◌+◌, ◌-◌, ◌<◌, ◌≤◌, ◌^◌, Bool};
 ghost use Rattle.qrcode_penalty.specs.Rows.{is_set, dark_in, inside, Shows};
@@ -10,13 +10,13 @@ use crate::row::PackedRow;
 use crate::rows::{dark_count, light_count, row_and_block_penalties};
 use crate::square::PackedSquare;
 
-/// The penalty of a square of a Normal version by its dark modules (ISO/IEC 18004:2006, 6.8.3, but
-/// their balance as the Rust crate counts it, which is not in steps of 5 %).
+/// Returns the penalty of a Normal square (ISO/IEC 18004:2006, 6.8.3). The balance of dark modules
+/// is counted as the Rust crate does, not in steps of 5 %.
 pub fn normal_penalty<R: PackedRow>(square: &PackedSquare<'_, R>) -> u32
     ensures value { result ≡ normal_penalty square.now.width (dark_in square.now.rows) }
     ensures at_most { result < 2 ^ 24 }
 
-    // The same of any test that tells which places inside the square are dark.
+    // The same for any function that gives the dark places inside the square.
     ensures shown { (dark : ℕ → ℕ → Bool) → Shows square.now.width square.now.rows dark
         → result ≡ normal_penalty square.now.width (inside square.now.width dark) }
 {
@@ -28,12 +28,12 @@ pub fn normal_penalty<R: PackedRow>(square: &PackedSquare<'_, R>) -> u32
     counted + balance
 }
 
-/// The penalty of a square of a Micro version by its dark modules (ISO/IEC 18004:2006, 6.8.3).
+/// Returns the penalty of a Micro square (ISO/IEC 18004:2006, 6.8.3).
 pub fn micro_penalty<R: PackedRow>(square: &PackedSquare<'_, R>) -> u32
     ensures value { result ≡ micro_penalty square.now.width (dark_in square.now.rows) }
     ensures at_most { result < 2 ^ 24 }
 
-    // The same of any test that tells which places inside the square are dark.
+    // The same for any function that gives the dark places inside the square.
     ensures shown { (dark : ℕ → ℕ → Bool) → Shows square.now.width square.now.rows dark
         → result ≡ micro_penalty square.now.width (inside square.now.width dark) }
 {
@@ -41,8 +41,8 @@ pub fn micro_penalty<R: PackedRow>(square: &PackedSquare<'_, R>) -> u32
     micro_penalty_by_edges(square.row(width as usize - 1), last_column(square), width)
 }
 
-/// The same by the last row and the last column, which alone count: bit x of `bottom` stands for
-/// the module in column x, and bit y of `right` for the one in row y.
+/// Returns the penalty of a Micro square from its last row and last column, which are all that
+/// counts. Bit x of `bottom` is the module in column x, bit y of `right` the one in row y.
 pub fn micro_penalty_by_edges<R: PackedRow>(bottom: R, right: R, width: u32) -> u32
     requires at_least { 7 ≤ width }
     requires room { width + 3 ≤ R.room }

@@ -5,77 +5,78 @@ ghost use Rattle.std.proofs.Common.{lit≤};
 
 use crate::pair::{Longer, RowPair, WordPair};
 
-/// A row of modules, packed into words: bit x is set where a test holds of the module in column x.
+/// A row of modules packed into words, with a bit for each column. A set bit can mean a dark
+/// module, or any other property.
 pub trait PackedRow: Copy {
-    // How many bits there are.
+    // Number of bits.
     ghost room: { ℕ };
 
-    // The number that has these bits.
+    // The row as a number.
     ghost bits: { Self → ℕ };
 
     // No type has room for more than 192 bits.
     ghost room_at_most: { room ≤ 192 };
 
-    /// Two such rows side by side.
+    /// Two such rows next to each other.
     type Pair: RowPair;
 
-    /// This row as the upper one and another as the lower one.
+    /// Combines this row, as the upper one, and `lower` into a pair.
     fn beside(self, lower: Self) -> Self::Pair
         ensures upper { Self.Pair.upper result ≡ bits self }
         ensures lower { Self.Pair.lower result ≡ bits lower };
 
-    /// The row in which the first `count` bits are set.
+    /// Returns a row whose first `count` bits are set.
     fn first(count: u32) -> Self
         requires { count < room }
         ensures { bits result ≡ 2 ^ count - 1 };
 
-    /// The bits that are set in both rows.
+    /// Returns the bits that are set in both rows.
     fn and(self, other: Self) -> Self
         ensures { bits result ≡ bit_and (bits self) (bits other) };
 
-    /// The bits that are set in either row.
+    /// Returns the bits that are set in either row.
     fn or(self, other: Self) -> Self
         ensures { bits result ≡ bit_or (bits self) (bits other) };
 
-    /// The bits that are set in one of the rows alone.
+    /// Returns the bits that are set in only one of the two rows.
     fn xor(self, other: Self) -> Self
         ensures { bits result ≡ bit_xor (bits self) (bits other) };
 
-    /// The bits of this row that are not set in the other.
+    /// Returns the bits of this row that are not set in `other`.
     fn without(self, other: Self) -> Self
         ensures { bits result ≡ bit_xor (bits self) (bit_and (bits self) (bits other)) };
 
-    /// Each bit moves down by `count`, from 1 to 63; what goes below bit 0 is left out.
+    /// Moves each bit down by `count`, 1 to 63. Bits that would go below bit 0 are dropped.
     fn down(self, count: u32) -> Self
         requires at_least { 0 < count }
         requires at_most { count < 64 }
         ensures { bits result ≡ bits self / 2 ^ count };
 
-    /// Each bit moves up by `count`, from 1 to 63; none may go past the room.
+    /// Moves each bit up by `count`, 1 to 63. No bit may leave the room.
     fn up(self, count: u32) -> Self
         requires at_least { 0 < count }
         requires at_most { count < 64 }
         requires fits { bits self * 2 ^ count < 2 ^ room }
         ensures { bits result ≡ bits self * 2 ^ count };
 
-    /// How many bits are set.
+    /// Returns how many bits are set.
     fn count_ones(self) -> u32
         ensures value { result ≡ count_ones (bits self) }
         ensures at_most { result ≤ 192 };
 
-    /// Whether no bit is set.
+    /// Returns whether no bit is set.
     fn is_zero(self) -> bool
         ensures { result ≡ (bits self == 0) };
 
-    /// The row of three words, `low` being its first 64 bits; what goes past the room is left out.
+    /// Makes a row of three words, `low` having the first 64 bits. Bits past the room are dropped.
     fn of_words(low: u64, middle: u64, high: u64) -> Self
         ensures { bits result ≡ ((high * 2 ^ 64 + middle) * 2 ^ 64 + low) % 2 ^ room };
 
-    /// The first 64 bits.
+    /// Returns the first 64 bits.
     fn first_word(self) -> u64
         ensures { result ≡ bits self % 2 ^ 64 };
 
-    // A pair has as much room for each row.
+    // A pair has the same room for each of its rows.
     ghost pair_room: { Self.Pair.room ≡ room };
 }
 
@@ -151,14 +152,14 @@ impl PackedRow for u64 {
     }
 }
 
-/// A row of up to 128 bits in two words, its first 64 bits as the upper row of a pair: what joins
-/// two rows then joins both words at once.
+/// A row of up to 128 bits in two words. They are stored as a pair, the first 64 bits as its upper
+/// row, so that bit operations apply to both words at once.
 #[derive(Copy, Clone)]
 pub struct Row128 {
     words: WordPair,
 }
 
-// The row of two words.
+// Makes a row of two words.
 #[inline(always)]
 fn two_words(low: u64, high: u64) -> Row128
     ensures low { result.words.upper ≡ low }

@@ -1,4 +1,4 @@
-//! What the rows of a square cost.
+//! Counts the penalty of rows and of blocks.
 
 ghost use Rattle.std.specs.Prelude.{◌≡◌, ℕ, ◌+◌, ◌-◌, ◌*◌, ◌<◌, ◌≤◌};
 ghost use Rattle.qrcode_penalty.specs.Rows.{FitsWidth, is_set, dark_in};
@@ -8,8 +8,8 @@ use crate::pair::RowPair;
 use crate::row::PackedRow;
 use crate::square::PackedSquare;
 
-// As many as lie inside runs of five modules or more, neither first nor last, in two rows together:
-// a run of n modules costs n - 2.
+// Returns the penalty of the runs in two rows. A run of n >= 5 modules costs n - 2, which is the
+// number of its modules without the first and the last.
 #[inline(always)]
 fn run_penalties<R: PackedRow>(rows: R::Pair, width: u32) -> u32
     requires at_least { 7 ≤ width }
@@ -20,15 +20,15 @@ fn run_penalties<R: PackedRow>(rows: R::Pair, width: u32) -> u32
 {
     let edges = rows.xor(rows.down(1));
     let pairs = edges.or(edges.down(1));
-    // Where five equal modules begin: n - 4 times in a run of n. With the two places behind each it
-    // is n - 2.
+    // Five equal modules begin at n - 4 places of a run of n; these and the two places after each
+    // are n - 2.
     let places = R::first(width - 4);
     let windows = places.beside(places).without(pairs.or(pairs.down(2)));
     let two = windows.or(windows.up(1));
     windows.or(two.up(1)).count_ones()
 }
 
-// 40 for each finder form with four light modules on one side, in two rows together.
+// Returns 40 for each finder form in two rows with four light modules on one side.
 #[inline(always)]
 fn finder_penalties<R: PackedRow>(rows: R::Pair, width: u32) -> u32
     requires room { width + 3 ≤ R.room }
@@ -40,24 +40,24 @@ fn finder_penalties<R: PackedRow>(rows: R::Pair, width: u32) -> u32
 {
     let edges = rows.xor(rows.down(1));
     let next = edges.down(1);
-    // Where the colour changes from this column to the next, and back behind it.
+    // The colour changes from this column to the next, and again after it.
     let turns = edges.and(next);
-    // The dark columns from whose second next on three are alike.
+    // Dark modules x for which x + 2, x + 3 and x + 4 are of one colour.
     let middles = rows.without(edges.or(next).down(2));
     let shapes = turns.and(turns.down(4)).and(middles);
-    // Most rows of a narrow square have none.
+    // Most rows of a small symbol have none.
     if shapes.is_zero() {
         return 0;
     }
-    // The columns with a dark module among themselves and the three before.
+    // `fours`: a dark module here or at one of the three places before.
     let twos = rows.or(rows.up(1));
     let fours = twos.or(twos.up(2));
     let crowded = fours.and(fours.down(11)).up(1);
     40 * shapes.without(crowded).count_ones()
 }
 
-// What two rows cost, each as a line. They are side by side in vectors: what it takes to count one
-// is then enough for both.
+// Returns the penalty of two rows as lines. They are next to each other in vectors, so counting two
+// costs no more than counting one.
 #[inline(always)]
 fn two_row_penalties<R: PackedRow>(square: &PackedSquare<'_, R>, upper: usize, lower: usize) -> u32
     requires upper_inside { upper < square.now.width }
@@ -72,7 +72,7 @@ fn two_row_penalties<R: PackedRow>(square: &PackedSquare<'_, R>, upper: usize, l
     run_penalties::<R>(rows, width) + finder_penalties::<R>(rows, width)
 }
 
-// What the two by two modules of one colour in a row and the next cost, for two such rows together.
+// Returns the penalty of the 2 by 2 blocks of one colour in a row and the next, for two such rows.
 #[inline(always)]
 fn two_block_penalties<R: PackedRow>(
     square: &PackedSquare<'_, R>,
@@ -95,8 +95,8 @@ fn two_block_penalties<R: PackedRow>(
     3 * places.beside(places).without(mixed).count_ones()
 }
 
-// What the last rows cost behind an even number y of them, each as a line, and the blocks between
-// them: one row that is counted twice, and halved, or two.
+// Returns what is missing once `y` rows (an even number) are counted: the one or two last rows, and
+// the blocks between them. A single row is counted twice and halved.
 fn last_penalties<R: PackedRow>(square: &PackedSquare<'_, R>, y: usize) -> u32
     requires at_least { y < square.now.width }
     requires near { square.now.width ≤ y + 2 }
@@ -113,8 +113,8 @@ fn last_penalties<R: PackedRow>(square: &PackedSquare<'_, R>, y: usize) -> u32
     two_row_penalties(square, y, y + 1) + two_block_penalties(square, y, y) / 2
 }
 
-/// What the rows cost, each as a line, and all two by two modules of one colour, two rows at a
-/// time: both need where the colour changes in a row.
+/// Returns the penalty of all rows as lines, and of all 2 by 2 blocks of one colour. It takes two
+/// rows at a time.
 pub(crate) fn row_and_block_penalties<R: PackedRow>(square: &PackedSquare<'_, R>) -> u32
     ensures value { result ≡ sum_below square.now.width
         (λ y. line_penalty square.now.width (λ x. dark_in square.now.rows x y))
@@ -130,7 +130,7 @@ pub(crate) fn row_and_block_penalties<R: PackedRow>(square: &PackedSquare<'_, R>
     total + last_penalties(square, 2 * pairs)
 }
 
-// How many modules of row y are dark.
+// Returns the number of dark modules in row `y`.
 #[inline(always)]
 fn row_dark_count<R: PackedRow>(square: &PackedSquare<'_, R>, y: usize) -> u32
     requires { y < square.now.width }
@@ -140,7 +140,7 @@ fn row_dark_count<R: PackedRow>(square: &PackedSquare<'_, R>, y: usize) -> u32
     square.row(y).count_ones()
 }
 
-/// How many modules are dark.
+/// Returns the number of dark modules.
 #[tactic(auto, using(crate::proofs::Sums::sum_step), unfolding(crate::specs::Penalty::sum_below, crate::specs::Penalty::dark_count))]
 pub(crate) fn dark_count<R: PackedRow>(square: &PackedSquare<'_, R>) -> u32
     ensures value { result ≡ dark_count square.now.width (dark_in square.now.rows) }
@@ -153,7 +153,7 @@ pub(crate) fn dark_count<R: PackedRow>(square: &PackedSquare<'_, R>) -> u32
     total
 }
 
-/// How many modules of a line are light, the first one aside.
+/// Returns the number of light modules in a line, without its first module.
 pub(crate) fn light_count<R: PackedRow>(line: R, width: u32) -> u32
     requires at_least { 7 ≤ width }
     requires room { width + 3 ≤ R.room }

@@ -6,7 +6,8 @@ ghost use Rattle.qrcode_penalty.specs.Rows.{IsSquare, FitsWidth};
 use crate::row::PackedRow;
 use std::marker::Model;
 
-/// As many rows as columns, 7 at least, a row with room for three bits more than there are columns.
+/// A square of packed rows, at least 7 by 7. Each row has room for at least three more bits than
+/// columns.
 #[derive(Drop)]
 pub struct PackedSquare<'a, R: PackedRow> {
     rows: &'a [R],
@@ -26,7 +27,7 @@ impl<'a, R: PackedRow> Model for PackedSquare<'a, R> {
 }
 
 impl<'a, R: PackedRow> PackedSquare<'a, R> {
-    /// The square of these rows, from the top; none has a bit from `width` on.
+    /// Makes a square of these rows, from the top. No row may have a bit at `width` or above.
     #[inline(always)]
     pub fn new(rows: &'a [R], width: u32) -> Self
         requires { IsSquare R.room (record { width = width; rows = map R.bits rows.now }) }
@@ -35,7 +36,7 @@ impl<'a, R: PackedRow> PackedSquare<'a, R> {
         PackedSquare { rows, width }
     }
 
-    /// How many rows there are, and columns.
+    /// Returns the number of rows, which is also the number of columns.
     #[inline(always)]
     pub fn width(&self) -> u32
         ensures value { result ≡ self.now.width }
@@ -45,7 +46,7 @@ impl<'a, R: PackedRow> PackedSquare<'a, R> {
         self.width
     }
 
-    /// Row `y`, which lies in the square.
+    /// Returns row `y`, which must be inside the square.
     #[inline(always)]
     pub fn row(&self, y: usize) -> R
         requires { y < self.now.width }

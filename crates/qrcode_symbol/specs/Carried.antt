@@ -13,19 +13,18 @@ use Rattle.qrcode_symbol.specs.Symbol.{Carries}
 abbrev pub HasZeroHalf : Version → EcLevel → List ℕ → Type 0
 HasZeroHalf v l bytes = IsTrue (has_half_codeword v l) → slice_index bytes (length bytes - 1) % 16 ≡ 0
 
--- data and error correction bytes of the right lengths, drawn over the patterns of a new canvas, make under each mask a
--- square that carries them
+-- Data and error correction bytes of the right lengths, drawn over the patterns of a new canvas, form a square that carries them, under each mask.
 abbrev pub CarriesAll : Drawing → List ℕ → List ℕ → Drawing → Type 0
 CarriesAll old bytes ec new =
     let v = old.version in let l = old.level in
     IsTrue (has_level v l) → old.modules ≡ with_patterns v (blank v) → length bytes ≡ data_length v l → length ec ≡ total_ec_length v l → HasZeroHalf v l bytes
     → (k : MaskPattern) → IsTrue (exists_in v k) → Carries v l (bytes ++ ec) k (colors_of (with_mask v l k new.modules))
 
--- the modules of a new canvas when its patterns and codewords are drawn
+-- the modules of a new canvas after its patterns and codewords are drawn
 abbrev pub drawn_modules : Version → EcLevel → List ℕ → List ℕ → List Module
 drawn_modules v l bytes ec = with_bits_drawn v (drawn_bits v l bytes ec) (with_patterns v (blank v))
 
--- codewords of the right lengths, drawn on a new canvas, make under each mask a square that carries them
+-- codewords of the right lengths, drawn on a new canvas, form a square that carries them, under each mask
 abbrev pub AreCarried : Version → EcLevel → List ℕ → List ℕ → Type 0
 AreCarried v l bytes ec =
     length bytes ≡ data_length v l → length ec ≡ total_ec_length v l → HasZeroHalf v l bytes

@@ -1,4 +1,4 @@
--- How a mask is chosen on rows packed into numbers.
+-- Choosing a mask on rows packed into numbers.
 use Rattle.std.specs.Prelude.{◌≡◌, ℕ, ◌+◌, ◌-◌, ◌*◌, ◌/◌, ◌%◌, ◌<◌, ◌≤◌, ◌^◌, bit_or, Bool, true, false, ◌&&◌, List, [], ◌∷◌, slice_index_or, if◌then◌else◌, unwrap_or}
 use Rattle.qrcode_types.specs.Colors.{is_dark}
 use Rattle.qrcode_types.specs.declared.types.Color.{Color}
@@ -18,69 +18,69 @@ use Rattle.qrcode_symbol.specs.Penalties.{penalty_of, IsFirstLeast}
 abbrev pub is_dark_module : Module → Bool
 is_dark_module m = is_dark (color_of_module m)
 
--- a mask may turn the module
+-- a mask can reverse the module
 abbrev pub is_free : Module → Bool
 is_free Empty = true
 is_free (Masked c) = false
 is_free (Unmasked c) = true
 
--- 1 where a test holds
+-- 1 if the test passes, otherwise 0
 abbrev pub digit : Bool → ℕ
 digit b = if b then 1 else 0
 
--- the number whose bit i is the answer of a test for the i-th item
+-- the number whose bit i is the test's result for item i
 abbrev pub packed : {A : Type 0} → (A → Bool) → List A → ℕ
 packed test [] = 0
 packed test (x ∷ xs) = 2 * packed test xs + digit (test x)
 
--- rows of a square show which of its modules pass a test
+-- the set bits of the rows are the modules that pass the test
 abbrev pub ShowsModules : (Module → Bool) → ℕ → List Module → List ℕ → Type 0
 ShowsModules test w modules rows = Shows w rows (λ x y. test (slice_index_or modules (y * w + x) Empty))
 
--- the place is dark under a mask, by rows of what is dark and of what a mask may turn
+-- the place is dark under the mask, given the rows of dark modules and of those that a mask can reverse
 unfoldable pub masked_dark : Version → ℕ → MaskPattern → List ℕ → List ℕ → ℕ → ℕ → Bool
 masked_dark v word k dark free x y = unwrap_or (decided_bit v word x y) (turned_if (dark_in free x y && turns k x y) (dark_in dark x y))
 
--- the 64 places behind those of a word in which six places stand again and again
+-- the next 64 bits of a pattern that repeats every six or twelve bits
 abbrev pub next_places : ℕ → ℕ
 next_places word = bit_or (word / 2 ^ 4) (word * 2 ^ 56 % 2 ^ 64)
 
--- 192 such places, by the first 64
+-- 192 bits of such a pattern, from the first 64
 abbrev pub three_words : ℕ → ℕ
 three_words word = (next_places (next_places word) * 2 ^ 64 + next_places word) * 2 ^ 64 + word
 
--- row k with the places turned that the mask turns
+-- row k, with the modules reversed that the mask reverses
 pub record IsTurnedRow (w : ℕ) (mask : MaskPattern) (dark free : List ℕ) (k row : ℕ) : Type 0 where
   pub shows : (x : ℕ) → x < w → is_set row x ≡ turned_if (dark_in free x k && turns mask x k) (dark_in dark x k)
   pub ends : row < 2 ^ w
 
--- so are the rows before the one that has a number
+-- all rows before row `count` are such rows
 abbrev pub AreTurned : ℕ → MaskPattern → List ℕ → List ℕ → ℕ → List ℕ → Type 0
 AreTurned w mask dark free count rows = (y : ℕ) → y < count → IsTurnedRow w mask dark free y (slice_index_or rows y 0)
 
--- the number whose bit y tells whether the place of a square in its last column and in row y is set
+-- bit y of the number is the place in the last column and row y
 abbrev pub IsLastColumn : ℕ → List ℕ → ℕ → Type 0
 IsLastColumn w rows column = (y : ℕ) → y < w → is_set column y ≡ dark_in rows (w - 1) y
 
--- what such rows cost under the k-th mask
+-- the penalty of such rows under the k-th mask
 unfoldable pub nth_cost : Version → EcLevel → ℕ → List ℕ → List ℕ → ℕ → ℕ
 nth_cost v l w dark free k = let mask = nth_mask v k in penalty_of v (inside w (masked_dark v (format_word v l mask) mask dark free))
 
--- no number below the count costs less than k, and none before k as little
+-- no number below `count` costs less than k, and none before k costs the same
 pub record IsFirstLeastCost (costs : ℕ → ℕ) (count k : ℕ) : Type 0 where
   pub exists : k < count
   pub least : (j : ℕ) → j < count → costs k ≤ costs j
   pub first : (j : ℕ) → j < k → costs k < costs j
 
--- the modules under the first mask of least penalty
+-- the modules under the first mask with the lowest penalty
 pub record IsBestMasked (v : Version) (l : EcLevel) (modules new : List Module) : Type 0 where
   pub mask : MaskPattern
   pub best : IsBestMask v l modules mask
   pub after : new ≡ with_mask v l mask modules
-  -- where the modules are patterns and drawn bits, its colours need not be compared with the modules
+  -- if the modules are patterns and drawn bits, the new colours alone show that the mask is the first with the lowest penalty
   pub first_least : (bits : List Bool) → modules ≡ with_bits_drawn v bits (with_patterns v (blank v)) → IsFirstLeast v l mask (colors_of new)
 
--- the colours of the modules under the first mask of least penalty
+-- the colours of the modules under the first mask with the lowest penalty
 pub record AreBestColors (v : Version) (l : EcLevel) (modules : List Module) (colors : List Color) : Type 0 where
   pub masked : List Module
   pub best : IsBestMasked v l modules masked

@@ -1,4 +1,4 @@
--- The penalty of colours, and the first mask of least penalty.
+-- The penalty of colours, and the first mask with the lowest penalty.
 use Rattle.std.specs.Prelude.{ℕ, ◌*◌, ◌/◌, ◌%◌, ◌-◌, ◌<◌, ◌≤◌, not, Bool, List, map, slice_index_or, IsTrue, Some, None}
 use Rattle.std.specs.List.{range_with_len}
 use Rattle.qrcode_types.specs.Bits.{has_bit}
@@ -17,11 +17,11 @@ use Rattle.qrcode_layout.specs.Patterns.{format_index, pattern}
 use Rattle.qrcode_layout.specs.Stream.{color_at}
 use Rattle.qrcode_layout.specs.declared.masks.MaskPattern.{MaskPattern}
 
--- the place, by column and row, is inside and dark
+-- column x and row y are inside the symbol, and the module there is dark
 abbrev pub is_dark_at : Version → List Color → ℕ → ℕ → Bool
 is_dark_at v s = inside (side v) (λ x y. is_dark (color_at v s x y))
 
--- the penalty of a square of a version, given by which of its places are dark
+-- the penalty of a square of this version, given by which of its places are dark
 abbrev pub penalty_of : Version → (ℕ → ℕ → Bool) → ℕ
 penalty_of (Normal v) dark = normal_penalty (side (Normal v)) dark
 penalty_of (Micro v) dark = micro_penalty (side (Micro v)) dark
@@ -30,7 +30,7 @@ penalty_of (Micro v) dark = micro_penalty (side (Micro v)) dark
 unfoldable pub penalty : Version → List Color → ℕ
 penalty v s = penalty_of v (is_dark_at v s)
 
--- the colour of a place, if the mask were j in place of k; `word` is the format word of j
+-- the colour of a place if the mask were j instead of k; `word` is the format word of j
 unfoldable pub remasked_at : Version → ℕ → MaskPattern → MaskPattern → ℕ → ℕ → Color → Color
 remasked_at v word k j x y c =
     elim (format_index v x y) [
@@ -42,13 +42,13 @@ remasked_at v word k j x y c =
           ]
     ]
 
--- the colours, if the mask were j in place of k
+-- all colours if the mask were j instead of k
 unfoldable pub remasked : Version → EcLevel → MaskPattern → MaskPattern → List Color → List Color
 remasked v l k j s =
     let word = format_word v l j in let w = side v in
     map (λ i. remasked_at v word k j (i % w) (i / w) (slice_index_or s i Light)) (range_with_len 0 (w * w))
 
--- no mask of the version gives a smaller penalty than k, and none before k an equal one
+-- s are colours under mask k; no mask of the version gives a lower penalty than k, and none before k gives the same one
 pub record IsFirstLeast (v : Version) (l : EcLevel) (k : MaskPattern) (s : List Color) : Type 0 where
   pub least : (j : MaskPattern) → IsTrue (exists_in v j) → penalty v s ≤ penalty v (remasked v l k j s)
   pub first : (j : MaskPattern) → IsTrue (exists_in v j) → mask_number j < mask_number k → penalty v s < penalty v (remasked v l k j s)

@@ -1,4 +1,4 @@
--- How colours are read as bits.
+-- Decoding a square of colours to bits.
 use Rattle.std.specs.Prelude.{◌≡◌, ◌*◌, ◌≤◌, ℕ, Bool, List, length, IsTrue}
 use Rattle.std.specs.List.{AllZip, AllByRecursion}
 use Rattle.qrcode_types.specs.Bits.{number_bits, bit_distance}
@@ -14,7 +14,7 @@ use Rattle.qrcode_layout.specs.Patterns.{format_copies}
 use Rattle.qrcode_layout.specs.declared.masks.MaskPattern.{MaskPattern}
 use Rattle.qrcode_symbol.specs.Symbol.{bits_at, blocks_in}
 
--- a reader finds these bits: each copy of the format word has at most three wrong bits, and each block can be corrected
+-- the square s decodes to these bits: each copy of the format word has at most three wrong bits, and each block can be corrected
 pub record ReadsBits (s : List Color) (v : Version) (l : EcLevel) (bits : List Bool) : Type 0 where
   pub exists : IsTrue (has_level v l)
   pub square : length s ≡ side v * side v
@@ -25,7 +25,7 @@ pub record ReadsBits (s : List Color) (v : Version) (l : EcLevel) (bits : List B
   pub corrects : AllZip (λ r c. Corrects r (ec_length v l) c) (blocks_in v l mask s) corrected
   pub holds : data_bits v l corrected ≡ bits
 
--- these bits are found, and no other version, level or bits
+-- the square decodes to these bits, and to no other version, level or bits
 pub record ReadsBitsOnly (s : List Color) (v : Version) (l : EcLevel) (bits : List Bool) : Type 0 where
   pub found : ReadsBits s v l bits
   pub only : (u : Version) (m : EcLevel) (others : List Bool) → ReadsBits s u m others → (u ≡ v) × (m ≡ l) × (others ≡ bits)

@@ -1,4 +1,4 @@
-//! The modules of a symbol: patterns, data and masks are drawn on them.
+//! The modules of a symbol while it is drawn: patterns, data and masks.
 
 ghost use Rattle.std.specs.Prelude.{◌≡◌, ◌+◌, ◌*◌, ◌%◌, ◌<◌, ◌≤◌, pos, neg_ℤ, ◌≤ℤ◌, ◌<ℤ◌, nat_abs, length, map, slice_index_or, slice_set, ◌↔◌, IsTrue, IfOk, IsOkUnless};
 ghost use Rattle.std.specs.Borrow.{sem};
@@ -47,24 +47,24 @@ use std::marker::Model;
 /// A module of a canvas.
 #[derive(Copy, Clone, PartialEq, Eq, Debug)]
 pub enum Module {
-    /// Nothing is drawn here.
+    /// Nothing is drawn here yet.
     Empty,
-    /// A module that no mask turns.
+    /// A module that no mask reverses: it is final.
     Masked(Color),
-    /// A module that a mask may turn.
+    /// A module that a mask can reverse.
     Unmasked(Color),
 }
 
 impl Module {
-    /// Whether the module is dark; an empty one is light.
+    /// Returns whether the module is dark. An empty module is light.
     pub fn is_dark(self) -> bool
         ensures { result ≡ is_dark (color_of_module self) }
     {
         Color::from(self) == Color::Dark
     }
 
-    /// The module after a mask that turns it, or that leaves it. An empty module takes the colour
-    /// of the mask, and a masked one stays.
+    /// Applies a mask that reverses this module if `should_invert` is `true`. An empty module
+    /// becomes dark if the mask reverses it, otherwise light; a masked module stays as it is.
     pub fn mask(self, should_invert: bool) -> Self
         ensures { result ≡ masked_module should_invert self }
     {
@@ -78,7 +78,7 @@ impl Module {
     }
 }
 
-/// The colour of a module; an empty one is light.
+/// Converts a module into its colour. An empty module is light.
 impl From<Module> for Color {
     ghost from_gives = { λ m color. color ≡ color_of_module m };
 
@@ -90,7 +90,7 @@ impl From<Module> for Color {
     }
 }
 
-/// The modules of a symbol that is being drawn.
+/// A symbol while it is drawn: its version, level and modules.
 #[derive(Clone, Drop)]
 pub struct Canvas {
     version: Version,
@@ -115,7 +115,7 @@ impl Model for Canvas {
         × (length c.modules.items ≡ side c.version * side c.version) };
 }
 
-// The modules along a side, of which there is an odd number.
+// Returns the number of modules along a side, which is odd.
 fn side(version: Version) -> usize
     requires { IsTrue (is_valid version) }
     ensures value { result ≡ side version }
@@ -126,7 +126,7 @@ fn side(version: Version) -> usize
     version.width() as usize
 }
 
-// A coordinate from -width to width - 1 as one from 0 to width - 1.
+// Converts a coordinate from `-width` to `width - 1` into one from 0 to `width - 1`.
 fn wrapped(width: i16, x: i16) -> usize
     requires at_least { pos 11 ≤ℤ width }
     requires inside { IsCoordinate (nat_abs width) x }
@@ -140,7 +140,7 @@ fn wrapped(width: i16, x: i16) -> usize
     }
 }
 
-// The index of the module of two coordinates in a list of rows.
+// Returns the index of a module in row order.
 fn module_index(version: Version, x: i16, y: i16) -> usize
     requires valid { IsTrue (is_valid version) }
     requires inside { IsOnCanvas version x y }
@@ -152,9 +152,9 @@ fn module_index(version: Version, x: i16, y: i16) -> usize
 }
 
 impl Canvas {
-    /// A canvas of empty modules.
+    /// Creates a canvas of empty modules.
     ///
-    /// `OutOfMemory`: memory was refused.
+    /// Errors: only `OutOfMemory`.
     pub fn new(alloc: Global, version: Version, ec_level: EcLevel) -> QrResult<Self>
         requires { IsTrue (is_valid version) }
         ensures value { IfOk result (λ canvas. canvas
@@ -170,8 +170,8 @@ impl Canvas {
         })
     }
 
-    /// The module in column `x` and row `y`, each from `-width` to `width - 1`; negative ones count
-    /// from the far side.
+    /// Returns the module in column `x` and row `y`, both from `-width` to `width - 1`. Negative
+    /// coordinates count from the far side.
     pub fn get(&self, x: i16, y: i16) -> Module
         requires { IsOnCanvas self.now.version x y }
         ensures { result
@@ -180,7 +180,8 @@ impl Canvas {
         self.modules[module_index(self.version, x, y)]
     }
 
-    /// The module in column `x` and row `y`, to be changed; coordinates are those of `get`.
+    /// Returns a mutable reference to the module in column `x` and row `y`; coordinates as in
+    /// `get`.
     pub fn get_mut(&mut self, x: i16, y: i16) -> &mut Module
         requires { IsOnCanvas self.old.version x y }
         ensures* lends { sem 𝓛 (LendsModule self.entry x y result) }
@@ -191,7 +192,7 @@ impl Canvas {
         &mut self.modules[index]
     }
 
-    /// Draws a module that no mask turns; coordinates are those of `get`.
+    /// Sets a module to a colour that no mask reverses; coordinates as in `get`.
     pub fn put(&mut self, x: i16, y: i16, color: Color)
         requires { IsOnCanvas self.old.version x y }
         ensures { self.new ≡ record self.old {
@@ -202,17 +203,17 @@ impl Canvas {
         self.modules[index] = Module::Masked(color);
     }
 
-    /// Draws the functional patterns over what is there, and the places of the format word light
-    /// (ISO/IEC 18004:2006, 5.3).
+    /// Draws the functional patterns over what is there, and makes the places of the format word
+    /// light (ISO/IEC 18004:2006, 5.3).
     pub fn draw_all_functional_patterns(&mut self)
         ensures after { self.new ≡ record self.old {
           modules = with_patterns self.old.version self.old.modules;
         } }
 
-        // The version words are far from one another.
+        // Any two version words are far apart.
         ensures words_apart { VersionWordsAreApart }
 
-        // The codewords and the remainder bits of each version fill the free places.
+        // The codewords and remainder bits of each version fill its free places.
         ensures free { FreePlacesAreFilled }
     {
         laws::words();
@@ -220,24 +221,25 @@ impl Canvas {
         draw_patterns(self.version, &mut self.modules);
     }
 
-    /// Draws codewords at the empty places, in the order of the standard's walk (ISO/IEC
-    /// 18004:2006, 6.7.3): the data, of whose last byte only the high half is drawn where the
-    /// version and level have a half codeword, and then the error correction. Bits without a place
-    /// are dropped.
+    /// Draws codewords into the empty modules, in the order of the standard's walk (ISO/IEC
+    /// 18004:2006, 6.7.3): first `bytes`, the data, then `ec`, the error correction. Of the last
+    /// data byte, only the high half is drawn if the version and level have a half codeword. Bits
+    /// that find no empty module are dropped.
     pub fn draw_data(&mut self, bytes: &[u8], ec: &[u8])
         ensures after { self.new ≡ record self.old {
           modules = with_bits_drawn self.old.version
               (drawn_bits self.old.version self.old.level bytes.now ec.now) self.old.modules;
         } }
 
-        // Over the patterns of a new canvas they make the square of the codewords, under each mask.
+        // Drawn over the patterns of a new canvas, they form a square of the codewords under each
+        // mask.
         ensures carries { CarriesAll self.old bytes.now ec.now self.new }
     {
         let codewords = Codewords::new(self.version, self.ec_level, bytes, ec);
         draw_codewords(self.version, codewords, &mut self.modules);
     }
 
-    /// Masks every module, and then draws the format word and the dark module.
+    /// Masks every module, then draws the format word and the dark module.
     pub fn apply_mask(&mut self, mask: MaskPattern)
         requires exists { IsTrue (has_level self.old.version self.old.level) }
         requires mask_exists { IsTrue (exists_in self.old.version mask) }
@@ -245,17 +247,18 @@ impl Canvas {
           modules = with_mask self.old.version self.old.level mask self.old.modules;
         } }
 
-        // The format words are far from one another.
+        // Format words that name different things are far apart.
         ensures words_apart { FormatWordsAreApart }
     {
         laws::words();
         mask_modules(self.version, self.ec_level, mask, &mut self.modules);
     }
 
-    /// The canvas under the first mask of least penalty (ISO/IEC 18004:2006, 6.8.3, but the balance
-    /// of dark modules as the Rust crate counts it), the format words being counted too.
+    /// Returns a canvas under the first mask with the lowest penalty (ISO/IEC 18004:2006, 6.8.3,
+    /// but with the balance of dark modules counted as the Rust crate does). The format word of
+    /// each mask is counted too.
     ///
-    /// `OutOfMemory`: memory was refused.
+    /// Errors: only `OutOfMemory`.
     pub fn apply_best_mask(&self, alloc: Global) -> QrResult<Self>
         requires { IsTrue (has_level self.now.version self.now.level) }
         ensures version { IfOk result (λ best. best.version ≡ self.now.version) }
@@ -264,7 +267,7 @@ impl Canvas {
             IsBestMasked self.now.version self.now.level self.now.modules best.modules) }
         ensures memory { IsOkUnless result OutOfMemory }
 
-        // The format words are far from one another.
+        // Format words that name different things are far apart.
         ensures words_apart { FormatWordsAreApart }
     {
         let colors = self.best_colors(alloc)?;
@@ -276,42 +279,42 @@ impl Canvas {
         })
     }
 
-    /// The colours of the canvas under the first mask of least penalty, row by row: those of
-    /// `apply_best_mask`.
+    /// Returns the colours of `apply_best_mask`, row by row.
     ///
-    /// `OutOfMemory`: memory was refused.
+    /// Errors: only `OutOfMemory`.
     pub fn best_colors(&self, alloc: Global) -> QrResult<Vec<Color>>
         requires { IsTrue (has_level self.now.version self.now.level) }
         ensures best { IfOk result (λ colors.
             AreBestColors self.now.version self.now.level self.now.modules colors.items) }
         ensures memory { IsOkUnless result OutOfMemory }
 
-        // The format words are far from one another.
+        // Format words that name different things are far apart.
         ensures words_apart { FormatWordsAreApart }
     {
         laws::words();
         self.clone()?.into_best_colors(alloc)
     }
 
-    /// The same colours, where the canvas is freed before they are written.
+    /// Returns the same colours as `best_colors`, but frees the canvas before it writes them, which
+    /// takes less memory.
     ///
-    /// `OutOfMemory`: memory was refused.
+    /// Errors: only `OutOfMemory`.
     pub fn into_best_colors(self, alloc: Global) -> QrResult<Vec<Color>>
         requires { IsTrue (has_level self.version self.level) }
         ensures best { IfOk result (λ colors.
             AreBestColors self.version self.level self.modules colors.items) }
         ensures memory { IsOkUnless result OutOfMemory }
 
-        // The format words are far from one another.
+        // Format words that name different things are far apart.
         ensures words_apart { FormatWordsAreApart }
     {
         laws::words();
         masking::best_colors(alloc, self.version, self.ec_level, self.modules)
     }
 
-    /// Whether each module is dark, row by row.
+    /// Returns whether each module is dark, row by row.
     ///
-    /// `OutOfMemory`: memory was refused.
+    /// Errors: only `OutOfMemory`.
     pub fn to_bools(&self, alloc: Global) -> QrResult<Vec<bool>>
         ensures value { IfOk result (λ bools.
             bools.items ≡ map (λ m. is_dark (color_of_module m)) self.now.modules) }
@@ -320,9 +323,9 @@ impl Canvas {
         Ok(self.modules.iter().map(|m| m.is_dark()).collect(alloc)?)
     }
 
-    /// The colour of each module, row by row.
+    /// Returns the colour of each module, row by row.
     ///
-    /// `OutOfMemory`: memory was refused.
+    /// Errors: only `OutOfMemory`.
     pub fn into_colors(self, alloc: Global) -> QrResult<Vec<Color>>
         ensures value { IfOk result (λ colors. colors.items ≡ colors_of self.modules) }
         ensures memory { IsOkUnless result OutOfMemory }
@@ -331,7 +334,7 @@ impl Canvas {
     }
 }
 
-// The modules that have these colours and that no mask turns.
+// Returns modules of these colours that no mask reverses.
 fn masked_modules(alloc: Global, colors: &[Color]) -> QrResult<Vec<Module>>
     ensures value { IfOk result (λ modules. modules.items ≡ map (λ c. Masked c) colors.now) }
     ensures memory { IsOkUnless result OutOfMemory }
@@ -339,10 +342,11 @@ fn masked_modules(alloc: Global, colors: &[Color]) -> QrResult<Vec<Module>>
     Ok(colors.iter().map(|c| Module::Masked(*c)).collect(alloc)?)
 }
 
-/// The colours of the symbol of codewords under the first mask of least penalty, row by row: what a
-/// new canvas gives when its patterns and the codewords are drawn, in half the room.
+/// Returns the colours of a symbol with these codewords, row by row, under the first mask with the
+/// lowest penalty. The result is that of drawing the patterns and codewords on a new canvas, in
+/// half the memory.
 ///
-/// `OutOfMemory`: memory was refused.
+/// Errors: only `OutOfMemory`.
 pub fn drawn_colors(
     alloc: Global,
     version: Version,
@@ -355,7 +359,7 @@ pub fn drawn_colors(
         (drawn_modules version ec_level bytes.now ec.now) colors.items) }
     ensures memory { IsOkUnless result OutOfMemory }
 
-    // They carry the codewords, under each mask.
+    // Under each mask, they carry the codewords.
     ensures carries { AreCarried version ec_level bytes.now ec.now }
 {
     let width = side(version);
@@ -366,7 +370,7 @@ pub fn drawn_colors(
     masking::best_colors(alloc, version, ec_level, cells)
 }
 
-// Whether a functional pattern or the format word has the module in column x and row y.
+// Returns whether a functional pattern or the format word covers column `x` and row `y`.
 fn is_functional_at(version: Version, x: usize, y: usize) -> bool
     requires valid { IsTrue (is_valid version) }
     requires column { x < side version }
@@ -377,8 +381,9 @@ fn is_functional_at(version: Version, x: usize, y: usize) -> bool
     is_functional_place(version, side(version), x, y)
 }
 
-/// Whether a functional pattern or the format word has the module in column `x` and row `y` of a
-/// version, each from `-width` to `width - 1`; negative ones count from the far side.
+/// Returns whether a functional pattern or the format word covers the module in column `x` and row
+/// `y` of `version`, both from `-width` to `width - 1`. Negative coordinates count from the far
+/// side.
 pub fn is_functional(version: Version, width: i16, x: i16, y: i16) -> bool
     requires valid { IsTrue (is_valid version) }
     requires width { width ≡ pos (side version) }
@@ -386,7 +391,7 @@ pub fn is_functional(version: Version, width: i16, x: i16, y: i16) -> bool
     ensures place { result
         ≡ is_functional_place version (wrapped (side version) x) (wrapped (side version) y) }
 
-    // The patterns drawn on a new canvas leave no empty module there.
+    // On a new canvas, these are the modules that are no longer empty once the patterns are drawn.
     ensures drawn { IsTrue result
         ↔ IsDrawn version (wrapped (side version) x) (wrapped (side version) y) }
 {

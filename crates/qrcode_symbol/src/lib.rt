@@ -1,5 +1,5 @@
-//! Symbols: patterns, data and masks on a canvas of modules. Error correction and the types stand
-//! here too, as `ec` and `types`.
+//! Symbols: draws patterns, data and masks on a canvas of modules. Re-exports error correction and
+//! the basic types as `ec` and `types`.
 #![tactic(auto)]
 
 pub mod canvas;

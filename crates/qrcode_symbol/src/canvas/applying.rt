@@ -1,4 +1,4 @@
-//! Applying a mask to all modules, with the format word.
+//! Applies a mask to all modules, with the format word.
 
 ghost use Rattle.std.specs.Prelude.{◌≡◌, ◌*◌, ◌<◌, length, IsTrue};
 ghost use Rattle.qrcode_types.specs.Versions.{has_level, side};
@@ -12,7 +12,7 @@ use qrcode_layout::masks::MaskPattern;
 use qrcode_layout::words::format_word;
 use qrcode_types::types::{EcLevel, Version};
 
-// A module after a mask: the bit of the format word, the dark module, or the module masked.
+// Returns a module after a mask: a bit of the format word, the dark module, or the masked module.
 fn mask_module(layer: Layer, x: usize, y: usize, old: Module) -> Module
     requires column { x < layer.width }
     requires row { y < layer.width }

@@ -1,5 +1,5 @@
-//! How a module stands in memory: as it is, or as a byte, which takes half the room and is packed
-//! 64 at a time.
+//! How modules are stored: as they are, or as bytes, which take half the memory and are packed 64
+//! at a time.
 
 ghost use Rattle.std.specs.Prelude.{◌≡◌, ◌≤◌, ◌&&◌, length, take};
 ghost use Rattle.qrcode_symbol.specs.Canvas.{is_empty};
@@ -11,24 +11,25 @@ use super::Module;
 use super::packing::{pack_bytes, pack_modules};
 use qrcode_layout::figures::color_of;
 
-/// What shows a module.
+/// A stored module.
 pub(super) trait Cell: Copy {
-    // The module that it shows.
+    // The module that is stored.
     ghost shows: { Self → Module };
 
-    /// What shows a module.
+    /// Stores a module.
     fn of(m: Module) -> Self
         ensures { shows result ≡ m };
 
-    /// The module that it shows.
+    /// Returns the stored module.
     fn module(self) -> Module
         ensures { result ≡ shows self };
 
-    /// Whether two modules are empty.
+    /// Returns whether both modules are empty.
     fn are_empty(first: Self, second: Self) -> bool
         ensures { result ≡ (is_empty (shows first) && is_empty (shows second)) };
 
-    /// Which of the first modules, up to 64, are dark, and which a mask may turn.
+    /// Returns which of the first `count` modules, at most 64, are dark, and which a mask can
+    /// reverse; bit i is module i.
     fn pack(cells: &[Self], count: usize) -> (u64, u64)
         requires at_most { count ≤ 64 }
         requires inside { count ≤ length cells.now }
@@ -88,7 +89,7 @@ impl Cell for u8 {
 
     #[inline(always)]
     fn are_empty(first: u8, second: u8) -> bool {
-        // One comparison, where the bytes lie beside one another.
+        // A single comparison, if the two bytes are next to each other.
         u16::from_le_bytes([first, second]) == 0x0202
     }
 

@@ -1,4 +1,4 @@
-//! Codewords as bits, one after the other.
+//! The codewords of a symbol as a stream of bits.
 
 ghost use Rattle.std.specs.Prelude.{◌≡◌, ◌+◌, ◌*◌, ◌/◌, ◌%◌, ◌<◌, ◌^◌, ◌++◌, drop, slice_get, IsTrue};
 ghost use Rattle.qrcode_types.specs.Versions.{is_valid};
@@ -9,9 +9,9 @@ use qrcode_types::tables::has_half_codeword;
 use qrcode_types::types::{EcLevel, Version};
 use std::marker::Model;
 
-// The codewords of a symbol that are not yet drawn, seen as bits: the lowest bits of a byte that is
-// begun, the bytes of data, of whose last one only the high half is drawn where it is a half
-// codeword, and the bytes of error correction.
+// The codewords that are not drawn yet, as a stream of bits: the lowest `bits_left` bits of
+// `begun`, then `bytes`, the data, then `ec`, the error correction. With `has_half`, only the high
+// half of the last data byte counts.
 #[derive(Drop)]
 pub(super) struct Codewords<'a> {
     begun: u32,
@@ -34,8 +34,8 @@ impl<'a> Model for Codewords<'a> {
     ghost invariant = { λ c. c.bits_left < 8 };
 }
 
-// The bits that are left of a byte that is begun, before those of the next byte, which is begun
-// then: without as many of the lowest.
+// Returns, as its lowest eight bits, those left of `begun` and then the highest of `next`. `next`
+// becomes `begun`, with as many bits left as before.
 #[inline(always)]
 fn shifted(begun: &mut u32, bits_left: u32, next: u8) -> u32
     requires { bits_left < 8 }
@@ -49,7 +49,7 @@ fn shifted(begun: &mut u32, bits_left: u32, next: u8) -> u32
 }
 
 impl<'a> Codewords<'a> {
-    // The codewords that are drawn.
+    // Starts with all codewords of a symbol.
     pub(super) fn new(version: Version, ec_level: EcLevel, bytes: &'a [u8], ec: &'a [u8]) -> Self
         requires { IsTrue (is_valid version) }
         ensures { result ≡ drawn_bits version ec_level bytes.now ec.now }
@@ -63,7 +63,7 @@ impl<'a> Codewords<'a> {
         }
     }
 
-    // The next bit, if there is one.
+    // Returns the next bit, if there is one.
     pub(super) fn next(&mut self) -> Option<bool>
         ensures value { result ≡ slice_get self.old 0 }
         ensures rest { self.new ≡ drop 1 self.old }
@@ -89,8 +89,8 @@ impl<'a> Codewords<'a> {
         Some((self.begun >> self.bits_left) % 2 == 1)
     }
 
-    // The next eight bits, as the lowest of a number, if a byte that is drawn whole has the last of
-    // them.
+    // Returns the next eight bits, as the lowest of a number, if they end in a byte that is drawn
+    // whole.
     #[inline(always)]
     pub(super) fn next_eight(&mut self) -> Option<u32>
         ensures { self.old ≡ eight_of result ++ self.new }

@@ -1,4 +1,4 @@
-//! Drawing the functional patterns, one figure after the other.
+//! Draws the functional patterns, figure by figure.
 
 ghost use Rattle.std.specs.Prelude.{◌≡◌, ◌+◌, ◌*◌, ◌<◌, fold, length, map, IsTrue, true, false};
 ghost use Rattle.std.specs.List.{list_all};
@@ -15,7 +15,7 @@ use qrcode_layout::figures::{
 };
 use qrcode_types::types::Version;
 
-// Draws a row of a figure.
+// Draws one row of a figure.
 #[inline(always)]
 #[tactic(auto, using(qrcode_layout::proofs::FigurePlaces::fits_across, qrcode_layout::proofs::FigurePlaces::fits_down))]
 fn draw_row<C: Cell>(version: Version, figure: &Figure, row: usize, modules: &mut [C])
@@ -34,7 +34,6 @@ fn draw_row<C: Cell>(version: Version, figure: &Figure, row: usize, modules: &mu
     }
 }
 
-// Draws a figure.
 fn draw_figure<C: Cell>(version: Version, figure: &Figure, modules: &mut [C])
     requires valid { IsTrue (is_valid version) }
     requires fits { IsTrue (fits version figure.now) }
@@ -47,7 +46,7 @@ fn draw_figure<C: Cell>(version: Version, figure: &Figure, modules: &mut [C])
     }
 }
 
-// Draws figures, one over the other.
+// Draws figures, each over those before it.
 #[tactic(auto, using(std::proofs::lemmas::List::Sums::fold_more))]
 fn draw_figures<C: Cell>(version: Version, figures: &[Figure], modules: &mut [C])
     requires valid { IsTrue (is_valid version) }
@@ -61,7 +60,7 @@ fn draw_figures<C: Cell>(version: Version, figures: &[Figure], modules: &mut [C]
     }
 }
 
-// Draws the alignment patterns that have their centres in row `b`.
+// Draws the alignment patterns centred in row `b`.
 fn draw_alignment_row<C: Cell>(version: Version, b: usize, modules: &mut [C])
     requires valid { IsTrue (is_valid version) }
     requires inside { IsTrue (is_centre_inside (side version) b) }
@@ -78,7 +77,6 @@ fn draw_alignment_row<C: Cell>(version: Version, b: usize, modules: &mut [C])
     }
 }
 
-// Draws the alignment patterns.
 fn draw_alignments<C: Cell>(version: Version, modules: &mut [C])
     requires valid { IsTrue (is_valid version) }
     requires square { length modules.old ≡ side version * side version }
@@ -90,7 +88,7 @@ fn draw_alignments<C: Cell>(version: Version, modules: &mut [C])
     }
 }
 
-// Draws the copies of the version word, which Normal 7 and larger symbols have.
+// Draws the copies of the version word, which Normal 7 and larger versions have.
 #[tactic(auto, using(qrcode_layout::proofs::Agreements::words_fit))]
 fn draw_version_words<C: Cell>(version: Version, width: usize, modules: &mut [C])
     requires valid { IsTrue (is_valid version) }
@@ -105,7 +103,7 @@ fn draw_version_words<C: Cell>(version: Version, width: usize, modules: &mut [C]
     }
 }
 
-/// Draws the functional patterns over what is there, the format places light.
+/// Draws the functional patterns over what is there, and makes the places of the format word light.
 #[tactic(auto, using(qrcode_layout::proofs::Agreements::micro_fit, qrcode_layout::proofs::Agreements::normal_fit))]
 pub(super) fn draw_patterns<C: Cell>(version: Version, modules: &mut [C])
     requires valid { IsTrue (is_valid version) }

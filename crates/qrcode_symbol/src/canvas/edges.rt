@@ -1,4 +1,4 @@
-//! What Micro costs under a mask: its penalty counts the last row and the last column alone.
+//! The penalty of Micro symbols under a mask: only the last row and the last column count.
 
 ghost use Rattle.std.specs.Prelude.{◌≡◌, ◌-◌, ◌%◌, ◌<◌, ◌^◌, bit_and, bit_xor, true};
 ghost use Rattle.qrcode_types.specs.Versions.{is_micro};
@@ -11,8 +11,8 @@ use qrcode_layout::masks::nth_mask;
 use qrcode_penalty::penalty::{last_column, micro_penalty_by_edges};
 use qrcode_penalty::row::PackedRow;
 
-/// The last column of a square, bit y standing for row y: which modules are dark, and which a mask
-/// may turn.
+/// The last column of a square, with row y as bit y: which modules are dark, and which a mask can
+/// reverse.
 #[derive(Copy, Clone)]
 pub(super) struct LastColumn<R: PackedRow> {
     pub(super) dark: R,
@@ -31,8 +31,8 @@ impl<R: PackedRow> LastColumn<R> {
     }
 }
 
-// A row or a column in which the free places are turned that the mask turns, by the first 64 of
-// these.
+// Reverses the free modules of a row or column that the mask reverses; `turned` has the mask's
+// first 64 places.
 #[inline(always)]
 fn turn_line<R: PackedRow>(dark: R, free: R, turned: u64) -> R
     ensures { R.bits result
@@ -41,7 +41,7 @@ fn turn_line<R: PackedRow>(dark: R, free: R, turned: u64) -> R
     dark.xor(free.and(long_row(turned)))
 }
 
-/// What the modules cost under the k-th mask of Micro.
+/// Returns the penalty under the `k`-th mask of a Micro version.
 pub(super) fn nth_micro_cost<R: PackedRow>(
     modules: &PackedModules<'_, R>,
     column: LastColumn<R>,

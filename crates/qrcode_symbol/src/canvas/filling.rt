@@ -1,5 +1,5 @@
-//! Drawing codewords at the empty places of a canvas: eight bits at once where four rows of a pair
-//! of columns are empty, and bit by bit elsewhere.
+//! Draws codewords into the empty modules of a canvas: eight bits at once where four rows of a pair
+//! of columns are empty, otherwise bit by bit.
 
 ghost use Rattle.std.specs.Prelude.{◌≡◌, ◌&&◌, [], ◌∷◌, ◌+◌, ◌-◌, ◌*◌, ◌%◌, ◌<◌, ◌≤◌, length, map, slice_get, IsTrue};
 ghost use Rattle.std.specs.List.{range_with_len};
@@ -16,14 +16,13 @@ use qrcode_layout::figures::color_of;
 use qrcode_layout::walk::right_column;
 use qrcode_types::types::{Color, Version};
 
-// Light, its name short so that two rows can be seen.
+// Short names, to keep `TWO_ROWS` readable.
 const L: Color = Color::Light;
 
-// Dark.
 const D: Color = Color::Dark;
 
-// Two rows of a pair of columns, by the four bits that are drawn there: the highest at the right of
-// the first row.
+// Two rows of a pair of columns, by the four bits that are drawn there. The highest bit is at the
+// right of the first row.
 #[rattlefmt::skip]
 static TWO_ROWS: [[[Color; 2]; 2]; 16] = [
     [[L, L], [L, L]], [[L, L], [D, L]], [[L, L], [L, D]], [[L, L], [D, D]],
@@ -32,7 +31,7 @@ static TWO_ROWS: [[[Color; 2]; 2]; 16] = [
     [[D, D], [L, L]], [[D, D], [D, L]], [[D, D], [L, D]], [[D, D], [D, D]],
 ];
 
-// A pair of columns of the walk, which goes upwards where the number of the pair is even, and else
+// A pair of columns of the walk. It goes upwards if the number of the pair is even, otherwise
 // downwards.
 #[derive(Copy, Clone)]
 struct Pair {
@@ -50,7 +49,7 @@ struct Pair {
 }
 
 impl Pair {
-    // The index of the right module in the row of a step.
+    // Returns the index of the right module in the row of a step.
     #[inline(always)]
     fn index(self, step: usize) -> usize
         requires { step < self.width }
@@ -67,7 +66,7 @@ impl Pair {
         row * self.width + self.right
     }
 
-    // The same of four steps, from one row to the next.
+    // Returns the indices of the right modules in the rows of four steps.
     #[inline(always)]
     fn four(self, step: usize) -> [usize; 4]
         requires { step + 4 ≤ self.width }
@@ -76,7 +75,7 @@ impl Pair {
     {
         let width = self.width;
 
-        // From the first row, whose index goes from four steps to the next with no product.
+        // Adds from row to row, instead of multiplying for each.
         let first = self.index(step);
         if self.number % 2 == 0 {
             return [first, first - width, first - 2 * width, first - 3 * width];
@@ -101,7 +100,7 @@ fn draw_bit<C: Cell>(codewords: &mut Codewords<'_>, modules: &mut [C], index: us
     }
 }
 
-// Draws the next bits one by one, from a step on and up to another.
+// Draws the next bits one by one, from step `from` up to step `to`.
 #[inline(never)]
 fn draw_steps<C: Cell>(
     pair: Pair,
@@ -125,7 +124,7 @@ fn draw_steps<C: Cell>(
     }
 }
 
-// Whether both modules of a row of a pair of columns are empty.
+// Returns whether both modules in this row of the pair are empty; `index` is that of the right one.
 #[inline(always)]
 fn is_row_empty<C: Cell>(modules: &[C], index: usize) -> bool
     requires some { 1 ≤ index }
@@ -136,7 +135,7 @@ fn is_row_empty<C: Cell>(modules: &[C], index: usize) -> bool
     C::are_empty(modules[index - 1], modules[index])
 }
 
-// Draws four bits in two rows.
+// Draws the lowest four bits of `bits` in two rows, given by the indices of their right modules.
 fn draw_two_rows<C: Cell>(modules: &mut [C], first: usize, second: usize, bits: u32)
     requires some { 1 ≤ first }
     requires inside { first < length modules.old }
@@ -192,8 +191,9 @@ fn draw_pair<C: Cell>(pair: Pair, codewords: &mut Codewords<'_>, modules: &mut [
     draw_steps(pair, 4 * fours, pair.width, codewords, modules);
 }
 
-/// Draws codewords at the empty places, in the order of the walk through pairs of columns, which
-/// goes upwards and downwards by turns. Not inlined, its loops keep what they use in registers.
+/// Draws codewords into the empty modules, in the order of the walk: through pairs of columns,
+/// alternately upwards and downwards. Without inlining, its loops keep their variables in
+/// registers.
 #[inline(never)]
 pub(super) fn draw_codewords<C: Cell>(version: Version, codewords: Codewords<'_>, modules: &mut [C])
     requires valid { IsTrue (is_valid version) }

@@ -1,4 +1,4 @@
-//! What a mask makes of a symbol: the places that it turns, and its format word.
+//! A mask and its format word, for a symbol of one version.
 
 ghost use Rattle.std.specs.Prelude.{◌≡◌, ◌<◌, ◌≤◌, IsTrue};
 ghost use Rattle.qrcode_types.specs.Versions.{is_valid, side};
@@ -21,7 +21,8 @@ pub(super) struct Layer {
     pub(super) ghost small: { width ≤ 177 },
 }
 
-/// The bit of a place that no mask decides: of the format word, or of the dark module.
+/// Returns the bit at this place if it belongs to the format word or is the dark module; no mask
+/// changes these.
 pub(super) fn fixed_bit(layer: Layer, x: usize, y: usize) -> Option<bool>
     requires { x < 1000 }
     ensures { result ≡ decided_bit layer.version layer.word x y }

@@ -1,4 +1,4 @@
-//! The rows of a square under a mask, with the format word.
+//! Computes the rows of a square under a mask, with the format word.
 
 ghost use Rattle.std.specs.Prelude.{◌≡◌, ◌≢◌, ℕ, ◌+◌, ◌-◌, ◌%◌, ◌<◌, ◌≤◌, ◌^◌, ◌&&◌, length, map, slice_index_or, true, false, IsTrue};
 ghost use Rattle.qrcode_types.specs.Bits.{has_bit};
@@ -16,8 +16,8 @@ use qrcode_layout::words::format_word;
 use qrcode_penalty::row::PackedRow;
 use qrcode_types::types::Version;
 
-// The places that each mask turns in six columns of twelve rows, column x at bit x. All masks go on
-// so, every six columns and every twelve rows.
+// The modules that each mask reverses, in six columns of twelve rows; column x is bit x. All masks
+// repeat every six columns and every twelve rows.
 #[rattlefmt::skip]
 static TURNED: [[u8; 12]; 8] = [
     [0o25, 0o52, 0o25, 0o52, 0o25, 0o52, 0o25, 0o52, 0o25, 0o52, 0o25, 0o52],
@@ -30,8 +30,7 @@ static TURNED: [[u8; 12]; 8] = [
     [0o25, 0o70, 0o61, 0o52, 0o07, 0o16, 0o25, 0o70, 0o61, 0o52, 0o07, 0o16],
 ];
 
-// The places that each mask turns in twelve rows of six columns, row y at bit y: the same ones,
-// column by column.
+// The same modules by columns, in twelve rows of six columns; row y is bit y.
 #[rattlefmt::skip]
 static TURNED_COLUMNS: [[u16; 6]; 8] = [
     [0o2525, 0o5252, 0o2525, 0o5252, 0o2525, 0o5252],
@@ -44,7 +43,7 @@ static TURNED_COLUMNS: [[u16; 6]; 8] = [
     [0o2525, 0o7070, 0o6161, 0o5252, 0o0707, 0o1616],
 ];
 
-// Six places, again and again, in the first 64 columns.
+// Repeats six bits over 64 columns.
 #[inline(always)]
 fn repeat(six: u64) -> u64
     requires { six < 64 }
@@ -53,8 +52,8 @@ fn repeat(six: u64) -> u64
     six.wrapping_mul(0x1041_0410_4104_1041)
 }
 
-// The next 64 places, where six or twelve stand again and again: 64 is 4 more than a multiple of
-// both, and 60 is one.
+// Continues a pattern that repeats every six or twelve bits by the next 64. As 60 is a multiple of
+// both, that is a rotation by four bits.
 #[inline(always)]
 fn next_places(word: u64) -> u64
     ensures { result ≡ next_places word }
@@ -62,7 +61,7 @@ fn next_places(word: u64) -> u64
     word >> 4 | word << 56
 }
 
-/// A line in which six or twelve places stand again and again, by its first 64 places.
+/// Extends a pattern that repeats every six or twelve bits from its first 64 to a whole line.
 #[inline(always)]
 pub(super) fn long_row<R: PackedRow>(word: u64) -> R
     ensures { R.bits result ≡ three_words word % 2 ^ R.room }
@@ -71,7 +70,8 @@ pub(super) fn long_row<R: PackedRow>(word: u64) -> R
     R::of_words(word, middle, next_places(middle))
 }
 
-/// The places that the mask turns in the first 64 columns of row y, each of which goes on so.
+/// Returns the modules that the mask reverses in the first 64 columns of row `y`. The pattern
+/// continues.
 #[inline(always)]
 pub(super) fn turned_row(mask: MaskPattern, y: usize) -> u64
     ensures { (x : ℕ) → x < 192 → is_set (three_words result) x ≡ turns mask x y }
@@ -79,7 +79,8 @@ pub(super) fn turned_row(mask: MaskPattern, y: usize) -> u64
     repeat(TURNED[mask.number()][y % 12] as u64)
 }
 
-/// The places that the mask turns in the first 64 rows of column x, each of which goes on so.
+/// Returns the modules that the mask reverses in the first 64 rows of column `x`. The pattern
+/// continues.
 #[inline(always)]
 pub(super) fn turned_column(mask: MaskPattern, x: usize) -> u64
     ensures { (y : ℕ) → y < 192 → is_set (three_words result) y ≡ turns mask x y }
@@ -87,8 +88,8 @@ pub(super) fn turned_column(mask: MaskPattern, x: usize) -> u64
     (TURNED_COLUMNS[mask.number()][x % 6] as u64).wrapping_mul(0x1001_0010_0100_1001)
 }
 
-// The places that a mask turns in the first 64 columns of twelve rows, which stand for all, since
-// each mask goes on so every twelve rows.
+// The modules that a mask reverses in the first 64 columns of twelve rows. They give all rows,
+// since each mask repeats every twelve rows.
 #[derive(Drop)]
 struct TurnedRows {
     mask: MaskPattern,
@@ -108,7 +109,7 @@ fn turned_rows(mask: MaskPattern) -> TurnedRows
     TurnedRows { mask, words }
 }
 
-// The row with one place as given.
+// Returns the row with one bit set or cleared.
 #[inline(always)]
 fn put<R: PackedRow>(row: R, place: u32, set: bool) -> R
     requires { place + 1 < R.room }
@@ -122,7 +123,7 @@ fn put<R: PackedRow>(row: R, place: u32, set: bool) -> R
     row.without(one)
 }
 
-// A row with the lowest bits of a number at so many places from one on, the highest of them first.
+// Writes the lowest `count` bits of `bits` into the row from bit `first` on, highest first.
 #[inline(always)]
 fn put_bits<R: PackedRow>(row: R, first: usize, count: usize, bits: u16) -> R
     requires at_most { count ≤ 16 }
@@ -137,7 +138,7 @@ fn put_bits<R: PackedRow>(row: R, first: usize, count: usize, bits: u16) -> R
     line
 }
 
-// Writes the lowest bits of a number into column 8, from a row on, the lowest first.
+// Writes the lowest `count` bits of `bits` into column 8 from row `first` on, lowest first.
 #[inline(always)]
 fn put_column<R: PackedRow>(rows: &mut [R], first: usize, count: usize, bits: u16)
     requires at_most { count ≤ 16 }
@@ -150,8 +151,7 @@ fn put_column<R: PackedRow>(rows: &mut [R], first: usize, count: usize, bits: u1
     }
 }
 
-// Writes the bits that no mask decides into the rows of Normal: both copies of the format word, and
-// the dark module.
+// Writes both copies of Normal's format word, and the dark module.
 #[inline(always)]
 fn decide_normal<R: PackedRow>(layer: Layer, rows: &mut [R])
     requires normal { is_micro layer.version ≡ false }
@@ -170,7 +170,7 @@ fn decide_normal<R: PackedRow>(layer: Layer, rows: &mut [R])
     rows[8] = put_bits(middle, width - 8, 8, word);
 }
 
-// The same of Micro, which has one copy.
+// Writes the one copy of Micro's format word.
 #[inline(always)]
 fn decide_micro<R: PackedRow>(layer: Layer, rows: &mut [R])
     requires micro { is_micro layer.version ≡ true }
@@ -183,7 +183,7 @@ fn decide_micro<R: PackedRow>(layer: Layer, rows: &mut [R])
     rows[8] = put_bits(rows[8], 1, 8, layer.word >> 7);
 }
 
-// Writes the bits that no mask decides into the rows.
+// Writes the bits that no mask changes: the format word and the dark module.
 #[inline(always)]
 fn decide_rows<R: PackedRow>(layer: Layer, rows: &mut [R])
     requires room { layer.width + 3 ≤ R.room }
@@ -197,8 +197,8 @@ fn decide_rows<R: PackedRow>(layer: Layer, rows: &mut [R])
     }
 }
 
-// Writes up to twelve rows, from a multiple of twelve on, with the places turned that the mask
-// turns. LLVM makes twelve with the places of the mask at hand.
+// Writes up to twelve rows, starting at a multiple of twelve, with the modules reversed that the
+// mask reverses. With a constant count of twelve, LLVM unrolls the loop.
 #[inline(always)]
 fn turn_some_rows<R: PackedRow>(
     modules: &PackedModules<'_, R>,
@@ -223,7 +223,7 @@ fn turn_some_rows<R: PackedRow>(
     }
 }
 
-// Writes the rows with the places turned that the mask turns.
+// Writes all rows, with the modules reversed that the mask reverses.
 fn turn_rows<R: PackedRow>(modules: &PackedModules<'_, R>, mask: MaskPattern, rows: &mut [R])
     requires length { length rows.old ≡ modules.now.width }
     ensures shown { (x y : ℕ) → x < modules.now.width → y < modules.now.width
@@ -241,7 +241,7 @@ fn turn_rows<R: PackedRow>(modules: &PackedModules<'_, R>, mask: MaskPattern, ro
     turn_some_rows(modules, &turned, 12 * count, modules.width % 12, rows);
 }
 
-/// Writes the rows under a mask, with its format word.
+/// Writes all rows under a mask, with its format word.
 pub(super) fn mask_rows<R: PackedRow>(
     modules: &PackedModules<'_, R>,
     mask: MaskPattern,

@@ -1,5 +1,5 @@
-//! The choice of the mask. The modules are packed into rows once, each mask is tried on the rows,
-//! and the colours under the best one are written.
+//! Chooses the mask. Packs the modules into rows once, tries each mask on the rows, and writes the
+//! colours under the best one.
 
 ghost use Rattle.std.specs.Prelude.{◌≡◌, ◌+◌, ◌*◌, ◌<◌, ◌≤◌, ◌^◌, false, length, map, IsTrue, IfOk, IsOkUnless};
 ghost use Rattle.qrcode_types.specs.Versions.{is_micro, has_level, side};
@@ -20,7 +20,7 @@ use qrcode_penalty::square::PackedSquare;
 use qrcode_types::types::{Color, EcLevel, QrResult, Version};
 use std::alloc::Global;
 
-// What the modules cost under the k-th mask of Normal; `masked` is a place to work in.
+// Returns the penalty under the `k`-th mask of a Normal version; `masked` is scratch space.
 fn nth_normal_cost<R: PackedRow>(modules: &PackedModules<'_, R>, k: usize, masked: &mut [R]) -> u32
     requires normal { is_micro modules.now.version ≡ false }
     requires mask_exists { k < mask_count modules.now.version }
@@ -33,7 +33,7 @@ fn nth_normal_cost<R: PackedRow>(modules: &PackedModules<'_, R>, k: usize, maske
     normal_penalty(&PackedSquare::new(masked, modules.width as u32))
 }
 
-// What the modules cost under the k-th mask.
+// Returns the penalty under the `k`-th mask; `masked` is scratch space.
 fn nth_cost<R: PackedRow>(
     modules: &PackedModules<'_, R>,
     column: LastColumn<R>,
@@ -54,7 +54,7 @@ fn nth_cost<R: PackedRow>(
     }
 }
 
-// The number of the first mask under which the modules cost least; `masked` is a place to work in.
+// Returns the number of the first mask with the lowest penalty; `masked` is scratch space.
 fn least_mask<R: PackedRow>(modules: &PackedModules<'_, R>, masked: &mut [R]) -> usize
     requires { length masked.old ≡ modules.now.width }
     ensures { IsFirstLeastCost
@@ -75,8 +75,8 @@ fn least_mask<R: PackedRow>(modules: &PackedModules<'_, R>, masked: &mut [R]) ->
     best
 }
 
-// The colours under the first mask of least penalty, chosen on rows of one kind. The modules are
-// freed before the colours are written.
+// Returns the colours under the first mask with the lowest penalty, with rows of type `R`. Frees
+// the modules before it writes the colours.
 fn best_by<R: PackedRow, C: Cell>(
     alloc: Global,
     version: Version,
@@ -110,8 +110,8 @@ fn best_by<R: PackedRow, C: Cell>(
     Ok(colors)
 }
 
-/// The colours, in row order, under the first mask of least penalty, with its format word. The
-/// modules are freed before the colours are written.
+/// Returns the colours under the first mask with the lowest penalty, with its format word, in row
+/// order. Frees the modules before it writes the colours.
 pub(super) fn best_colors<C: Cell>(
     alloc: Global,
     version: Version,

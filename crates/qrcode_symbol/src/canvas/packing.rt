@@ -1,4 +1,4 @@
-//! Modules packed into rows of places: which are dark, and which a mask may turn.
+//! Packs modules into rows of bits: which are dark, and which a mask can reverse.
 
 ghost use Rattle.std.specs.Prelude.{◌≡◌, ◌==◌, ◌+◌, ◌*◌, ◌%◌, ◌<◌, ◌≤◌, ◌^◌, nat_lt, bit_and, length, map, take, IsTrue};
 ghost use Rattle.qrcode_types.specs.Versions.{is_valid, has_level, side};
@@ -13,8 +13,8 @@ use qrcode_penalty::square::PackedSquare;
 use qrcode_types::types::{EcLevel, Version};
 use std::simd::prelude::*;
 
-/// The modules of a symbol in rows: bit x of row y of `dark` is set where the module in column x
-/// and row y is dark, and of `free` where a mask may turn it.
+/// The modules of a symbol as packed rows. Bit x of row y of `dark` is set if the module in column
+/// x and row y is dark; in `free`, if a mask can reverse it.
 #[derive(Drop)]
 pub(super) struct PackedModules<'a, R: PackedRow> {
     pub(super) version: Version,
@@ -32,7 +32,7 @@ pub(super) struct PackedModules<'a, R: PackedRow> {
     pub(super) ghost free_width: { free.width ≡ width },
 }
 
-// 1 for a dark module, and 0 for a light one.
+// Returns 1 for a dark module, otherwise 0.
 #[inline(always)]
 fn dark_bit(m: Module) -> u8
     ensures { result ≡ digit (is_dark_module m) }
@@ -43,7 +43,7 @@ fn dark_bit(m: Module) -> u8
     }
 }
 
-// 1 for a module that a mask may turn, and 0 for another.
+// Returns 1 for a module that a mask can reverse, otherwise 0.
 #[inline(always)]
 fn free_bit(m: Module) -> u8
     ensures { result ≡ digit (is_free m) }
@@ -54,7 +54,7 @@ fn free_bit(m: Module) -> u8
     }
 }
 
-// Which of 64 bytes are a number, the first in the lowest bit.
+// Returns which of the bytes equal `number`; bit i is byte i.
 #[inline(always)]
 fn equal_to(bytes: [u8; 64], number: u8) -> u64
     ensures { result ≡ packed (λ n. n == number) bytes }
@@ -64,8 +64,8 @@ fn equal_to(bytes: [u8; 64], number: u8) -> u64
         .to_bitmask()
 }
 
-/// Which of up to 64 modules are dark, and which a mask may turn. A byte for each answer first, so
-/// that LLVM makes sixteen at a time.
+/// Returns which of up to 64 modules are dark, and which a mask can reverse. It first makes a byte
+/// for each answer, so that LLVM handles sixteen at a time.
 pub(super) fn pack_modules(modules: &[Module]) -> (u64, u64)
     requires { length modules.now ≤ 64 }
     ensures dark { result.0 ≡ packed is_dark_module modules.now }
@@ -80,8 +80,8 @@ pub(super) fn pack_modules(modules: &[Module]) -> (u64, u64)
     (equal_to(dark, 1), equal_to(free, 1))
 }
 
-// Which of 64 bytes show dark modules, and which show modules that a mask may turn, where the bytes
-// lie.
+// Returns which of 64 stored modules are dark, and which a mask can reverse. It reads the bytes in
+// place.
 #[inline(always)]
 fn pack_whole(bytes: &[u8]) -> (u64, u64)
     requires { length bytes.now ≡ 64 }
@@ -96,7 +96,7 @@ fn pack_whole(bytes: &[u8]) -> (u64, u64)
     )
 }
 
-// So many of the lowest bits of a number.
+// Returns the `count` lowest bits of `word`.
 #[inline(always)]
 fn lowest(word: u64, count: usize) -> u64
     requires { count ≤ 64 }
@@ -108,8 +108,8 @@ fn lowest(word: u64, count: usize) -> u64
     word.and(u64::first(count as u32))
 }
 
-/// Which of the first modules, up to 64, are dark, and which a mask may turn, by the bytes that
-/// show them.
+/// Returns which of the first `count` stored modules, at most 64, are dark, and which a mask can
+/// reverse.
 pub(super) fn pack_bytes(bytes: &[u8], count: usize) -> (u64, u64)
     requires at_most { count ≤ 64 }
     requires inside { count ≤ length bytes.now }
@@ -118,17 +118,17 @@ pub(super) fn pack_bytes(bytes: &[u8], count: usize) -> (u64, u64)
     ensures free { result.1 ≡ packed (λ n. is_free (module_of_byte n)) (take count bytes.now) }
 {
     if bytes.len() >= 64 {
-        // Where they lie, what is behind them left out.
+        // Reads 64 bytes in place, and drops the results of those after `count`.
         let (dark, free) = pack_whole(&bytes[..64]);
         return (lowest(dark, count), lowest(free, count));
     }
-    // A byte of 128 is a light module that no mask turns.
+    // 128 is a light module that no mask reverses.
     let mut word = [128u8; 64];
     word[..count].copy_from_slice(&bytes[..count]);
     pack_whole(&word)
 }
 
-// Which of the first modules, those of a row, are dark, and which a mask may turn.
+// Returns which of the first `width` modules, a row, are dark, and which a mask can reverse.
 fn pack_row<R: PackedRow, C: Cell>(modules: &[C], width: usize) -> (R, R)
     requires room { width ≤ R.room }
     requires inside { width ≤ length modules.now }
@@ -152,7 +152,7 @@ fn pack_row<R: PackedRow, C: Cell>(modules: &[C], width: usize) -> (R, R)
     )
 }
 
-/// Packs each row of a square.
+/// Packs all rows of a square.
 #[tactic(auto, using(std::proofs::lemmas::Nat::rows))]
 pub(super) fn pack_rows<R: PackedRow, C: Cell>(
     width: usize,

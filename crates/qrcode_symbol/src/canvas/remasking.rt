@@ -1,4 +1,4 @@
-//! The colours of a symbol under another mask.
+//! Changes the mask of a finished symbol.
 
 ghost use Rattle.std.specs.Prelude.{◌≡◌, ◌*◌, ◌<◌, Bool, List, not, length, IsTrue};
 ghost use Rattle.qrcode_types.specs.Colors.{is_dark, color_of};
@@ -16,7 +16,7 @@ use qrcode_layout::patterns::{format_index, is_functional_place};
 use qrcode_layout::words::format_word;
 use qrcode_types::types::{Color, EcLevel, Version};
 
-// A colour, turned where just one of two masks turns its place.
+// Reverses a colour if exactly one of two masks reverses its place.
 fn turned(old: MaskPattern, mask: MaskPattern, x: usize, y: usize, color: Color) -> Color
     requires column { x < 1000 }
     requires row { y < 1000 }
@@ -29,8 +29,9 @@ fn turned(old: MaskPattern, mask: MaskPattern, x: usize, y: usize, color: Color)
     !color
 }
 
-// The colour of a place under the layer's mask, which the old mask gave this colour: a bit of the
-// format word, that of a pattern as it is, and any other turned by both masks.
+// Returns the colour of a place under the layer's mask, from its `color` under the mask `old`. It
+// takes the format word from the layer, leaves patterns as they are, and changes all other places
+// from the old mask to the new one.
 fn remasked_at(layer: Layer, old: MaskPattern, x: usize, y: usize, color: Color) -> Color
     requires column { x < layer.width }
     requires row { y < layer.width }
@@ -45,7 +46,7 @@ fn remasked_at(layer: Layer, old: MaskPattern, x: usize, y: usize, color: Color)
     turned(old, layer.mask, x, y, color)
 }
 
-/// Gives the colours of a symbol under an old mask, row by row, those under another mask.
+/// Replaces the colours of a symbol under the mask `old`, row by row, by those under `mask`.
 #[tactic(auto, using(std::proofs::lemmas::Nat::rows))]
 pub fn remask(
     version: Version,
@@ -59,7 +60,7 @@ pub fn remask(
     requires square { length modules.old ≡ side version * side version }
     ensures value { modules.new ≡ remasked version ec_level old mask modules.old }
 
-    // They are the symbol of the same bits.
+    // The result is a symbol of the same bits.
     ensures symbol { (bits : List Bool) → IsSymbol version ec_level bits old modules.old
         → IsSymbol version ec_level bits mask modules.new }
 {

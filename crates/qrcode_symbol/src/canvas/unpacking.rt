@@ -1,4 +1,4 @@
-//! Rows of places written as colours.
+//! Writes packed rows as colours.
 
 ghost use Rattle.std.specs.Prelude.{◌≡◌, ℕ, ◌+◌, ◌*◌, ◌<◌, ◌≤◌, [], length, map, slice_index_or, IfOk, IsOkUnless};
 ghost use Rattle.qrcode_types.specs.Colors.{color_of};
@@ -11,7 +11,8 @@ use qrcode_layout::figures::color_of;
 use qrcode_penalty::row::PackedRow;
 use qrcode_types::types::{Color, QrResult};
 
-// The colours of the places of a word. From the bits of its bytes LLVM makes sixteen at a time.
+// Returns the colours of 64 bits. Written with the word's bytes, so that LLVM handles sixteen at a
+// time.
 #[inline(always)]
 fn colors_of(word: u64) -> [Color; 64]
     ensures length { length result ≡ 64 }
@@ -26,7 +27,7 @@ fn colors_of(word: u64) -> [Color; 64]
     colors
 }
 
-// Appends the colours of the first places of a word.
+// Appends the colours of the first `count` bits of a word.
 #[inline(always)]
 fn append(colors: &mut Vec<Color>, word: u64, count: usize) -> QrResult<()>
     requires { count ≤ 64 }
@@ -38,8 +39,8 @@ fn append(colors: &mut Vec<Color>, word: u64, count: usize) -> QrResult<()>
     Ok(())
 }
 
-// Appends a row by its places, of which the dark ones are set: word by word, so that the room needs
-// no first values.
+// Appends the colours of a row whose dark modules are set. It appends word by word, so that the
+// memory need not be filled first.
 fn unpack_row<R: PackedRow>(line: R, width: usize, colors: &mut Vec<Color>) -> QrResult<()>
     ensures written { IfOk result (λ _.
         IsRowWritten (R.bits line) width colors.old.items colors.new.items) }
@@ -54,7 +55,7 @@ fn unpack_row<R: PackedRow>(line: R, width: usize, colors: &mut Vec<Color>) -> Q
     Ok(())
 }
 
-/// Appends the colours of the rows of a square by their places, of which the dark ones are set.
+/// Appends the colours of the rows of a square, in which dark modules are set.
 #[tactic(auto, using(std::proofs::lemmas::Nat::rows))]
 pub(super) fn unpack_rows<R: PackedRow>(
     width: usize,
