@@ -88,9 +88,9 @@ pub centres_inside : (v : Version) → IsTrue (is_valid v) → all_inside v ≡ 
 unfolding centres
 centres_inside v valid = each_version all_inside normals_inside refl v valid
 
--- No figure of a pattern meets one of the format word.
+-- No figure of a pattern overlaps one of the format word.
 
--- two figures have no place together
+-- two figures share no place
 abbrev are_apart : Figure → Figure → Bool
 are_apart f g =
     nat_le (f.left + f.across) g.left || nat_le (g.left + g.across) f.left || nat_le (f.top + f.down) g.top || nat_le (g.top + g.down) f.top
@@ -131,14 +131,14 @@ format_places_are_no_patterns v x y i valid e =
     none_from (pattern v x y) (pattern_some v x y
     ∙ none_meets (format_figures v) (figures v) x y (each_version all_apart normals_apart micros_apart v valid) (sym (format_some v x y) ∙ ap is_some e))
 
--- where a bit of the format word is found, no pattern is
+-- a place with a bit of the format word has no pattern
 pub apart_where_some : (v : Version) (x y : ℕ) (found : Option ℕ) → IsTrue (is_valid v) → found ≡ format_index v x y → IfSome found (λ i. pattern v x y ≡ None)
 apart_where_some v x y None valid e = tt
 apart_where_some v x y (Some i) valid e = format_places_are_no_patterns v x y i valid (sym e)
 
--- Where figures meet they agree.
+-- Where figures overlap they agree.
 
--- at each place of the first figure that the second has, too, both have one colour
+-- at each place that both figures cover, they have the same colour
 abbrev agree : Version → Figure → Figure → Bool
 agree v f g =
     cond (are_apart f g) true

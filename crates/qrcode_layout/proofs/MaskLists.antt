@@ -1,4 +1,4 @@
--- The masks of a version stand at their numbers in its list.
+-- The masks of a version are at their numbers in its list.
 use Rattle.std.proofs.Common.{◌≡◌, ℕ, ◌<◌, Bool, ◌||◌, nat_le, nat_lt, ◌==◌, IsTrue, pos, negsuc, refl, ap, arith, inl, inr}
 use Rattle.std.proofs.lemmas.Bool.{or_cases, eqb-true, ltb-true, leb-true}
 use Rattle.qrcode_types.specs.declared.types.Version.{Version}
@@ -20,7 +20,7 @@ number_lt (Normal n) k h = mask_number-lt k
 number_lt (Micro (pos n)) k h = micro_mask n k h
 number_lt (Micro (negsuc n)) k h = absurd (cc)
 
--- a mask that the version has stands at its number
+-- a mask that the version has is at its number in the list
 pub nth_of_number : (v : Version) (k : MaskPattern) → IsTrue (exists_in v k) → nth_mask v (number_in v k) ≡ k
 nth_of_number (Normal n) Checkerboard h = refl
 nth_of_number (Normal n) HorizontalLines h = refl

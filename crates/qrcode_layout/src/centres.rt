@@ -62,8 +62,9 @@ fn normal_centres(number: usize) -> &'static [u8]
 }
 
 /// Returns the coordinates of the alignment centres of `version`, in rising order (ISO/IEC
-/// 18004:2006, annex E). They serve as columns and as rows; the first is also that of the finder
-/// patterns. The list is empty for a version without alignment patterns. The version must exist.
+/// 18004:2006, annex E). They serve as columns and as rows; two that meet in the corner of a finder
+/// pattern (`is_corner_centre`) are no centre. The list is empty for a version without alignment
+/// patterns. The version must exist.
 #[tactic(auto, using(crate::proofs::Agreements::centres_inside))]
 pub fn centres(version: Version) -> &'static [u8]
     requires { IsTrue (is_valid version) }

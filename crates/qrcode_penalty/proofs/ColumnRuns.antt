@@ -1,4 +1,4 @@
--- The runs of columns by words that show where none goes on: bit x stands for column x.
+-- The runs of columns, by words whose bit x is set if no run of five begins in column x.
 use Rattle.std.proofs.Common.{◌≡◌, ℕ, ◌<◌, Bool, true, false, not, ◌&&◌, ◌||◌, refl, ap, ap₂, ◌∙◌, arith, bit_and}
 use Rattle.std.proofs.lemmas.Nat.{and_le_l}
 use Rattle.qrcode_penalty.specs.Rows.{is_set, FitsWidth}
@@ -21,7 +21,7 @@ pub turned : (a p : Bool) → not a ≡ p → a ≡ not p
 turned true p h = ap not h
 turned false p h = ap not h
 
--- a word that shows in m columns where a test does not hold
+-- a word whose set bits, among m columns, are those where a test fails
 abbrev pub Bars : ℕ → ℕ → (ℕ → Bool) → Type 0
 Bars m word test = (x : ℕ) → x < m → is_set word x ≡ not (test x)
 
@@ -34,7 +34,7 @@ pub common : (m a b c : ℕ) (p q : ℕ → Bool) → c ≡ bit_and a b → Bars
 common m a b c p q e bars_a bars_b = λ x h.
     ap (λ w. is_set w x) e ∙ has_and a b x ∙ ap₂ (λ (s t : Bool). s && t) (bars_a x h) (bars_b x h) ∙ neither_case (p x) (q x)
 
--- the row of three windows of which the first two come as one
+-- a row of three windows, the first two of them combined
 pub inside_upper : (dark : ℕ → ℕ → Bool) (m y a b c : ℕ) → c ≡ bit_and a b → Bars m a (λ x. before (two (run_from dark x)) y) → Bars m b (λ x. run_from dark x y) →
     sum_below m (λ x. count_if (not (is_set c x)) 1) ≡ inside_row dark m y
 inside_upper dark m y a b c e bars_a bars_b =

@@ -74,7 +74,7 @@ inside_sum line v n h none =
     let same_next = ap₂ (λ (a b : Bool). count_if (a || (b || before v n)) 1) (none (suc n) (omega arith)) (none n (omega arith)) in
     ap (λ m. sum_below m (λ k. count_if (three v k) 1)) e ∙ omega (arith, inside_runs line v n h, here, same_next)
 
--- the number of columns with such a window in the row before n, or in one of the two before it
+-- the number of columns with such a window in the row before n; and with one in either of the two rows before n
 abbrev pub last_row : (ℕ → ℕ → Bool) → ℕ → ℕ → ℕ
 last_row dark m n = sum_below m (λ x. count_if (before (run_from dark x) n) 1)
 

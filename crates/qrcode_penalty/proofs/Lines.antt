@@ -95,7 +95,7 @@ without_above n b k h = has_without (2 ^ n - 1) b k ∙ ap (λ t. t && not (is_s
 abbrev pub windows : ℕ → ℕ → ℕ
 windows a n = without (2 ^ (n - 4) - 1) (spread a)
 
--- the windows' places and the next ones; and those with the next but one
+-- the places of the windows and the place after each; and with the two places after each
 abbrev pub two_places : ℕ → ℕ → ℕ
 two_places a n = bit_or (windows a n) (windows a n * 2 ^ 1)
 

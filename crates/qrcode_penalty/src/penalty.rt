@@ -16,7 +16,7 @@ pub fn normal_penalty<R: PackedRow>(square: &PackedSquare<'_, R>) -> u32
     ensures value { result ≡ normal_penalty square.now.width (dark_in square.now.rows) }
     ensures at_most { result < 2 ^ 24 }
 
-    // The same for any function that gives the dark places inside the square.
+    // So also for any `dark` that agrees with the rows inside the square.
     ensures shown { (dark : ℕ → ℕ → Bool) → Shows square.now.width square.now.rows dark
         → result ≡ normal_penalty square.now.width (inside square.now.width dark) }
 {
@@ -33,7 +33,7 @@ pub fn micro_penalty<R: PackedRow>(square: &PackedSquare<'_, R>) -> u32
     ensures value { result ≡ micro_penalty square.now.width (dark_in square.now.rows) }
     ensures at_most { result < 2 ^ 24 }
 
-    // The same for any function that gives the dark places inside the square.
+    // So also for any `dark` that agrees with the rows inside the square.
     ensures shown { (dark : ℕ → ℕ → Bool) → Shows square.now.width square.now.rows dark
         → result ≡ micro_penalty square.now.width (inside square.now.width dark) }
 {

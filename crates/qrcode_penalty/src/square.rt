@@ -6,8 +6,8 @@ ghost use Rattle.qrcode_penalty.specs.Rows.{IsSquare, FitsWidth};
 use crate::row::PackedRow;
 use std::marker::Model;
 
-/// A square of packed rows, at least 7 by 7. Each row has room for at least three more bits than
-/// columns.
+/// A square of packed rows, at least 7 by 7. A row has room for at least three bits more than there
+/// are columns.
 #[derive(Drop)]
 pub struct PackedSquare<'a, R: PackedRow> {
     rows: &'a [R],

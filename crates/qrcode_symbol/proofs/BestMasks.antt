@@ -1,4 +1,4 @@
--- What is written is the square under the best mask.
+-- The colours that are written are those under the best mask.
 use Rattle.std.proofs.Common.{◌≡◌, ℕ, ◌+◌, ◌*◌, ◌<◌, List, length, map, slice_index_or, IsTrue, refl, ap, sym, subst, ◌∙◌}
 use Rattle.std.proofs.lemmas.Simd.{map-map}
 use Rattle.qrcode_types.specs.Colors.{color_of}
@@ -20,7 +20,7 @@ use Rattle.qrcode_symbol.proofs.MaskedSquares.{cost_same, colors_same, all_maske
 use Rattle.qrcode_symbol.proofs.Remasking.{first_least_of}
 
 module _ (v : Version) (l : EcLevel) (modules : List Module) (new : List Color) (dark free rows : List ℕ) (best : ℕ) where
-  -- what is known of a width and a mask
+  -- if the rows and the mask are as the code computes them, for a square of width w, the new colours are the best
   abbrev pub Known : ℕ → MaskPattern → Type 0
   Known w k =
       ShowsModules is_dark_module w modules dark → ShowsModules is_free w modules free → IsFirstLeastCost (nth_cost v l w dark free) (mask_count v) best → IsTrue (exists_in v k) →
@@ -53,7 +53,7 @@ module _ (v : Version) (l : EcLevel) (modules : List Module) (colors : List Colo
   after =
       ap (map (λ c. Masked c)) (are.shown ∙ ap colors_of are.best.after) ∙ map-map (λ c. Masked c) color_of_module (with_mask v l are.best.mask modules) ∙ all_masked v l modules are.best.mask
 
-  -- modules of the best colours that no mask turns
+  -- modules of the best colours that no mask reverses
   pub best_modules : IsBestMasked v l modules all
   best_modules = subst (IsBestMasked v l modules) (are.best.after ∙ sym after) are.best
 

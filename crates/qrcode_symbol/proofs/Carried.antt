@@ -51,7 +51,7 @@ unfolding with_mask
 color_is v l k m x y xl yl =
     colors_at (with_mask v l k m) (y * side v + x) ∙ ap color_of_module (mapped_place v (mask_module v (format_word v l k) k) m x y xl yl)
 
--- a module after the mask, by what stands at its place
+-- a module after the mask, by what is at its place
 after : (f : Option ℕ) (d : Option Color) (word : ℕ) (t : Bool) (m : Module) → Module
 after f d word t m = elim f as (λ _. Module) [ Some i ↦ Masked (color_of (has_bit word (14 - i))) | None ↦ elim d as (λ _. Module) [ Some c ↦ Masked c | None ↦ masked_module t m ] ]
 
@@ -72,14 +72,14 @@ at_free : (f : Option ℕ) (d : Option Color) (word : ℕ) (t : Bool) (m : Modul
 unfolding after
 at_free f d word t m e h = rw (e, h) refl
 
--- no format place has a pattern
+-- a place with a pattern has no bit of the format word
 pub no_format : (v : Version) (x y : ℕ) (c : Color) → IsTrue (is_valid v) → pattern v x y ≡ Some c → format_index v x y ≡ None
 no_format v x y c valid e = go (format_index v x y) refl where
   go : (f : Option ℕ) → format_index v x y ≡ f → f ≡ None
   go None h = refl
   go (Some i) h = let none : pattern v x y ≡ None = format_places_are_no_patterns v x y i valid h in cc
 
--- the drawing on a new canvas
+-- the bits drawn on a new canvas with its patterns
 abbrev pub drawn : Version → List Bool → List Module
 drawn v bits = with_bits_drawn v bits (with_patterns v (blank v))
 
@@ -127,7 +127,7 @@ has_patterns v l k bits valid = record {
       (All-from_recursion (IsFormatCopy v) (format_copies v) (format_copies_are_indexed v valid)));
 }
 
--- masked twice is itself; an empty module reads as a zero
+-- masking twice changes nothing; an empty module reads as 0
 turned_back : (t : Bool) (o : Option Bool) → turned_if t (is_dark (color_of_module (masked_module t (drawn_at o Empty)))) ≡ unwrap_or o false
 turned_back true None = refl
 turned_back false None = refl
@@ -161,7 +161,7 @@ pub free_free : (v : Version) → All (λ p. not (is_functional_place v p.0 p.1)
 unfolding free_places
 free_free v = filter_passes (λ p. not (is_functional_place v p.0 p.1)) (zigzag v)
 
--- the stream reads the bits, and zeros behind them
+-- the stream has the bits, then zeros
 stream_at : (v : Version) (l : EcLevel) (k : MaskPattern) (bits : List Bool) (i : ℕ) → IsTrue (is_valid v) → i < length (free_places v)
     → get_or (stream v k (colors_of (with_mask v l k (drawn v bits)))) i false ≡ get_or bits i false
 unfolding stream
@@ -211,7 +211,7 @@ all_zeros : (n : ℕ) → list_all not (replicate n false) ≡ true
 all_zeros zero = refl
 all_zeros (suc n) = all_zeros n
 
--- the law of the constructors
+-- the theorem of the constructors
 pub carried : (v : Version) (l : EcLevel) (bytes ec : List ℕ) (k : MaskPattern) → IsTrue (has_level v l) → AreBytes bytes → AreBytes ec → length bytes ≡ data_length v l → length ec ≡ total_ec_length v l
     → HasZeroHalf v l bytes → Carries v l (bytes ++ ec) k (colors_of (with_mask v l k (drawn v (drawn_bits v l bytes ec))))
 carried v l bytes ec k level b c p q half =

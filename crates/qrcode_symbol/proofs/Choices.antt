@@ -1,4 +1,4 @@
--- The choice of the first least cost, and of the mask that has it.
+-- The first mask with the lowest cost.
 use Rattle.std.proofs.Common.{◌≡◌, ℕ, List, ◌-◌, ◌<◌, ◌≤◌, ◌^◌, IsTrue, ap, ◌∙◌, arith}
 use Rattle.qrcode_types.specs.declared.types.Version.{Version}
 use Rattle.qrcode_layout.specs.Masks.{exists_in, nth_mask, mask_count}
@@ -10,7 +10,7 @@ use Rattle.qrcode_symbol.specs.declared.canvas.Module.{Module}
 use Rattle.qrcode_symbol.specs.Canvas.{colors_of, with_mask, IsBestMask}
 use Rattle.qrcode_symbol.specs.Penalties.{penalty}
 
--- best is the first that costs least of the first count, and least is what it costs; of none it is a bound
+-- among the first `count` costs, `least` is the lowest, and `best` the first with it; for none, `least` is an upper bound
 pub record LeastBelow (costs : ℕ → ℕ) (count best least : ℕ) : Type 0 where
   pub none : count ≡ 0 → least ≡ 2 ^ 32 - 1
   pub exists : 0 < count → best < count
@@ -18,7 +18,7 @@ pub record LeastBelow (costs : ℕ → ℕ) (count best least : ℕ) : Type 0 wh
   pub below : (j : ℕ) → j < count → least ≤ costs j
   pub first : (j : ℕ) → j < best → 0 < count → least < costs j
 
--- the first least cost is that of the best mask
+-- the first mask with the lowest cost is the best mask
 pub best_of_least : (v : Version) (l : EcLevel) (modules : List Module) (costs : ℕ → ℕ) (i : ℕ) → ((k : ℕ) → costs k ≡ penalty v (colors_of (with_mask v l (nth_mask v k) modules))) →
     IsFirstLeastCost costs (mask_count v) i → IsTrue (exists_in v (nth_mask v i)) → IsBestMask v l modules (nth_mask v i)
 best_of_least v l modules costs i are first exists =

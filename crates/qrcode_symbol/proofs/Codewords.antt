@@ -1,4 +1,4 @@
--- Codewords are read from the bits that are drawn of them.
+-- Reading codewords back from the bits that were drawn for them.
 use Rattle.std.proofs.Common.{◌≡◌, ℕ, zero, suc, ◌+◌, ◌-◌, ◌*◌, ◌/◌, ◌%◌, ◌<◌, ◌≤◌, ◌^◌, Bool, true, false, cond, List, [], ◌∷◌, ◌++◌, length, map, take, drop, get_or, refl, sym, ap, ap₂, ◌∙◌, arith, subst, inl, inr, length-append, append_assoc}
 use Rattle.std.specs.List.{range_with_len}
 use Rattle.std.proofs.lemmas.Bool.{cases_lt, cases_Bool}
@@ -25,7 +25,7 @@ byte_small [] i b h = absurd (omega arith)
 byte_small (x ∷ bytes) zero b h = b.0
 byte_small (x ∷ bytes) (suc i) b h = byte_small bytes i b.1 (omega arith)
 
--- bits that are those of bytes at each place, with zeros behind them, are read as these bytes
+-- bits that are everywhere those of some bytes, with zeros after them, are read as these bytes
 byte_from : (bits : List Bool) (bytes : List ℕ) (i : ℕ) → AreBytes bytes → i < length bytes → ((p : ℕ) → get_or bits p false ≡ get_or (bits_of bytes) p false) → byte_at bits i ≡ get_or bytes i 0
 unfolding byte_at
 byte_from bits bytes i b h same =
@@ -51,7 +51,7 @@ bytes_from bits bytes b l same =
 bytes_of_bits : (bytes : List ℕ) → AreBytes bytes → bytes_of (bits_of bytes) ≡ bytes
 bytes_of_bits bytes b = bytes_from (bits_of bytes) bytes b (omega (arith, length_bits_of bytes)) (λ p. refl)
 
--- bits that are zero where they are cut off
+-- cutting off bits that are all zero changes nothing
 taken_same : (m : ℕ) (xs : List Bool) → ((p : ℕ) → m ≤ p → get_or xs p false ≡ false) → (p : ℕ) → get_or (take m xs) p false ≡ get_or xs p false
 taken_same m xs h p = elim (cases_lt p m) [
   | inl l ↦ get_or-take m xs p false l
@@ -65,7 +65,7 @@ low_bit n (suc (suc zero)) e h = grind (arith, nat_tests)
 low_bit n (suc (suc (suc zero))) e h = grind (arith, nat_tests)
 low_bit n (suc (suc (suc (suc i)))) e h = absurd (omega arith)
 
--- the bits behind the capacity are zeros
+-- the bits after the capacity are zeros
 zeros_behind : (v : Version) (l : EcLevel) (words : List ℕ) → length words ≡ data_length v l → HasZeroHalf v l words → (p : ℕ) → capacity v l ≤ p → get_or (bits_of words) p false ≡ false
 unfolding capacity
 zeros_behind v l words e half p g = elim (cases_Bool (has_half_codeword v l)) [
@@ -93,7 +93,7 @@ length_drawn v l words ec p q =
     let front = take n (bits_of words) in
     length-append front (bits_of ec) ∙ ap₂ (λ x y. x + y) (length-take n (bits_of words) ∙ omega (arith, length_bits_of words, p)) (length_bits_of ec ∙ ap (λ n. 8 * n) q)
 
--- what the codewords of the bits are that are drawn of them, whatever follows
+-- the bits drawn for codewords, whatever follows, are read as these codewords
 pub codewords_drawn : (v : Version) (l : EcLevel) (words ec : List ℕ) (rest : List Bool) → AreBytes words → AreBytes ec → length words ≡ data_length v l → length ec ≡ total_ec_length v l
     → HasZeroHalf v l words → codewords v l (drawn_bits v l words ec ++ rest) ≡ words ++ ec
 unfolding codewords drawn_bits capacity
@@ -131,7 +131,7 @@ joined_bytes : (a b : List ℕ) → AreBytes a → AreBytes b → AreBytes (a ++
 joined_bytes [] b p q = q
 joined_bytes (x ∷ a) b p q = (p.0, joined_bytes a b p.1 q)
 
--- codewords of whatever bits are bytes
+-- the codewords in any bits are bytes
 pub codewords_are_bytes : (v : Version) (l : EcLevel) (bits : List Bool) → AreBytes (codewords v l bits)
 unfolding codewords
 codewords_are_bytes v l bits =

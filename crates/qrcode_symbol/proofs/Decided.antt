@@ -1,4 +1,4 @@
--- Rows with the bits that no mask decides: two copies of the format word and the dark module in Normal, one copy in Micro.
+-- Rows with the bits that no mask changes: two copies of the format word and the dark module in Normal, one copy in Micro.
 use Rattle.std.proofs.Common.{◌≡◌, ◌≢◌, ℕ, ◌+◌, ◌-◌, ◌/◌, ◌^◌, ◌<◌, ◌≤◌, Bool, true, false, List, refl, ap, sym, ◌∙◌, arith, subst, true≢false, inl, inr, slice_index_or, slice_set, length, unwrap_or, below_more}
 use Rattle.std.specs.Option.{option_or}
 use Rattle.std.specs.Prelude.{option_map}
@@ -16,7 +16,7 @@ use Rattle.qrcode_layout.specs.Patterns.{dark_module, decided_bit, format_index}
 use Rattle.qrcode_layout.proofs.FormatPlaces.{normal_cases, micro_cases, normal_index, micro_index}
 use Rattle.qrcode_symbol.specs.Deciding.{IsPutInRow, IsPutInColumn, AreDecided}
 
--- rows with one bit more of those that are put into column 8
+-- one more bit is written into column 8
 pub column_more : (rows : List ℕ) (first i : ℕ) (bit : ℕ → Bool) (lines : List ℕ) (row : ℕ) → first + i < length lines → is_set row 8 ≡ bit i
     → ((k : ℕ) → k ≢ 8 → is_set row k ≡ is_set (slice_index_or lines (first + i) 0) k) → IsPutInColumn rows first i bit lines
     → IsPutInColumn rows first (i + 1) bit (slice_set lines (first + i) row)
@@ -36,12 +36,12 @@ column_more rows first i bit lines row long here others so_far =
           ];
     }
 
--- a bit that a place has
+-- the bit of a place that the format word covers
 from_index : (v : Version) (word x y i : ℕ) → format_index v x y ≡ Some i → decided_bit v word x y ≡ Some (has_bit word (14 - i))
 unfolding decided_bit
 from_index v word x y i e = ap (λ o. option_or (option_map (λ i. has_bit word (14 - i)) o) (option_map is_dark (dark_module v x y))) e
 
--- what a place is that has a bit, or none
+-- the new value of a place, by whether it has a bit that no mask changes
 decided_as : (v : Version) (word x y : ℕ) (b new old : Bool) → decided_bit v word x y ≡ Some b → new ≡ b → new ≡ unwrap_or (decided_bit v word x y) old
 decided_as v word x y b new old e here = here ∙ sym (ap (λ o. unwrap_or o old) e)
 
@@ -59,7 +59,7 @@ put_at row first count bit new x i put h e = subst (λ (n : ℕ). is_set new n �
 column_at : (rows : List ℕ) (first count : ℕ) (bit : ℕ → Bool) (new : List ℕ) (y i : ℕ) → IsPutInColumn rows first count bit new → i < count → first + i ≡ y → dark_in new 8 y ≡ bit i
 column_at rows first count bit new y i put h e = subst (λ (n : ℕ). dark_in new 8 n ≡ bit i) e (put.inside i h)
 
--- a row that has no place of those that are put
+-- a place in a row where nothing is written
 pub kept_before : {rows new : List ℕ} {first count : ℕ} {bit : ℕ → Bool} → IsPutInColumn rows first count bit new → (x y : ℕ) → y < first → dark_in new x y ≡ dark_in rows x y
 kept_before {rows} {new} put x y h =
     elim (eqb_tells x 8) [
@@ -74,22 +74,22 @@ kept_behind {rows} {new} put x y h =
       | inr p ↦ put.others x y p.1
     ]
 
--- elsewhere than in row 8 and in column 8 a mask decides
+-- outside of row 8 and column 8, a mask can change every place
 elsewhere : (v : Version) (word x y : ℕ) → x ≢ 8 → y ≢ 8 → decided_bit v word x y ≡ None
 unfolding decided_bit dark_module
 elsewhere (Normal v) word x y h k = rw (normal_index (Normal v) x y refl, decided_bit) (grind (arith, nat_tests))
 elsewhere (Micro v) word x y h k = rw (micro_index (Micro v) x y refl, decided_bit) (grind (arith, nat_tests))
 
--- Normal has 17 modules along a side at least
+-- a Normal symbol has at least 17 modules along a side
 normal_wide : (v : Version) → is_micro v ≡ false → 17 ≤ side v
 normal_wide (Normal v) n = omega arith
 normal_wide (Micro v) n = absurd (true≢false n)
 
--- row 8 stands before the last ones
+-- row 8 comes before the last rows
 pub above : (v : Version) {w : ℕ} (k : ℕ) → is_micro v ≡ false → w ≡ side v → k ≤ 8 → 8 < w - k
 above v k n e h = omega (arith, normal_wide v n, e, h)
 
--- a place of row 8 with no bit, and one of column 8
+-- a place of row 8 without a bit, and one of column 8
 row_none : (v : Version) (word x : ℕ) → is_micro v ≡ false → x ≢ 8 → normal_cases (side v) x 8 ≡ None → decided_bit v word x 8 ≡ None
 unfolding decided_bit dark_module
 row_none (Normal v) word x n apart e = rw (normal_index (Normal v) x 8 refl ∙ e, decided_bit) (grind (arith, nat_tests))
@@ -179,7 +179,7 @@ module _ (v : Version) (word : ℕ) (normal : is_micro v ≡ false) where
           ]
         ]
 
--- the same of Micro, which has no dark module
+-- row 8 and column 8 of Micro, which has no dark module
 no_index : (v : Version) (word x y : ℕ) → is_micro v ≡ true → format_index v x y ≡ None → decided_bit v word x y ≡ None
 unfolding decided_bit dark_module
 no_index (Normal v) word x y m e = absurd (true≢false (sym m))
@@ -213,7 +213,7 @@ module _ (v : Version) (word : ℕ) (micro : is_micro v ≡ true) where
         | inr p ↦ left_as v word 8 y (dark_in new 8 y) (dark_in rows 8 y) (micro_none 8 y (grind (arith, nat_tests, p.1))) (put.before y (omega (arith, p.1)))
       ]
 
--- rows whose column 8 has its bits, and then row 8
+-- rows with the bits of column 8 written, and then those of row 8
 pub both_lines : (v : Version) (word : ℕ) (rows column : List ℕ) (new : ℕ) → 8 < length column → ((y : ℕ) → y ≢ 8 → dark_in column 8 y ≡ unwrap_or (decided_bit v word 8 y) (dark_in rows 8 y))
     → ((x y : ℕ) → x ≢ 8 → dark_in column x y ≡ dark_in rows x y) → ((x : ℕ) → is_set new x ≡ unwrap_or (decided_bit v word x 8) (dark_in rows x 8))
     → AreDecided v word rows (slice_set column 8 new)
@@ -228,7 +228,7 @@ both_lines v word rows column new long down others row = λ x y.
       ]
     ]
 
--- no row gets a bit beside the square
+-- no row gets a bit outside of the square
 beside : (v : Version) (word x y : ℕ) → side v ≤ x → 11 ≤ x → decided_bit v word x y ≡ None
 unfolding decided_bit dark_module
 beside (Normal v) word x y h l = rw (normal_index (Normal v) x y refl, decided_bit) (grind (arith, nat_tests))

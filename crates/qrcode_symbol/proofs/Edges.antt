@@ -1,4 +1,4 @@
--- The last row and the last column of a square of Micro, in which a mask decides each place.
+-- The last row and the last column of a Micro square, where a mask can change every place.
 use Rattle.std.proofs.Common.{◌≡◌, ℕ, suc, ◌-◌, ◌<◌, ◌≤◌, Bool, true, false, ◌&&◌, List, refl, ap, ap₂, sym, ◌∙◌, arith, true≢false, le-leb, bit_and, bit_xor, slice_index_or, unwrap_or, None}
 use Rattle.std.proofs.lemmas.Bool.Decides.{nat_tests}
 use Rattle.qrcode_types.specs.Versions.{side, is_micro}
@@ -15,21 +15,21 @@ use Rattle.qrcode_symbol.specs.Penalties.{penalty_of}
 use Rattle.qrcode_symbol.proofs.Decided.{micro_none}
 use Rattle.qrcode_symbol.proofs.RowLists.{turned_at}
 
--- a place inside passes the test that no place outside passes, where it passes the test
+-- inside the square, `inside` changes nothing
 inside_here : (w : ℕ) (dark : ℕ → ℕ → Bool) (x y : ℕ) → x < w → y < w → inside w dark x y ≡ dark x y
 inside_here w dark x y h l = ap₂ (λ (a b : Bool). a && b && dark x y) (le-leb (suc x) w h) (le-leb (suc y) w l)
 
--- what a square of Micro costs
+-- the penalty of a Micro square
 pub micro_cost_of : (v : Version) (dark : ℕ → ℕ → Bool) → is_micro v ≡ true → penalty_of v dark ≡ micro_penalty (side v) dark
 micro_cost_of (Normal n) dark m = absurd (true≢false (sym m))
 micro_cost_of (Micro n) dark m = refl
 
--- what a square of Normal costs
+-- the penalty of a Normal square
 pub normal_cost_of : (v : Version) (dark : ℕ → ℕ → Bool) → is_micro v ≡ false → penalty_of v dark ≡ normal_penalty (side v) dark
 normal_cost_of (Normal n) dark m = refl
 normal_cost_of (Micro n) dark m = absurd (true≢false m)
 
--- no place of the format word stands behind the eighth row, nor behind the eighth column
+-- the format word has no place after row 8 or after column 8
 far_down : (x y : ℕ) → 9 ≤ y → micro_cases x y ≡ None
 far_down x y h = grind (arith, nat_tests, h)
 
@@ -40,7 +40,7 @@ module _ (v : Version) (word : ℕ) (mask : MaskPattern) (dark free : List ℕ) 
   abbrev under : ℕ → ℕ → Bool
   under = masked_dark v word mask dark free
 
-  -- a place that the format word has not
+  -- a place that the format word does not cover
   undecided : (x y : ℕ) → x < w → y < w → decided_bit v word x y ≡ None → turned_if (dark_in free x y && turns mask x y) (dark_in dark x y) ≡ inside w under x y
   unfolding masked_dark
   undecided x y h l none = sym (inside_here w under x y h l ∙ ap (λ o. unwrap_or o (turned_if (dark_in free x y && turns mask x y) (dark_in dark x y))) none)

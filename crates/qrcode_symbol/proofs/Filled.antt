@@ -1,4 +1,4 @@
--- Bits that are drawn stand at their places, and nothing else changes.
+-- Drawn bits are at their places, and nothing else changes.
 use Rattle.std.proofs.Common.{◌≡◌, ℕ, zero, suc, ◌+◌, ◌-◌, ◌*◌, ◌<◌, ◌≤◌, ◌≢◌, Bool, true, false, not, List, [], ◌∷◌, map, length, set, get_or, arith, sym, ap, subst, refl, ◌∙◌, Option, Some, None, slice_get, cond, true≢false, IsTrue}
 use Rattle.std.specs.List.{range_with_len, filter, All, AllPairs}
 use Rattle.std.proofs.lemmas.List.{get_or-set_other, get_or-set_same}
@@ -21,7 +21,7 @@ use Rattle.qrcode_symbol.specs.declared.canvas.Module.TheVariants.{Empty, Masked
 use Rattle.qrcode_symbol.proofs.Walk.{apart}
 use Rattle.qrcode_symbol.proofs.Functional.{patterned_place, empty_module}
 
--- what is put at other places leaves a place alone
+-- writing to other places does not change a place
 put_other : (ps : List ℕ) (bs : List Bool) (m : List Module) (q : ℕ) → ((k : ℕ) → k < length ps → get_or ps k q ≢ q)
     → get_or (put_bits ps bs m) q Empty ≡ get_or m q Empty
 put_other [] bs m q apart = refl
@@ -31,12 +31,12 @@ put_other (p ∷ ps) (b ∷ bs) m q apart =
     let there : q ≢ p = λ e. here (sym e) in
     put_other ps bs (set m p (Unmasked (color_of b))) q (λ k h. apart (suc k) (omega arith)) ∙ get_or-set_other m p q (Unmasked (color_of b)) Empty there
 
--- a place of bit i, if there is such a bit
+-- the module of a place after bit i is drawn there, if there is such a bit
 abbrev pub drawn_at : Option Bool → Module → Module
 drawn_at (Some b) m = Unmasked (color_of b)
 drawn_at None m = m
 
--- the i-th bit stands at the i-th place, where no two places are one
+-- the i-th bit is at the i-th place, if no two places are the same
 put_at : (ps : List ℕ) (bs : List Bool) (m : List Module) (i d : ℕ)
     → ((j k : ℕ) (e : ℕ) → j < k → k < length ps → get_or ps j e ≢ get_or ps k e)
     → ((k : ℕ) → k < length ps → get_or ps k d < length m)
@@ -55,7 +55,7 @@ put_at (p ∷ ps) (b ∷ bs) m (suc i) d apart inside il =
     (omega arith)
     ∙ ap (drawn_at (slice_get bs i)) (get_or-set_other m p (get_or ps i d) (Unmasked (color_of b)) Empty other)
 
--- the walk as indices
+-- the walk as a list of indices
 walk : Version → List ℕ
 walk v = map (place_index v) (range_with_len 0 (side v * (side v - 1)))
 
@@ -101,7 +101,7 @@ filled_at v bits m i valid square il =
     (λ k kl. subst (λ (n : ℕ). get_or ps k 0 < n) (sym square) (All-filter test (λ p. p < side v * side v) all within k 0 kl)) il
     ∙ ap (drawn_at (slice_get bits i)) (is_empty_one (get_or m (get_or ps i 0) Empty) (filter_passes test all i 0 il))
 
--- a module that is not empty stays
+-- a module that is not empty does not change
 pub filled_other : (v : Version) (bits : List Bool) (m : List Module) (q : ℕ) → is_empty (get_or m q Empty) ≡ false → get_or (with_bits_drawn v bits m) q Empty ≡ get_or m q Empty
 unfolding with_bits_drawn
 filled_other v bits m q full = put_other (empty_places v m) bits m q
@@ -115,14 +115,14 @@ keep f false false x xs ys e h = h
 keep f true false x xs ys e h = cc
 keep f false true x xs ys e h = cc
 
--- tests that agree keep the same
+-- tests that agree keep the same items of a list
 kept : (f : ℕ × ℕ → ℕ) (g : ℕ → ℕ × ℕ) (p : ℕ → Bool) (q : ℕ × ℕ → Bool) (a n : ℕ) → ((t : ℕ) → a ≤ t → t < a + n → p (f (g t)) ≡ q (g t))
     → filter p (map f (map g (range_with_len a n))) ≡ map f (filter q (map g (range_with_len a n)))
 kept f g p q a zero same = refl
 kept f g p q a (suc n) same =
     keep f (p (f (g a))) (q (g a)) (g a) _ _ (same a (omega arith) (omega arith)) (kept f g p q (a + 1) n (λ t l h. same t (omega arith) (omega arith)))
 
--- the empty places of a new canvas with the patterns are the free places
+-- on a new canvas with its patterns, the empty places are the free places
 pub free_is_empty : (v : Version) → IsTrue (is_valid v) → empty_places v (with_patterns v (blank v)) ≡ map (λ p. p.1 * side v + p.0) (free_places v)
 unfolding free_places zigzag
 free_is_empty v valid =

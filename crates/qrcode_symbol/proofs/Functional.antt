@@ -17,12 +17,12 @@ pub length_patterned : (v : Version) → length (with_patterns v (blank v)) ≡ 
 unfolding with_patterns
 length_patterned v = length_mapped v (pattern_module v) (blank v)
 
--- a module of a new canvas with the patterns
+-- a module of a new canvas with its patterns
 pub patterned_place : (v : Version) (x y : ℕ) → x < side v → y < side v → get_or (with_patterns v (blank v)) (y * side v + x) Empty ≡ pattern_module v x y Empty
 unfolding with_patterns
 patterned_place v x y xl yl = mapped_place v (pattern_module v) (blank v) x y xl yl ∙ ap (pattern_module v x y) (blank_at (side v * side v) (y * side v + x))
 
--- it is empty where no pattern and no format word has the place
+-- it is empty exactly if no pattern and no format word covers the place
 pub emptiness : (v : Version) (x y : ℕ) → (is_functional_place v x y ≡ true) ↔ (pattern_module v x y Empty ≡ Empty → ⊥)
 unfolding is_functional_place
 emptiness v x y = by_cases (pattern v x y) (format_index v x y) where
@@ -38,7 +38,7 @@ drawn_there v x y b xl yl e =
     slice_get-get_or (with_patterns v (blank v)) (y * side v + x) Empty (omega (arith, length_patterned v)) ∙ ap Some (patterned_place v x y xl yl) in
     rw (there, e) (emptiness v x y)
 
--- the test of the same
+-- `emptiness` as a test
 pub empty_module : (v : Version) (x y : ℕ) → is_empty (pattern_module v x y Empty) ≡ not (is_functional_place v x y)
 unfolding is_functional_place
 empty_module v x y = by_cases (pattern v x y) (format_index v x y) where

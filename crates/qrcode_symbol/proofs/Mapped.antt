@@ -1,4 +1,4 @@
--- Modules that are each made of the module before.
+-- Modules that are each computed from the module at the same place.
 use Rattle.std.proofs.Common.{◌≡◌, ℕ, zero, suc, ◌+◌, ◌*◌, ◌/◌, ◌%◌, ◌<◌, List, length, get_or, arith, sym, subst, refl, ◌∙◌, replicate}
 use Rattle.std.proofs.lemmas.List.{ext_get_or}
 use Rattle.std.proofs.lemmas.List.FromFn.{length-map-range_with_len, get_or-map-range_with_len}
@@ -22,7 +22,7 @@ mapped_place v f m x y xl yl =
     mapped_index v f m (y * side v + x) (mul-add-lt y (side v) x (side v) yl xl)
     ∙ rw (mod-mul-add y (side v) x xl, div-mul-add y (side v) x xl) refl
 
--- modules that are each made by f
+-- if each module is f of the old one, the list is `map_modules`
 pub all_mapped : (v : Version) (f : ℕ → ℕ → Module → Module) (m new : List Module) (w : ℕ) → w ≡ side v → length new ≡ side v * side v
     → ((i : ℕ) → i < w * w → get_or new i Empty ≡ f (i % w) (i / w) (get_or m i Empty)) → new ≡ map_modules v f m
 all_mapped v f m new w e square each =

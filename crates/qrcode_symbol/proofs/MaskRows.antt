@@ -1,4 +1,4 @@
--- Rows of a mask: six places, again and again, and twelve rows, again and again.
+-- Rows of a mask: they repeat every six columns, and the mask every twelve rows.
 use Rattle.std.proofs.Common.{◌≡◌, ℕ, zero, suc, ◌+◌, ◌*◌, ◌/◌, ◌%◌, ◌^◌, ◌<◌, Bool, true, false, ◌&&◌, ◌==◌, refl, ap, ap₂, sym, ◌∙◌, arith, below_more, add-mul, mul_assoc, mul_comm, [], slice_index_or, nat_lt}
 use Rattle.std.proofs.Math.Nat.{mul-add}
 use Rattle.std.proofs.lemmas.Nat.{shr_split}
@@ -13,7 +13,7 @@ use Rattle.qrcode_symbol.specs.declared.canvas.masked_rows.TheConstants.{TURNED,
 use Rattle.qrcode_layout.specs.declared.masks.MaskPattern.{MaskPattern}
 use Rattle.qrcode_layout.specs.declared.masks.MaskPattern.TheVariants.{Checkerboard, HorizontalLines, VerticalLines, DiagonalLines, LargeCheckerboard, Fields, Diamonds, Meadow}
 
--- the places of a number that is cut
+-- the bits of a number that is cut to some room
 pub has_mod : (n room k : ℕ) → k < room → is_set (n % 2 ^ room) k ≡ is_set n k
 unfolding is_set
 has_mod n room k h = ap (λ x. x == 1) (sym (bit_at_cat_low (n / 2 ^ room) room (n % 2 ^ room) k h) ∙ ap (λ m. bit_at m k) (shr_split n room))
@@ -31,7 +31,7 @@ same_true true b e = sym e
 same_true false true e = cc
 same_true false false e = refl
 
--- whether a test holds below n
+-- the test passes for all numbers below n
 pub all_below : ℕ → (ℕ → Bool) → Bool
 all_below zero f = true
 all_below (suc n) f = all_below n f && f n
@@ -41,7 +41,7 @@ unfolding all_below
 all_holds zero f e k h = absurd (omega arith)
 all_holds (suc n) f e k h = below_more (λ k. f k ≡ true) n (λ k l. all_holds n f (and_l (all_below n f) (f n) e) k l) (and_r (all_below n f) (f n) e) k (omega arith)
 
--- what `repeat` makes of six places, in 192 columns
+-- six bits repeated over 192 columns, as `repeat` makes them
 abbrev pub repeated_words : ℕ → ℕ
 repeated_words six = three_words (six * 0x1041041041041041 % 2 ^ 64)
 
@@ -65,7 +65,7 @@ two_step x y = omega (arith, fields_step x y)
 three_step : (x y : ℕ) → x % 6 * y % 3 ≡ x * y % 3
 three_step x y = omega (arith, fields_step x y)
 
--- a mask goes on every six columns
+-- a mask repeats every six columns
 pub periodic : (p : MaskPattern) (x y : ℕ) → turns p (x % 6) y ≡ turns p x y
 periodic Checkerboard x y = let e : (x % 6 + y) % 2 ≡ (x + y) % 2 = omega arith in ap (λ n. n == 0) e
 periodic HorizontalLines x y = refl
@@ -98,7 +98,7 @@ rows_periodic Fields x y = ap₂ (λ (a b : ℕ). a + b == 0) (rows_two x y) (ro
 rows_periodic Diamonds x y = ap₂ (λ (a b : ℕ). (a + b) % 2 == 0) (rows_two x y) (rows_three x y)
 rows_periodic Meadow x y = let e : (x + y % 12) % 2 ≡ (x + y) % 2 = omega arith in ap₂ (λ (a b : ℕ). (a + b) % 2 == 0) e (rows_three x y)
 
--- the table of the code: six columns of twelve rows of each mask
+-- the table `TURNED` of the code: six columns of twelve rows of each mask
 turned_table : (p : MaskPattern) → all_below 12 (λ y. all_below 6 (λ x. same (is_set (slice_index_or (slice_index_or TURNED (mask_number p) []) y 0) x) (turns p x y))) ≡ true
 unfolding is_set all_below
 turned_table Checkerboard = refl
@@ -135,11 +135,11 @@ six_small p y l =
     let test = λ (n y : ℕ). nat_lt (slice_index_or (slice_index_or TURNED n []) y 0) 64 in
     ltb-true _ _ (all_holds 12 (test (mask_number p)) (all_holds 8 (λ n. all_below 12 (test n)) small_table (mask_number p) (mask_number_small p)) y l)
 
--- what twelve places make in 192 rows
+-- twelve bits repeated over 192 rows
 abbrev pub twelve_repeated : ℕ → ℕ
 twelve_repeated twelve = three_words (twelve * 0x1001001001001001 % 2 ^ 64)
 
--- the table of the code by columns: six columns of each mask, in 192 rows
+-- the table `TURNED_COLUMNS` of the code: six columns of each mask, over 192 rows
 columns_table : (p : MaskPattern) → all_below 6 (λ x. all_below 192 (λ y. same (is_set (twelve_repeated (slice_index_or (slice_index_or TURNED_COLUMNS (mask_number p) []) x 0)) y) (turns p x y))) ≡ true
 unfolding is_set all_below
 columns_table Checkerboard = refl

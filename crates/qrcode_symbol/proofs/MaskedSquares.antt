@@ -1,4 +1,4 @@
--- Squares under a mask, by rows and by modules.
+-- Squares under a mask: as rows and as modules.
 use Rattle.std.proofs.Common.{◌≡◌, ℕ, suc, ◌+◌, ◌-◌, ◌*◌, ◌/◌, ◌%◌, ◌<◌, Bool, true, false, ◌&&◌, not, nat_lt, List, [], ◌∷◌, length, map, slice_index_or, Option, Some, None, refl, ap, ap₂, sym, ◌∙◌, arith, inl, inr, unwrap_or}
 use mathlib.Core.Path.{fun_ext}
 use Rattle.std.proofs.Math.ListN.{get_or-map}
@@ -51,7 +51,7 @@ by_options word None (Some Light) t m = refl
 by_options word None (Some Dark) t m = refl
 by_options word None None t m = refl
 
--- a module after a mask, by what stands at its place
+-- a module after a mask, by what is at its place
 pub module_is : (v : Version) (word : ℕ) (k : MaskPattern) (x y : ℕ) (m : Module) → mask_module v word k x y m ≡ module_of word (format_index v x y) (dark_module v x y) (turns k x y) m
 unfolding decided_bit
 module_is v word k x y m = by_options word (format_index v x y) (dark_module v x y) (turns k x y) m
@@ -76,7 +76,7 @@ map_kept : {A B : Type 0} (f : B → B) (g : A → B) → ((x : A) → f (g x) �
 map_kept f g h [] = refl
 map_kept f g h (x ∷ xs) = ap₂ (λ y ys. y ∷ ys) (h x) (map_kept f g h xs)
 
--- the tests of a square need to agree inside alone
+-- two functions that agree inside the square are the same inside it
 pub inside_same : (w : ℕ) (f g : ℕ → ℕ → Bool) → ((x y : ℕ) → x < w → y < w → f x y ≡ g x y) → inside w f ≡ inside w g
 inside_same w f g h = fun_ext (λ x. fun_ext (λ y.
     elim (leb_tells (suc x) w) [

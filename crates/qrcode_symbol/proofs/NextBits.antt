@@ -1,4 +1,4 @@
--- The next bit of bytes that are drawn.
+-- The next bit of the codewords that are not drawn yet.
 use Rattle.std.proofs.Common.{◌≡◌, ℕ, zero, suc, ◌+◌, ◌-◌, ◌*◌, ◌/◌, ◌%◌, ◌^◌, ◌<◌, ◌≤◌, Bool, true, false, cond, List, [], ◌∷◌, ◌++◌, length, get_or, take, drop, refl, ap, ap₂, sym, ◌∙◌, arith, append_assoc, ◌⊎◌, inl, inr}
 use Rattle.std.proofs.lemmas.Bool.Decides.{nat_tests}
 use Rattle.qrcode_penalty.specs.Rows.{is_set}
@@ -6,7 +6,7 @@ use Rattle.qrcode_penalty.proofs.Places.{has_shr}
 use Rattle.qrcode_symbol.proofs.MaskRows.{has_mod}
 use Rattle.qrcode_types.specs.Bits.{number_bits, bits_of, has_bit}
 
--- of a byte that is begun
+-- the next bit of a byte that is begun
 pub begun_bit : (left begun : ℕ) (tail : List Bool) → 0 < left → number_bits left begun ++ tail ≡ has_bit begun (left - 1) ∷ (number_bits (left - 1) begun ++ tail)
 unfolding number_bits
 begun_bit zero begun tail h = absurd (omega arith)
@@ -16,7 +16,7 @@ top_of : (m : ℕ) (byte : ℕ) (rest : List ℕ) → take (suc (suc (suc (suc (
 unfolding number_bits
 top_of m byte rest = refl
 
--- of a byte that is drawn whole
+-- the bits of a byte that is drawn whole
 whole_byte : (n byte : ℕ) (rest : List ℕ) → 8 ≤ n → take n (bits_of (byte ∷ rest)) ≡ number_bits 8 byte ++ take (n - 8) (bits_of rest)
 whole_byte n byte rest h =
     let e : n ≡ suc (suc (suc (suc (suc (suc (suc (suc (n - 8)))))))) = omega arith in
@@ -30,7 +30,7 @@ four_bits : (n : ℕ) → number_bits 4 n ≡ has_bit n 3 ∷ has_bit n 2 ∷ ha
 unfolding number_bits
 four_bits n = refl
 
--- of a half codeword
+-- the bits of a half codeword
 half_byte : (byte : ℕ) → take 4 (bits_of (byte ∷ [])) ≡ number_bits 4 (byte / 16)
 half_byte byte =
     let a : has_bit (byte / 16) 3 ≡ has_bit byte 7 = grind (arith, nat_tests) in
@@ -39,7 +39,7 @@ half_byte byte =
     let e : has_bit (byte / 16) 0 ≡ has_bit byte 4 = grind (arith, nat_tests) in
     high_bits byte ∙ sym (four_bits (byte / 16) ∙ rw (a, b, d, e) refl)
 
--- the bits that are not yet drawn
+-- the bits that are not drawn yet
 abbrev pub bits_left : ℕ → ℕ → List ℕ → Bool → List ℕ → List Bool
 bits_left left begun bytes half ec = number_bits left begun ++ (take (8 * length bytes - cond half 4 0) (bits_of bytes) ++ bits_of ec)
 
@@ -59,7 +59,7 @@ half_last left begun (b ∷ []) ec z some last =
     rw z (ap (λ (bits : List Bool). bits ++ bits_of ec) (ap (λ (k : ℕ). take k (bits_of (b ∷ []))) e ∙ half_byte b))
 half_last left begun (b ∷ d ∷ bytes) ec z some last = absurd (omega arith)
 
--- the same bits, when the next byte is begun
+-- beginning the next byte does not change them
 pub begin_half : (left begun : ℕ) (bytes : List ℕ) (half : Bool) (ec : List ℕ) → left ≡ 0 → 0 < length bytes → half ≡ true → length (drop 1 bytes) ≡ 0
     → bits_left left begun bytes half ec ≡ bits_left 4 (get_or bytes 0 0 / 16) (drop 1 bytes) half ec
 begin_half left begun bytes half ec z some is last = rw is (half_last left begun bytes ec z some last)
@@ -101,7 +101,7 @@ taken_rest (b ∷ bytes) = let e : length (b ∷ bytes) - 1 ≡ length bytes = o
   take_all [] = refl
   take_all (x ∷ xs) = ap (λ (l : List ℕ). x ∷ l) (take_all xs)
 
--- the bits of what is left of a number, and then its lowest
+-- the bits of a number: those of its high part, then the lowest n
 number_bits_split : (m n x : ℕ) → number_bits (m + n) x ≡ number_bits m (x / 2 ^ n) ++ number_bits n x
 unfolding number_bits is_set
 number_bits_split zero n x = let e : zero + n ≡ n = omega arith in rw e refl
@@ -114,7 +114,7 @@ unfolding number_bits is_set
 low_bits zero room x h = refl
 low_bits (suc n) room x h = ap₂ (λ (b : Bool) (l : List Bool). b ∷ l) (has_mod x room n (omega arith)) (low_bits n room x (omega arith))
 
--- the next eight bits, where some of the byte before are left
+-- the next eight bits, if some bits of the byte before are left
 eight_shifted : (left begun byte : ℕ) (tail : List Bool) → left < 8 → byte < 256
     → number_bits left begun ++ (number_bits 8 byte ++ tail) ≡ number_bits 8 ((256 * begun + byte) / 2 ^ left) ++ (number_bits left byte ++ tail)
 eight_shifted left begun byte tail few small =
@@ -129,7 +129,7 @@ eight_shifted left begun byte tail few small =
     ∙ ap (λ (l : List Bool). number_bits 8 (x / 2 ^ left) ++ l) (sym (low_bits left 8 x (omega arith)) ∙ ap (number_bits left) low))
     ∙ append_assoc (number_bits 8 (x / 2 ^ left)) (number_bits left byte) tail
 
--- the same of all bits that are left, when a byte is begun
+-- the next eight of all bits that are left
 pub next_eight_shifted : (left begun byte : ℕ) (bytes bytes1 : List ℕ) (half : Bool) (ec ec1 : List ℕ) → left < 8 → byte < 256
     → bits_left 0 begun bytes half ec ≡ bits_left 8 byte bytes1 half ec1
     → bits_left left begun bytes half ec ≡ number_bits 8 ((256 * (begun % 256) + byte) / 2 ^ left) ++ bits_left left byte bytes1 half ec1

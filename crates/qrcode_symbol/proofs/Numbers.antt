@@ -1,4 +1,4 @@
--- Numbers and their bits tell each other.
+-- Numbers and lists of bits determine each other.
 use Rattle.std.proofs.Common.{◌≡◌, ℕ, zero, suc, ◌+◌, ◌-◌, ◌*◌, ◌^◌, ◌<◌, ◌==◌, Bool, true, false, cond, List, [], ◌∷◌, length, get_or, refl, sym, ap, ◌∙◌, arith, subst, inl, inr}
 use Rattle.std.specs.Prelude.{fold}
 use Rattle.std.specs.Int.{bit_at}
@@ -58,7 +58,7 @@ number_value : (bs : List Bool) → number_of bs ≡ value bs
 unfolding number_of
 number_value bs = fold_value 0 bs ∙ (let z : 0 * 2 ^ length bs + value bs ≡ value bs = omega arith in z)
 
--- bits from their number
+-- from bits to their number and back
 bits_of_number : (count : ℕ) (bs : List Bool) → length bs ≡ count → number_bits count (number_of bs) ≡ bs
 bits_of_number count bs l =
     ext_get_or false (number_bits count (number_of bs)) bs (length_number_bits count (number_of bs) ∙ sym l)
@@ -87,7 +87,7 @@ same_bits count a b e i h =
     let g : has_bit a i ≡ has_bit b i = subst (λ x. has_bit a x ≡ has_bit b x) back f in
     same_bit (bit_at a i) (bit_at b i) (bit_at-lt a i) (bit_at-lt b i) g
 
--- a number from its bits
+-- from a number to its bits and back
 pub number_of_bits : (count n : ℕ) → n < 2 ^ count → number_of (number_bits count n) ≡ n
 number_of_bits count n h =
     let bs = number_bits count n in

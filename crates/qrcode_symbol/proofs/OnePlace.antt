@@ -1,10 +1,10 @@
--- A row with one place as given.
+-- A row with one bit set or cleared.
 use Rattle.std.proofs.Common.{◌≡◌, ◌≢◌, ℕ, suc, ◌+◌, ◌-◌, ◌^◌, Bool, true, false, not, ◌&&◌, ◌||◌, refl, ap, ap₂, ◌∙◌, arith, bit_or, bit_and, bit_xor, inl, inr}
 use Rattle.std.proofs.lemmas.Bool.Decides.{leb_tells}
 use Rattle.qrcode_penalty.specs.Rows.{is_set}
 use Rattle.qrcode_penalty.proofs.Places.{has_or, has_without, has_first, has_first_above}
 
--- the number with one place, as the code makes it
+-- the number whose only bit is at a place, as the code computes it
 abbrev pub one : ℕ → ℕ
 one p = bit_xor (2 ^ (p + 1) - 1) (bit_and (2 ^ (p + 1) - 1) (2 ^ p - 1))
 

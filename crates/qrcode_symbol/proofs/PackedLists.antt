@@ -1,4 +1,4 @@
--- Packed lists, place by place.
+-- Packed lists, bit by bit.
 use Rattle.std.proofs.Common.{◌≡◌, ℕ, zero, suc, ◌+◌, ◌-◌, ◌*◌, ◌/◌, ◌%◌, ◌^◌, ◌<◌, ◌≤◌, Bool, true, false, ◌==◌, List, [], ◌∷◌, length, ◌++◌, take, drop, get_or, set, nat_lt, map, cond, replicate, below_more, refl, ap, sym, ◌∙◌, arith, min, bit_and, mul_assoc, mul_comm, length-drop, length-take, take-take, drop-drop}
 use Rattle.std.proofs.lemmas.Nat.{pow_pos, mod_low, and_mask}
 use Rattle.std.specs.Int.{bit_at}
@@ -82,7 +82,7 @@ take_all [] (suc n) h = refl
 take_all (x ∷ xs) zero h = absurd (omega arith)
 take_all (x ∷ xs) (suc n) h = ap (λ ys. x ∷ ys) (take_all xs n (omega arith))
 
--- a list of up to 192 answers in three words
+-- a list of up to 192 results in three words
 pub packed_words : {A : Type 0} (f : A → Bool) (xs : List A) →
     (packed f (take (length xs - min (length xs) 128) (drop (min (length xs) 128) xs)) * 2 ^ 64 + packed f (take (min (length xs) 128 - min (length xs) 64) (drop (min (length xs) 64) xs))) * 2 ^ 64 + packed f (take (min (length xs) 64) xs) ≡ packed f xs
 packed_words f xs =
@@ -94,7 +94,7 @@ packed_words f xs =
     let high : packed f (take (length xs - min (length xs) 128) (drop (min (length xs) 128) xs)) ≡ packed f (drop 64 (drop 64 xs)) = ap (packed f) (take_all (drop (min (length xs) 128) xs) (length xs - min (length xs) 128) (omega (arith, length-drop (min (length xs) 128) xs)) ∙ drop_same xs (min (length xs) 128) 128 (omega arith) ∙ sym (drop-drop 64 64 xs)) in
     omega (arith, low, middle, high, packed_cut f 64 xs, packed_cut f 64 (drop 64 xs))
 
--- the same numbers of parts of what is left, cut to a room that has place for the list
+-- `packed_words` for the parts that `pack_row` takes, with enough room for the list
 pub packed_in_room : {A : Type 0} (f : A → Bool) (xs : List A) (room : ℕ) → length xs ≤ room →
     ((packed f (take (length xs - min (length xs) 128) (take (length xs - min (length xs) 128) (drop (min (length xs) 128) xs))) * 2 ^ 64
     + packed f (take (min (length xs) 128 - min (length xs) 64) (take (length xs - min (length xs) 64) (drop (min (length xs) 64) xs)))) * 2 ^ 64 + packed f (take (min (length xs) 64) xs)) % 2 ^ room ≡ packed f xs
@@ -104,7 +104,7 @@ packed_in_room f xs room h =
     let middle = take-take (min (length xs) 128 - min (length xs) 64) (length xs - min (length xs) 64) (drop (min (length xs) 64) xs) (omega arith) in
     rw (high, middle) (ap (λ n. n % 2 ^ room) (packed_words f xs ∙ e) ∙ mod_low 0 room (packed f xs) (packed_lt f xs room h))
 
--- a list of few answers in the lowest word
+-- a list of up to 64 results in the lowest word
 pub packed_low : {A : Type 0} (f : A → Bool) (xs : List A) (room : ℕ) → length xs ≤ room → ((0 * 2 ^ 64 + 0) * 2 ^ 64 + packed f xs) % 2 ^ room ≡ packed f xs
 packed_low f xs room h =
     let e : (0 * 2 ^ 64 + 0) * 2 ^ 64 + packed f xs ≡ 0 * 2 ^ room + packed f xs = omega arith in
@@ -120,7 +120,7 @@ none_packed (b ∷ bytes) zeros =
     let here : digit (b == 1) ≡ 0 = ap (λ n. digit (n == 1)) (zeros 0 (omega arith)) in
     omega (arith, here, none_packed bytes (λ k h. zeros (suc k) (omega arith)))
 
--- so many bytes are the answers of a test of items, and zero stands behind them
+-- the first n bytes are the results of a test for the first n items, the others are zero
 pub record AreAnswers {A : Type 0} (f : A → Bool) (d : A) (xs : List A) (bytes : List ℕ) (n : ℕ) : Type 0 where
   pub length : length bytes ≡ 64
   pub answers : (k : ℕ) → k < n → get_or bytes k 0 ≡ digit (f (get_or xs k d))
@@ -129,7 +129,7 @@ pub record AreAnswers {A : Type 0} (f : A → Bool) (d : A) (xs : List A) (bytes
 pub answers_none : {A : Type 0} (f : A → Bool) (d : A) (xs : List A) → AreAnswers f d xs (replicate 64 0) 0
 answers_none f d xs = record { length = length-replicate 64 zero; answers = λ k h. absurd (omega arith); zeros = λ k h l. get_or-replicate 64 k zero zero l }
 
--- one answer more
+-- one more result
 pub answers_more : {A : Type 0} (f : A → Bool) (d : A) (xs : List A) (bytes : List ℕ) (n b : ℕ) → n < 64 → b ≡ digit (f (get_or xs n d)) → AreAnswers f d xs bytes n → AreAnswers f d xs (set bytes n b) (n + 1)
 answers_more f d xs bytes n b h e so_far = record {
   length = length-set bytes n b ∙ so_far.length;
@@ -149,12 +149,12 @@ packed_bytes f d (x ∷ xs) (b ∷ bytes) fits answers zeros =
     let rest = packed_bytes f d xs bytes (omega arith) (λ k h. answers (suc k) (omega arith)) (λ k h l. zeros (suc k) (omega arith) (omega arith)) in
     omega (arith, here, rest)
 
--- the answers for all items, packed
+-- the results for all items, packed
 pub packed_answers : {A : Type 0} (f : A → Bool) (d : A) (xs : List A) (bytes : List ℕ) (n : ℕ) → length xs ≤ 64 → n ≡ length xs → AreAnswers f d xs bytes n → packed (λ n. n == 1) bytes ≡ packed f xs
 packed_answers f d xs bytes n h e are =
     packed_bytes f d xs bytes (omega (arith, are.length)) (λ k l. are.answers k (omega arith)) (λ k l m. are.zeros k (omega arith) (omega (arith, are.length)))
 
--- the number of a mask's lanes
+-- the number that a vector's mask makes of the results
 pub packed_lanes : {A : Type 0} (f : A → Bool) (xs : List A) → mask_l (map f xs) ≡ packed f xs
 packed_lanes f [] = refl
 packed_lanes f (x ∷ xs) = one_more (f x) (packed_lanes f xs) where
@@ -162,7 +162,7 @@ packed_lanes f (x ∷ xs) = one_more (f x) (packed_lanes f xs) where
   one_more true e = omega (arith, e)
   one_more false e = omega (arith, e)
 
--- bytes behind others that fail a test are not counted
+-- appended bytes that fail the test add nothing
 padded : (f : ℕ → Bool) (bytes : List ℕ) (d k : ℕ) → f d ≡ false → packed f (bytes ++ replicate k d) ≡ packed f bytes
 padded f [] d zero e = refl
 padded f [] d (suc k) e =
@@ -171,20 +171,20 @@ padded f [] d (suc k) e =
     omega (arith, here, rest)
 padded f (b ∷ bytes) d k e = omega (arith, padded f bytes d k e)
 
--- 64 bytes that begin with some
+-- 64 bytes that begin with the given ones
 pub packed_word : (f : ℕ → Bool) (bytes : List ℕ) (d : ℕ) → length bytes ≤ 64 → f d ≡ false → packed f (put_mid 0 (length bytes) (replicate 64 d) bytes) ≡ packed f bytes
 packed_word f bytes d h e =
     let behind : post_of 0 (length bytes) (replicate 64 d) ≡ replicate (64 - length bytes) d = drop-replicate (length bytes) 64 d in
     ap (λ (l : List ℕ). packed f (bytes ++ l)) behind ∙ padded f bytes d (64 - length bytes) e
 
--- the first of 64 answers
+-- the first n of 64 results
 pub packed_first : {A : Type 0} (f : A → Bool) (n : ℕ) (xs : List A) → n ≤ 64 → packed f (take 64 xs) % 2 ^ n ≡ packed f (take n xs)
 packed_first f n xs h =
     let fewer : take n (take 64 xs) ≡ take n xs = take-take n 64 xs h in
     ap (λ k. k % 2 ^ n) (packed_cut f n (take 64 xs)) ∙ mod_low (packed f (drop n (take 64 xs))) n (packed f (take n (take 64 xs))) (packed_lt f (take n (take 64 xs)) n (omega (arith, length-take n (take 64 xs))))
     ∙ ap (packed f) fewer
 
--- two tests that agree
+-- two tests that agree pack the same number
 pub packed_same : {A : Type 0} (f g : A → Bool) (xs : List A) → ((x : A) → f x ≡ g x) → packed f xs ≡ packed g xs
 packed_same f g [] each = refl
 packed_same f g (x ∷ xs) each = omega (arith, ap digit (each x), packed_same f g xs each)

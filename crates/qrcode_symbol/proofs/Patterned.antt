@@ -1,4 +1,4 @@
--- The figures drawn one over the other are the functional patterns.
+-- Drawing the figures, each over those before it, gives the functional patterns.
 use Rattle.std.proofs.Common.{◌≡◌, ℕ, ℤ, nat_abs, nat_le, zero, suc, ◌+◌, ◌-◌, ◌*◌, ◌/◌, ◌%◌, ◌<◌, ◌≤◌, ◌≢◌, Bool, true, false, ◌||◌, List, [], ◌∷◌, ◌++◌, map, fold, length, take, set, get_or, append-nil, arith, sym, ap, ap₂, refl, ◌∙◌, Option, Some, None, is_some, cond, inl, inr, IsTrue}
 use Rattle.std.specs.List.{range_with_len, filter, flat_map, list_all}
 use Rattle.std.proofs.lemmas.Bool.{and_parts, cases_eq}
@@ -27,7 +27,7 @@ use Rattle.qrcode_symbol.specs.declared.canvas.Module.{Module}
 use Rattle.qrcode_symbol.specs.declared.canvas.Module.TheVariants.{Empty, Masked}
 use Rattle.qrcode_symbol.proofs.Mapped.{length_mapped, mapped_index, all_mapped}
 
--- One place after the other.
+-- Place by place.
 
 -- the module at a place of a figure
 abbrev pub in_figure : Version → Figure → ℕ → ℕ → Module
@@ -39,7 +39,7 @@ figure_at v f i j =
     let y : f.top + j - f.top ≡ j = omega arith in
     rw (x, y) refl
 
--- before the first column, and before the first row
+-- nothing is drawn before the first column and before the first row
 pub no_column : (v : Version) (f : Figure) (from to : ℕ) (old : List Module) → IsPartDrawn v f from to 0 old old
 no_column v f from to old i lt = let none : is_in_part f from to 0 (i % side v) (i / side v) ≡ false = grind (arith, nat_tests) in rw none refl
 
@@ -53,7 +53,7 @@ same_part f row column x y apart = elim (cases_eq x (f.left + column)) [
   | inr other ↦ grind (arith, nat_tests)
 ]
 
--- one more place of a row
+-- one more place in a row
 pub place_more : (v : Version) (f : Figure) (row column index : ℕ) (old m : List Module) (new : Module) → length m ≡ side v * side v → f.left + column < side v → f.top + row < side v
     → index ≡ (f.top + row) * side v + (f.left + column) → new ≡ in_figure v f (f.left + column) (f.top + row)
     → IsPartDrawn v f row (row + 1) column old m → IsPartDrawn v f row (row + 1) (column + 1) old (set m index new)
@@ -91,9 +91,9 @@ figure_drawn v f old new square all =
     let whole : is_in_part f 0 f.down f.across (i % side v) (i / side v) ≡ has f (i % side v) (i / side v) = grind (arith, nat_tests) in
     all i lt ∙ rw whole refl)
 
--- One figure after the other.
+-- Figure by figure.
 
--- functions that agree on a range have one list of values
+-- functions that agree on a range give the same list
 map_agree : {X : Type 0} (f g : ℕ → X) (a n : ℕ) → ((i : ℕ) → a ≤ i → i < a + n → f i ≡ g i) → map f (range_with_len a n) ≡ map g (range_with_len a n)
 map_agree f g a zero same = refl
 map_agree {X = X} f g a (suc n) same =
@@ -103,7 +103,7 @@ length_figure : (v : Version) (m : List Module) (f : Figure) → length (with_fi
 unfolding with_figure
 length_figure v m f = length_mapped v (λ x y m. module_over v x y m f) m
 
--- a figure that is drawn before others
+-- drawing one figure on all modules, and then others, is drawing them all on each
 drawn_before : (v : Version) (f : Figure) (fs : List Figure) (m : List Module)
     → map_modules v (λ x y m. fold (module_over v x y) m fs) (with_figure v m f) ≡ map_modules v (λ x y m. fold (module_over v x y) (module_over v x y m f) fs) m
 unfolding with_figure
@@ -115,12 +115,12 @@ drawn_before v f fs m =
     let lt : i < side v * side v = omega (arith, h) in
     ap (λ n. fold (module_over v (i % side v) (i / side v)) n fs) (mapped_index v (λ x y m. module_over v x y m f) m i lt))
 
--- figures drawn on all modules are drawn on each
+-- drawing figures on all modules is drawing them on each
 each_drawn : (v : Version) (fs : List Figure) (m : List Module) → length m ≡ side v * side v → fold (with_figure v) m fs ≡ map_modules v (λ x y m. fold (module_over v x y) m fs) m
 each_drawn v [] m square = all_mapped v (λ x y m. m) m m (side v) refl square (λ i lt. refl)
 each_drawn v (f ∷ fs) m square = each_drawn v fs (with_figure v m f) (length_figure v m f) ∙ drawn_before v f fs m
 
--- a colour, or else the module below it
+-- a colour if there is one, otherwise the module below it
 abbrev shown : Option Color → Module → Module
 shown o m = elim o [ Some c ↦ Masked c | None ↦ m ]
 

@@ -1,4 +1,4 @@
--- The colours under another mask are the symbol of the same bits.
+-- A symbol's colours under another mask are a symbol of the same bits.
 use Rattle.std.proofs.Common.{◌≡◌, ℕ, ◌+◌, ◌-◌, ◌*◌, ◌/◌, ◌%◌, ◌<◌, Bool, true, false, not, List, map, drop, length, get_or, Option, Some, None, IfSome, IsTrue, refl, sym, ap, ap₂, ◌∙◌, arith, subst}
 use Rattle.std.specs.List.{AllByRecursion, list_all}
 use Rattle.std.proofs.lemmas.List.{ext_get_or, get_or-map, length-map}
@@ -30,7 +30,7 @@ use Rattle.qrcode_symbol.proofs.Carried.{no_format, not_true, free_nothing, free
 use Rattle.qrcode_symbol.proofs.MaskedSquares.{dark_color}
 use Rattle.qrcode_symbol.proofs.Remasking.{remask_of}
 
--- turned by the old mask and by the new one, and read by the new one
+-- a colour changed from the old mask to the new one, and read under the new one, gives the same bit
 turned_again : (tk tj b : Bool) → turned_if tj (is_dark (color_of (turned_if (not (same tk tj)) b))) ≡ turned_if tk b
 turned_again true true true = refl
 turned_again true true false = refl
@@ -42,7 +42,7 @@ turned_again false false true = refl
 turned_again false false false = refl
 
 module _ (v : Version) (l : EcLevel) (k j : MaskPattern) (s : List Color) where
-  -- the colour of a place, by what stands there
+  -- the colour of a place, by what is there
   color_is : (x y : ℕ) → x < side v → y < side v
       → color_at v (remasked v l k j s) x y ≡ remask_of (format_word v l j) (format_index v x y) (pattern v x y) (turns k x y) (turns j x y) (color_at v s x y)
   unfolding remasked remasked_at
@@ -84,7 +84,7 @@ module _ (v : Version) (l : EcLevel) (k j : MaskPattern) (s : List Color) where
         (All-from_recursion (IsFormatCopy v) (format_copies v) (format_copies_are_indexed v valid)));
   }
 
-  -- the bits at the free places stay
+  -- the bits at the free places stay the same
   pub stream_stays : IsTrue (is_valid v) → stream v j (remasked v l k j s) ≡ stream v k s
   unfolding stream
   stream_stays valid =

@@ -1,4 +1,4 @@
--- The square under another mask, from its colours under one.
+-- A square's colours under one mask determine those under another.
 use Rattle.std.proofs.Common.{◌≡◌, ℕ, suc, ◌+◌, ◌-◌, ◌*◌, ◌/◌, ◌%◌, ◌<◌, ◌≤◌, Bool, true, false, not, List, [], ◌∷◌, length, map, slice_index_or, slice_set, Option, Some, None, if◌then◌else◌, refl, ap, sym, ◌∙◌, arith, inl, inr, subst, true≢false, length-set}
 use Rattle.std.specs.List.{range_with_len, filter, AllByRecursion}
 use Rattle.std.proofs.Math.ListN.{get_or-map}
@@ -26,7 +26,7 @@ use Rattle.qrcode_symbol.specs.Penalties.{penalty, remasked, remasked_at, IsFirs
 use Rattle.qrcode_symbol.specs.Masking.{is_free}
 use Rattle.qrcode_symbol.proofs.MaskedSquares.{module_is, module_of, with_mask_at, length_with_mask}
 
--- a module after bits were drawn: one that was not empty stays, and one that was may be turned by masks
+-- a module after bits are drawn: if it was not empty it is unchanged, otherwise a mask can reverse it
 record IsKept (before : List Module) (i : ℕ) (m : Module) : Type 0 where
   stays : is_empty (slice_index_or before i Empty) ≡ false → m ≡ slice_index_or before i Empty
   free : is_empty (slice_index_or before i Empty) ≡ true → is_free m ≡ true
@@ -83,7 +83,7 @@ patterns_at v i h =
 abbrev base : Option Color → Option ℕ → Module
 base p o = elim p [ Some c ↦ Masked c | None ↦ elim o [ Some i ↦ Masked Light | None ↦ Empty ] ]
 
--- the colour under another mask, by what stands at its place
+-- the colour under another mask, by what is at its place
 abbrev pub remask_of : ℕ → Option ℕ → Option Color → Bool → Bool → Color → Color
 remask_of word o p tk tj c = elim o [ Some i ↦ color_of (has_bit word (14 - i)) | None ↦ elim p [ Some c' ↦ c | None ↦ color_of (turned_if (not (same tk tj)) (is_dark c)) ] ]
 
@@ -148,7 +148,7 @@ module _ (v : Version) (l : EcLevel) (modules : List Module) (bits : List Bool) 
       ∙ remasked_place k j i inside
       ∙ sym (get_or-map color_of_module (with_mask v l j modules) i Empty ∙ ap color_of_module (with_mask_at v l modules j i inside)))
 
-  -- the best mask is the first of least penalty among the colours alone
+  -- the best mask is the first with the lowest penalty, judged by the colours alone
   pub first_least_of : (k : MaskPattern) → IsBestMask v l modules k → IsFirstLeast v l k (colors_of (with_mask v l k modules))
   first_least_of k best = record {
     least = λ j h. subst (λ (s : List Color). penalty v (colors_of (with_mask v l k modules)) ≤ penalty v s) (sym (remasked_same k j)) (best.least j h);

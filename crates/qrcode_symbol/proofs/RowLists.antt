@@ -1,4 +1,4 @@
--- Lists of rows, as their numbers.
+-- Lists of rows as lists of numbers.
 use Rattle.std.proofs.Common.{◌≡◌, ◌&&◌, ◌++◌, ℕ, true, false, refl, ap₂, bit_and, bit_xor, ◌+◌, ◌*◌, ◌^◌, ◌<◌, ◌≤◌, Bool, List, length, take, drop, slice_index_or, ap, sym, ◌∙◌, arith, subst, length-take, length-drop}
 use Rattle.std.proofs.lemmas.Nat.{mul-add-lt, xor_lt, and_le_l}
 use Rattle.std.proofs.lemmas.List.{get_or-take, get_or-drop}
@@ -16,7 +16,7 @@ use Rattle.qrcode_symbol.proofs.PackedLists.{packed_lt, has_packed}
 abbrev pub modules_of_row : ℕ → List Module → ℕ → List Module
 modules_of_row w modules y = take w (drop (y * w) modules)
 
--- rows that are packed show the modules
+-- packed rows show the modules
 module _ (test : Module → Bool) (modules : List Module) (w : ℕ) (square : length modules ≡ w * w) (rows : List ℕ)
     (are : (y : ℕ) → y < w → slice_index_or rows y 0 ≡ packed test (modules_of_row w modules y)) where
   long_row : (x y : ℕ) → x < w → y < w → x < length (modules_of_row w modules y)
@@ -39,14 +39,14 @@ differ_turned true false = refl
 differ_turned false true = refl
 differ_turned false false = refl
 
--- a row whose free places are turned by a mask
+-- a row whose free places are reversed by a mask
 pub turned_at : (d f m x : ℕ) (t : Bool) → is_set m x ≡ t → is_set (bit_xor d (bit_and f m)) x ≡ turned_if (is_set f x && t) (is_set d x)
 turned_at d f m x t e =
     has_xor d (bit_and f m) x
     ∙ ap (differ (is_set d x)) (has_and f m x ∙ ap (λ b. is_set f x && b) e)
     ∙ differ_turned (is_set f x && t) (is_set d x)
 
--- what is put together so is such a row
+-- a row computed so is the row of the mask
 pub turned_row_is : (w : ℕ) (mask : MaskPattern) (dark free : List ℕ) (k row d f m : ℕ) → d ≡ slice_index_or dark k 0 → f ≡ slice_index_or free k 0 → row ≡ bit_xor d (bit_and f m)
     → d < 2 ^ w → f < 2 ^ w → ((x : ℕ) → x < w → is_set m x ≡ turns mask x k) → IsTurnedRow w mask dark free k row
 unfolding dark_in

@@ -1,4 +1,4 @@
--- Lists of what shows modules.
+-- Lists of stored modules (`Cell`).
 use Rattle.std.proofs.Common.{◌≡◌, ℕ, zero, suc, ◌<◌, Bool, List, [], ◌∷◌, ◌++◌, map, length, take, drop, replicate, get_or, slice_get, Option, Some, true, set, refl, ap, ap₂, sym, ◌∙◌, arith}
 use Rattle.std.proofs.lemmas.List.{get_or-map, map-set}
 use Rattle.qrcode_symbol.specs.declared.canvas.Module.{Module}
@@ -9,11 +9,11 @@ use Rattle.qrcode_symbol.specs.Canvas.{is_empty}
 use Rattle.qrcode_symbol.specs.Filling.{drawn_if, is_empty_at}
 use Rattle.qrcode_symbol.specs.Masking.{packed}
 
--- what is read at an index shows the module there
+-- the item at an index stores the module there
 pub shown_at : {A : Type 0} (shows : A → Module) (xs : List A) (i : ℕ) (x : A) → i < length xs → x ≡ get_or xs i x → shows x ≡ get_or (map shows xs) i Empty
 shown_at shows xs i x h is = ap shows is ∙ sym (get_or-map shows xs i x Empty h)
 
--- a test of the modules that are shown
+-- packing stored modules by a test of the modules
 pub packed_map : {A B : Type 0} (test : B → Bool) (shows : A → B) (xs : List A) → packed (λ x. test (shows x)) xs ≡ packed test (map shows xs)
 packed_map test shows [] = refl
 packed_map test shows (x ∷ xs) = omega (arith, packed_map test shows xs)
@@ -25,7 +25,7 @@ map-replicate shows (suc n) x = ap (λ (l : List Module). shows x ∷ l) (map-re
 empty_at : (m : Module) → m ≡ Empty → is_empty m ≡ true
 empty_at m e = ap is_empty e
 
--- a bit that is drawn
+-- one bit is drawn
 pub drawn_bit : {A : Type 0} (shows : A → Module) (xs : List A) (i : ℕ) (x new : A) (bits : List Bool) (b : Bool) → i < length xs → x ≡ get_or xs i x → shows x ≡ Empty
     → slice_get bits 0 ≡ Some b → shows new ≡ Unmasked (color_of b) → map shows (set xs i new) ≡ drawn_if (is_empty_at (map shows xs) i) (slice_get bits 0) (map shows xs) i
 drawn_bit shows xs i x new bits b h is none next drawn =

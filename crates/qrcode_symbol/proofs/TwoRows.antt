@@ -1,4 +1,4 @@
--- Four bits that are drawn in two rows of a pair of columns.
+-- Drawing four bits in two rows of a pair of columns.
 use Rattle.std.proofs.Common.{◌≡◌, ℕ, zero, suc, ◌-◌, ◌%◌, ◌<◌, List, [], ◌∷◌, map, set, slice_index_or, refl, ◌∙◌, arith}
 use Rattle.std.proofs.lemmas.List.{map-set}
 use Rattle.qrcode_types.specs.Bits.{has_bit, number_bits}
@@ -11,7 +11,7 @@ use Rattle.qrcode_symbol.specs.declared.canvas.Module.TheVariants.{Unmasked}
 use Rattle.qrcode_symbol.specs.declared.canvas.filling.TheConstants.{TWO_ROWS}
 use Rattle.qrcode_symbol.proofs.MaskRows.{has_mod}
 
--- the table of the code
+-- the table `TWO_ROWS` of the code
 table_row : (n : ℕ) → n < 16 → slice_index_or TWO_ROWS n [] ≡ (color_of (has_bit n 2) ∷ color_of (has_bit n 3) ∷ []) ∷ (color_of (has_bit n 0) ∷ color_of (has_bit n 1) ∷ []) ∷ []
 table_row zero h = refl
 table_row (suc zero) h = refl
@@ -42,7 +42,7 @@ two_rows n =
     let a = has_mod n 4 3 (omega arith) in
     table_row (n % 16) small ∙ rw (a, b, c, d) refl
 
--- four bits that are drawn, the right module of each row first
+-- four bits are drawn, in each row the right module first
 pub four_drawn : {A : Type 0} (shows : A → Module) (xs : List A) (p q n : ℕ) (a b c d : A)
     → shows a ≡ Unmasked (color_of (has_bit n 3)) → shows b ≡ Unmasked (color_of (has_bit n 2)) → shows c ≡ Unmasked (color_of (has_bit n 1)) → shows d ≡ Unmasked (color_of (has_bit n 0))
     → map shows (set (set (set (set xs p a) (p - 1) b) q c) (q - 1) d) ≡ put_bits (row_places (p ∷ q ∷ [])) (number_bits 4 n) (map shows xs)

@@ -1,4 +1,4 @@
--- What is left to draw, at any step of the walk.
+-- What remains to be drawn at each step of the walk.
 use Rattle.std.proofs.Common.{◌≡◌, ℕ, zero, suc, ◌+◌, ◌-◌, ◌*◌, ◌/◌, ◌%◌, ◌<◌, ◌≤◌, ◌≢◌, ◌==◌, ◌&&◌, Bool, true, false, List, [], ◌∷◌, ◌++◌, map, length, set, get_or, arith, add-mul, sym, ap, ap₂, subst, inl, inr, refl, ◌∙◌, if◌then◌else◌}
 use Rattle.std.specs.Prelude.{slice_get, IsTrue}
 use Rattle.std.specs.List.{range_with_len, filter, list_all}
@@ -22,14 +22,14 @@ use Rattle.qrcode_symbol.specs.Filling.{row_of_step, row_index, row_places, plac
 use Rattle.qrcode_symbol.specs.declared.canvas.Module.{Module}
 use Rattle.qrcode_symbol.specs.declared.canvas.Module.TheVariants.{Empty, Unmasked}
 
--- no two steps of the walk are at one place
+-- no two steps of the walk have the same place
 abbrev pub IsApart : Version → Type 0
 IsApart v = (s t : ℕ) → s < t → t < side v * (side v - 1) → place_index v t ≢ place_index v s
 
 range_more : (t n : ℕ) → t < n → range_with_len t (n - t) ≡ t ∷ range_with_len (t + 1) (n - (t + 1))
 range_more t n lt = let e : n - t ≡ suc (n - (t + 1)) = omega arith in rw e refl
 
--- a write to another place changes no test
+-- writing to another place does not change which places are empty
 empties_set : (f : ℕ → ℕ) (m : List Module) (p : ℕ) (u : Module) (a r : ℕ) → ((s : ℕ) → a ≤ s → s < a + r → f s ≢ p)
     → filter (λ i. is_empty (get_or (set m p u) i Empty)) (map f (range_with_len a r)) ≡ filter (λ i. is_empty (get_or m i Empty)) (map f (range_with_len a r))
 empties_set f m p u a zero apart = refl
@@ -76,19 +76,19 @@ at_start v bits m =
     let z : side v * (side v - 1) - 0 ≡ side v * (side v - 1) = omega arith in
     rw (z, map-map (λ p. p.1 * side v + p.0) (zigzag_place v) (range_with_len 0 (side v * (side v - 1)))) refl
 
--- behind the last step
+-- after the last step
 pub at_end : (v : Version) (bits : List Bool) (m : List Module) (t : ℕ) → side v * (side v - 1) ≤ t → filled_from v bits m t ≡ m
 unfolding filled_from
 at_end v bits m t le = let e : side v * (side v - 1) - t ≡ 0 = omega arith in rw e refl
 
--- the pair and the step of a place
+-- the pair and the step of a place, from its number
 pair_of : (w pair r : ℕ) → r < 2 * w → (2 * w * pair + r) / (2 * w) ≡ pair
 pair_of w pair r lt = let e : 2 * w * pair + r ≡ pair * (2 * w) + r = omega arith in rw e (div-mul-add pair (2 * w) r lt)
 
 step_of : (w pair r : ℕ) → r < 2 * w → (2 * w * pair + r) % (2 * w) ≡ r
 step_of w pair r lt = let e : 2 * w * pair + r ≡ pair * (2 * w) + r = omega arith in rw e (mod-mul-add pair (2 * w) r lt)
 
--- the places of a row in a pair of columns
+-- both places of a row in a pair of columns
 pub right_place : (v : Version) (pair row : ℕ) → row < side v → place_index v (2 * side v * pair + 2 * row) ≡ row_of_step (side v) pair row * side v + right_column v pair
 unfolding zigzag_place
 right_place v pair row lt =
@@ -138,14 +138,14 @@ row_step v pair row index bits bits1 bits2 m m1 m2 apart p r at some rest1 after
     ∙ step_at v bits1 m1 (t + 1) (index - 1) bits2 m2 apart (omega arith) left rest2 after2
     ∙ step_at v bits m t index bits1 m1 apart (omega arith) right rest1 after1
 
--- the pairs are as many as the walk has
+-- the walk has no more pairs than the code draws
 pub last_pair : (w pair : ℕ) → w % 2 ≡ 1 → w / 2 ≤ pair → w * (w - 1) ≤ 2 * w * pair
 last_pair w pair odd le =
     let small : w - 1 ≤ 2 * pair = omega arith in
     let product : w * (w - 1) ≤ w * (2 * pair) = mul-le-mul_left w small in
     omega (arith, product)
 
--- no two steps of the walk are at one place
+-- no two steps of the walk have the same place
 pub apart : (v : Version) → IsTrue (is_valid v) → IsApart v
 apart v valid s t lt inside same =
     let s_inside : s < side v * (side v - 1) = omega arith in
@@ -156,7 +156,7 @@ apart v valid s t lt inside same =
     let e : s ≡ t = walk_is_apart v s t valid s_inside inside one in
     absurd (omega arith)
 
--- bits that are drawn at once where the next modules are empty
+-- bits drawn at once, if the next modules are all empty
 pub drawn_at_once : (v : Version) (bits rest : List Bool) (m : List Module) (t : ℕ) → IsApart v → t + length bits ≤ side v * (side v - 1)
     → ((s : ℕ) → t ≤ s → s < t + length bits → is_empty_at m (place_index v s) ≡ true)
     → filled_from v rest (put_bits (map (place_index v) (range_with_len t (length bits))) bits m) (t + length bits) ≡ filled_from v (bits ++ rest) m t
@@ -179,7 +179,7 @@ rows_places v pair row (suc n) inside some =
     let next : 2 * side v * pair + 2 * (row + 1) ≡ 2 * side v * pair + 2 * row + 1 + 1 = omega arith in
     rw (two, right_place v pair row (omega arith), left_place v pair row (omega arith) some, rows_places v pair (row + 1) n (omega arith) some, next) refl
 
--- the rows of further steps, upwards and downwards
+-- the index of the row some steps later, upwards and downwards
 upwards_by : (v : Version) (pair s r k : ℕ) → pair % 2 ≡ 0 → r ≡ s + k → r < side v → row_index v pair r + k * side v ≡ row_index v pair s
 upwards_by v pair s r k up by inside =
     let at : (s : ℕ) → row_of_step (side v) pair s ≡ side v - 1 - s = λ s. ap (λ n. if n == 0 then side v - 1 - s else s) up in
@@ -213,7 +213,7 @@ four_downwards v pair s first down at =
     let c : first + 3 * side v ≡ row_index v pair (s + 3) = omega (arith, at, downwards_by v pair s (s + 3) 3 down (omega arith)) in
     rw (a, b, c, at) (sym (four_steps v pair s))
 
--- the right modules in the rows of four steps are in the square
+-- the right modules in the rows of four steps are inside the square
 pub four_within : (v : Version) (pair s len : ℕ) (rows : List ℕ) → rows ≡ map (row_index v pair) (range_with_len s 4) → len ≡ side v * side v → s + 4 ≤ side v → right_column v pair < side v
     → (k : ℕ) → k < 4 → get_or rows k 0 < len
 four_within v pair s len rows are square inside right k l =
@@ -232,7 +232,7 @@ pub four_again : (v : Version) (pair s : ℕ) (rows : List ℕ) → rows ≡ map
     → (get_or rows 0 0 ∷ get_or rows 1 0 ∷ get_or rows 2 0 ∷ get_or rows 3 0 ∷ []) ≡ map (row_index v pair) (range_with_len s 4)
 four_again v pair s rows are = rw are refl
 
--- what holds along steps
+-- a test that passes along all steps passes at each
 all_along : (f : ℕ → Bool) (g : ℕ → ℕ) (a n : ℕ) → list_all f (map g (range_with_len a n)) ≡ true → (s : ℕ) → a ≤ s → s < a + n → f (g s) ≡ true
 all_along f g a zero e s l h = absurd (omega (arith, l, h))
 all_along f g a (suc n) e s l h =
@@ -242,7 +242,7 @@ all_along f g a (suc n) e s l h =
       | inr p ↦ all_along f g (a + 1) n parts.1 s (omega (arith, p.1, l)) (omega (arith, h))
     ]
 
--- eight bits that are drawn at once in the rows of four steps
+-- eight bits drawn at once in the rows of four steps
 pub four_rows_drawn : (v : Version) (pair step byte a b c d : ℕ) (bits rest : List Bool) (m m1 m2 : List Module) → IsApart v → 2 * pair + 3 ≤ side v → step + 4 ≤ side v → 1 ≤ right_column v pair
     → (a ∷ b ∷ c ∷ d ∷ []) ≡ map (row_index v pair) (range_with_len step 4)
     → (is_empty_at m a && is_empty_at m (a - 1)) ≡ true → (is_empty_at m b && is_empty_at m (b - 1)) ≡ true

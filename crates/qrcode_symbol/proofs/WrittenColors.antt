@@ -1,4 +1,4 @@
--- Rows that are written as colours.
+-- Rows written as colours.
 use Rattle.std.proofs.Common.{◌≡◌, ℕ, zero, suc, ◌+◌, ◌-◌, ◌*◌, ◌/◌, ◌%◌, ◌^◌, ◌<◌, ◌≤◌, List, ◌++◌, length, take, length-take, slice_index_or, refl, ap, ◌∙◌, inl, inr, arith}
 use Rattle.std.specs.Int.{w64, to_le_bytes}
 use Rattle.std.proofs.lemmas.Bool.Decides.{leb_tells}
@@ -11,7 +11,7 @@ use Rattle.qrcode_penalty.proofs.Places.{has_shr}
 use Rattle.qrcode_symbol.specs.Unpacking.{IsRowWritten}
 use Rattle.qrcode_symbol.proofs.MaskRows.{has_mod}
 
--- a byte of a word
+-- byte k of a word
 byte_is : (n k : ℕ) → k < 8 → slice_index_or (to_le_bytes w64 n) k 0 ≡ n / 2 ^ (8 * k) % 2 ^ 8
 byte_is n zero h = omega arith
 byte_is n (suc zero) h = refl
@@ -23,7 +23,7 @@ byte_is n (suc (suc (suc (suc (suc (suc zero)))))) h = refl
 byte_is n (suc (suc (suc (suc (suc (suc (suc zero))))))) h = refl
 byte_is n (suc (suc (suc (suc (suc (suc (suc (suc k)))))))) h = absurd (omega arith)
 
--- a bit of a word stands in one of its bytes
+-- a bit of a word is in one of its bytes
 pub bit_in_byte : (n x : ℕ) → x < 64 → is_set (slice_index_or (to_le_bytes w64 n) (x / 8) 0) (x % 8) ≡ is_set n x
 bit_in_byte n x h =
     let turn : x % 8 + 8 * (x / 8) ≡ x = omega arith in
@@ -32,13 +32,13 @@ bit_in_byte n x h =
     ∙ has_shr n (8 * (x / 8)) (x % 8)
     ∙ ap (is_set n) turn
 
--- a place of what is left of a line
+-- a bit of the part of a line that is left
 pub word_at : (rest word line a x : ℕ) → x < 64 → word ≡ rest % 2 ^ 64 → rest ≡ line / 2 ^ a → is_set word x ≡ is_set line (a + x)
 word_at rest word line a x h e f =
     let turn : x + a ≡ a + x = omega arith in
     ap (λ n. is_set n x) e ∙ has_mod rest 64 x h ∙ ap (λ n. is_set n x) f ∙ has_shr line a x ∙ ap (is_set line) turn
 
--- the colours of the places of a word, appended
+-- the colours of the first `count` bits of a word, appended
 pub chunk_written : (word count : ℕ) (old chunk new : List Color) → new ≡ old ++ take count chunk → count ≤ 64 → length chunk ≡ 64
     → ((x : ℕ) → x < 64 → slice_index_or chunk x Light ≡ color_of (is_set word x)) → IsRowWritten word count old new
 chunk_written word count old chunk new is small long are =
@@ -51,7 +51,7 @@ chunk_written word count old chunk new is small long are =
           ap (λ l. slice_index_or l (length old + x) Light) is ∙ get_or-append-add old part x Light ∙ get_or-take count chunk x Light h ∙ are x (omega (arith, h, small));
     }
 
--- the next places of a line
+-- the next bits of a line, appended
 pub row_more : (line word a b : ℕ) (old mid new : List Color) → IsRowWritten line a old mid → IsRowWritten word b mid new
     → ((x : ℕ) → x < b → is_set word x ≡ is_set line (a + x)) → IsRowWritten line (a + b) old new
 row_more line word a b old mid new first next same = record {

@@ -125,7 +125,7 @@ impl Not for Color {
     }
 }
 
-/// An error correction level. They are ordered from the lowest to the highest.
+/// An error correction level. Levels are ordered from the lowest correction to the highest.
 #[derive(Copy, Clone, PartialEq, Eq, PartialOrd, Ord, Debug)]
 pub enum EcLevel {
     /// Low: about 7 % of the codewords can be restored.

@@ -30,7 +30,7 @@ static TURNED: [[u8; 12]; 8] = [
     [0o25, 0o70, 0o61, 0o52, 0o07, 0o16, 0o25, 0o70, 0o61, 0o52, 0o07, 0o16],
 ];
 
-// The same modules by columns, in twelve rows of six columns; row y is bit y.
+// `TURNED` by columns: in twelve rows of six columns; row y is bit y.
 #[rattlefmt::skip]
 static TURNED_COLUMNS: [[u16; 6]; 8] = [
     [0o2525, 0o5252, 0o2525, 0o5252, 0o2525, 0o5252],
@@ -70,8 +70,8 @@ pub(super) fn long_row<R: PackedRow>(word: u64) -> R
     R::of_words(word, middle, next_places(middle))
 }
 
-/// Returns the modules that the mask reverses in the first 64 columns of row `y`. The pattern
-/// continues.
+/// Returns the modules that the mask reverses in the first 64 columns of row `y`. `long_row`
+/// extends them to the whole row.
 #[inline(always)]
 pub(super) fn turned_row(mask: MaskPattern, y: usize) -> u64
     ensures { (x : ℕ) → x < 192 → is_set (three_words result) x ≡ turns mask x y }
@@ -79,8 +79,8 @@ pub(super) fn turned_row(mask: MaskPattern, y: usize) -> u64
     repeat(TURNED[mask.number()][y % 12] as u64)
 }
 
-/// Returns the modules that the mask reverses in the first 64 rows of column `x`. The pattern
-/// continues.
+/// Returns the modules that the mask reverses in the first 64 rows of column `x`. `long_row`
+/// extends them to the whole column.
 #[inline(always)]
 pub(super) fn turned_column(mask: MaskPattern, x: usize) -> u64
     ensures { (y : ℕ) → y < 192 → is_set (three_words result) y ≡ turns mask x y }
@@ -198,7 +198,7 @@ fn decide_rows<R: PackedRow>(layer: Layer, rows: &mut [R])
 }
 
 // Writes up to twelve rows, starting at a multiple of twelve, with the modules reversed that the
-// mask reverses. With a constant count of twelve, LLVM unrolls the loop.
+// mask reverses. Inlined with a count of twelve, it lets LLVM keep the mask's words at hand.
 #[inline(always)]
 fn turn_some_rows<R: PackedRow>(
     modules: &PackedModules<'_, R>,

@@ -6,7 +6,7 @@ use Rattle.qrcode_penalty.proofs.Sums.{count_places, sum_others}
 use Rattle.qrcode_penalty.proofs.columns.unmixed.Given.{Over}
 use Rattle.qrcode_penalty.proofs.columns.unmixed.Goals as goal
 
--- the mixed columns and the others
+-- the mixed columns and the unmixed ones are all columns
 counted : (g : Over) (c : goal.After-count_ones g) → sum_below c.args.width (λ x. count_if (not (is_set (g.R.PackedRow.bits c.args.mixed) x)) 1) + c.count_ones.result ≡ c.args.width
 counted g c =
     let n = c.args.width in

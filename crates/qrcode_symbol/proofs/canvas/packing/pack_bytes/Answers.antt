@@ -20,7 +20,7 @@ returns-then-bytes-ge64-clause-free c =
     let test = λ (n : ℕ). nat_lt n 128 in
     c.lowest-then-bytes-ge64.ensures ∙ ap (λ k. k % 2 ^ n) c.pack_whole-dark.ensures.free ∙ packed_first test n bytes c.requires.at_most ∙ packed_same test (λ n. is_free (module_of_byte n)) (take n bytes) free_byte
 
--- so many bytes before bytes of 128, in which a test fails
+-- the first n bytes, filled up with bytes of 128, for which the test fails
 padded : (test : ℕ → Bool) (n : ℕ) (bytes : List ℕ) → n ≤ 64 → n ≤ length bytes → test 128 ≡ false
     → packed test (put_mid 0 n (replicate 64 128) (take n bytes)) ≡ packed test (take n bytes)
 padded test n bytes few inside fails =

@@ -6,7 +6,7 @@ use Rattle.qrcode_symbol.proofs.Shown.{packed_map}
 use Rattle.qrcode_symbol.proofs.PackedLists.{packed_in_room, packed_low}
 use Rattle.qrcode_symbol.proofs.canvas.packing.pack_row.Goals as goal
 
--- the row that is shown
+-- a row of stored modules
 shown : {A : Type 0} (test : Module → Bool) (shows : A → Module) (w : ℕ) (xs : List A) → packed (λ x. test (shows x)) (take w xs) ≡ packed test (take w (map shows xs))
 shown test shows w xs = packed_map test shows (take w xs) ∙ ap (packed test) (sym (take-map shows w xs))
 

@@ -14,7 +14,7 @@ use Rattle.qrcode_symbol.specs.Symbol.{IsSymbol}
 use Rattle.qrcode_symbol.proofs.Remasked.{is_symbol}
 use Rattle.qrcode_symbol.proofs.canvas.remasking.remask.Goals as goal
 
--- colours that are each made of the one before
+-- each colour is computed from the old one
 all_remasked : (v : Version) (l : EcLevel) (k j : MaskPattern) (s new : List Color) (w word : ℕ) → w ≡ side v → word ≡ format_word v l j → length new ≡ side v * side v
     → ((i : ℕ) → i < w * w → get_or new i Light ≡ remasked_at v word k j (i % w) (i / w) (get_or s i Light)) → new ≡ remasked v l k j s
 unfolding remasked

@@ -19,7 +19,7 @@ returns-else-not-is_empty-2-clause-rest c =
     let none = sym c.self.view_is ∙ next_none s.bits_left s.begun s.bytes.now s.has_half s.ec.now (grind (arith, nat_tests)) no_data no_ec in
     none ∙ sym (ap (λ (bits : List Bool). drop 1 bits) none)
 
--- a byte is begun, and the bits are the same
+-- once a byte is begun, the remaining bits are the same
 begun : (c : goal.After-self-2-1) → let i = c.if-self-eq0.self-inside in (0 < i.bits_left) × (bits_left i.bits_left i.begun i.bytes.now i.has_half i.ec.now ≡ c.args.self.now)
 begun c =
     let s = c.self.inside in
