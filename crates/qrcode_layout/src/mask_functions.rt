@@ -1,4 +1,4 @@
-//! The formulas of the masks, by column `x` and row `y` (ISO/IEC 18004:2006, 6.8.1).
+//! The formulas of the masks, by column `x` and row `y` (ISO/IEC 18004:2006, 6.8.2).
 //!
 //! Coordinates may be negative: the diagonal lines continue there by the same formula, and the
 //! other masks are mirrored.
