@@ -1,4 +1,4 @@
--- The blocks in codewords: bytes, as long as the version and level say, which is 153 at most.
+-- The blocks of codewords are bytes, and their lengths are those of the version and level: at most 153.
 use Rattle.std.proofs.Common.{◌≡◌, ℕ, zero, suc, ◌+◌, ◌*◌, ◌<◌, List, [], ◌∷◌, ◌++◌, length, map, get_or, slice_index, sym, ap₂, ◌∙◌, arith, length-append, replicate, ◌≤◌, IsTrue}
 use Rattle.std.specs.List.{range_with_len, All, AllByRecursion, AllZip}
 use Rattle.std.proofs.lemmas.List.FromFn.{length-map-range_with_len}
@@ -10,7 +10,7 @@ use Rattle.qrcode_types.specs.declared.types.EcLevel.{EcLevel}
 use Rattle.qrcode_types.proofs.BlockTable.{bounded}
 use Rattle.qrcode_ec.specs.Blocks.{block, blocks, interleaved_place}
 
--- what is read from bytes is a byte, the default included
+-- an item of a list of bytes is a byte, and so is the default past its end
 pub byte_of : (words : List ℕ) → AreBytes words → (i : ℕ) → slice_index words i < 256
 byte_of [] h i = omega arith
 byte_of (w ∷ words) h zero = h.0
@@ -69,7 +69,7 @@ data_at_most : (v : Version) (l : EcLevel) (b : ℕ) → slice_index (block_leng
 unfolding block_lengths
 data_at_most v l b = let e = blocks_entry v l in mixed_at e.1 e.3 e.2 b
 
--- no block is too long to be corrected in one way
+-- no block has more than 255 codewords, so that it has one correction at most
 pub blocks-short : (v : Version) (l : EcLevel) (words : List ℕ) → IsTrue (has_level v l) → AllByRecursion (λ b. length b ≤ 255) (blocks v l words)
 unfolding blocks
 blocks-short v l words has =

@@ -24,7 +24,7 @@ use Rattle.qrcode_symbol.specs.Symbol.{HasPatterns}
 abbrev one_if : Bool → ℕ
 one_if b = if b then 1 else 0
 
--- the numbers that three bits of a word of Normal, and two of one of Micro, say
+-- the number of the mask from three bits of a Normal format word, and from two of a Micro one
 abbrev in_normal : ℕ → ℕ
 in_normal w = 4 * (1 - one_if (has_bit w 12)) + 2 * one_if (has_bit w 11) + (1 - one_if (has_bit w 10))
 
@@ -43,7 +43,7 @@ all_micro = refl
 abbrev bit : Version → List Color → ℕ → ℕ
 bit v s x = one_if (is_dark (color_at v s x 8))
 
--- the number that the modules of Normal say is that of the mask
+-- in a Normal symbol the modules give the number of its mask
 pub normal_mask : (v : Version) (n : ℤ) (l : EcLevel) (k : MaskPattern) (s : List Color) (a b c : ℕ) → v ≡ Normal n → a ≡ bit v s 2 → b ≡ bit v s 3 → c ≡ bit v s 4
     → IsTrue (has_level v l) → IsTrue (exists_in v k) → HasPatterns v l k s → nth_mask v (4 * (1 - a) + 2 * b + (1 - c)) ≡ k
 unfolding format_copies format_word word number_bits
@@ -59,7 +59,7 @@ normal_mask (Normal m) n l k s a b c is x y z has exists p =
     let number : 4 * (1 - a) + 2 * b + (1 - c) ≡ mask_number k = omega (arith, x, y, z, first, middle, last, said, mask_number-lt k) in
     ap (nth_mask v) number ∙ nth_of_number v k exists
 
--- and that which the modules of Micro say
+-- and in a Micro symbol
 pub micro_mask : (v : Version) (n : ℤ) (l : EcLevel) (k : MaskPattern) (s : List Color) (b c : ℕ) → v ≡ Micro n → b ≡ bit v s 4 → c ≡ bit v s 5
     → IsTrue (has_level v l) → IsTrue (exists_in v k) → HasPatterns v l k s → nth_mask v (2 * b + (1 - c)) ≡ k
 unfolding format_copies format_word word number_bits

@@ -28,7 +28,7 @@ same_blocks : (n : ℕ) (bs : List (List ℕ)) → AllZip (λ b c. distance b c 
 same_blocks n [] = tt
 same_blocks n (b ∷ bs) = (omega (arith, distance-same b), same_blocks n bs)
 
--- no damage is within the bound
+-- an undamaged square is within the bound
 undamaged : (v : Version) (l : EcLevel) (k : MaskPattern) (s : List Color) → IsDamaged v l k s s
 undamaged v l k s = record {
   square = refl;

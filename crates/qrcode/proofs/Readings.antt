@@ -98,7 +98,7 @@ same_format v s l m k j has other exists another near_l near_m =
 same_words : (s : List Color) (v : Version) (l m : EcLevel) (bits others : List Bool) → (p : ReadsBits s v l bits) (q : ReadsBits s v m others) → (m ≡ l) × (q.mask ≡ p.mask)
 same_words s v l m bits others p q = same_format v s l m p.mask q.mask p.exists q.exists p.mask_exists q.mask_exists p.format q.format
 
--- of a short block there is one correction
+-- a block of at most 255 codewords has one correction
 same_block : (n : ℕ) (r c d : List ℕ) → length r ≤ 255 → Corrects r n c → Corrects r n d → d ≡ c
 same_block n r c d short p q =
     distance_above n c p.bytes (subst (λ m. m ≤ 255) p.equal_length short) p.vanishes d q.bytes (sym q.equal_length ∙ p.equal_length) q.vanishes
@@ -138,7 +138,7 @@ reads_bits_only v l bits k s p q are symbol other damage =
     let found = damaged v l bits k s other p q are symbol damage in
     record { found = found; only = λ u m others. bits_are_read_one_way other v u l m bits others found }
 
--- colours of which bits are read are read as the bytes that the bits spell, and in no other way
+-- a square that reads as bits decodes to the bytes that they spell, and to no others
 pub reads_only : (s : List Color) (v : Version) (l : EcLevel) (bits : List Bool) (bytes : List ℕ) → ReadsBits s v l bits → Spells v bits bytes → ReadsOnly s bytes
 reads_only s v l bits bytes read spelled =
     let found : Reads s bytes = record { version = v; level = l; bits = bits; read = read; spelled = spelled } in

@@ -1,4 +1,4 @@
--- What a constructor that ends in `with_bits` promises of its data.
+-- What a constructor that ends in `with_bits` promises about its data.
 use Rattle.std.proofs.Common.{◌≡◌, ℕ, ◌≤◌, Bool, List, [], length, flat_map, length-append, ap, ◌∙◌, arith, Result, Ok, Err, IfOk, sym, subst}
 use Rattle.std.specs.List.{AllByRecursion}
 use Rattle.qrcode_types.specs.Versions.{capacity}

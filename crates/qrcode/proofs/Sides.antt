@@ -21,7 +21,7 @@ side_at_most (Micro (pos n)) p = omega (arith, (up_to 4 n p).1)
 side_at_most (Normal (negsuc n)) p = absurd (true≢false (sym p))
 side_at_most (Micro (negsuc n)) p = absurd (true≢false (sym p))
 
--- versions of one side are one
+-- two versions with the same side are the same
 pub same_version : (v u : Version) → IsTrue (is_valid v) → IsTrue (is_valid u) → side v ≡ side u → v ≡ u
 same_version (Normal (negsuc n)) u p q e = absurd (true≢false (sym p))
 same_version (Micro (negsuc n)) u p q e = absurd (true≢false (sym p))
@@ -34,7 +34,7 @@ same_version (Micro (pos n)) (Micro (pos m)) p q e = ap (λ k. Micro (pos k)) (o
 same_version (Normal (pos n)) (Micro (pos m)) p q e = let h = up_to 40 n p in let k = up_to 4 m q in absurd (omega (arith, h.0, k.1))
 same_version (Micro (pos n)) (Normal (pos m)) p q e = let h = up_to 4 n p in let k = up_to 40 m q in absurd (omega (arith, h.1, k.0))
 
--- squares of one area have one side
+-- two squares with equally many modules have the same side
 pub same_root : (a b : ℕ) → a * a ≡ b * b → a ≡ b
 same_root a b e = elim (cases_order a b) [
   | inl s ↦ s

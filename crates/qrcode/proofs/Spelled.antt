@@ -1,4 +1,4 @@
--- Data is held where some bits that fill the symbol spell it.
+-- A symbol holds data if some bits that fill it spell the data.
 use Rattle.std.proofs.Common.{◌≡◌, ◌⊎◌, ℕ, ◌<◌, List, pos, length, inl, inr, ap, subst, Result, Ok, Err, IfOk, IfErr}
 use Rattle.std.specs.Prelude.{IsOkUnless}
 use Rattle.qrcode_types.specs.declared.types.Version.{Version}
@@ -34,7 +34,7 @@ module _ (l : EcLevel) (bytes : List ℕ) where
   refuses (Ok code) least causes none = absurd (none least.number (subst (λ v. CanSpell v l bytes) least.is least.spells))
   refuses (Err e) least causes none = elim causes [ inl memory ↦ inr (ap Err memory) | inr long ↦ inl (ap Err long.0) ]
 
-  -- what a constructor says that chooses the version by cuts, it says by bits too
+  -- what a constructor promises in terms of segments, it also promises in terms of bits
   pub automatic : (r : Result Code QrError) → IfOk r (λ code. code.level ≡ l) → IfOk r (λ code. IsChosenSymbol code.version l bytes code.modules)
       → ((n : ℕ) → Holds (Normal (pos n)) l bytes → IsOkUnless r OutOfMemory) → IfErr r (IsRefused l bytes) → (data_limit < length bytes → r ≡ Err DataTooLong)
       → IsAutomatic l bytes r

@@ -26,7 +26,7 @@ use Rattle.qrcode.proofs.Readings.{reads_bits_only, reads_only}
 
 -- The codewords of a symbol, as they come from its bits.
 
--- codewords whose blocks hold bits, and vanish
+-- codewords whose blocks hold the bits and have no error
 pub record AreWordsOf (v : Version) (l : EcLevel) (bits : List Bool) (words : List ℕ) : Type 0 where
   pub bytes : AreBytes words
   pub holds : data_bits v l (blocks v l words) ≡ bits
@@ -47,7 +47,7 @@ is_symbol v l bits words k s are carries = record {
   remainder = carries.remainder;
 }
 
--- the symbol of bits under the first mask of least penalty
+-- the symbol of bits under the first mask with the lowest penalty
 pub encodes_bits : (v : Version) (l : EcLevel) (bits : List Bool) (words : List ℕ) (s : List Color) → IsTrue (has_level v l) → AreWordsOf v l bits words → IsBestDrawing v l words s
     → EncodesBits v l bits s
 encodes_bits v l bits words s exists are drawn =
@@ -62,7 +62,7 @@ encodes_bits v l bits words s exists are drawn =
       read = reads_bits_only v l bits k s exists drawn.mask_exists bytes symbol;
     }
 
--- what is read of the symbol of bits are the bytes that the bits spell
+-- the symbol of bits decodes to the bytes that the bits spell
 pub encodes_bytes : (v : Version) (l : EcLevel) (bits : List Bool) (s : List Color) (bytes : List ℕ) → EncodesBits v l bits s → Spells v bits bytes → EncodesBytes v l bits bytes s
 encodes_bytes v l bits s bytes encodes spelled = record {
   encodes = encodes;
@@ -117,7 +117,7 @@ four_low : (n : ℕ) → get_or (number_bits 8 n) 4 false ≡ false → get_or (
 unfolding number_bits
 four_low n a b c d = omega (arith, low_bit n 3 a, low_bit n 2 b, low_bit n 1 c, low_bit n 0 d)
 
--- of a last byte that has four bits, the low four are zero
+-- in a last byte of four bits, the low four are zero
 pub half_is_high : (v : Version) (l : EcLevel) (bits : List Bool) (rest : ℕ) (raw : List ℕ) → IsTrue (has_half_codeword v l) → 0 < data_length v l
     → length bits ≡ capacity v l → length raw ≡ data_length v l → bits_of raw ≡ bits ++ replicate rest false → slice_index raw (length raw - 1) % 16 ≡ 0
 unfolding capacity
@@ -128,7 +128,7 @@ half_is_high v l bits rest raw half some len all is =
     sym (bit_of_bits raw n j (omega (arith, all, some)) eight) ∙ ap (λ bs. get_or bs (8 * n + j) false) is ∙ zero_behind bits rest (8 * n + j) (omega (arith, len, cut, all, some, four)) in
     four_low (slice_index raw n) (zero_at 4 (omega arith) (omega arith)) (zero_at 5 (omega arith) (omega arith)) (zero_at 6 (omega arith) (omega arith)) (zero_at 7 (omega arith) (omega arith))
 
--- the best colours of codewords carry them under the first mask of least penalty
+-- the best colours of codewords carry them under the first mask with the lowest penalty
 pub best_drawing : (v : Version) (l : EcLevel) (bytes ec : List ℕ) (s : List Color) → AreBestColors v l (drawn_modules v l bytes ec) s → AreCarried v l bytes ec
     → length bytes ≡ data_length v l → length ec ≡ total_ec_length v l → HasZeroHalf v l bytes → IsBestDrawing v l (bytes ++ ec) s
 best_drawing v l bytes ec s best carried data_long ec_long half =
@@ -141,7 +141,7 @@ best_drawing v l bytes ec s best carried data_long ec_long half =
       first_least = subst (IsFirstLeast v l k) (sym best.shown) (best.best.first_least (drawn_bits v l bytes ec) refl);
     }
 
--- what is drawn of the codewords of bits encodes the bits
+-- the square drawn from the codewords of bits encodes the bits
 pub encodes_drawn : (v : Version) (l : EcLevel) (bits : List Bool) (rest : ℕ) (raw data_words ec_words : List ℕ) (s : List Color) → IsTrue (has_level v l)
     → length bits ≡ capacity v l → bits_of raw ≡ bits ++ replicate rest false → AreCodewords v l raw data_words ec_words
     → IsBestDrawing v l (data_words ++ ec_words) s → EncodesBits v l bits s

@@ -34,7 +34,7 @@ shows_only s v l bits text read shown = record {
       shown.only others (subst (λ b. Shows v b others) same.2 (subst (λ u. Shows u q.bits others) same.0 q.shown));
 }
 
--- the symbol of bits that are shown as a text is shown so, damaged too
+-- if bits are shown as a text, so is their symbol, even damaged
 pub shown_bits : TextsAreShown
 shown_bits v l bits text s encodes only = record {
   mask = encodes.mask;
@@ -42,7 +42,7 @@ shown_bits v l bits text s encodes only = record {
   shown = λ other damage. shows_only other v l bits text (encodes.read other damage).found only;
 }
 
--- and that of a text
+-- and so is the symbol of a text
 pub shown_symbol : (m : Manner) (v : Version) (l : EcLevel) (bytes : List ℕ) (s : List Color) → IsSymbolAs m v l bytes s → IsTrue (is_text m) → IsUtf8 bytes → IsShownAs v l (chars bytes) s
 shown_symbol m v l bytes s made text utf8 = record {
   mask = made.encodes.mask;
@@ -98,7 +98,7 @@ boosted_as m from l highest bytes list (Ok code) made version level encodes =
       highest_level = λ other above. subst (λ u. ¬ HoldsAs m u other bytes) (sym version) (made.highest_level other (subst (λ h. level_number h < level_number other) level above));
     }
 
--- data that is held is refused only because memory ran out
+-- data that fits is rejected only because memory ran out
 pub refused_for_memory : (m : Manner) (v : Version) (l : EcLevel) (bytes : List ℕ) (e : QrError) → HoldsAs m v l bytes → e ≡ OutOfMemory → IsRefusedIn m v l bytes e
 refused_for_memory m v l bytes e holds memory =
     let valid = valid_of v l holds.exists in

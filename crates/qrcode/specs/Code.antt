@@ -1,4 +1,4 @@
--- What a symbol is seen as.
+-- A symbol as contracts see it.
 use Rattle.std.specs.Prelude.{List}
 use Rattle.qrcode_types.specs.declared.types.Version.{Version}
 use Rattle.qrcode_types.specs.declared.types.EcLevel.{EcLevel}

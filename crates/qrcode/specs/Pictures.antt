@@ -8,16 +8,16 @@ use Rattle.qrcode_render.specs.Layout.{Layout, layout}
 use Rattle.qrcode_render.specs.Picture.{picture}
 use Rattle.qrcode_render.specs.Texts.{text_of}
 
-abbrev pub quiet_zone : Version → ℕ  -- the modules of the quiet zone at each side
+abbrev pub quiet_zone : Version → ℕ  -- the width of the quiet zone in modules
 quiet_zone (Normal v) = 4
 quiet_zone (Micro v) = 2
 
--- a symbol with its quiet zone, in modules of so many pixels across and down
+-- a symbol with its quiet zone, each module that many pixels wide and high
 abbrev pub layout_in : ℕ → Version → Layout
 layout_in pixels v = layout (side v) (quiet_zone v) pixels pixels
 
-abbrev pub debug_text : Version → List Color → ℕ → ℕ → List ℕ  -- one character a module, without a quiet zone
+abbrev pub debug_text : Version → List Color → ℕ → ℕ → List ℕ  -- one character for each module, without a quiet zone
 debug_text v colors on off = text_of (encode_utf8 on) (encode_utf8 off) (picture (layout (side v) 0 1 1) colors)
 
-abbrev pub cells_text : Version → List Color → List ℕ → List ℕ → List ℕ  -- one text a module, with the quiet zone
+abbrev pub cells_text : Version → List Color → List ℕ → List ℕ → List ℕ  -- one text for each module, with the quiet zone
 cells_text v colors dark light = text_of dark light (picture (layout_in 1 v) colors)

@@ -1,17 +1,17 @@
-//! Laws of reading, each on the contract of a function that does nothing: no call of the library
-//! reads.
+//! Theorems about decoding, as contracts of functions that do nothing.
 
 ghost use Rattle.qrcode.specs.Reading.{BitsAreReadOneWay, BytesAreReadOneWay};
 ghost use Rattle.qrcode.specs.Texts.{TextsAreShown};
 
-/// A theorem: no square at all, a symbol or not, damaged or not, is read in two ways, neither as
-/// other bits, nor of another version or level, nor as other bytes.
+/// Theorem: no square of modules, symbol or not, can be decoded in two ways. Its version, level,
+/// bits and bytes are the same in every decoding.
 pub fn reading()
     ensures bits { BitsAreReadOneWay }
     ensures bytes { BytesAreReadOneWay }
 {}
 
-/// A theorem: of each damaged symbol of bits that a reader shows as a text, it shows this text.
+/// Theorem: if readers show the bits of a symbol as a text, and as no other, they show exactly this
+/// text for each square within the promised damage.
 pub fn texts()
     ensures { TextsAreShown }
 {}

@@ -1,4 +1,18 @@
-//! QR and Micro QR symbols.
+//! Encodes bytes and text as QR and Micro QR codes, and draws them.
+//!
+//!     let code = QrCode::of_text(alloc, "some text", EcLevel::M)?;
+//!     let picture = code.render::<svg::Color>().build(alloc)?;
+//!
+//! - `QrCode::new` encodes bytes in the smallest Normal version that holds them;
+//!   `QrCode::with_version` takes the version.
+//! - `QrCode::of_text` encodes text so that readers show it as written.
+//! - `QrCode::at_least` chooses among all versions from a given one on, Micro included;
+//!   `QrCode::at_least_boosted` also raises the level as far as the chosen version allows.
+//! - `QrCode::with_bits` takes a list of bits, to which `bits::Bits` appends segments one by one.
+//! - `QrCode::render` makes the picture: text, SVG, PDF and the other formats of `render`.
+//!
+//! Each function is proved: it is safe, terminates, and meets the clauses between its head and its
+//! body. They say what it returns, and when it fails with which error.
 #![tactic(auto)]
 
 ghost use Rattle.std.specs.Prelude.{◌≡◌, ◌↔◌, ◌+◌, ◌*◌, ◌-◌, ◌/◌, ◌%◌, ◌<◌, ◌≤◌, Bool, List, true, false, Some, string_bytes, length, slice_index, slice_get, map, IsTrue, IfOk, IfErr, OnOk, IsOkUnless};
@@ -36,7 +50,7 @@ pub mod laws;
 mod masks;
 mod texts;
 
-/// A symbol.
+/// A QR or Micro QR code: its version, its error correction level and its modules.
 #[derive(Drop)]
 pub struct QrCode {
     content: Vec<Color>,
@@ -67,20 +81,20 @@ impl Model for QrCode {
 }
 
 impl QrCode {
-    /// The symbol of bytes at level `M`, of the least Normal version that holds them.
+    /// Encodes `bytes` at level M, in the smallest Normal version that holds them.
     ///
-    /// `DataTooLong`: no Normal version holds the bytes, or they are more than 1,048,576.
-    /// `OutOfMemory`: memory was refused.
+    /// Errors: `DataTooLong` if no Normal version holds `bytes`, or there are more than 1,048,576;
+    /// `OutOfMemory` if memory runs out.
     pub fn new(alloc: Global, bytes: &[u8]) -> QrResult<Self>
         ensures { IsAutomatic M bytes.now result }
     {
         QrCode::with_error_correction_level(alloc, bytes, EcLevel::M)
     }
 
-    /// The symbol of bytes at a level, of the least Normal version that holds them.
+    /// Encodes `bytes` at level `ec_level`, in the smallest Normal version that holds them.
     ///
-    /// `DataTooLong`: no Normal version holds the bytes, or they are more than 1,048,576.
-    /// `OutOfMemory`: memory was refused.
+    /// Errors: `DataTooLong` if no Normal version holds `bytes`, or there are more than 1,048,576;
+    /// `OutOfMemory` if memory runs out.
     pub fn with_error_correction_level(
         alloc: Global,
         bytes: &[u8],
@@ -92,13 +106,12 @@ impl QrCode {
         QrCode::with_bits(alloc, bits, ec_level)
     }
 
-    /// The symbol of bytes, of a version and level.
+    /// Encodes `bytes` in the given version, Normal or Micro, at level `ec_level`.
     ///
-    /// It is refused by the first of these causes that applies. `InvalidVersion`: there is no such
-    /// version. `DataTooLong`: the bytes are more than 1,048,576. `UnsupportedCharacterSet`: they
-    /// need a mode that the version lacks. `InvalidVersion`: the version lacks the level.
-    /// `DataTooLong`: the symbol does not hold the bytes. And `OutOfMemory` may come in place of
-    /// the last two, or where none applies.
+    /// Errors, the first that applies: `InvalidVersion` if there is no such version; `DataTooLong`
+    /// if there are more than 1,048,576 bytes; `UnsupportedCharacterSet` if they need a mode that
+    /// the version lacks; `InvalidVersion` if the version lacks the level; `DataTooLong` if the
+    /// symbol does not hold them. `OutOfMemory` if memory runs out; it may hide the last two.
     pub fn with_version(
         alloc: Global,
         bytes: &[u8],
@@ -115,7 +128,8 @@ impl QrCode {
         ensures too_long { IsTrue (is_valid version) → data_limit < length bytes.now
             → result ≡ Err DataTooLong }
 
-        // Without cuts: exactly where some list of as many bits as the capacity spells the bytes.
+        // The same without segments: some list of exactly as many bits as the capacity decodes to
+        // the bytes.
         ensures accepts_spelled { CanSpell version ec_level bytes.now
             → IsOkUnless result OutOfMemory }
         ensures only_spelled { OnOk result (CanSpell version ec_level bytes.now) }
@@ -123,11 +137,11 @@ impl QrCode {
         QrCode::in_version(alloc, bytes, Manner::Bytes, version, ec_level)
     }
 
-    /// The symbol of a list of bits, which has the bits' version. Bits that do not fill the symbol
-    /// are ended by `Bits::push_terminator` first.
+    /// Makes the symbol of a list of bits, in the version of `bits`. The list must fill the symbol:
+    /// `Bits::push_terminator` adds what is missing.
     ///
-    /// `InvalidVersion`: the version lacks the level. `DataTooLong`: the symbol holds fewer bits.
-    /// `OutOfMemory`: memory was refused.
+    /// Errors: `InvalidVersion` if the version lacks the level; `DataTooLong` if there are more
+    /// bits than the symbol holds; `OutOfMemory` if memory runs out.
     pub fn with_bits(alloc: Global, bits: Bits, ec_level: EcLevel) -> QrResult<Self>
         requires { IsTrue (has_level bits.version ec_level)
             → capacity bits.version ec_level ≤ length bits.bits }
@@ -160,7 +174,7 @@ impl QrCode {
         })
     }
 
-    /// The version of the symbol.
+    /// Returns the version of the symbol.
     pub fn version(&self) -> Version
         ensures value { result ≡ self.now.version }
         ensures exists { IsTrue (has_level result self.now.level) }
@@ -168,19 +182,19 @@ impl QrCode {
         self.version
     }
 
-    /// The error correction level of the symbol.
+    /// Returns the error correction level of the symbol.
     pub fn error_correction_level(&self) -> EcLevel
         ensures { result ≡ self.now.level }
     {
         self.ec_level
     }
 
-    /// The mask of the symbol: the first of least penalty (ISO/IEC 18004:2006, 6.8.3, but the
-    /// balance of dark modules as the Rust crate counts it).
+    /// Returns the mask of the symbol: the first with the lowest penalty (ISO/IEC 18004:2006,
+    /// 6.8.3, except that the balance of dark modules is counted as in the Rust crate `qrcode`).
     pub fn mask(&self) -> MaskPattern
         ensures value { IsMaskOf self.now.version self.now.level result self.now.modules }
 
-        // Of whatever bits the modules are the symbol, they are so under no other mask.
+        // The modules are a symbol under no other mask, whatever the bits.
         ensures only { (bits : List Bool) (mask : MaskPattern)
             → IsTrue (exists_in self.now.version mask)
             → IsSymbol self.now.version self.now.level bits mask self.now.modules → mask ≡ result }
@@ -188,10 +202,10 @@ impl QrCode {
         mask_of(self.version, &self.content)
     }
 
-    /// The modules of this symbol under a mask of the version, which need not be that of least
-    /// penalty, row by row: the symbol of the same data, which reads as this one does.
+    /// Returns the modules of this symbol under another mask, row by row: a symbol that decodes to
+    /// the same data. `mask` must be one of the version's; its penalty does not matter.
     ///
-    /// `OutOfMemory`: memory was refused.
+    /// Errors: only `OutOfMemory`.
     pub fn under_mask(&self, alloc: Global, mask: MaskPattern) -> QrResult<Vec<Color>>
         requires mask_exists { IsTrue (exists_in self.now.version mask) }
         ensures symbol { IfOk result (λ modules. IsUnderMask
@@ -205,7 +219,7 @@ impl QrCode {
         Ok(modules)
     }
 
-    /// The modules along a side, without a quiet zone.
+    /// Returns the number of modules along a side, without the quiet zone.
     pub fn width(&self) -> usize
         ensures across { result ≡ side self.now.version }
         ensures at_least { 11 ≤ result }
@@ -215,8 +229,9 @@ impl QrCode {
         self.width
     }
 
-    /// How many wrong codewords the standard allows, over all blocks. The constructors promise
-    /// correction block by block: half of a block's error correction codewords, rounded down.
+    /// Returns how many wrong codewords the standard allows in the whole symbol. The constructors
+    /// promise correction block by block: of as many wrong codewords as half the block's error
+    /// correction codewords, rounded down.
     pub fn max_allowed_errors(&self) -> usize
         ensures { result ≡ (total_ec_length self.now.version self.now.level
             - misdecode_protection self.now.version self.now.level) / 2 }
@@ -224,23 +239,23 @@ impl QrCode {
         ec::max_allowed_errors(self.version, self.ec_level).unwrap()
     }
 
-    /// Whether the module in column `x` and row `y`, both below the width, belongs to a pattern, to
-    /// the format word or to the version word.
+    /// Returns whether the module in column `x` and row `y`, both below the width, belongs to a
+    /// function pattern, to the format information or to the version information.
     pub fn is_functional(&self, x: usize, y: usize) -> bool
         requires column { x < side self.now.version }
         requires row { y < side self.now.version }
         ensures place { result ≡ is_functional_place self.now.version x y }
 
-        // The patterns drawn on a new canvas leave no empty module there.
+        // So exactly these modules are no longer empty once a new canvas has its patterns.
         ensures drawn { IsTrue result ↔ IsDrawn self.now.version x y }
     {
         canvas::is_functional(self.version, self.width as i16, x as i16, y as i16)
     }
 
-    /// The modules as text, `on_char` for dark ones and `off_char` for light ones, row by row with
-    /// a newline between each two, without a quiet zone.
+    /// Returns the modules as text, `on_char` for dark and `off_char` for light, without a quiet
+    /// zone. A newline separates the rows.
     ///
-    /// `OutOfMemory`: memory was refused.
+    /// Errors: only `OutOfMemory`.
     pub fn to_debug_str(&self, alloc: Global, on_char: char, off_char: char) -> QrResult<String>
         ensures value { IfOk result (λ text. string_bytes text
             ≡ debug_text self.now.version self.now.modules on_char off_char) }
@@ -253,9 +268,9 @@ impl QrCode {
             .build(alloc)
     }
 
-    /// Whether each module is dark, row by row.
+    /// Returns the modules row by row, `true` for dark.
     ///
-    /// `OutOfMemory`: memory was refused.
+    /// Errors: only `OutOfMemory`.
     pub fn to_vec(&self, alloc: Global) -> QrResult<Vec<bool>>
         ensures value { IfOk result (λ modules. modules.items ≡ map is_dark self.now.modules) }
         ensures memory { IsOkUnless result OutOfMemory }
@@ -268,9 +283,9 @@ impl QrCode {
         )
     }
 
-    /// Whether each module is dark, row by row.
+    /// Consumes the symbol and returns its modules row by row, `true` for dark.
     ///
-    /// `OutOfMemory`: memory was refused.
+    /// Errors: only `OutOfMemory`.
     pub fn into_vec(self, alloc: Global) -> QrResult<Vec<bool>>
         ensures value { IfOk result (λ modules. modules.items ≡ map is_dark self.modules) }
         ensures memory { IsOkUnless result OutOfMemory }
@@ -278,16 +293,16 @@ impl QrCode {
         self.to_vec(alloc)
     }
 
-    /// The colour of each module, row by row, lent.
+    /// Returns the colours of the modules, row by row, as a slice.
     pub fn colors(&self) -> &[Color]
         ensures { result.now ≡ self.now.modules }
     {
         &self.content
     }
 
-    /// The colour of each module, row by row.
+    /// Copies the colours of the modules, row by row.
     ///
-    /// `OutOfMemory`: memory was refused.
+    /// Errors: only `OutOfMemory`.
     pub fn to_colors(&self, alloc: Global) -> QrResult<Vec<Color>>
         ensures value { IfOk result (λ colors. colors.items ≡ self.now.modules) }
         ensures memory { IsOkUnless result OutOfMemory }
@@ -295,14 +310,15 @@ impl QrCode {
         Ok(Vec::from_slice(alloc, &self.content)?)
     }
 
-    /// The colour of each module, row by row.
+    /// Consumes the symbol and returns the colours of its modules, row by row. Allocates nothing.
     pub fn into_colors(self) -> Vec<Color>
         ensures { result.items ≡ self.modules }
     {
         self.content
     }
 
-    /// A renderer of the symbol, with a quiet zone of four modules, or of two for Micro QR.
+    /// Returns a renderer of the symbol, with a quiet zone of four modules, or of two for Micro QR.
+    /// `P` chooses the format, e.g. `char`, or `render::svg::Color`; `build` makes the picture.
     pub fn render<P: Pixel>(&self) -> Renderer<'_, P>
         ensures content { result.content ≡ self.now.modules }
         ensures count { result.count ≡ side self.now.version }
@@ -323,7 +339,7 @@ impl QrCode {
     }
 }
 
-/// The colour of the module in column x and row y, both below the width, where the index is (x, y).
+/// `code[(x, y)]` is the colour of the module in column `x` and row `y`, both below the width.
 impl Index<(usize, usize)> for QrCode {
     type Output = Color;
 

@@ -1,4 +1,4 @@
-//! The mask of a symbol, from its format word.
+//! Reads the mask of a symbol from its format information.
 
 ghost use Rattle.std.specs.Prelude.{◌≡◌, ◌<◌, ◌≤◌, IsTrue, if◌then◌else◌};
 ghost use Rattle.qrcode_types.specs.Colors.{is_dark};
@@ -13,7 +13,7 @@ use crate::canvas::MaskPattern;
 use crate::types::{Color, Version};
 use qrcode_layout::masks::nth_mask;
 
-// One where the module in column `x` of row 8 is dark, and else zero.
+// Returns 1 if the module in column `x` of row 8 is dark, else 0.
 fn bit_at(version: Version, modules: &[Color], x: usize) -> usize
     requires valid { IsTrue (is_valid version) }
     requires column { x < 8 }
@@ -26,8 +26,8 @@ fn bit_at(version: Version, modules: &[Color], x: usize) -> usize
     }
 }
 
-/// The mask that the format word of a square names. Three bits of the word have its number, of
-/// which the first and the last are turned; in Micro two bits, of which the last is turned.
+/// Returns the mask that the format information names. Its number is in three bits, the first and
+/// last of which the format's own mask inverts; in Micro in two, of which it inverts the last.
 pub(crate) fn mask_of(version: Version, modules: &[Color]) -> MaskPattern
     requires { IsTrue (is_valid version) }
     ensures { (ec_level : EcLevel) (mask : MaskPattern) → IsTrue (has_level version ec_level)

@@ -1,4 +1,4 @@
-//! Symbols of texts, and of data in a manner of one's choice.
+//! Encodes text, and data in any `Manner`.
 
 ghost use Rattle.std.specs.Prelude.{◌≡◌, ◌<◌, ◌≤◌, pos, false, length, chars, IsTrue, IfOk, IfErr, IsOkUnless, Err};
 ghost use Rattle.qrcode_types.specs.Versions.{is_valid};
@@ -16,15 +16,16 @@ use crate::bits::{self, Manner};
 use crate::types::{EcLevel, QrResult, Version};
 use std::alloc::Global;
 
-// The first version that texts are tried in.
+// The smallest version for text.
 const FIRST: Version = Version::Normal(1);
 
 impl QrCode {
-    /// The symbol of a text at a level, of the least Normal version that holds it. Readers show the
-    /// text, where they take bytes for UTF-8; for readers that guess there is `of_marked_text`.
+    /// Encodes `text` at level `ec_level`, in the smallest Normal version that holds it. Readers
+    /// that decode bytes as UTF-8 show exactly this text; for those that guess the character set
+    /// there is `of_marked_text`.
     ///
-    /// `DataTooLong`: no Normal version holds the text, or it has more than 1,048,576 bytes.
-    /// `OutOfMemory`: memory was refused.
+    /// Errors: `DataTooLong` if no Normal version holds `text`, or it has more than 1,048,576
+    /// bytes; `OutOfMemory` if memory runs out.
     pub fn of_text(alloc: Global, text: &str, ec_level: EcLevel) -> QrResult<Self>
         ensures symbol { IsAutomaticAs Text (Normal (pos 1)) ec_level text.now result }
         ensures shown { IfOk result (λ code.
@@ -33,7 +34,10 @@ impl QrCode {
         QrCode::at_least(alloc, text.as_bytes(), Manner::Text, FIRST, ec_level)
     }
 
-    /// The same with the number 26 of UTF-8 (ECI) in front, which takes 12 bits.
+    /// Encodes `text` as `of_text` does, after the ECI designator 26 for UTF-8, which takes 12
+    /// bits.
+    ///
+    /// Errors: as for `of_text`.
     pub fn of_marked_text(alloc: Global, text: &str, ec_level: EcLevel) -> QrResult<Self>
         ensures symbol { IsAutomaticAs MarkedText (Normal (pos 1)) ec_level text.now result }
         ensures shown { IfOk result (λ code.
@@ -42,9 +46,9 @@ impl QrCode {
         QrCode::at_least(alloc, text.as_bytes(), Manner::MarkedText, FIRST, ec_level)
     }
 
-    /// The symbol of a text, of a version and level.
+    /// Encodes `text` in the given version, Normal or Micro, at level `ec_level`.
     ///
-    /// It is refused by the causes of `in_version`.
+    /// Errors: as for `in_version`.
     pub fn of_text_in(
         alloc: Global,
         text: &str,
@@ -58,8 +62,11 @@ impl QrCode {
         QrCode::in_version(alloc, text.as_bytes(), Manner::Text, version, ec_level)
     }
 
-    /// The same with the number 26 of UTF-8 (ECI) in front, which takes 12 bits. Micro QR has none:
-    /// `UnsupportedCharacterSet`.
+    /// Encodes `text` as `of_text_in` does, after the ECI designator 26 for UTF-8, which takes 12
+    /// bits.
+    ///
+    /// Errors: as for `in_version`; `UnsupportedCharacterSet` for every Micro version, since these
+    /// have no ECI.
     pub fn of_marked_text_in(
         alloc: Global,
         text: &str,
@@ -74,13 +81,13 @@ impl QrCode {
         QrCode::in_version(alloc, bytes, Manner::MarkedText, version, ec_level)
     }
 
-    /// The symbol of data in a manner, at a level, of the least version that holds it from one on,
-    /// in the order Micro 1 to 4, Normal 1 to 40. From Micro 1 on it is the least of all.
+    /// Encodes `bytes` as `manner` says, at level `ec_level`, in the smallest version that holds
+    /// them, but no smaller than `from`. The order is Micro 1 to 4, Normal 1 to 40: from
+    /// `Version::Micro(1)` on, the result is the smallest symbol of all.
     ///
-    /// It is refused by the first of these causes that applies. `InvalidVersion`: there is no such
-    /// version as the first. `DataTooLong`: the data has more than 1,048,576 bytes; or no version
-    /// from that one on holds it. And `OutOfMemory` may come in place of the last of these, or
-    /// where none applies.
+    /// Errors, the first that applies: `InvalidVersion` if there is no version `from`;
+    /// `DataTooLong` if there are more than 1,048,576 bytes; `DataTooLong` if no version from
+    /// `from` on holds them. `OutOfMemory` if memory runs out; it may hide the last.
     pub fn at_least(
         alloc: Global,
         bytes: &[u8],
@@ -94,7 +101,10 @@ impl QrCode {
         QrCode::with_bits(alloc, bits, ec_level)
     }
 
-    /// The same at the highest level, from the given one on, at which that version holds the data.
+    /// Encodes `bytes` in the version that `at_least` chooses for `ec_level`, at the highest level
+    /// from `ec_level` on at which that version holds them.
+    ///
+    /// Errors: as for `at_least`.
     pub fn at_least_boosted(
         alloc: Global,
         bytes: &[u8],
@@ -109,13 +119,14 @@ impl QrCode {
         QrCode::with_bits(alloc, bits, highest)
     }
 
-    /// The symbol of data in a manner, of a version and level.
+    /// Encodes `bytes` as `manner` says, in the given version, Normal or Micro, at level
+    /// `ec_level`.
     ///
-    /// It is refused by the first of these causes that applies. `InvalidVersion`: there is no such
-    /// version. `DataTooLong`: the data has more than 1,048,576 bytes. `UnsupportedCharacterSet`:
-    /// the version cannot have the bits in front; or it lacks a mode that the data needs.
-    /// `InvalidVersion`: the version lacks the level. `DataTooLong`: the symbol does not hold the
-    /// data. And `OutOfMemory` may come in place of the last two, or where none applies.
+    /// Errors, the first that applies: `InvalidVersion` if there is no such version; `DataTooLong`
+    /// if there are more than 1,048,576 bytes; `UnsupportedCharacterSet` if the version has no ECI
+    /// and `manner` needs it, or lacks a mode that the data needs; `InvalidVersion` if the version
+    /// lacks the level; `DataTooLong` if the symbol does not hold the data. `OutOfMemory` if memory
+    /// runs out; it may hide the last two.
     pub fn in_version(
         alloc: Global,
         bytes: &[u8],

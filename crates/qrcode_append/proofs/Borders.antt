@@ -13,7 +13,7 @@ use Rattle.qrcode_bits.specs.declared.bits.manner.Manner.{Manner}
 use Rattle.qrcode_bits.proofs.CutPieces.{split_range}
 use Rattle.qrcode_append.specs.Division.{is_border, floor_border, part_begin, part}
 
--- the parity of what is left of the data, one byte before
+-- the parity of the bytes from one place earlier on
 pub parity_back : (bytes : List ℕ) (i : ℕ) → 1 ≤ i → i ≤ length bytes → bit_xor (get_or bytes (i - 1) 0) (parity (drop i bytes)) ≡ parity (drop (i - 1) bytes)
 parity_back bytes i some inside =
     let place = i - 1 in
@@ -47,7 +47,7 @@ floor_end bytes (suc n) low high =
     let at : nat_le (length bytes) (suc n) ≡ true = le-leb (length bytes) (suc n) low in
     ap (λ b. if (b || (nat_lt (slice_index bytes (suc n)) 128 || nat_le 192 (slice_index bytes (suc n)))) then suc n else floor_border bytes n) at
 
--- a border is one between characters
+-- a border is a character boundary
 border_boundary : (bytes : List ℕ) (k : ℕ) → k ≤ length bytes → is_border bytes k ≡ true → IsCharBoundary bytes k
 border_boundary bytes k le h = (le, λ inside high. by_tests (nat_le (length bytes) k) (nat_lt (slice_index bytes k) 128) (nat_le 192 (slice_index bytes k)) inside high h refl refl refl) where
   by_tests : (a b c : Bool) → k < length bytes → 128 ≤ slice_index bytes k → (a || (b || c)) ≡ true → nat_le (length bytes) k ≡ a → nat_lt (slice_index bytes k) 128 ≡ b → nat_le 192 (slice_index bytes k) ≡ c → 192 ≤ slice_index bytes k

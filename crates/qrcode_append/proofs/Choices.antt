@@ -1,4 +1,4 @@
--- The fewest symbols of some versions.
+-- The fewest symbols in a range of versions.
 use Rattle.std.proofs.Common.{◌≡◌, ℕ, ◌-◌, ◌<◌, ◌≤◌, pos, List, length, sym, ap, subst, arith, inl, inr, Option, Some, None, w16, to_z, IsTrue}
 use Rattle.std.specs.Prelude.{MatchOption}
 use Rattle.std.proofs.lemmas.Bool.{cases_lt}
@@ -21,14 +21,14 @@ use Rattle.qrcode_append.proofs.Parts.{parted_of, several_of}
 pub version_is : (n : ℕ) → n ≤ 40 → Normal (to_z w16 n) ≡ Normal (pos n)
 version_is n most = ap Normal (to_z_pos w16 n (omega (arith, most)))
 
--- one of the versions exists, where their numbers say so
+-- some version in the range exists, if the range meets 1 to 40
 pub some_version : (vs : Versions) (l : EcLevel) → vs.least ≤ vs.greatest → vs.least ≤ 40 → 1 ≤ vs.greatest → (n : ℕ) × (IsAmong vs n × IsTrue (has_level (Normal (pos n)) l))
 some_version vs l ordered low high = elim (cases_lt vs.least 1) [
   | inl zero ↦ (1, ((omega (arith, zero), high), normal_level 1 l (omega arith) (omega arith)))
   | inr one ↦ (vs.least, ((omega arith, ordered), normal_level vs.least l one low))
 ]
 
--- the least number of which so many symbols hold the data
+-- the number that was found is the smallest of which `count` symbols hold the data
 pub least_among : (m : Manner) (vs : Versions) (l : EcLevel) (bytes : List ℕ) (count number : ℕ) → vs.least ≤ number → number ≤ vs.greatest → number ≤ 40
     → HoldSeveral m (Normal (to_z w16 number)) l bytes count → ((n : ℕ) → IsAmong vs n → n < number → ¬ HoldSeveral m (Normal (pos n)) l bytes count) → IsLeastAmong m vs l bytes count number
 least_among m vs l bytes count number low high most holds none = record {
@@ -45,7 +45,7 @@ counted_of m vs l bytes count number codes least is symbols =
     (version_is number (normal_number number l least.holds.exists).1) symbols in
     record { counted = is; number = number; least_version = least; symbols = parted_of m (Normal (pos number)) l bytes count codes least.holds is own }
 
--- the same, where no less of any version hold the data
+-- and they are the fewest, if no smaller count of any version holds the data
 pub fewest_of : (m : Manner) (vs : Versions) (l : EcLevel) (bytes : List ℕ) (count number : ℕ) (codes : List Code) → IsLeastAmong m vs l bytes count number
     → ((k n : ℕ) → k < count → IsAmong vs n → ¬ HoldSeveral m (Normal (pos n)) l bytes k) → length codes ≡ count
     → EachAt (λ place. IsPartSymbol m (Normal (to_z w16 number)) l place (count - 1) (parity bytes) (part m bytes count place)) codes → AreFewest m vs l bytes codes
@@ -60,7 +60,7 @@ fewest_of m vs l bytes count number codes least none is symbols =
       symbols = several_of m v l bytes count codes least.holds (λ k below held. none k number below least.among held) is own;
     }
 
--- what is found of so many symbols
+-- if the search for `count` symbols returns a number, it is the smallest
 pub least_held : (m : Manner) (vs : Versions) (l : EcLevel) (bytes : List ℕ) (count n : ℕ) (o : Option ℕ) → o ≡ Some n
     → MatchOption o ((n : ℕ) → IsAmong vs n → ¬ HoldSeveral m (Normal (pos n)) l bytes count) (IsLeastAmong m vs l bytes count) → IsLeastAmong m vs l bytes count n
 least_held m vs l bytes count n o is found = subst (λ o. MatchOption o ((n : ℕ) → IsAmong vs n → ¬ HoldSeveral m (Normal (pos n)) l bytes count) (IsLeastAmong m vs l bytes count)) is found

@@ -39,7 +39,7 @@ use Rattle.qrcode_append.proofs.Borders.{parts_joined, part_text}
 use Rattle.qrcode_append.proofs.Fronts.{length-header, length-front}
 use Rattle.qrcode_append.proofs.Together.{together}
 
--- what stands behind the header of a part: its segments, and the end
+-- the bits after the header of a part: its segments, terminator and padding
 behind : Version → EcLevel → ℕ → ℕ → ℕ → List Piece → List Bool
 behind v l place last parity ps = written v ps ++ ending (terminator_length v) (length (append_front place last parity ++ written v ps)) (capacity v l)
 
@@ -62,7 +62,7 @@ behind_read v l place last parity bytes ss valid cut room =
     omega (arith, length-append front (written v ps), length-front place last parity, length-written v bytes 0 ss (length bytes) cut.tiles (omega arith), room) in
     read_as v ps (ending (terminator_length v) (length ready) (capacity v l)) pieces.0 (ending-is_end (terminator_length v) (length ready) (capacity v l) fits)
 
--- a cut behind the bits in front, terminated, is read as the part
+-- the header, a division of the part into segments and the terminator decode to the part
 pub part_spelled : (v : Version) (l : EcLevel) (place last parity : ℕ) (bytes : List ℕ) (ss : List Segment) → IsTrue (is_valid v) → is_micro v ≡ false → IsCut v bytes ss
     → front_length last + total_cost v ss ≤ capacity v l → SpellsPart v (terminated v l (append_front place last parity ++ written v (pieces_of bytes ss))) place last parity bytes
 part_spelled v l place last parity bytes ss valid normal cut room = record {
@@ -92,7 +92,7 @@ part_shown m v l place last parity bytes ss valid text utf8 least room =
     } in
     record { found = found; only = λ others shown. one_shown v rest (chars bytes) others found shown }
 
--- a square that is read as bits in which a part is shown
+-- a square that reads as bits in which a part is shown shows the part only
 square_shown : (s : List Color) (v : Version) (l : EcLevel) (bits rest : List Bool) (place last parity : ℕ) (text : List ℕ) → ReadsBits s v l bits → is_micro v ≡ false
     → bits ≡ append_front place last parity ++ rest → ShowsOnly v rest text → ShowsPartOnly s place last parity text
 square_shown s v l bits rest place last parity text read normal parted shown = record {
@@ -104,12 +104,12 @@ square_shown s v l bits rest place last parity text read normal parted shown = r
       shown.only others (subst (λ b. Shows v b others) behind (subst (λ u. Shows u q.rest others) same.0 q.shown));
 }
 
--- one item more
+-- appending one item
 pub each-push : {X : Type 0} (P : ℕ → X → Type 0) (xs : List X) (x : X) → EachAt P xs → P (length xs) x → EachAt P (xs ++ x ∷ [])
 each-push P [] x each last = (last, tt)
 each-push P (y ∷ xs) x each last = (each.0, each-push (λ place. P (suc place)) xs x each.1 last)
 
--- a header is taken where it has room
+-- a header is accepted if there is room
 pub header_taken : (v : Version) (used place last parity : ℕ) → is_micro v ≡ false → used + 20 ≤ bit_limit → append_refusal used (if is_micro v then None else Some (append_header place last parity)) ≡ None
 header_taken v used place last parity normal room =
     ap (λ t. append_refusal used (if t then None else Some (append_header place last parity))) normal
@@ -138,7 +138,7 @@ symbol_of m v l place last parity bytes list (Ok code) exists normal fits made v
           (part_shown m v l place last parity bytes made.segments (valid_of v l exists) text utf8 made.least room);
     }
 
--- the symbols of a count that holds the data
+-- the symbols of a count of parts that hold the data
 pub parted_of : (m : Manner) (v : Version) (l : EcLevel) (bytes : List ℕ) (count : ℕ) (codes : List Code) → HoldSeveral m v l bytes count
     → length codes ≡ count → EachAt (λ place. IsPartSymbol m v l place (count - 1) (parity bytes) (part m bytes count place)) codes → AreParted m v l bytes codes
 parted_of m v l bytes count codes held is symbols =
@@ -151,7 +151,7 @@ parted_of m v l bytes count codes held is symbols =
       characters = λ text u place inside. part_text m bytes (length codes) place text u inside;
     }
 
--- and of the first that does
+-- and of the smallest such count
 pub several_of : (m : Manner) (v : Version) (l : EcLevel) (bytes : List ℕ) (count : ℕ) (codes : List Code) → HoldSeveral m v l bytes count → ((n : ℕ) → n < count → ¬ HoldSeveral m v l bytes n)
     → length codes ≡ count → EachAt (λ place. IsPartSymbol m v l place (count - 1) (parity bytes) (part m bytes count place)) codes → AreSeveral m v l bytes codes
 several_of m v l bytes count codes held none is symbols = record {
@@ -163,7 +163,7 @@ pub pair_ok : {T : Type 0} {P Q R : T → Type 0} (r : Result T QrError) → ((x
 pair_ok (Ok x) f p q = f x p q
 pair_ok (Err e) f p q = tt
 
--- what parts that fit say of the data
+-- if each part fits, the symbols hold the data
 pub held_by : (m : Manner) (v : Version) (l : EcLevel) (bytes : List ℕ) (count room : ℕ) → IsTrue (has_level v l) → is_micro v ≡ false → length bytes ≤ data_limit → 0 < count → count ≤ 16 → room ≡ capacity v l
     → ((place : ℕ) → place < count → PartFits m v (part m bytes count place) (front_length (count - 1)) room) → HoldSeveral m v l bytes count
 held_by m v l bytes count room exists normal limit some most is fits = record {
@@ -175,7 +175,7 @@ held_by m v l bytes count room exists normal limit some most is fits = record {
   room = λ place inside. subst (λ n. PartFits m v (part m bytes count place) (front_length (count - 1)) n) is (fits place inside);
 }
 
--- and what data that is held says of them
+-- and the other way round
 pub parts_held : (m : Manner) (v : Version) (l : EcLevel) (bytes : List ℕ) (count room : ℕ) → room ≡ capacity v l → HoldSeveral m v l bytes count
     → (place : ℕ) → place < count → PartFits m v (part m bytes count place) (front_length (count - 1)) room
 parts_held m v l bytes count room is held place inside = subst (λ n. PartFits m v (part m bytes count place) (front_length (count - 1)) n) (sym is) (held.room place inside)

@@ -15,7 +15,7 @@ use Rattle.qrcode_append.specs.declared.errors.JoinError.TheVariants.{Stranger, 
 use Rattle.qrcode_append.specs.Joining.{IsJoinRefused, last_named, parity_named, belongs, first_stranger, parts_at, bytes_at, joined_to, IsShare, AreShares}
 use Rattle.qrcode_append.specs.declared.joining.Part.{Part}
 
--- what is found among parts: nothing where there is none, and else the bytes of the only one
+-- what a search has found among parts: nothing if there are none, otherwise the bytes of the only one
 abbrev pub IsFound : Option (Bor (List ℕ)) → List Part → Type 0
 IsFound None parts = parts ≡ []
 IsFound (Some b) parts = (length parts ≡ 1) × (b.now ≡ flat_map (λ p. p.bytes.now) parts)
@@ -31,7 +31,7 @@ tested a b is = grind (arith, nat_tests)
 abbrev counted : Bool → ℕ
 counted t = cond t 1 0
 
--- where one of the first parts has a place and the next one has it too, two have it
+-- if one of the first i parts has a place and the next part has it too, more than one part has it
 pub two_at : (parts : List Part) (i k : ℕ) (d : Part) → i < length parts → length (parts_at (take i parts) k) ≡ 1 → (get_or parts i d).place ≡ k → 1 < length (parts_at parts k)
 two_at parts i k d inside one is =
     let more = length-filter_more (λ (p : Part). p.place == k) parts i d inside in
@@ -45,7 +45,7 @@ two_at parts i k d inside one is =
 equal : (a b : ℕ) → (a == b) ≡ true → a ≡ b
 equal a b is = grind (arith, nat_tests)
 
--- what is said of parts is said of those that have a place
+-- what holds of all parts holds of those with one place
 all_at : (Q : Part → Type 0) (k : ℕ) (parts : List Part) → AllByRecursion Q parts → AllByRecursion (λ p. Q p × ((p.place == k) ≡ true)) (parts_at parts k)
 all_at Q k [] a = tt
 all_at Q k (p ∷ parts) a = by_test (all_at Q k parts a.1) (p.place == k) refl where
@@ -61,7 +61,7 @@ only_at bytes count part k [] one a = absurd (omega (arith, one))
 only_at bytes count part k (p ∷ []) one a = append-nil p.bytes.now ∙ a.0.0.own ∙ ap part (equal p.place k a.0.1)
 only_at bytes count part k (p ∷ q ∷ ps) one a = absurd (omega (arith, one))
 
--- two functions that give the same at each place of a range
+-- two functions that agree on a range
 flat_map_same : (f g : ℕ → List ℕ) (a n : ℕ) → ((k : ℕ) → a ≤ k → k < a + n → f k ≡ g k) → flat_map f (range_with_len a n) ≡ flat_map g (range_with_len a n)
 flat_map_same f g a zero same = refl
 flat_map_same f g a (suc n) same = ap₂ (λ (x y : List ℕ). x ++ y) (same a (omega arith) (omega arith)) (flat_map_same f g (a + 1) n (λ k least most. same k (omega arith) (omega arith)))
@@ -72,14 +72,14 @@ range_behind f a (suc n) =
     let e : a + 1 + n ≡ a + suc n = omega arith in
     ap (λ xs. f a ++ xs) (range_behind f (a + 1) n ∙ ap (λ k. flat_map f (range_with_len (a + 1) n) ++ f k) e) ∙ sym (append_assoc (f a) (flat_map f (range_with_len (a + 1) n)) (f (a + suc n)))
 
--- one place more
+-- extending a range by one place
 pub range_more : (f : ℕ → List ℕ) (n : ℕ) → flat_map f (range_with_len 0 (n + 1)) ≡ flat_map f (range_with_len 0 n) ++ f n
 range_more f n =
     let e : n + 1 ≡ suc n = omega arith in
     let d : 0 + n ≡ n = omega arith in
     ap (λ k. flat_map f (range_with_len 0 k)) e ∙ range_behind f 0 n ∙ ap (λ k. flat_map f (range_with_len 0 n) ++ f k) d
 
--- what the first of the parts of data names
+-- the first of the parts of data names their count and the data's parity
 named_of : (bytes : List ℕ) (count : ℕ) (part : ℕ → List ℕ) (parts : List Part) → AreShares bytes count part parts → (last_named parts + 1 ≡ count) × (parity_named parts ≡ parity bytes)
 named_of bytes count part [] s = absurd (omega (arith, s.once 0 s.some))
 named_of bytes count part (p ∷ parts) s = (omega (arith, s.each.0.last, s.some), s.each.0.parity)
@@ -101,7 +101,7 @@ none_strange bytes count part last named i (p ∷ parts) a b each =
     let here : belongs last named p ≡ true = belongs_of last named p (omega (arith, each.0.last, a)) (each.0.parity ∙ sym b) (omega (arith, each.0.inside, a)) in
     ap (λ (t : Bool). if t then first_stranger last named (i + 1) parts else Some i) here ∙ none_strange bytes count part last named (i + 1) parts a b each.1
 
--- the parts of data are refused only where memory is
+-- joining the parts of data fails only if memory runs out
 pub shares_taken : (bytes : List ℕ) (count : ℕ) (part : ℕ → List ℕ) (parts : List Part) (e : JoinError) → AreShares bytes count part parts → IsJoinRefused parts e → e ≡ OutOfMemory
 shares_taken bytes count part parts (Stranger k) s r =
     let named = named_of bytes count part parts s in

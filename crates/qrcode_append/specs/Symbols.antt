@@ -1,4 +1,4 @@
--- The symbols of data that is parted between several.
+-- The symbols of data that is divided between several.
 use Rattle.std.specs.Prelude.{◌≡◌, ◌⊎◌, ℕ, ◌+◌, ◌-◌, ◌<◌, ◌≤◌, ◌==◌, false, List, ◌++◌, length, flat_map, chars, IsUtf8, IsTrue, if◌then◌else◌}
 use Rattle.std.specs.List.{range_with_len}
 use Rattle.qrcode_types.specs.Versions.{is_micro, has_level, capacity}
@@ -22,17 +22,17 @@ use Rattle.qrcode.specs.Reading.{EncodesBits}
 use Rattle.qrcode_append.specs.Division.{part}
 use Rattle.qrcode_append.specs.Reading.{EachAt, ReadsPart, ShowsPartOnly, ReadsSeveralOnly}
 
-abbrev pub IsLeastLength : Manner → Version → List ℕ → ℕ → Type 0  -- the bits of a least cut
+abbrev pub IsLeastLength : Manner → Version → List ℕ → ℕ → Type 0  -- the bits of a shortest division into segments
 IsLeastLength m v bytes bits = (segments : List Segment) × (IsLeastCutIn (modes_of m) v bytes segments × (bits ≡ total_cost v segments))
 
-abbrev pub front_length : ℕ → ℕ  -- the bits of the header, by the place of the last symbol
+abbrev pub front_length : ℕ → ℕ  -- the bits of the header, by the place of the last symbol: a single symbol has none
 front_length last = if last == 0 then 0 else 20
 
--- some cut of a part takes no more bits than are left behind those in front
+-- some division of the part into segments fits into `room` bits after `front` bits
 abbrev pub PartFits : Manner → Version → List ℕ → ℕ → ℕ → Type 0
 PartFits m v bytes front room = (segments : List Segment) × (IsCutIn (modes_of m) v bytes segments × (front + total_cost v segments ≤ room))
 
--- so many symbols, at most 16, hold the data in even parts
+-- `count` symbols, at most 16, hold the data in even parts
 pub record HoldSeveral (m : Manner) (v : Version) (l : EcLevel) (bytes : List ℕ) (count : ℕ) : Type 0 where
   pub exists : IsTrue (has_level v l)
   pub normal : is_micro v ≡ false
@@ -41,7 +41,7 @@ pub record HoldSeveral (m : Manner) (v : Version) (l : EcLevel) (bytes : List �
   pub at_most : count ≤ 16
   pub room : (place : ℕ) → place < count → PartFits m v (part m bytes count place) (front_length (count - 1)) (capacity v l)
 
--- the list of the part at a place: its header and a least cut, terminated; a reader finds the part in it
+-- the list of bits of a part: its header and a shortest division into segments, terminated; it decodes to the part
 pub record IsPartList (m : Manner) (v : Version) (l : EcLevel) (place last parity : ℕ) (bytes : List ℕ) (list : BitList) : Type 0 where
   pub version : list.version ≡ v
   pub segments : List Segment
@@ -50,8 +50,8 @@ pub record IsPartList (m : Manner) (v : Version) (l : EcLevel) (place last parit
   pub full : length list.bits ≡ capacity v l
   pub spelled : SpellsPart v list.bits place last parity bytes
 
--- the symbol of the part at a place, of which every damaged symbol is read as that part; and of a text a reader shows it as exactly
--- the part's characters
+-- the symbol of a part: each square within the promised damage decodes to the part, and for a text a reader shows exactly the
+-- part's characters
 pub record IsPartSymbol (m : Manner) (v : Version) (l : EcLevel) (place last parity : ℕ) (bytes : List ℕ) (code : Code) : Type 0 where
   pub version : code.version ≡ v
   pub level : code.level ≡ l
@@ -61,8 +61,8 @@ pub record IsPartSymbol (m : Manner) (v : Version) (l : EcLevel) (place last par
   pub read : (other : List Color) → IsDamaged v l encodes.mask code.modules other → ReadsPart other place last parity bytes
   pub shown : IsTrue (is_text m) → IsUtf8 bytes → (other : List Color) → IsDamaged v l encodes.mask code.modules other → ShowsPartOnly other place last parity (chars bytes)
 
--- The symbols of even parts that symbols of the version and level hold, in order. The parts are the data, and those
--- of a text are texts; squares that are read as these parts are read as the data, and as nothing else.
+-- The symbols of even parts, in order, in a version and level that hold them. The parts one after the other are the data, and
+-- the parts of a text are texts. Squares that decode to these parts decode together to the data and nothing else.
 pub record AreParted (m : Manner) (v : Version) (l : EcLevel) (bytes : List ℕ) (codes : List Code) : Type 0 where
   pub held : HoldSeveral m v l bytes (length codes)
   pub symbols : EachAt (λ place. IsPartSymbol m v l place (length codes - 1) (parity bytes) (part m bytes (length codes) place)) codes
@@ -71,12 +71,12 @@ pub record AreParted (m : Manner) (v : Version) (l : EcLevel) (bytes : List ℕ)
       → EachAt (λ place s. ReadsPart s place (length codes - 1) (parity bytes) (part m bytes (length codes) place)) squares → ReadsSeveralOnly squares bytes
   pub characters : IsTrue (is_text m) → IsUtf8 bytes → (place : ℕ) → place < length codes → IsUtf8 (part m bytes (length codes) place)
 
--- the same of the fewest parts
+-- such symbols, as few as hold the data
 pub record AreSeveral (m : Manner) (v : Version) (l : EcLevel) (bytes : List ℕ) (codes : List Code) : Type 0 where
   pub parted : AreParted m v l bytes codes
   pub fewest : (count : ℕ) → HoldSeveral m v l bytes count → length codes ≤ count
 
--- why there are none: memory was refused; no symbol of such a version and level can be one of several; or 16 do not hold the data
+-- why the call fails: memory ran out; no symbol of this version and level can be one of several; or 16 of them do not hold the data
 abbrev pub AreRefused : Manner → Version → EcLevel → List ℕ → QrError → Type 0
 AreRefused m v l bytes e =
     (e ≡ OutOfMemory) ⊎ (((e ≡ InvalidVersion) × (IsTrue (has_level v l) → is_micro v ≡ false → ⊥))

@@ -1,4 +1,4 @@
-//! How many symbols of which version hold data.
+//! Chooses how many symbols hold the data, and in which version.
 
 ghost use Rattle.std.specs.Prelude.{◌≡◌, ◌⊎◌, ℕ, ◌<◌, ◌≤◌, pos, length, MatchOption, IfOk, IfErr, IsOkUnless};
 ghost use Rattle.qrcode_types.specs.declared.types.QrError.TheVariants.{DataTooLong, OutOfMemory};
@@ -15,16 +15,16 @@ use qrcode_bits::bits::{DATA_LIMIT, Manner};
 use qrcode_types::tables;
 use std::alloc::Global;
 
-/// Versions of Normal by their numbers, from one to another.
+/// A range of Normal versions, by their numbers.
 #[derive(Copy, Clone, PartialEq, Eq, Debug)]
 pub struct Versions {
-    /// The number of the least.
+    /// The smallest version.
     pub least: usize,
-    /// The number of the greatest, which is one of them.
+    /// The largest version, included in the range.
     pub greatest: usize,
 }
 
-// The symbols of data in a manner: of as few even parts as each fit a symbol of the version.
+// Encodes `bytes` in as few symbols of the wanted version as hold the parts.
 pub(crate) fn encode_as(alloc: Global, bytes: &[u8], wanted: Wanted) -> QrResult<Vec<QrCode>>
     ensures symbols { IfOk result (λ codes. AreSeveral
         wanted.manner wanted.version wanted.ec_level bytes.now codes.items) }
@@ -51,10 +51,10 @@ pub(crate) fn encode_as(alloc: Global, bytes: &[u8], wanted: Wanted) -> QrResult
     Err(QrError::DataTooLong)
 }
 
-/// The symbols of data in a manner: of as few even parts as symbols of any of the versions hold,
-/// and of the least version that holds so many. A marked text is written as an unmarked one.
+/// Encodes `bytes` as `manner` says, in as few symbols as any of `versions` allows, of the smallest
+/// version that allows that number. `MarkedText` is written as `Text` is.
 ///
-/// It is refused by the causes of `encode_several_within`, `OutOfMemory` among them.
+/// Errors: as for `encode_several_within`.
 pub fn encode_among(
     alloc: Global,
     bytes: &[u8],
@@ -88,11 +88,11 @@ pub fn encode_among(
     Err(QrError::DataTooLong)
 }
 
-/// The symbols of data in a manner: of so many even parts, of the least of the versions of which so
-/// many symbols hold them.
+/// Encodes `bytes` as `manner` says, in `count` symbols of the smallest of `versions` in which that
+/// many hold the parts.
 ///
-/// `DataTooLong`: so many symbols, or more than 16, of none of the versions do. `OutOfMemory`:
-/// memory was refused.
+/// Errors: `DataTooLong` if `count` symbols hold the parts in none of the versions, if `count` is 0
+/// or more than 16, or if there are more than 1,048,576 bytes; `OutOfMemory` if memory runs out.
 pub fn encode_counted(
     alloc: Global,
     bytes: &[u8],
@@ -125,7 +125,7 @@ pub fn encode_counted(
     }
 }
 
-// The least of the versions of which so many symbols hold the data.
+// Returns the smallest of `versions` in which `count` symbols hold the data.
 fn least_number(
     alloc: Global,
     bytes: &[u8],

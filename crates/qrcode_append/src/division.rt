@@ -1,4 +1,4 @@
-//! How data is parted between symbols.
+//! Divides data between symbols.
 
 ghost use Rattle.std.specs.Prelude.{◌≡◌, ◌<◌, ◌≤◌, length};
 ghost use Rattle.qrcode_bits.specs.Refusals.{data_limit};
@@ -7,7 +7,7 @@ ghost use Rattle.qrcode_append.specs.Division.{is_border, floor_border, part_beg
 
 use qrcode_bits::bits::Manner;
 
-// The exclusive or of all bytes.
+// Returns the XOR of all bytes.
 pub(crate) fn parity_of(bytes: &[u8]) -> u8
     ensures { result ≡ parity bytes.now }
 {
@@ -18,7 +18,7 @@ pub(crate) fn parity_of(bytes: &[u8]) -> u8
     all
 }
 
-// Whether no character of a text in UTF-8 stands across a place.
+// Returns whether no UTF-8 character extends across `place`.
 fn is_border(bytes: &[u8], place: usize) -> bool
     ensures { result ≡ is_border bytes.now place }
 {
@@ -29,7 +29,7 @@ fn is_border(bytes: &[u8], place: usize) -> bool
     byte < 128 || byte >= 192
 }
 
-// The last such place up to one.
+// Returns the last border between characters at or before `place`.
 fn floor_border(bytes: &[u8], place: usize) -> usize
     ensures { result ≡ floor_border bytes.now place }
 {
@@ -41,7 +41,7 @@ fn floor_border(bytes: &[u8], place: usize) -> usize
     0
 }
 
-// Where the part at a place begins, and the one before it ends, of so many parts.
+// Returns where part `place` of `count` begins, and the one before it ends.
 fn part_begin(bytes: &[u8], manner: Manner, count: usize, place: usize) -> usize
     requires at_least { 0 < count }
     requires length_at_most { length bytes.now ≤ data_limit }
@@ -56,7 +56,7 @@ fn part_begin(bytes: &[u8], manner: Manner, count: usize, place: usize) -> usize
     }
 }
 
-// The part at a place of so many.
+// Returns part `place` of `count`.
 pub(crate) fn part(bytes: &[u8], manner: Manner, count: usize, place: usize) -> &[u8]
     requires length_at_most { length bytes.now ≤ data_limit }
     requires inside { place < count }

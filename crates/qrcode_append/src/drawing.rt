@@ -1,4 +1,4 @@
-//! The symbols of the parts of data.
+//! Makes the symbol of each part.
 
 ghost use Rattle.std.specs.Prelude.{◌≡◌, ◌+◌, ◌-◌, ◌≤◌, ◌<◌, false, length, IfOk, OnOk, IsOkUnless, IsTrue};
 ghost use Rattle.qrcode_types.specs.Versions.{is_micro, has_level, capacity};
@@ -18,7 +18,7 @@ use qrcode_bits::bits::Bits;
 use qrcode_bits::optimize::least_segments_in;
 use std::alloc::Global;
 
-// Which of several symbols one is, by its place and that of the last, and the parity of the data.
+// What the header of a symbol says: its place, that of the last symbol, and the data's parity.
 #[derive(Copy, Clone)]
 struct Share {
     place: u8,
@@ -28,7 +28,7 @@ struct Share {
     ghost last_at_most: { last ≤ 15 },
 }
 
-// Appends what stands in front of the segments: a header, unless the symbol is the only one.
+// Appends the header, unless the symbol is the only one.
 fn push_front(bits: &mut Bits, share: Share) -> QrResult<()>
     requires normal { is_micro bits.old.version ≡ false }
     requires room { length bits.old.bits + 20 ≤ bit_limit }
@@ -42,7 +42,7 @@ fn push_front(bits: &mut Bits, share: Share) -> QrResult<()>
     bits.push_structured_append(share.place, share.last, share.parity)
 }
 
-// The part at a place as a terminated list of bits.
+// Writes a part as a terminated list of bits.
 fn part_bits(alloc: Global, bytes: &[u8], wanted: Wanted, share: Share) -> QrResult<Bits>
     requires exists { IsTrue (has_level wanted.version wanted.ec_level) }
     requires normal { is_micro wanted.version ≡ false }
@@ -60,7 +60,7 @@ fn part_bits(alloc: Global, bytes: &[u8], wanted: Wanted, share: Share) -> QrRes
     Ok(bits)
 }
 
-// The symbol of the part at a place.
+// Makes the symbol of a part.
 fn part_symbol(alloc: Global, bytes: &[u8], wanted: Wanted, share: Share) -> QrResult<QrCode>
     requires exists { IsTrue (has_level wanted.version wanted.ec_level) }
     requires normal { is_micro wanted.version ≡ false }
@@ -75,7 +75,7 @@ fn part_symbol(alloc: Global, bytes: &[u8], wanted: Wanted, share: Share) -> QrR
     QrCode::with_bits(alloc, bits, wanted.ec_level)
 }
 
-// The symbols of so many parts.
+// Makes the symbols of `count` parts.
 pub(crate) fn symbols(
     alloc: Global,
     bytes: &[u8],

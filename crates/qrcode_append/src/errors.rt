@@ -1,4 +1,4 @@
-//! Why parts are not joined.
+//! Errors of `join`.
 
 ghost use Rattle.std.specs.Prelude.{◌≡◌};
 ghost use Rattle.qrcode_append.specs.declared.errors.JoinError.TheVariants.{OutOfMemory};
@@ -7,19 +7,19 @@ use std::alloc::{AllocError, AllocFailed};
 use std::error::Error;
 use std::fmt;
 
-/// Why parts are not joined. Places are counted from 0.
+/// Why `join` fails. Places are counted from 0.
 #[derive(Debug, PartialEq, Eq, Copy, Clone)]
 pub enum JoinError {
-    /// The part at this index is not of the same data as the first: it names another last place or
-    /// another parity, or its place is behind the last.
+    /// The part at this index belongs to other data than the first: it names another last place or
+    /// parity, or its place is after the last.
     Stranger(usize),
     /// No part has this place.
     Missing(usize),
-    /// Two parts have this place.
+    /// More than one part has this place.
     Twice(usize),
-    /// The exclusive or of all bytes is not the parity that the parts name.
+    /// The XOR of all bytes is not the parity that the parts name.
     Parity,
-    /// Memory was refused.
+    /// Memory ran out.
     OutOfMemory,
 }
 

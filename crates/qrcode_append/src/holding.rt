@@ -1,4 +1,4 @@
-//! Whether symbols hold the parts of data.
+//! Checks whether symbols hold the parts of the data.
 
 ghost use Rattle.std.specs.Prelude.{◌≡◌, ◌⊎◌, ℕ, ◌+◌, ◌≤◌, ◌<◌, ◌-◌, ◌↔◌, List, length, IsTrue, IfOk, IfErr, IsOkUnless};
 ghost use Rattle.qrcode_types.specs.Versions.{is_valid};
@@ -17,7 +17,7 @@ use qrcode_bits::optimize::{least_segments_in, total_encoded_len};
 use qrcode_types::tables;
 use std::alloc::Global;
 
-// How data is written, and in symbols of which version and level.
+// How data is written, and the version and level of its symbols.
 #[derive(Copy, Clone)]
 pub(crate) struct Wanted {
     pub(crate) manner: Manner,
@@ -25,10 +25,8 @@ pub(crate) struct Wanted {
     pub(crate) ec_level: EcLevel,
 }
 
-// The fewest bits that segments of the data take.
-//
-// `UnsupportedCharacterSet`: the version's modes cannot write it. `OutOfMemory`: memory was
-// refused.
+// Returns the fewest bits in which segments hold the data. Fails with `UnsupportedCharacterSet` if
+// the version's modes cannot write it.
 fn measure(alloc: Global, bytes: &[u8], manner: Manner, version: Version) -> QrResult<usize>
     requires valid { IsTrue (is_valid version) }
     requires length_at_most { length bytes.now ≤ data_limit }
@@ -42,7 +40,7 @@ fn measure(alloc: Global, bytes: &[u8], manner: Manner, version: Version) -> QrR
     Ok(total_encoded_len(&segments, version))
 }
 
-// Whether a symbol with so much room holds the data behind so many bits.
+// Returns whether the data fits into `room` bits after `front` bits.
 fn fits(alloc: Global, bytes: &[u8], wanted: Wanted, front: usize, room: usize) -> QrResult<bool>
     requires valid { IsTrue (is_valid wanted.version) }
     requires length_at_most { length bytes.now ≤ data_limit }
@@ -51,7 +49,7 @@ fn fits(alloc: Global, bytes: &[u8], wanted: Wanted, front: usize, room: usize) 
         ↔ PartFits wanted.manner wanted.version bytes.now front room) }
     ensures memory { IsOkUnless result OutOfMemory }
 {
-    // Each byte takes three bits at least, so that parts that are far too long are not searched.
+    // Each byte takes at least three bits: parts that are far too long need no search.
     if front + 3 * bytes.len() > room {
         return Ok(false);
     }
@@ -62,7 +60,7 @@ fn fits(alloc: Global, bytes: &[u8], wanted: Wanted, front: usize, room: usize) 
     }
 }
 
-// Whether so many symbols hold even parts of the data.
+// Returns whether `count` symbols hold even parts of the data.
 pub(crate) fn hold(alloc: Global, bytes: &[u8], wanted: Wanted, count: usize) -> QrResult<bool>
     requires length_at_most { length bytes.now ≤ data_limit }
     requires at_least { 0 < count }
@@ -80,7 +78,7 @@ pub(crate) fn hold(alloc: Global, bytes: &[u8], wanted: Wanted, count: usize) ->
     }
 }
 
-// Whether symbols with so much room hold so many parts of the data.
+// Returns whether each of `count` parts fits a symbol of `room` bits.
 fn parts_fit(
     alloc: Global,
     bytes: &[u8],
@@ -108,7 +106,7 @@ fn parts_fit(
     Ok(true)
 }
 
-// The bits of the header of one of so many symbols.
+// Returns how many bits the header takes in each of `count` symbols.
 fn front_bits(count: usize) -> usize
     requires { 0 < count }
     ensures value { result ≡ front_length (count - 1) }

@@ -1,4 +1,4 @@
-//! The data of parts, in whatever order they come.
+//! Joins the parts that were read from several symbols.
 
 ghost use Rattle.std.specs.Prelude.{◌≡◌, ℕ, ◌+◌, List, IfOk, IfErr, IsOkUnless};
 ghost use Rattle.qrcode_append.specs.Joining.{belongs, first_stranger, IsPartAt, IsNoPartAt, joined_to, IsOnceBelow, IsJoined, IsJoinRefused, IsPlaceRefused, AreShares, last_named, parity_named};
@@ -8,25 +8,25 @@ use crate::division::parity_of;
 use crate::errors::JoinError;
 use std::alloc::Global;
 
-/// The part of one of several symbols, with what the header in front of it says: its place from 0
-/// on, that of the last, and the exclusive or of all bytes of the data.
+/// What was read from one of several symbols: the fields of its header, and its bytes.
 #[derive(Copy, Clone, Debug)]
 pub struct Part<'a> {
-    /// The place of the symbol.
+    /// The place of the symbol, from 0.
     pub place: u8,
     /// The place of the last symbol.
     pub last: u8,
-    /// The exclusive or of all bytes of the data.
+    /// The XOR of all bytes of the whole data.
     pub parity: u8,
     /// The bytes of the part.
     pub bytes: &'a [u8],
 }
 
-/// The data of parts, in whatever order they come: those of all places, one behind the other.
+/// Joins parts, which may come in any order, to the data that was split over their symbols.
 ///
-/// `Stranger`: the first part that is of other data than the first one. `Missing`, `Twice`: the
-/// first place of which there is no part, or more than one. `Parity`: the parts are not those of
-/// the data that they name. `OutOfMemory`: memory was refused.
+/// Errors, the first that applies: `Stranger` with the index of the first part that belongs to
+/// other data than `parts[0]`; `Missing` or `Twice` with the first place that has no part, or more
+/// than one; `Parity` if the XOR of all bytes is not the one that the headers name. `OutOfMemory`
+/// if memory runs out; it may hide all of these except `Stranger`.
 #[tactic(auto, using(crate::proofs::Shares::shares_joined, crate::proofs::Shares::shares_taken))]
 pub fn join(alloc: Global, parts: &[Part<'_>]) -> Result<Vec<u8>, JoinError>
     ensures joined { IfOk result (λ bytes. IsJoined parts.now bytes.items) }
@@ -48,7 +48,7 @@ pub fn join(alloc: Global, parts: &[Part<'_>]) -> Result<Vec<u8>, JoinError>
     }
 }
 
-// The last place and the parity that the first part names; zeros where there is none.
+// Returns the last place and the parity that the first part names, or zeros if there are no parts.
 fn named(parts: &[Part<'_>]) -> (u8, u8)
     ensures last { result.0 ≡ last_named parts.now }
     ensures parity { result.1 ≡ parity_named parts.now }
@@ -59,7 +59,7 @@ fn named(parts: &[Part<'_>]) -> (u8, u8)
     }
 }
 
-// The first part that does not name this last place and parity, and a place up to it.
+// Returns the index of the first part that does not belong to data with this last place and parity.
 fn stranger(parts: &[Part<'_>], last: u8, parity: u8) -> Option<usize>
     ensures { result ≡ first_stranger last parity 0 parts.now }
 {
@@ -71,14 +71,14 @@ fn stranger(parts: &[Part<'_>], last: u8, parity: u8) -> Option<usize>
     None
 }
 
-// Whether a part names this last place and parity, and a place up to it.
+// Returns whether a part names this last place and parity, and a place up to the last.
 fn belongs(last: u8, parity: u8, part: Part<'_>) -> bool
     ensures { result ≡ belongs last parity part.entry }
 {
     (part.last == last) & (part.parity == parity) & (part.place <= last)
 }
 
-// The parts of all places up to one, one behind the other.
+// Joins the parts of the places from 0 to `last`.
 fn joined(alloc: Global, parts: &[Part<'_>], last: u8) -> Result<Vec<u8>, JoinError>
     ensures value { IfOk result (λ bytes. bytes.items ≡ joined_to parts.now last) }
     ensures once { IfOk result (λ _. IsOnceBelow parts.now (last + 1)) }
@@ -91,7 +91,7 @@ fn joined(alloc: Global, parts: &[Part<'_>], last: u8) -> Result<Vec<u8>, JoinEr
     Ok(bytes)
 }
 
-// The bytes of the one part that has a place.
+// Returns the bytes of the only part with this place.
 fn part_at<'a>(parts: &[Part<'a>], place: usize) -> Result<&'a [u8], JoinError>
     ensures value { IfOk result (λ bytes. IsPartAt parts.now place bytes.now) }
     ensures causes { IfErr result (IsNoPartAt parts.now place) }

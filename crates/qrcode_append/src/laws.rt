@@ -1,4 +1,4 @@
-//! Laws of the types that no call stands for, on the contract of a function that does nothing.
+//! Theorems about the types, as the contract of a function that does nothing.
 
 ghost use Rattle.std.specs.Prelude.{◌≡◌, ◌↔◌, IsTrue};
 ghost use Rattle.qrcode_append.specs.declared.choice.Versions.{Versions};
@@ -7,7 +7,7 @@ ghost use Rattle.qrcode_append.specs.declared.errors.JoinError.{JoinError};
 use crate::choice::Versions;
 use crate::errors::JoinError;
 
-/// A theorem: two values are equal by `==` exactly when they are the same.
+/// Theorem: `==` is true exactly for identical values.
 pub fn equality()
     ensures errors { (a b : JoinError) → IsTrue (⟦<JoinError as PartialEq>⟧.eq a b) ↔ (a ≡ b) }
     ensures versions { (a b : Versions) → IsTrue (⟦<Versions as PartialEq>⟧.eq a b) ↔ (a ≡ b) }

@@ -1,4 +1,4 @@
-//! Data in several symbols (structured append, ISO/IEC 18004:2006, 8).
+//! Splits data over several symbols, and joins it again (structured append, ISO/IEC 18004:2006, 8).
 #![tactic(auto)]
 
 mod choice;
@@ -25,14 +25,14 @@ use qrcode::types::{EcLevel, QrResult, Version};
 use qrcode_bits::bits::Manner;
 use std::alloc::Global;
 
-/// The symbols of bytes in the fewest symbols of a version and level, at most 16, between which the
-/// bytes are parted evenly: no part has more than one byte more than another. Each part stands in
-/// segments of the fewest bits, behind the header that says which of how many it is, and the
-/// exclusive or of all bytes; a single symbol has no header.
+/// Encodes `bytes` in as few symbols of this version and level as hold them, at most 16, and
+/// returns the symbols in order. The parts are even: their lengths differ by at most one byte. Each
+/// symbol has a header with its place, the number of symbols and the XOR of all bytes, and then its
+/// part in the fewest bits; a single symbol has no header.
 ///
-/// `InvalidVersion`: there is no such version, it lacks the level, or it is one of Micro QR, which
-/// has no such headers. `DataTooLong`: 16 such symbols do not hold the parts, or the bytes are more
-/// than 1,048,576. `OutOfMemory`: memory was refused.
+/// Errors: `InvalidVersion` if there is no such version, it lacks the level, or it is a Micro
+/// version, which has no such header; `DataTooLong` if 16 symbols do not hold the parts, or there
+/// are more than 1,048,576 bytes; `OutOfMemory` if memory runs out.
 pub fn encode_several(
     alloc: Global,
     bytes: &[u8],
@@ -56,10 +56,11 @@ pub fn encode_several(
     )
 }
 
-/// The same of a text, of which no character is divided: each part ends at the last border between
-/// characters up to where even parts would end. Readers that take bytes for UTF-8 show each part.
+/// Encodes `text` in several symbols as `encode_several` does bytes, but divides no character: if
+/// an even part would end within one, it ends before that character. Readers that decode bytes as
+/// UTF-8 show each part.
 ///
-/// It is refused by the same causes, `OutOfMemory` among them.
+/// Errors: as for `encode_several`.
 pub fn encode_text_several(
     alloc: Global,
     text: &str,
@@ -83,12 +84,11 @@ pub fn encode_text_several(
     )
 }
 
-/// The symbols of bytes in the fewest symbols of any of some versions at a level, and among these
-/// in the least version of which as many hold the bytes: parted and written as `encode_several`
-/// does for one version.
+/// Encodes `bytes` in as few symbols as any of `versions` allows, of the smallest version that
+/// allows that number. The symbols are those that `encode_several` makes in that version.
 ///
-/// `InvalidVersion`: there is none of the versions. `DataTooLong`: 16 symbols of none of them hold
-/// the parts, or the bytes are more than 1,048,576. `OutOfMemory`: memory was refused.
+/// Errors: `InvalidVersion` if none of `versions` exists; `DataTooLong` if 16 symbols hold the
+/// parts in none of them, or there are more than 1,048,576 bytes; `OutOfMemory` if memory runs out.
 pub fn encode_several_within(
     alloc: Global,
     bytes: &[u8],
@@ -105,9 +105,9 @@ pub fn encode_several_within(
     encode_among(alloc, bytes, Manner::Bytes, versions, ec_level)
 }
 
-/// The same of a text, parted as `encode_text_several` does it.
+/// Encodes `text` as `encode_several_within` does bytes, but divides no character.
 ///
-/// It is refused by the same causes, `OutOfMemory` among them.
+/// Errors: as for `encode_several_within`.
 pub fn encode_text_several_within(
     alloc: Global,
     text: &str,

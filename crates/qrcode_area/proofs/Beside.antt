@@ -1,4 +1,4 @@
--- Items that differ are touched or beside.
+-- Codewords that differ are touched by the area or wrong beside it.
 use Rattle.std.proofs.Common.{◌≡◌, ℕ, zero, suc, ◌+◌, ◌<◌, ◌≤◌, ◌||◌, ◌==◌, eqb, Bool, true, false, not, cond, List, [], ◌∷◌, ◌++◌, length, map, refl, sym, ap, ap₂, ◌∙◌, arith, true≢false, inl, inr}
 use Rattle.std.specs.List.{count_by, AllByRecursion, AllZip, range_with_len}
 use Rattle.std.proofs.lemmas.Bool.{cases_eq, eq-eqb, ne_eqb}
@@ -22,14 +22,14 @@ one m x y = go (eqb m 0) (eqb x y) where
   go false true = omega arith
   go false false = omega arith
 
--- codewords that differ are marked or beside
+-- two blocks differ in no more codewords than are marked or differ beside the marks
 pub distance_at_most : (marks words others : List ℕ) → length words ≡ length marks → distance words others ≤ counted marks + differing_beside marks words others
 distance_at_most marks [] others e = omega arith
 distance_at_most marks (x ∷ xs) [] e = omega arith
 distance_at_most [] (x ∷ xs) (y ∷ ys) e = absurd (omega arith)
 distance_at_most (m ∷ marks) (x ∷ xs) (y ∷ ys) e = omega (arith, count-cons (λ (word : ℕ). not (word == 0)) m marks, one m x y, distance_at_most marks xs ys (omega arith))
 
--- they are none, where each that is not marked is the same
+-- nothing differs beside the marks, if each unmarked codeword is the same
 none_beside : (m x y : ℕ) → (m ≡ 0 → x ≡ y) → cond {A = ℕ} (eqb m 0) (cond (eqb x y) 0 1) 0 ≡ 0
 none_beside m x y h = elim (cases_eq m 0) [
   | inl z ↦ ap (λ b. cond {A = ℕ} (eqb m 0) (cond b 0 1) 0) (eq-eqb x y (h z)) ∙ go (eqb m 0)
@@ -44,7 +44,7 @@ pub beside_maps : (h f g : ℕ → ℕ) (ms xs ys : List ℕ) (places : List ℕ
 beside_maps h f g ms xs ys [] e rest = rest
 beside_maps h f g ms xs ys (n ∷ places) e rest = omega (arith, none_beside (h n) (f n) (g n) (e n), beside_maps h f g ms xs ys places e rest)
 
--- those that are marked all differ, where each that is the same is not marked
+-- all marked codewords differ, if each equal one is unmarked
 all_differ : (m x y : ℕ) → (x ≡ y → m ≡ 0) → cond {A = ℕ} (not (eqb m 0)) 1 0 ≤ cond {A = ℕ} (eqb x y) 0 1
 all_differ m x y h = elim (cases_eq x y) [
   | inl e ↦ omega (arith, ap (λ b. cond {A = ℕ} (not b) 1 0) (eq-eqb m 0 (h e)), go (eqb x y))
@@ -60,7 +60,7 @@ counted_maps h f g ms xs ys [] e rest = rest
 counted_maps h f g ms xs ys (n ∷ places) e rest =
     omega (arith, count-cons (λ (word : ℕ). not (word == 0)) (h n) (map h places ++ ms), all_differ (h n) (f n) (g n) (e n), counted_maps h f g ms xs ys places e rest)
 
--- as many bits differ as there are marked places, where each that is the same is not marked
+-- at least as many bits differ as places are marked, if each equal one is unmarked
 pub bits_at_least : {X : Type 0} (m f g : X → Bool) (places : List X) → AllByRecursion (λ p. f p ≡ g p → m p ≡ false) places
     → count_by m places ≤ bit_distance (map f places) (map g places)
 bits_at_least m f g [] h = omega arith
@@ -75,7 +75,7 @@ bits_at_least m f g (p ∷ places) h = omega (arith, count-cons m p places, go (
   go false false true h = omega arith
   go false false false h = omega arith
 
--- bits that differ
+-- at most as many bits differ as places are marked or differ
 pub bits_at_most : {X : Type 0} (m f g : X → Bool) (places : List X) → bit_distance (map f places) (map g places) ≤ count_by (λ p. m p || turned_if (f p) (g p)) places
 bits_at_most m f g [] = omega arith
 bits_at_most m f g (p ∷ places) = omega (arith, count-cons (λ p. m p || turned_if (f p) (g p)) p places, go (m p) (f p) (g p), bits_at_most m f g places) where

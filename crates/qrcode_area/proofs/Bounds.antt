@@ -1,4 +1,4 @@
--- What the counts say.
+-- What follows from the counts of a reserve.
 use Rattle.std.proofs.Common.{◌≡◌, ℕ, ◌+◌, ◌-◌, ◌*◌, ◌/◌, ◌%◌, ◌<◌, ◌≤◌, ◌↔◌, Bool, true, false, not, List, [], ◌∷◌, ◌++◌, length, map, get_or, refl, sym, ap, ◌∙◌, arith, subst, IsTrue, nat_eq, true≢false, Result, Ok, Err, IfOk, Option, Some, None, SomeIff, is_some}
 use Rattle.std.specs.List.{range_with_len, count_by}
 use Rattle.std.proofs.lemmas.List.FromFn.{map-range_with_len_more, get_or-map-range_with_len, length-map-range_with_len}
@@ -35,7 +35,7 @@ touched_more v l area words b count e c =
     map-range_with_len_more (touched v l area) 0 b b (omega arith)
     ∙ ap (λ (n : ℕ). map (touched v l area) (range_with_len 0 b) ++ n ∷ []) (sym (c ∙ ap (λ (w : List ℕ). count_by (λ word. not (nat_eq word 0)) (block v l w b)) e))
 
--- the first and the last copy are all
+-- the first and the last copy of the format word are all copies
 pub both_kept : (v : Version) (area : ℕ → ℕ → Bool) → touched_places v area First ≤ 3 → touched_places v area Last ≤ 3 → KeepsFormat v area
 unfolding format_copies
 both_kept (Normal n) area first last = (first, (last, tt))
@@ -90,7 +90,7 @@ is_reserve v l area r counts d e inside most at_least allowed first last =
       last = last;
     }
 
--- where the most is not over, nothing is
+-- if the worst block is within the bound, all blocks are
 pub all_within : (v : Version) (l : EcLevel) (area : ℕ → ℕ → Bool) (r : Reserve) → IsReserve v l area r → r.most ≤ r.allowed → r.first ≤ 3 → r.last ≤ 3 → MayShowAnything v l area
 all_within v l area r h most first last = record {
   blocks = λ b below. omega (arith, h.worst b below, h.most, h.allowed, most);
@@ -113,7 +113,7 @@ excess_is_not v l area (FirstFormat n) x may = absurd (omega (arith, x.0, x.1, f
 excess_is_not v l area (LastFormat n) x may = absurd (omega (arith, x.0, x.1, last_kept v area may.format))
 excess_is_not v l area OutOfMemory x may = x
 
--- the most says what is left
+-- the worst block determines what is left
 pub is_least : (v : Version) (l : EcLevel) (area : ℕ → ℕ → Bool) (r : Reserve) → IsReserve v l area r → MayShowAnything v l area → IsLeast v l area (Some (r.allowed - r.most))
 is_least v l area r h may = (
   record { blocks = λ b below. omega (arith, h.worst b below, h.most, h.allowed, may.blocks r.worst h.inside); format = may.format },
@@ -131,7 +131,7 @@ none_may v l area None false e x = absurd (true≢false (sym e))
 none_may v l area (Some ex) true e x = absurd (true≢false e)
 none_may v l area (Some ex) false e x = (λ t. absurd (true≢false (sym t)), λ may. absurd (excess_is_not v l area ex x may))
 
--- it is so much where an area leaves what is wanted
+-- the number left is at least `wanted` exactly if the area leaves so much
 pub leaves_wanted : (v : Version) (l : EcLevel) (area : ℕ → ℕ → Bool) (n wanted : ℕ) → IsLeast v l area (Some n) → (wanted ≤ n) ↔ Leaves v l area wanted
 leaves_wanted v l area n wanted h = (
   λ small. record { blocks = λ b below. omega (arith, h.0.blocks b below, small); format = h.0.format },
@@ -164,7 +164,7 @@ reads_beside v l s area (Ok r) h = λ bits bytes other encodes stays. reads_with
 pub is_code_reserve : {E : Type 0} (v u : Version) (l m : EcLevel) (area : ℕ → ℕ → Bool) (r : Result Reserve E) → v ≡ u → l ≡ m → IfOk r (IsReserve v l area) → IfOk r (IsReserve u m area)
 is_code_reserve v u l m area r e f h = subst (λ (x : EcLevel). IfOk r (IsReserve u x area)) f (subst (λ (x : Version). IfOk r (IsReserve x l area)) e h)
 
--- an odd number that is larger was tried
+-- each larger odd size was tried before
 pub tried : (P : ℕ → Type 0) (w less larger : ℕ) → w % 2 ≡ 1 → 2 * less ≤ w → ((k : ℕ) → k < less → P (w - 2 * k)) → w - 2 * less < larger → larger ≤ w → larger % 2 ≡ 1 → P larger
 tried P w less larger odd small before over inside other =
     let k = (w - larger) / 2 in

@@ -1,4 +1,4 @@
--- The square that turns each module of an area has a wrong codeword for each that the area touches.
+-- If every module of an area is inverted, every codeword that the area touches is wrong.
 use Rattle.std.proofs.Common.{◌≡◌, ℕ, ◌+◌, ◌*◌, ◌/◌, ◌%◌, ◌<◌, ◌≤◌, Bool, true, false, true≢false, List, [], IsTrue, length, map, get_or, refl, sym, ap, ap₂, ◌∙◌, arith, subst}
 use Rattle.std.specs.List.{count_by, range_with_len}
 use Rattle.std.proofs.lemmas.Nat.{div-mul-add, mod-mul-add, mul-add-lt}
@@ -30,7 +30,7 @@ abbrev turned_color : Bool → Color → Color
 turned_color true c = opposite c
 turned_color false c = c
 
--- each module of the area turned
+-- the square with each module of the area inverted
 turned_at : Version → (ℕ → ℕ → Bool) → List Color → ℕ → Color
 turned_at v area s i = turned_color (area (i % side v) (i / side v)) (get_or s i Light)
 
@@ -53,7 +53,7 @@ agrees v area s square = record {
   same = λ x y i j out. sym (color_turned v area s x y square i j ∙ ap (λ b. turned_color b (color_at v s x y)) out);
 }
 
--- a turned module shows
+-- an inverted module differs
 shows : (a t : Bool) (c : Color) → turned_if t (is_dark c) ≡ turned_if t (is_dark (turned_color a c)) → a ≡ false
 shows false t c e = refl
 shows true true Light e = absurd (true≢false e)
@@ -83,7 +83,7 @@ format_far v area s square places copy few =
     let all = all_mapped (λ p. IsInside v p.0 p.1) (λ p. f s p ≡ f other p → m p ≡ false) places (λ p i. shown_at v area s false p.0 p.1 square i.0 i.1) (copy_inside v places copy) in
     omega (arith, bits_at_least m (f s) (f other) places all, few)
 
--- what is damaged block by block
+-- damage, block by block
 block_damaged : (v : Version) (l : EcLevel) (k : MaskPattern) (s other : List Color) → IsDamaged v l k s other → (b : ℕ) → b < length (block_lengths v l)
     → distance (block_in v l k s b) (block_in v l k other b) ≤ ec_length v l / 2
 unfolding blocks

@@ -75,7 +75,7 @@ free_inside v valid =
     let less : t < n = omega (arith, length-map-range_with_len (zigzag_place v) 0 n) in
     subst (λ (p : ℕ × ℕ). IsInside v p.0 p.1) (sym (get_or-map-range_with_len (zigzag_place v) 0 n t t d less (omega arith))) (walk_is_inside v t valid less)))
 
--- a place inside, if it is not in the area, has one colour
+-- outside the area, two squares have the same colour at a place
 abbrev same_at : Version → (ℕ → ℕ → Bool) → List Color → List Color → ℕ × ℕ → Type 0
 same_at v area s other p = area p.0 p.1 ≡ false → color_at v s p.0 p.1 ≡ color_at v other p.0 p.1
 

@@ -1,4 +1,4 @@
--- Steps of the walk, and what is marked of them.
+-- Steps of the zigzag, and their marks.
 use Rattle.std.proofs.Common.{◌≡◌, ◌≢◌, ℕ, ◌+◌, ◌-◌, ◌*◌, ◌/◌, ◌%◌, ◌<◌, ◌≤◌, Bool, true, false, not, cond, [], ◌∷◌, ◌++◌, map, refl, sym, ap, ap₂, ◌∙◌, arith, subst}
 use Rattle.std.specs.List.{range_with_len, filter, count_by}
 use Rattle.std.proofs.Math.Nat.{div-lt_iff_lt-mul}
@@ -54,7 +54,7 @@ pub none_marked : (v : Version) (area : ℕ → ℕ → Bool) → marked v area 
 unfolding marked
 none_marked v area = refl
 
--- one step more
+-- appending one step
 pub marked_more : (v : Version) (area : ℕ → ℕ → Bool) (t : ℕ) → marked v area (t + 1) ≡ marked v area t ++ mark_at v area (zigzag_place v t)
 unfolding marked
 marked_more v area t =
@@ -73,7 +73,7 @@ pub all_marked : (v : Version) (area : ℕ → ℕ → Bool) (t : ℕ) → t ≡
 unfolding marked marks free_places zigzag
 all_marked v area t e = ap (λ n. map (λ (p : ℕ × ℕ). area p.0 p.1) (filter (λ (p : ℕ × ℕ). not (is_functional_place v p.0 p.1)) (map (zigzag_place v) (range_with_len 0 n)))) e
 
--- one place more is counted
+-- counting one place more
 pub count_more : {X : Type 0} (p : X → Bool) (f : ℕ → X) (n : ℕ) → count_by p (map f (range_with_len 0 (n + 1))) ≡ count_by p (map f (range_with_len 0 n)) + cond (p (f n)) 1 0
 count_more p f n = sum_by-map-range_with_len_more (λ x. cond {A = ℕ} (p x) 1 0) f 0 n n (omega arith)
 

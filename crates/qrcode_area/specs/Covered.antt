@@ -1,4 +1,4 @@
--- A symbol whose area is light.
+-- A symbol in which an area is made light.
 use Rattle.std.specs.Prelude.{◌≡◌, ◌/◌, ◌%◌, ◌<◌, ℕ, Bool, true, false, List, map, slice_index_or, IsTrue}
 use Rattle.std.specs.List.{range_with_len}
 use Rattle.qrcode_types.specs.Versions.{side}
@@ -7,15 +7,15 @@ use Rattle.qrcode_types.specs.declared.types.Color.{Color}
 use Rattle.qrcode_types.specs.declared.types.Color.TheVariants.{Light}
 use Rattle.qrcode_layout.specs.Stream.{color_at}
 
-abbrev pub light_if : Bool → Color → Color  -- light where the test holds
+abbrev pub light_if : Bool → Color → Color  -- light if the test holds, else the colour
 light_if true color = Light
 light_if false color = color
 
--- the module with an index in row order, in rows of so many modules
+-- module i, counted row by row, light if it is in the area
 abbrev pub covered_module : ℕ → (ℕ → ℕ → Bool) → List Color → ℕ → Color
 covered_module width area s i = light_if (area (i % width) (i / width)) (slice_index_or s i Light)
 
--- the first modules, so many
+-- the first `count` of these modules
 unfoldable pub covered : ℕ → (ℕ → ℕ → Bool) → List Color → ℕ → List Color
 covered width area s count = map (covered_module width area s) (range_with_len 0 count)
 

@@ -1,4 +1,4 @@
--- What an area may show.
+-- Theorems: what an area may show.
 use Rattle.std.specs.Prelude.{◌≡◌, ◌*◌, length, ℕ, Bool, List, IsTrue}
 use Rattle.qrcode_types.specs.Versions.{is_valid, side}
 use Rattle.qrcode_types.specs.declared.types.Version.{Version}
@@ -9,30 +9,30 @@ use Rattle.qrcode_symbol.specs.Symbol.{IsDamaged}
 use Rattle.qrcode.specs.Reading.{EncodesBytes, ReadsOnly}
 use Rattle.qrcode_area.specs.Areas.{MayShowAnything, AgreesOutside, IsWithinReserve}
 
-abbrev pub ReserveIsDamage : Type 0  -- what stays within the reserve is within the promised damage
+abbrev pub ReserveIsDamage : Type 0  -- a square within the reserve is within the promised damage
 ReserveIsDamage =
     (v : Version) (l : EcLevel) (k : MaskPattern) (area : ℕ → ℕ → Bool) (s other : List Color)
     → IsWithinReserve v l k area s other → IsDamaged v l k s other
 
--- so is whatever a small area shows, where the square agrees with the symbol outside of it
+-- so is a square that agrees with the symbol outside an area that may show anything
 abbrev pub AreaIsDamage : Type 0
 AreaIsDamage =
     (v : Version) (l : EcLevel) (k : MaskPattern) (area : ℕ → ℕ → Bool) (s other : List Color) → IsTrue (is_valid v)
     → MayShowAnything v l area → AgreesOutside v area s other → IsDamaged v l k s other
 
--- and nothing else may show anything: the bound is exact
+-- the bound is exact: if every such square is within the promised damage, the area may show anything
 abbrev pub AreaIsExact : Type 0
 AreaIsExact =
     (v : Version) (l : EcLevel) (k : MaskPattern) (area : ℕ → ℕ → Bool) (s : List Color) → IsTrue (is_valid v) → length s ≡ side v * side v
     → ((other : List Color) → AgreesOutside v area s other → IsDamaged v l k s other) → MayShowAnything v l area
 
--- so that it is read as exactly the bytes
+-- so every square that agrees with the symbol outside the area decodes to its bytes and no others
 abbrev pub AreaIsRead : Type 0
 AreaIsRead =
     (v : Version) (l : EcLevel) (bits : List Bool) (bytes : List ℕ) (area : ℕ → ℕ → Bool) (s other : List Color)
     → EncodesBytes v l bits bytes s → MayShowAnything v l area → AgreesOutside v area s other → ReadsOnly other bytes
 
--- and so it is with as many other wrong codewords as are left
+-- and so does a square with as many other wrong codewords as the reserve allows
 abbrev pub ReserveIsRead : Type 0
 ReserveIsRead =
     (v : Version) (l : EcLevel) (bits : List Bool) (bytes : List ℕ) (area : ℕ → ℕ → Bool) (s other : List Color)

@@ -1,4 +1,4 @@
--- Why an area may not show anything.
+-- Why an area may not be covered.
 use Rattle.std.specs.Prelude.{◌≡◌, ◌/◌, ◌<◌, ◌≤◌, ℕ, Bool, length}
 use Rattle.qrcode_types.specs.Versions.{block_lengths, ec_length}
 use Rattle.qrcode_types.specs.declared.types.Version.{Version}
@@ -9,7 +9,7 @@ use Rattle.qrcode_area.specs.Counting.{touched_places}
 use Rattle.qrcode_area.specs.declared.excess.Excess.{Excess}
 use Rattle.qrcode_area.specs.declared.excess.Excess.TheVariants.{Block, FirstFormat, LastFormat, OutOfMemory}
 
--- the area touches so many codewords of a block, more than may be lost, and no more of any other block
+-- the area touches `count` codewords of the block, more than the `allowed` ones that may be lost, and no more of any other block
 pub record IsLostBlock (v : Version) (l : EcLevel) (area : ℕ → ℕ → Bool) (block count allowed : ℕ) : Type 0 where
   pub inside : block < length (block_lengths v l)
   pub value : count ≡ touched v l area block
@@ -17,7 +17,7 @@ pub record IsLostBlock (v : Version) (l : EcLevel) (area : ℕ → ℕ → Bool)
   pub over : allowed < count
   pub worst : (other : ℕ) → other < length (block_lengths v l) → touched v l area other ≤ count
 
--- the bound that an area passes
+-- the bound that the area exceeds
 abbrev pub IsExcess : Version → EcLevel → (ℕ → ℕ → Bool) → Excess → Type 0
 IsExcess v l area (Block block count allowed) = IsLostBlock v l area block count allowed
 IsExcess v l area (FirstFormat places) = (places ≡ touched_places v area First) × (3 < places)

@@ -1,4 +1,4 @@
--- What an area takes of a symbol, and what is left.
+-- How much of a symbol an area covers, and how much error correction is left.
 use Rattle.std.specs.Prelude.{◌≡◌, ◌+◌, ◌/◌, ◌<◌, ◌≤◌, ℕ, Bool, List, Option, Some, None, length, map, count_by, slice_index}
 use Rattle.std.specs.List.{AllByRecursion, range_with_len}
 use Rattle.qrcode_types.specs.Versions.{block_lengths, ec_length}
@@ -14,7 +14,7 @@ use Rattle.qrcode_area.specs.Refusals.{IsExcess}
 use Rattle.qrcode_area.specs.declared.excess.Excess.{Excess}
 use Rattle.qrcode_area.specs.declared.reserve.Reserve.{Reserve}
 
--- how many codewords of each block an area touches, and of which block the most; how many may be lost; and how many places of
+-- how many codewords of each block the area touches, and in which block the most; how many may be lost; and how many places of
 -- each copy of the format word lie in the area
 pub record IsReserve (v : Version) (l : EcLevel) (area : ℕ → ℕ → Bool) (r : Reserve) : Type 0 where
   pub counts : r.touched.items ≡ map (touched v l area) (range_with_len 0 (length (block_lengths v l)))
@@ -25,23 +25,24 @@ pub record IsReserve (v : Version) (l : EcLevel) (area : ℕ → ℕ → Bool) (
   pub first : r.first ≡ touched_places v area First
   pub last : r.last ≡ touched_places v area Last
 
--- so many further wrong codewords of each block are corrected beside the area, which keeps the format word
+-- each block can correct `wanted` wrong codewords besides those that the area touches, and the format word stays readable
 pub record Leaves (v : Version) (l : EcLevel) (area : ℕ → ℕ → Bool) (wanted : ℕ) : Type 0 where
   pub blocks : LeavesReserve v l area wanted
   pub format : KeepsFormat v area
 
--- the most that the area leaves; none where it may not show anything
+-- the largest number of further wrong codewords that the area leaves to each block; none if the area may not show anything
 abbrev pub IsLeast : Version → EcLevel → (ℕ → ℕ → Bool) → Option ℕ → Type 0
 IsLeast v l area None = ¬ MayShowAnything v l area
 IsLeast v l area (Some n) = Leaves v l area n × ((more : ℕ) → LeavesReserve v l area more → more ≤ n)
 
--- the bound that the area passes; none where it may show anything
+-- the bound that the area exceeds; none if it may show anything
 abbrev pub IsItsExcess : Version → EcLevel → (ℕ → ℕ → Bool) → Option Excess → Type 0
 IsItsExcess v l area None = MayShowAnything v l area
 IsItsExcess v l area (Some e) = IsExcess v l area e
 
--- A square of the same size, whatever it shows in the area. In each block no more codewords are wrong beside the area than
--- the reserve has left, and of each copy of the format word at most three places lie in the area or are wrong.
+-- A square of the same size, whatever it shows in the area. In each block, the codewords that the area touches and the others
+-- that are wrong are together no more than allowed; and of each copy of the format word at most three places lie in the area
+-- or are wrong.
 pub record StaysWithin (v : Version) (l : EcLevel) (k : MaskPattern) (area : ℕ → ℕ → Bool) (r : Reserve) (s other : List Color) : Type 0 where
   pub square : length other ≡ length s
   pub blocks : (b : ℕ) → b < length r.touched.items → slice_index r.touched.items b + wrong_beside v l k area s other b ≤ r.allowed

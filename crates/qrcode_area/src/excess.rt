@@ -1,4 +1,4 @@
-//! Why an area may not show anything.
+//! Errors: why an area may not be covered.
 
 ghost use Rattle.std.specs.Prelude.{◌≡◌};
 ghost use Rattle.qrcode_area.specs.declared.excess.Excess.TheVariants.{OutOfMemory};
@@ -7,21 +7,23 @@ use std::alloc::AllocError;
 use std::error::Error;
 use std::fmt;
 
-/// A bound that an area passes, or `OutOfMemory`.
+/// The bound that an area exceeds, or `OutOfMemory`.
 #[derive(Debug, PartialEq, Eq, Copy, Clone)]
 pub enum Excess {
-    /// It touches more codewords of this block, counted from zero, than may be lost, and as many as
-    /// of any other.
+    /// The area touches `touched` codewords of this block, counted from 0, of which only `allowed`
+    /// may be lost. It touches no more in any other block.
     Block {
         block: usize,
         touched: usize,
         allowed: usize,
     },
-    /// It has so many modules of the format word around the upper left finder pattern.
+    /// The area covers this many modules of the format information around the upper left finder
+    /// pattern: more than 3.
     FirstFormat(usize),
-    /// It has so many modules of the format word next to the other two finder patterns.
+    /// The area covers this many modules of the second format information, next to the other two
+    /// finder patterns: more than 3.
     LastFormat(usize),
-    /// Memory was refused.
+    /// Memory ran out.
     OutOfMemory,
 }
 

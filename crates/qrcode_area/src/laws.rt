@@ -1,11 +1,11 @@
-//! The laws of areas, on the contract of a function that does nothing.
+//! Theorems about areas, as the contract of a function that does nothing.
 
 ghost use Rattle.qrcode_area.specs.Laws.{AreaIsDamage, AreaIsExact, ReserveIsDamage, AreaIsRead, ReserveIsRead};
 
-/// Theorems, and nothing to call: if an area touches at most half as many codewords of each block
-/// as it has error correction codewords, and at most three places of each copy of the format word,
-/// the symbol is read as exactly its bytes, whatever the area shows. No other area may show
-/// anything.
+/// Theorem: if an area touches in each block at most half as many codewords as the block has for
+/// error correction, and covers at most three modules of each copy of the format information, then
+/// the symbol decodes to exactly its bytes, whatever the area shows. For any other area, something
+/// that it may show is beyond the promised damage.
 pub fn areas()
     ensures damage { AreaIsDamage }
     ensures exact { AreaIsExact }

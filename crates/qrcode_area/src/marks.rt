@@ -1,4 +1,4 @@
-//! The marks of an area at the free places, along the walk.
+//! Finds out which modules of data and error correction an area covers, in their zigzag order.
 
 ghost use Rattle.std.specs.Prelude.{◌≡◌, ◌-◌, ◌*◌, ◌<◌, ◌++◌, IsTrue, OnOk, IfOk};
 ghost use Rattle.qrcode_types.specs.Versions.{is_valid, side};
@@ -14,7 +14,7 @@ use qrcode_symbol::canvas;
 use qrcode_types::types::Version;
 use std::alloc::{AllocError, Global};
 
-// The place at a step of the walk.
+// Returns the place at step `t` of the zigzag: column and row.
 fn place(version: Version, t: usize) -> (usize, usize)
     requires valid { IsTrue (is_valid version) }
     requires inside { t < side version * (side version - 1) }
@@ -34,7 +34,8 @@ fn place(version: Version, t: usize) -> (usize, usize)
     (column, row)
 }
 
-/// Whether a pattern or the format word has a place.
+/// Returns whether the module in column `x` and row `y` belongs to a function pattern, to the
+/// format information or to the version information.
 pub fn is_functional(version: Version, x: usize, y: usize) -> bool
     requires valid { IsTrue (is_valid version) }
     requires column { x < side version }
@@ -44,7 +45,7 @@ pub fn is_functional(version: Version, x: usize, y: usize) -> bool
     canvas::is_functional(version, side(version) as i16, x as i16, y as i16)
 }
 
-// Appends the mark of a place, where it is free.
+// Appends whether the area covers a module, unless the module is functional.
 fn push_mark(
     marks: &mut Vec<bool>,
     version: Version,
@@ -64,7 +65,10 @@ fn push_mark(
     Ok(())
 }
 
-/// The free places of a version in their order: for each whether the area has it.
+/// Returns for each module of data or error correction, in zigzag order, whether the area covers
+/// it.
+///
+/// Errors: only `AllocError`.
 pub fn marks(alloc: Global, version: Version, area: &Area<'_>) -> Result<Vec<bool>, AllocError>
     requires { IsTrue (is_valid version) }
     ensures { IfOk result (λ found. found.items ≡ marks version (covers area.now)) }

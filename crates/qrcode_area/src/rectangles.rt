@@ -1,4 +1,4 @@
-//! Rectangles in the middle of a symbol.
+//! Finds the largest central rectangle that may be covered, and the smallest version for one.
 
 ghost use Rattle.std.specs.Prelude.{◌≡◌, ◌↔◌, ◌*◌, ◌/◌, ◌%◌, ◌<◌, ◌≤◌, ◌^◌, ℕ, false, IsTrue, IfOk, IfSome, IfNone};
 ghost use Rattle.std.specs.List.{list_any};
@@ -15,7 +15,7 @@ use qrcode_reader::walk::side;
 use qrcode_types::types::{EcLevel, Version};
 use std::alloc::{AllocError, Global};
 
-/// Which patterns an area leaves alone, beside the format word.
+/// Which function patterns a rectangle leaves alone, besides format and version information.
 #[derive(Copy, Clone)]
 pub enum Kept {
     /// All of them.
@@ -24,27 +24,29 @@ pub enum Kept {
     ButAlignment,
 }
 
-/// What is asked of a rectangle. A square is as wide as it is high: 1 to 1.
+/// What a central rectangle has to satisfy. Its sides are as `across` to `down`, 1 to 1 for a
+/// square.
 #[derive(Copy, Clone)]
 pub struct Wish {
-    /// How wide it is beside its height.
+    /// The width in the ratio.
     pub across: u32,
-    /// How high it is beside its width.
+    /// The height in the ratio.
     pub down: u32,
-    /// How many wrong codewords of each block are corrected beside it.
+    /// How many wrong codewords outside the rectangle each block must still be able to correct.
     pub reserve: usize,
-    /// Which patterns it leaves alone.
+    /// Which patterns the rectangle leaves alone.
     pub kept: Kept,
 }
 
-// Whether one of the figures has a place.
+// Returns whether one of the figures contains column `x` and row `y`.
 fn has_any(figures: &[Figure], x: usize, y: usize) -> bool
     ensures { result ≡ list_any (λ f. has f x y) figures.now }
 {
     figures.iter().any(|figure| figure.has(x, y))
 }
 
-// Whether the format word, or a pattern that is no alignment pattern, has a place.
+// Returns whether a module belongs to format or version information, or to a function pattern other
+// than an alignment pattern.
 fn is_firm(version: Version, x: usize, y: usize) -> bool
     requires { IsTrue (is_valid version) }
     ensures { result ≡ is_firm version x y }
@@ -59,7 +61,7 @@ fn is_firm(version: Version, x: usize, y: usize) -> bool
     }
 }
 
-// Whether a pattern that is left alone has a place.
+// Returns whether a module must not be covered.
 fn is_kept(kept: Kept, version: Version, x: usize, y: usize) -> bool
     requires valid { IsTrue (is_valid version) }
     requires column { x < side version }
@@ -72,7 +74,7 @@ fn is_kept(kept: Kept, version: Version, x: usize, y: usize) -> bool
     }
 }
 
-// Whether an area has a place of such a pattern.
+// Returns whether the area covers a module that it must not.
 fn shows(kept: Kept, version: Version, area: &Area<'_>, x: usize, y: usize) -> bool
     requires valid { IsTrue (is_valid version) }
     requires column { x < side version }
@@ -82,7 +84,7 @@ fn shows(kept: Kept, version: Version, area: &Area<'_>, x: usize, y: usize) -> b
     area.has(x, y) && is_kept(kept, version, x, y)
 }
 
-// Whether a row of an area has none.
+// Returns whether the area covers no such module in row `y`.
 fn row_leaves(kept: Kept, version: Version, area: &Area<'_>, y: usize) -> bool
     requires valid { IsTrue (is_valid version) }
     requires row { y < side version }
@@ -97,7 +99,7 @@ fn row_leaves(kept: Kept, version: Version, area: &Area<'_>, y: usize) -> bool
     true
 }
 
-/// Whether an area leaves the format word and such patterns alone.
+/// Returns whether `area` covers no format or version information and none of the `kept` patterns.
 pub fn leaves_patterns(kept: Kept, version: Version, area: &Area<'_>) -> bool
     requires { IsTrue (is_valid version) }
     ensures { IsTrue result ↔ LeavesPatterns kept version (covers area.now) }
@@ -110,7 +112,8 @@ pub fn leaves_patterns(kept: Kept, version: Version, area: &Area<'_>) -> bool
     true
 }
 
-/// A part of a whole number of modules: the largest odd number that is not over it, or 1.
+/// Returns the largest odd number of modules that is at most `size * part / whole`, or 1 if there
+/// is none.
 pub fn in_proportion(size: usize, part: u32, whole: u32) -> usize
     requires size { size < 2 ^ 31 }
     requires part { part ≤ whole }
@@ -127,8 +130,8 @@ pub fn in_proportion(size: usize, part: u32, whole: u32) -> usize
     }
 }
 
-/// The rectangle of a ratio in the middle of a symbol, its longer side with so many modules, or one
-/// less, and both sides with an odd number.
+/// Returns the central rectangle of the ratio in `wish` whose longer side has `size` modules, or
+/// one less if `size` is even. Both sides are odd.
 pub fn centred(version: Version, wish: Wish, size: usize) -> Rectangle
     requires valid { IsTrue (is_valid version) }
     requires at_least { 1 ≤ size }
@@ -146,9 +149,10 @@ pub fn centred(version: Version, wish: Wish, size: usize) -> Rectangle
     }
 }
 
-/// Whether a rectangle leaves the patterns alone, the format word and the reserve.
+/// Returns whether `rectangle` covers no format or version information, none of the patterns in
+/// `wish`, and so few codewords that its reserve is left.
 ///
-/// `AllocError`: memory was refused.
+/// Errors: only `AllocError`.
 pub fn fits(
     alloc: Global,
     version: Version,
@@ -170,10 +174,10 @@ pub fn fits(
     }
 }
 
-/// The largest rectangle of a ratio in the middle of a symbol that may show anything, leaves the
-/// patterns alone and leaves the reserve. Both of its sides are odd.
+/// Returns the largest central rectangle that satisfies `wish`, or `None` if there is none. Both of
+/// its sides are odd.
 ///
-/// `AllocError`: memory was refused.
+/// Errors: only `AllocError`.
 pub fn largest_rectangle(
     alloc: Global,
     version: Version,
@@ -194,10 +198,11 @@ pub fn largest_rectangle(
     Ok(None)
 }
 
-/// The number of the smallest Normal version in which a rectangle in the middle fits whose longer
-/// side is such a part of the symbol's side: the largest odd number of modules that is not over it.
+/// Returns the number of the smallest Normal version in which the central rectangle satisfies
+/// `wish` whose longer side is `part / whole` of the symbol's side, rounded down to an odd number
+/// of modules; or `None` if there is none.
 ///
-/// `AllocError`: memory was refused.
+/// Errors: only `AllocError`.
 pub fn smallest_version(
     alloc: Global,
     ec_level: EcLevel,

@@ -1,4 +1,4 @@
-//! What an area takes of a symbol, and what is left.
+//! Counts how much error correction an area uses up, and how much is left.
 
 ghost use Rattle.std.specs.Prelude.{◌≡◌, ◌↔◌, ◌*◌, ◌<◌, ◌≤◌, ◌==◌, not, Bool, List, ℕ, length, map, count_by, slice_index, IsTrue, IfOk};
 ghost use Rattle.std.specs.List.{range_with_len};
@@ -25,29 +25,31 @@ use qrcode_types::tables::Blocks;
 use qrcode_types::types::{EcLevel, Version};
 use std::alloc::{AllocError, Global};
 
-// The wrong bits that each copy of the format word bears.
+// How many wrong modules each copy of the format information may have.
 const FORMAT_ERRORS: usize = 3;
 
-/// What an area takes of a symbol, and what may be lost.
+/// How much of a symbol an area covers, and how much may be lost.
 #[derive(Drop)]
 pub struct Reserve {
-    /// How many codewords of each block have modules in the area.
+    /// The number of codewords in each block that have a module in the area.
     pub touched: Vec<usize>,
-    /// A block of which they are the most.
+    /// A block with the most of them.
     pub worst: usize,
-    /// How many they are there.
+    /// Their number in that block.
     pub most: usize,
-    /// How many codewords of each block may be lost: half as many as it has for error correction.
+    /// The number of codewords that each block may lose: half as many as it has for error
+    /// correction, rounded down.
     pub allowed: usize,
-    /// How many modules of the first copy of the format word lie in the area. Three may be lost.
+    /// The number of modules in the area of the first copy of the format information. Three may be
+    /// lost.
     pub first: usize,
-    /// How many modules of the last copy, which in Micro is the first.
+    /// The same number for the last copy of the format information, which in Micro is the first.
     pub last: usize,
 }
 
 impl Reserve {
-    /// How many wrong codewords of each block are corrected beside the area; none where the area
-    /// may not show anything.
+    /// Returns how many wrong codewords outside the area every block can still correct, or `None`
+    /// if the area may not be covered.
     pub fn least(&self) -> Option<usize>
         ensures { (version : Version) (level : EcLevel) (area : ℕ → ℕ → Bool)
             → IsReserve version level area self.now → IsLeast version level area result }
@@ -58,8 +60,9 @@ impl Reserve {
         }
     }
 
-    /// A bound that the area passes: of the block of which it touches the most codewords, of the
-    /// first copy of the format word, or of the last. None where it may show anything.
+    /// Returns the first bound that the area exceeds, or `None` if it may show anything: the one
+    /// for the block with the most codewords touched, for the first copy of the format information,
+    /// or for the last.
     pub fn excess(&self) -> Option<Excess>
         ensures { (version : Version) (level : EcLevel) (area : ℕ → ℕ → Bool)
             → IsReserve version level area self.now → IsItsExcess version level area result }
@@ -81,7 +84,7 @@ impl Reserve {
     }
 }
 
-// How many codewords of block b are not zero.
+// Counts the codewords of block b that are not zero.
 fn nonzero(
     alloc: Global,
     words: &[u8],
@@ -98,7 +101,7 @@ fn nonzero(
     Ok(block.iter().filter(|word| **word != 0).count())
 }
 
-// How many codewords of each block have places in the area.
+// Counts in each block the codewords that have a module in the area.
 fn touched(
     alloc: Global,
     version: Version,
@@ -119,7 +122,7 @@ fn touched(
     Ok(counts)
 }
 
-// How many places of a copy of the format word lie in the area.
+// Counts the modules of a copy of the format information that lie in the area.
 fn touched_places(version: Version, area: &Area<'_>, copy: FormatCopy) -> usize
     requires { IsTrue (is_valid version) }
     ensures { result ≡ touched_places version (covers area.now) copy }
@@ -134,7 +137,7 @@ fn touched_places(version: Version, area: &Area<'_>, copy: FormatCopy) -> usize
     count
 }
 
-// The index of the greatest of numbers, and that number.
+// Returns the index of the largest number, and that number.
 fn greatest(counts: &[usize]) -> (usize, usize)
     requires { 0 < length counts.now }
     ensures inside { result.0 < length counts.now }
@@ -150,9 +153,9 @@ fn greatest(counts: &[usize]) -> (usize, usize)
     most
 }
 
-/// What an area takes of any symbol of a version and level.
+/// Returns how much `area` covers of a symbol of this version and level.
 ///
-/// `AllocError`: memory was refused.
+/// Errors: only `AllocError`.
 pub fn reserve_in(
     alloc: Global,
     version: Version,
@@ -175,11 +178,12 @@ pub fn reserve_in(
     })
 }
 
-/// What an area takes of a symbol. Each square in which each block has no more wrong codewords
-/// beside the area than it has left is read as the bytes of the symbol, and as nothing else,
-/// whatever the area shows.
+/// Returns how much `area` covers of `code`. Whatever the area shows, a square decodes to the bytes
+/// of `code` and nothing else, if outside the area no block has more wrong codewords than it may
+/// still lose, and of each copy of the format information at most three modules are covered or
+/// wrong.
 ///
-/// `AllocError`: memory was refused.
+/// Errors: only `AllocError`.
 pub fn reserve_of(alloc: Global, code: &QrCode, area: &Area<'_>) -> Result<Reserve, AllocError>
     ensures value { IfOk result (IsReserve code.now.version code.now.level (covers area.now)) }
     ensures read { IfOk result (λ reserve. (bits : List Bool) (bytes : List ℕ) (other : List Color)
@@ -190,11 +194,11 @@ pub fn reserve_of(alloc: Global, code: &QrCode, area: &Area<'_>) -> Result<Reser
     reserve_in(alloc, code.version(), code.error_correction_level(), area)
 }
 
-/// Whether an area may show anything: it touches at most half as many codewords of each block as
-/// the block has error correction codewords, and at most three places of each copy of the format
-/// word.
+/// Returns whether a symbol of this version and level decodes whatever `area` shows: it touches in
+/// each block at most half as many codewords as the block has for error correction, and covers at
+/// most three modules of each copy of the format information.
 ///
-/// `AllocError`: memory was refused.
+/// Errors: only `AllocError`.
 pub fn may_show_anything(
     alloc: Global,
     version: Version,
@@ -205,8 +209,7 @@ pub fn may_show_anything(
     ensures value { IfOk result (λ may. IsTrue may
         ↔ MayShowAnything version ec_level (covers area.now)) }
 
-    // The bound is exact: of any other area something that it shows is not within the promised
-    // damage.
+    // The bound is exact: any other area can show something that is beyond the promised damage.
     ensures exact { (mask : MaskPattern) (symbol : List Color)
         → length symbol ≡ side version * side version → IfOk result (λ may. IsTrue may
         ↔ ((other : List Color) → AgreesOutside version (covers area.now) symbol other

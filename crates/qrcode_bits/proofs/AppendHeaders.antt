@@ -13,21 +13,21 @@ use Rattle.qrcode_bits.specs.Refusals.{append_refusal}
 use Rattle.qrcode_bits.specs.StructuredAppend.{append_header}
 use Rattle.qrcode_bits.proofs.Packing.{number_bits-cat}
 
--- the fields behind the indicator as one number
+-- the fields after the indicator as one number
 pub append_fields : (place last parity : ℕ) → place ≤ 15 → last ≤ 15 → parity < 256
     → number_bits 16 (4096 * place + 256 * last + parity) ≡ number_bits 4 place ++ (number_bits 4 last ++ number_bits 8 parity)
 append_fields place last parity p l x =
     let e : 4096 * place + 256 * last + parity ≡ place * 2 ^ 12 + (last * 2 ^ 8 + parity) = omega arith in
     ap (number_bits 16) e ∙ number_bits-cat 4 12 place (last * 2 ^ 8 + parity) (omega arith) ∙ ap (λ b. number_bits 4 place ++ b) (number_bits-cat 4 8 last parity (omega arith))
 
--- and with the indicator
+-- and together with the indicator
 append_number : (place last parity n : ℕ) → place ≤ 15 → last ≤ 15 → parity < 256 → n ≡ 196608 + 256 * (16 * place + last) + parity → number_bits 20 n ≡ append_header place last parity
 unfolding append_header
 append_number place last parity n p l x e =
     let f : n ≡ 3 * 2 ^ 16 + (4096 * place + 256 * last + parity) = omega arith in
     ap (number_bits 20) f ∙ number_bits-cat 4 16 3 (4096 * place + 256 * last + parity) (omega arith) ∙ ap (λ b. number_bits 4 3 ++ b) (append_fields place last parity p l x)
 
--- what is pushed in a Normal version is what the contract says
+-- in a Normal version, the number that is pushed has the bits of the contract
 pub append_pushed : (v : Version) (place last parity n : ℕ) (old new : BitList) (result : Result (Unit {0}) QrError) → is_micro v ≡ false → place ≤ 15 → last ≤ 15 → parity < 256
     → n ≡ 196608 + 256 * (16 * place + last) + parity
     → Appends (append_refusal (length old.bits) (Some (number_bits 20 n))) (number_bits 20 n) old new result

@@ -1,4 +1,4 @@
--- The bytes' own manner is that of cuts in all modes with nothing in front.
+-- The manner Bytes: cuts in all modes, and no front.
 use Rattle.std.proofs.Common.{◌≡◌, ℕ, ◌+◌, ◌≤◌, pos, false, List, length, refl, sym, ap, subst, ◌∙◌, arith, IsTrue, ◌⊎◌, inl, inr, true≢false}
 use Rattle.qrcode_types.specs.Versions.{is_valid, has_level, capacity}
 use Rattle.qrcode_types.specs.declared.types.Version.{Version}
@@ -27,7 +27,7 @@ use Rattle.qrcode_bits.proofs.LeastCuts.{in_all, least_in_all}
 use Rattle.qrcode_bits.proofs.Manners.{normal_at, valid_of}
 use Rattle.qrcode_bits.proofs.Shortness.{fitting_short}
 
--- what was measured is held by a version with the level, the bits in front and the room
+-- measured segments are held by a version that has the level, the front and the room
 pub held_by : (m : Manner) (v : Version) (l : EcLevel) (bytes : List ℕ) (chosen : Chosen) → IsMeasured m v bytes chosen →
     IsTrue (has_level v l) → IsTrue (has_front v m) → chosen.used ≤ capacity v l → IsHeldBy m l bytes chosen
 held_by m v l bytes chosen measured level front room =
@@ -39,11 +39,11 @@ held_by m v l bytes chosen measured level front room =
       room = subst (λ w. chosen.used ≤ capacity w l) is room;
     }
 
--- what holds data in any manner has room for a cut of it
+-- if a symbol holds data in some manner, some cut of the data fits
 pub fits_any : (m : Manner) (v : Version) (bytes : List ℕ) (most : ℕ) → FitsAs m v bytes most → FitsIn v bytes most
 fits_any m v bytes most fits = (fits.0, (fits.1.0.cut, omega (arith, fits.1.1)))
 
--- so such data is short
+-- so this data has at most 23,648 bytes
 pub held_short : (m : Manner) (v : Version) (l : EcLevel) (bytes : List ℕ) → HoldsAs m v l bytes → length bytes ≤ 23648
 held_short m v l bytes holds = fitting_short v l bytes (fits_any m v bytes (capacity v l) holds.room)
 
@@ -55,11 +55,11 @@ holds_plain v l bytes holds =
     let fits = holds.room in
     record { exists = holds.exists; front_exists = refl; room = (fits.0, (in_all v bytes fits.0 fits.1.0, omega (arith, fits.1.1))) }
 
--- a version of Normal that holds data is from Normal 1 on
+-- a Normal version that holds data is at least Normal 1
 pub from_first : (n : ℕ) (l : EcLevel) (bytes : List ℕ) → Holds (Normal (pos n)) l bytes → rank (Normal (pos 1)) ≤ rank (Normal (pos n))
 from_first n l bytes holds = omega (arith, (normal_number n l holds.exists).0)
 
--- the list of the least version from Normal 1 on
+-- the list of the manner Bytes, from Normal 1 on, is the one of `encode_auto`
 pub plain_list : (l : EcLevel) (bytes : List ℕ) (list : BitList) → IsListFrom Bytes (Normal (pos 1)) l bytes list → IsChosenList l bytes list
 plain_list l bytes list from =
     let v = list.version in
@@ -94,17 +94,17 @@ plain_list l bytes list from =
     }
 
 module _ (m : Manner) (v : Version) (l : EcLevel) (bytes : List ℕ) where
-  -- what refuses data behind the first three causes
+  -- why data is rejected, if the first three causes do not apply
   abbrev pub IsRefusedBehind : QrError → Type 0
   IsRefusedBehind e =
       IfCause ((ss : List Segment) → ¬ IsCutIn (modes_of m) v bytes ss) (e ≡ UnsupportedCharacterSet)
       ((e ≡ OutOfMemory) ⊎ IfCause (has_level v l ≡ false) (e ≡ InvalidVersion) ((¬ HoldsAs m v l bytes) × (e ≡ DataTooLong)))
 
-  -- the first three causes do not apply
+  -- such a cause is the first that applies, if the first three do not
   pub refused_behind : (e : QrError) → IsTrue (is_valid v) → length bytes ≤ data_limit → IsTrue (has_front v m) → IsRefusedBehind e → IsRefusedIn m v l bytes e
   refused_behind e valid short has cause = inr (λ no. true≢false (sym valid ∙ no), inr (λ long. omega (arith, short, long), inr (λ no. true≢false (sym has ∙ no), cause)))
 
-  -- the search for a cut refuses the data
+  -- the search for a cut fails
   pub refused_search : (e : QrError) → (e ≡ UnsupportedCharacterSet) ⊎ (e ≡ OutOfMemory) → (((ss : List Segment) → ¬ IsCutIn (modes_of m) v bytes ss) → e ≡ UnsupportedCharacterSet)
       → ((ss : List Segment) → IsCutIn (modes_of m) v bytes ss → e ≡ OutOfMemory) → IsRefusedBehind e
   refused_search e either no_cut memory = elim either [

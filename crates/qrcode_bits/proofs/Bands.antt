@@ -26,7 +26,7 @@ use Rattle.qrcode_bits.specs.declared.optimize.Segment.{Segment}
 use Rattle.qrcode_bits.specs.declared.bits.manner.Manner.{Manner}
 use Rattle.qrcode_bits.specs.declared.bits.manner.Manner.TheVariants.{Bytes, Text, MarkedText}
 
--- each level exists in Normal
+-- each Normal version has all levels
 abbrev has_all : ℕ → Bool
 has_all n = let v = Normal (pos (suc n)) in has_level v L && (has_level v M && (has_level v Q && has_level v H))
 
@@ -78,7 +78,7 @@ normal_modes : (n : ℕ) (ss : List Segment) → AllByRecursion (λ s. IsTrue (h
 normal_modes n [] = tt
 normal_modes n (s ∷ ss) = (refl, normal_modes n ss)
 
--- a cut in one Normal version is one in each
+-- a cut in one Normal version is a cut in every other
 pub cut_in : (m n : ℕ) (bytes : List ℕ) (ss : List Segment) → IsCut (Normal (pos m)) bytes ss → IsCut (Normal (pos n)) bytes ss
 cut_in m n bytes ss cut = record { tiles = cut.tiles; modes = normal_modes n ss; writable = cut.writable }
 
@@ -88,7 +88,7 @@ capacity_rises l m n some le most = elim (cases_lt m n) [
   | inr ge ↦ let e : m ≡ n = omega (arith, ge, le) in subst (λ k. capacity (Normal (pos m)) l ≤ capacity (Normal (pos k)) l) e (omega arith)
 ]
 
--- versions from one on up to the last of its band are of that band
+-- the versions between one and the last of its band are in the same band
 pub same_band : (first k : ℕ) → first ≤ k → k ≤ last_of first → last_of k ≡ last_of first
 same_band first k low high = elim (cases_lt 9 first) [
   | inr small ↦

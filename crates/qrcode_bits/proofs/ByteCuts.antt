@@ -1,4 +1,4 @@
--- Bytes of Normal with few letters and digits together: one segment of bytes is a least cut.
+-- For sparse data in Normal versions, a single Byte segment is a least cut.
 use Rattle.std.proofs.Common.{◌≡◌, ℕ, ◌+◌, ◌-◌, ◌*◌, ◌<◌, ◌≤◌, nat_le, Bool, true, false, List, [], ◌∷◌, length, get_or, drop, refl, sym, ap, ◌∙◌, arith, inl, inr, IsTrue, true≢false, ℤ}
 use Rattle.std.specs.Prelude.{slice_range}
 use Rattle.std.specs.List.{list_all}
@@ -30,7 +30,7 @@ use Rattle.qrcode_bits.proofs.VersionModes.{digits_length, long_digits}
 at_range : (bytes : List ℕ) (a b k : ℕ) → k < b - a → get_or (slice_range bytes a b) k 0 ≡ get_or bytes (a + k) 0
 at_range bytes a b k before = get_or-take (b - a) (drop a bytes) k 0 before ∙ get_or-drop a bytes k 0
 
--- what passes for all of a range passes for each byte of it
+-- a test that all bytes of a range pass, each byte passes
 passes : (p : ℕ → Bool) (bytes : List ℕ) (a b i : ℕ) → list_all p (slice_range bytes a b) ≡ true → a ≤ i → i < b → b ≤ length bytes → p (get_or bytes i 0) ≡ true
 passes p bytes a b i all after before inside =
     let e : a + (i - a) ≡ i = omega (arith, after) in
@@ -41,7 +41,7 @@ passes p bytes a b i all after before inside =
       | inr failed ↦ absurd (true≢false (sym all ∙ list_all_at p (slice_range bytes a b) (i - a) 0 place (ap p here ∙ failed)))
     ]
 
--- such a byte is at most `Z`
+-- an alphanumeric byte is at most `Z`
 low_letter : (b : ℕ) → b < 129 → is_alphanumeric b ≡ true → b ≤ 90
 low_letter b small letter = elim (cases_lt 90 b) [ inl above ↦ absurd (true≢false (sym letter ∙ above_letters b (omega (arith, small)) above)) | inr low ↦ low ]
 
@@ -53,7 +53,7 @@ no_pairs [] some low pairs = omega (arith, some)
 no_pairs (b ∷ []) some low pairs = true≢false (sym pairs)
 no_pairs (b ∷ c ∷ more) some low pairs = true≢false (sym (and_parts (is_kanji b c) (are_kanji more) pairs).0 ∙ low_no_pair b c low)
 
--- digits and letters have a byte above `Z` behind three at most
+-- four neighbours that are not dense are not all at most `Z`
 not_four : (a b c d : ℕ) → is_dense a b c d ≡ false → a ≤ 90 → b ≤ 90 → c ≤ 90 → d ≤ 90 → ⊥
 not_four a b c d e = grind arith
 
@@ -65,11 +65,11 @@ short bytes a b sparse inside low =
       | inr few ↦ few
     ]
 
--- what a range of so many bytes takes at least, and what it takes at least if one of them is above `Z`
+-- lower bounds for the bits of a range, and for those of a range with a byte above `Z`
 abbrev Takes : ℤ → Mode → List ℕ → ℕ → ℕ → ℕ → Type 0
 Takes n m bytes a b bits = (8 * (b - a) ≤ bits) × ((i : ℕ) → a ≤ i → i < b → 90 < get_or bytes i 0 → 8 * (b - a) + (4 + length_bits_count Byte (Normal n)) ≤ bits)
 
--- a range of letters
+-- a range without bytes above `Z`
 low_takes : (n : ℤ) (m : Mode) (bytes : List ℕ) (a b bits : ℕ) → ((i : ℕ) → a ≤ i → i < b → get_or bytes i 0 ≤ 90) → 8 * (b - a) ≤ bits → Takes n m bytes a b bits
 low_takes n m bytes a b bits low few = (few, λ i after before high. absurd (omega (arith, high, low i after before)))
 

@@ -1,4 +1,4 @@
--- The three ways in which a push ends, and what refuses a piece.
+-- The three outcomes of a push, and the errors of a piece.
 use Rattle.std.proofs.Common.{◌≡◌, ℕ, ◌+◌, ◌^◌, ◌<◌, ◌≤◌, ◌++◌, Bool, true, false, not, ◌&&◌, List, length, refl, sym, subst, ap, ◌∙◌, arith, Option, Some, None, IsTrue, if◌then◌else◌, length-append}
 use Rattle.std.specs.Prelude.{nat_le, nat_lt, Result, Ok, Err, IsErr, IsErrAnd}
 use Rattle.std.specs.Option.{option_or}
@@ -31,7 +31,7 @@ refused r e old after new some same = record { refused = λ c other. (let h : So
 pub starved : (r : Option QrError) (old after new : BitList) → r ≡ None → new ≡ old → Changes r old after new (Err OutOfMemory)
 starved r old after new none same = record { refused = λ c some. cc; accepted = λ h. refl; changed = tt; unchanged = same }
 
--- the same of a result that a `?` hands on
+-- the same for a result that a `?` passes on
 pub starved_by : (r : Option QrError) (old after new : BitList) (result : Result (Unit {0}) QrError) → IsErr result × IsErrAnd result (λ e. e ≡ OutOfMemory) → r ≡ None → new ≡ old → Changes r old after new result
 starved_by r old after new (Ok u) h none same = absurd (false≢true h.0)
 starved_by r old after new (Err e) h none same = subst (λ x. Changes r old after new (Err x)) (sym h.1) (starved r old after new none same)
@@ -49,7 +49,7 @@ terminator_fits v l used exists fits =
     cond-false (not (has_level v l)) (Some InvalidVersion) _ (ap not exists)
     ∙ cond-true (nat_le used (capacity v l)) None (Some DataTooLong) (le-leb used (capacity v l) fits)
 
--- a count that is not refused: its mode exists, it fits its length field, and the list has room
+-- a count without an error: its mode exists, it fits its length field, and the list has room
 pub record Takes (v : Version) (used : ℕ) (m : Mode) (count : ℕ) : Type 0 where
   pub mode : IsTrue (has_mode v m)
   pub counted : count < 2 ^ length_bits_count m v
@@ -65,7 +65,7 @@ takes v used m count h =
       by_tests true true false h = cc
       by_tests true true true h = (refl, refl, refl)
 
--- then its bytes alone may refuse it
+-- then only its bytes can be the cause of an error
 by_bytes : (v : Version) (used : ℕ) (p : Piece) → count_refusal v used p.mode (character_count p.mode (length p.chunk)) ≡ None
     → piece_refusal v used p ≡ (if is_checked p.mode && not (can_write p.mode p.chunk) then Some InvalidCharacter else None)
 by_bytes v used p h = ap (λ o. option_or o (if is_checked p.mode && not (can_write p.mode p.chunk) then Some InvalidCharacter else None)) h
@@ -89,7 +89,7 @@ room_after v bits p h =
     let t = takes v (length bits) p.mode (character_count p.mode (length p.chunk)) h in
     omega (arith, t.room, length-append bits (written_piece v p), length-piece v p)
 
--- a piece that is appended makes the list longer by what it costs
+-- appending a piece makes the list longer by the cost of the piece
 pub pushes : (m : Mode) (bytes : List ℕ) (old new : BitList) (result : Result (Unit {0}) QrError) → let p : Piece = record { mode = m; chunk = bytes } in
     Appends (piece_refusal old.version (length old.bits) p) (written_piece old.version p) old new result → PushesPiece m bytes old new result
 pushes m bytes old new result c =

@@ -1,4 +1,4 @@
--- Data can be cut, or not; and what the search for a version finds.
+-- Data has a cut or none.
 use Rattle.std.proofs.Common.{◌⊎◌, ℕ, ◌≤◌, List, length, arith, inl, inr, IsTrue}
 use Rattle.std.proofs.lemmas.Bool.{cases_lt}
 use Rattle.qrcode_types.specs.Bits.{AreBytes}
@@ -13,7 +13,7 @@ use Rattle.qrcode_bits.specs.declared.optimize.mode_sets.Modes.{Modes}
 use Rattle.qrcode_bits.specs.declared.optimize.Segment.{Segment}
 use Rattle.qrcode_bits.proofs.LeastCuts.{in_all, cut_is_short, short_is_cut}
 
--- data can be cut in the modes of a set, or not
+-- data has a cut in the modes of a set, or none
 pub cut_in_or_none : (set : Modes) (v : Version) (bytes : List ℕ) → IsTrue (is_valid v) → AreBytes bytes → length bytes ≤ data_limit
     → ((segments : List Segment) × IsCutIn set v bytes segments) ⊎ ((segments : List Segment) → ¬ IsCutIn set v bytes segments)
 cut_in_or_none set v bytes valid are limit = elim (cases_lt (costs_of (headers_of set v) bytes).start.bits more_than_any) [
@@ -21,7 +21,7 @@ cut_in_or_none set v bytes valid are limit = elim (cases_lt (costs_of (headers_o
   | inr many ↦ inr (λ segments cut. omega (arith, many, cut_is_short set v bytes valid limit segments cut))
 ]
 
--- data can be cut, or not
+-- data has a cut, or none
 pub cut_or_none : (v : Version) (bytes : List ℕ) → IsTrue (is_valid v) → AreBytes bytes → length bytes ≤ data_limit → ((segments : List Segment) × IsCut v bytes segments) ⊎ ((segments : List Segment) → ¬ IsCut v bytes segments)
 cut_or_none v bytes valid are limit = elim (cut_in_or_none all_modes v bytes valid are limit) [
   | inl some ↦ inl (some.0, some.1.cut)

@@ -1,4 +1,4 @@
--- The pieces of a cut are the data, and where they fit a symbol, a reader takes them.
+-- The pieces of a cut make up the data, and if they fit a symbol, a reader accepts them.
 use Rattle.std.proofs.Common.{◌≡◌, ℕ, zero, suc, ◌+◌, ◌-◌, ◌/◌, ◌^◌, ◌≤◌, ◌<◌, true, List, [], ◌∷◌, ◌++◌, length, take, drop, length-append, refl, sym, ap, ap₂, ◌∙◌, arith, subst, true≢false, IsTrue}
 use Rattle.std.specs.Prelude.{flat_map, slice_range}
 use Rattle.std.specs.List.{AllByRecursion}
@@ -81,7 +81,7 @@ length-written v bytes from (s ∷ ss) to t k =
     ∙ ap₂ (λ x y. x + y) (length-piece v p ∙ ap (λ n. cost_of v s.mode (character_count s.mode n)) len) (length-written v bytes s.end ss to t.1.1 k)
     ∙ sym (sum_by-cons (cost v) s ss)
 
--- the pieces of a cut that fits: a reader takes them, they fit, and they are the data
+-- the pieces of a cut that fits a symbol: a reader accepts them, they fit, and they make up the data
 pub cut_pieces : (v : Version) (l : EcLevel) (bytes : List ℕ) (ss : List Segment) → IsTrue (is_valid v) → IsCut v bytes ss → total_cost v ss ≤ capacity v l
     → AllByRecursion (IsReadBack v) (pieces_of bytes ss) × (length (written v (pieces_of bytes ss)) ≤ capacity v l) × (flat_map (λ p. p.chunk) (pieces_of bytes ss) ≡ bytes)
 cut_pieces v l bytes ss h cut fits =

@@ -1,4 +1,4 @@
--- The bits behind indicators that Normal versions alone have.
+-- The bits after mode indicators that only Normal versions have.
 use Rattle.std.proofs.Common.{◌≡◌, ℕ, ◌+◌, ◌*◌, ◌^◌, ◌<◌, ◌≤◌, ◌++◌, length, false, sym, ap, ◌∙◌, arith, subst, Some}
 use Rattle.std.specs.Prelude.{nat_le, Result}
 use Rattle.std.specs.Option.{option_map}
@@ -16,7 +16,7 @@ use Rattle.qrcode_bits.specs.Written.{eci_bits}
 use Rattle.qrcode_bits.specs.declared.bits.ExtendedMode.TheVariants.{Fnc1Second}
 use Rattle.qrcode_bits.proofs.Packing.{number_bits-cat}
 
--- an indicator, and a number behind it
+-- a mode indicator and the number after it
 eci_one : (n : ℕ) → n ≤ 127 → number_bits 12 (1792 + n) ≡ number_bits 4 7 ++ eci_bits n
 unfolding eci_bits
 eci_one n h =
@@ -41,7 +41,7 @@ eci_three n g h =
     ∙ sym (cond-false (nat_le n 16383) (number_bits 2 2 ++ number_bits 14 n) _ (lt-leb n 16383 g))
     ∙ sym (cond-false (nat_le n 127) (number_bits 8 n) _ (lt-leb n 127 (omega arith))))
 
--- what is pushed in a Normal version is what the contract says
+-- in a Normal version, the number that is pushed has the bits of the contract
 eci_pushed : (v : Version) (n count number : ℕ) (old new : BitList) (result : Result (Unit {0}) QrError) → is_micro v ≡ false → n ≤ 999999
     → number_bits count number ≡ number_bits 4 7 ++ eci_bits n
     → Appends (append_refusal (length old.bits) (Some (number_bits count number))) (number_bits count number) old new result

@@ -1,4 +1,4 @@
--- Digits alone: one segment of them is a least cut.
+-- For data of digits only, a single Numeric segment is a least cut.
 use Rattle.std.proofs.Common.{◌≡◌, ℕ, ◌-◌, ◌<◌, ◌≤◌, true, false, List, [], ◌∷◌, length, refl, ap, ◌∙◌, arith, inl, inr, IsTrue}
 use Rattle.std.specs.Prelude.{slice_range, nat_eq}
 use Rattle.std.proofs.lemmas.Bool.{cases_lt, eqb-false}
@@ -19,7 +19,7 @@ use Rattle.qrcode_bits.proofs.LeastCuts.{AreWritable}
 use Rattle.qrcode_bits.proofs.SegmentRanges.{length-range, tile_le}
 use Rattle.qrcode_bits.proofs.VersionModes.{digits_length, has_digits}
 
--- of all modes, digits take the fewest bits for so many bytes
+-- Numeric takes the fewest bits of all modes for the same number of bytes
 least_mode : (v : Version) (m : Mode) (a : List ℕ) (n : ℕ) → IsTrue (is_valid v) → length a ≡ n → can_write m a ≡ true → 1 ≤ n → cost_of v Numeric n ≤ cost_of v m (character_count m n)
 least_mode v Numeric a n valid e w some = omega arith
 least_mode v Alphanumeric a n valid e w some = omega (arith, digits_length v Alphanumeric valid)
@@ -38,7 +38,7 @@ least_tiles v bytes from (s ∷ ss) valid t w some =
       | inr whole ↦ omega (arith, t.0, t.1.0, first, sum_by-cons (cost v) s ss, inside, whole)
     ]
 
--- what is not found empty has a byte
+-- a list whose length is not 0 has a byte
 pub some_bytes : (bytes : List ℕ) → nat_eq (length bytes) 0 ≡ false → 0 < length bytes
 some_bytes bytes e = elim (cases_lt 0 (length bytes)) [ inl some ↦ some | inr none ↦ absurd (eqb-false (length bytes) 0 e (omega (arith, none))) ]
 

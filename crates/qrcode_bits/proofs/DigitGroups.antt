@@ -9,7 +9,7 @@ use Rattle.qrcode_types.specs.Characters.{is_digit}
 use Rattle.qrcode_bits.specs.Written.{numeric_bits}
 use Rattle.qrcode_bits.proofs.Packing.{number_bits-cat}
 
--- digits in front of others, of which there are three so many times
+-- the bits of 3n digits, and then those of the digits after them
 pub numeric_bits-append : (n : ℕ) (front behind : List ℕ) → length front ≡ 3 * n → numeric_bits (front ++ behind) ≡ numeric_bits front ++ numeric_bits behind
 numeric_bits-append zero [] behind long = refl
 numeric_bits-append zero (a ∷ front) behind long = absurd (omega (arith, long))
@@ -30,25 +30,25 @@ three_in_front (a ∷ []) long = absurd (omega arith)
 three_in_front (a ∷ b ∷ []) long = absurd (omega arith)
 three_in_front (a ∷ b ∷ c ∷ more) long = refl
 
--- a group of three and the digits behind it
+-- a group of three and the digits after it
 pub group_and_rest : (digits three more : List ℕ) → three ≡ take 3 digits → more ≡ drop 3 digits → 3 ≤ length digits → number_bits 10 (three_at three 0) ++ numeric_bits more ≡ numeric_bits digits
 group_and_rest [] three more front behind long = absurd (omega (arith, long))
 group_and_rest (a ∷ []) three more front behind long = absurd (omega (arith, long))
 group_and_rest (a ∷ b ∷ []) three more front behind long = absurd (omega (arith, long))
 group_and_rest (a ∷ b ∷ c ∷ rest) three more front behind long = ap₂ (λ xs ys. number_bits 10 (three_at xs 0) ++ numeric_bits ys) front behind
 
--- bytes behind others are digits where all are
+-- if all bytes are digits, so are the last ones
 pub digits_behind : (digits front more : List ℕ) → front ++ more ≡ digits → IsTrue (list_all is_digit digits) → IsTrue (list_all is_digit more)
 digits_behind digits front more whole all = (and_parts _ _ (sym (list_all-append is_digit front more) ∙ ap (list_all is_digit) whole ∙ all)).1
 
--- three digits behind others
+-- three digits from a place on
 three_behind : (i : ℕ) (digits : List ℕ) → i + 3 ≤ length digits → numeric_bits (drop i digits) ≡ number_bits 10 (three_at digits i) ++ numeric_bits (drop (i + 3) digits)
 three_behind i digits long =
     let here : i + 0 ≡ i = omega arith in
     let same : three_at (drop i digits) 0 ≡ three_at digits i = rw (get_or-drop i digits 0 0, get_or-drop i digits 1 0, get_or-drop i digits 2 0, here) refl in
     three_in_front (drop i digits) (omega (arith, length-drop i digits)) ∙ ap₂ (λ n more. number_bits 10 n ++ numeric_bits more) same (drop-drop 3 i digits)
 
--- ten bits more
+-- appending ten bits to a number
 ten_more : (n x y : ℕ) → y ≤ 999 → number_bits (n + 10) (1024 * x + y) ≡ number_bits n x ++ number_bits 10 y
 ten_more n x y small = let e : 1024 * x + y ≡ x * 2 ^ 10 + y = omega arith in ap (λ m. number_bits (n + 10) m) e ∙ number_bits-cat n 10 x y (omega (arith, small))
 

@@ -1,4 +1,4 @@
--- Pieces that are written and ended spell their bytes.
+-- Pieces that are written and terminated decode to their bytes.
 use Rattle.std.proofs.Common.{◌≡◌, ◌^◌, ℕ, zero, suc, ◌+◌, ◌-◌, ◌*◌, ◌/◌, ◌<◌, ◌≤◌, min, Bool, true, false, not, List, [], ◌∷◌, ◌++◌, length, take, get_or, replicate, refl, sym, ap, ◌∙◌, arith, subst, true≢false, append_assoc, length-append, ◌⊎◌, inl, inr, pos, negsuc}
 use Rattle.std.specs.Prelude.{IsTrue, flat_map, nat_le}
 use Rattle.std.specs.List.{list_all, AllByRecursion}
@@ -39,7 +39,7 @@ micro_width n Alphanumeric h = omega arith
 micro_width n Byte h = omega arith
 micro_width n Kanji h = omega arith
 
--- a piece that has characters is not written as an end
+-- a piece with characters does not look like an end
 goes_on : (v : Version) (p : Piece) → IsTrue (is_valid v) → IsReadable v p → 0 < character_count p.mode (length p.chunk) → is_end v (written_piece v p) ≡ false
 goes_on (Micro (negsuc n)) p a h some = absurd (true≢false (sym a))
 goes_on (Normal v) p a h some =
@@ -62,7 +62,7 @@ goes_on (Micro (pos v)) p a h some =
 pub read_back : (v : Version) (p : Piece) → IsTrue (is_valid v) → IsReadable v p → 0 < character_count p.mode (length p.chunk) → IsReadBack v p
 read_back v p a h some = record { readable = h; goes_on = goes_on v p a h some }
 
--- what is no end is none with more behind it
+-- bits that are no end are none if more bits follow
 longer : (t : ℕ) (bits more : List Bool) → list_all not (take t bits) ≡ false → list_all not (take t (bits ++ more)) ≡ false
 longer zero bits more h = absurd (true≢false h)
 longer (suc t) [] more h = absurd (true≢false h)
@@ -77,13 +77,13 @@ read_as v (p ∷ ps) rest h e =
     let f : written v (p ∷ ps) ++ rest ≡ written_piece v p ++ more = append_assoc (written_piece v p) (written v ps) rest in
     (more, (f, (ap (is_end v) f ∙ longer (terminator_length v) (written_piece v p) more h.0.goes_on, (h.0.readable, read_as v ps rest h.1 e))))
 
--- zeros for t places, or to the end
+-- zeros for t places, or up to the end of the bits
 zeros : (t n : ℕ) (x : List Bool) → (t ≤ n) ⊎ (x ≡ []) → list_all not (take t (replicate n false ++ x)) ≡ true
 zeros zero n x h = refl
 zeros (suc t) zero x h = elim h [ inl l ↦ absurd (omega arith) | inr e ↦ ap (λ y. list_all not (take (suc t) y)) e ]
 zeros (suc t) (suc n) x h = zeros t n x (elim h [ inl l ↦ inl (omega arith) | inr e ↦ inr e ])
 
--- an ending is an end
+-- terminator and padding are an end
 pub ending-is_end : (t used room : ℕ) → used ≤ room → list_all not (take t (ending t used room)) ≡ true
 unfolding ending
 ending-is_end t used room h =
@@ -108,7 +108,7 @@ length-terminated v l bits h =
     let e = ending (terminator_length v) (length bits) (capacity v l) in
     omega (arith, ap length (terminated-ending v l bits), length-append bits e, length-ending (terminator_length v) (length bits) (capacity v l) h)
 
--- pieces that are read back, terminated, are read as their bytes
+-- pieces that are read back, terminated, decode to their bytes
 pub spells_terminated : (v : Version) (l : EcLevel) (ps : List Piece) → AllByRecursion (IsReadBack v) ps → length (written v ps) ≤ capacity v l
     → Spells v (terminated v l (written v ps)) (flat_map (λ p. p.chunk) ps)
 spells_terminated v l ps h fits =

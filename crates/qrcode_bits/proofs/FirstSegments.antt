@@ -1,4 +1,4 @@
--- The first segment of a rest of the data in the fewest bits.
+-- The first segment of the data from a place on, in the fewest bits.
 use Rattle.std.proofs.Common.{◌≡◌, ℕ, ◌+◌, ◌-◌, ◌*◌, ◌/◌, ◌<◌, ◌≤◌, true, List, [], ◌∷◌, length, take, drop, get_or, refl, sym, ap, ap₂, ◌∙◌, arith, subst, true≢false, drop_at, length-append, length-drop}
 use Rattle.std.specs.Prelude.{slice_range}
 use Rattle.std.proofs.lemmas.Bool.{and_parts}
@@ -14,12 +14,12 @@ use Rattle.qrcode_bits.specs.declared.optimize.costs.HeaderBits.{HeaderBits}
 use Rattle.qrcode_bits.proofs.SegmentRanges.{all-drop, write_front}
 use Rattle.qrcode_bits.proofs.LeastStarts.{Begins, begins}
 
--- a segment of so many characters from a place on, and the rest behind it, take what is counted there
+-- a segment of `count` characters at a place, and the best start after it, take the bits that are counted at the place
 abbrev pub Matches : HeaderBits → List ℕ → ℕ → Mode → ℕ → Type 0
 Matches h bytes place m count =
     (costs_of h (drop place bytes)).start.bits ≡ header_in h m + data_bits_count m count + (costs_of h (drop (place + count * bytes_each m) bytes)).start.bits
 
--- some number of characters does, and the mode can write them
+-- some number of characters matches, and the mode can write them
 pub record Found (h : HeaderBits) (bytes : List ℕ) (place : ℕ) (m : Mode) : Type 0 where
   pub count : ℕ
   pub some : 1 ≤ count
@@ -32,7 +32,7 @@ pairs_even [] e = omega arith
 pairs_even (b ∷ []) e = absurd (true≢false (sym e))
 pairs_even (b ∷ c ∷ a) e = omega (arith, pairs_even a (and_parts (is_kanji b c) (are_kanji a) e).1)
 
--- what a mode can write has a whole number of characters
+-- bytes that a mode can write are a whole number of characters
 whole_count : (m : Mode) (a : List ℕ) → can_write m a ≡ true → character_count m (length a) * bytes_each m ≡ length a
 whole_count Numeric a e = omega arith
 whole_count Alphanumeric a e = omega arith
@@ -93,7 +93,7 @@ found h bytes place are inside =
     (subst (λ (r : List ℕ). Begins h r (costs_of h r).start) (sym e)
     (begins h (get_or bytes place 0) (drop (place + 1) bytes) (subst AreBytes e (all-drop (λ n. n < 256) place bytes are))))
 
--- the mode of a start finds one
+-- the mode of a best start has such a number
 pub found_at : (h : HeaderBits) (bytes : List ℕ) (starts : List BestStart) (place : ℕ) → AreStarts h bytes starts → AreBytes bytes → place < length bytes
     → Found h bytes place (get_or starts place past_end).mode
 found_at h bytes starts place are_starts are inside =

@@ -1,4 +1,4 @@
--- What may refuse the pieces of a cut.
+-- The errors that pieces of a cut can have.
 use Rattle.std.proofs.Common.{◌≡◌, ℕ, zero, suc, ◌+◌, ◌^◌, ◌≤◌, ◌<◌, Bool, true, false, not, ◌&&◌, List, [], ◌∷◌, length, take, refl, ap, subst, ◌∙◌, arith, ◌⊎◌, inl, inr, Option, Some, None, IsTrue, length-append, if◌then◌else◌}
 use Rattle.std.specs.Prelude.{slice_get, slice_range, nat_le, nat_lt, IfSome}
 use Rattle.std.specs.List.{AllByRecursion}
@@ -20,7 +20,7 @@ use Rattle.qrcode_bits.specs.declared.optimize.Segment.{Segment}
 use Rattle.qrcode_bits.proofs.Lengths.{length-piece}
 use Rattle.qrcode_bits.proofs.CutPieces.{cut_pieces}
 
--- a piece whose mode exists and can write it
+-- a piece whose mode exists in the version and can write its bytes
 abbrev IsSound : Version → Piece → Type 0
 IsSound v p = IsTrue (has_mode v p.mode) × IsTrue (can_write p.mode p.chunk)
 
@@ -28,7 +28,7 @@ checked : (c w : Bool) → w ≡ true → (c && not w) ≡ false
 checked true w h = ap not h
 checked false w h = refl
 
--- it is refused for its length at most
+-- it can only be too long, or run out of memory
 sound_cause : (v : Version) (used : ℕ) (p : Piece) (e : QrError) → IsSound v p → IsCause (piece_refusal v used p) e → (e ≡ DataTooLong) ⊎ (e ≡ OutOfMemory)
 sound_cause v used p e sound =
     let count = character_count p.mode (length p.chunk) in
@@ -40,7 +40,7 @@ sound_cause v used p e sound =
       by_tests false false true h k = λ is. cc
       by_tests false false false h k = λ is. inr is
 
--- a piece that a reader takes is not refused where the list has room
+-- a piece that a reader accepts has no error if the list has room
 readable_taken : (v : Version) (used : ℕ) (p : Piece) → IsReadable v p → used + length (written_piece v p) ≤ bit_limit → piece_refusal v used p ≡ None
 readable_taken v used p r room =
     let count = character_count p.mode (length p.chunk) in
@@ -55,7 +55,7 @@ readable_taken v used p r room =
       by_tests false false true h k l = cc
       by_tests false false false h k l = refl
 
--- so is the piece at any place, behind those before it
+-- nor has the piece at any place, after those before it
 readable_at : (v : Version) (used : ℕ) (ps : List Piece) (k : ℕ) → AllByRecursion (IsReadBack v) ps → used + length (written v ps) ≤ bit_limit
     → IfSome (slice_get ps k) (λ p. piece_refusal v (used + length (written v (take k ps))) p ≡ None)
 readable_at v used [] k all room = tt
@@ -77,7 +77,7 @@ some_at [] k h e = omega arith
 some_at (x ∷ xs) zero h e = cc
 some_at (x ∷ xs) (suc k) h e = some_at xs k (omega arith) e
 
--- a stop among pieces that a reader takes is one of memory
+-- pushing pieces that a reader accepts can only run out of memory
 pub readable_stop : (v : Version) (old : List Bool) (ps : List Piece) (e : QrError) (new : List Bool) → AllByRecursion (IsReadBack v) ps → length old + length (written v ps) ≤ bit_limit
     → StopsAt v old ps e new → e ≡ OutOfMemory
 readable_stop v old ps e new all room s =
@@ -98,7 +98,7 @@ sound_pieces v bytes ss cut = each ss cut.modes cut.writable where
   each [] m w = tt
   each (s ∷ ss) m w = ((m.0, w.0), each ss m.1 w.1)
 
--- the pieces of a cut are too long at most
+-- the pieces of a cut can only be too long, or run out of memory
 pub cut_stop : (v : Version) (old : List Bool) (bytes : List ℕ) (ss : List Segment) (e : QrError) (new : List Bool) → IsCut v bytes ss → StopsAt v old (pieces_of bytes ss) e new → (e ≡ DataTooLong) ⊎ (e ≡ OutOfMemory)
 cut_stop v old bytes ss e new cut s =
     both_some (slice_get (pieces_of bytes ss) s.place) _ _ ((e ≡ DataTooLong) ⊎ (e ≡ OutOfMemory))
@@ -106,7 +106,7 @@ cut_stop v old bytes ss e new cut s =
     (λ none. absurd (some_at (pieces_of bytes ss) s.place s.inside none))
     (sound_at v (pieces_of bytes ss) s.place (sound_pieces v bytes ss cut)) s.cause
 
--- and those of a cut that fits a symbol are taken
+-- and those of a cut that fits a symbol can only run out of memory
 pub fitting_stop : (v : Version) (l : EcLevel) (old : List Bool) (bytes : List ℕ) (ss : List Segment) (e : QrError) (new : List Bool) → IsTrue (is_valid v) → IsCut v bytes ss
     → total_cost v ss ≤ capacity v l → length old + capacity v l ≤ bit_limit → StopsAt v old (pieces_of bytes ss) e new → e ≡ OutOfMemory
 fitting_stop v l old bytes ss e new valid cut fits room s =

@@ -1,4 +1,4 @@
--- The items that come are fronts of what an iterator has left.
+-- The items of an iterator, so far, are the first of those that it had left.
 use Rattle.std.proofs.Common.{◌≡◌, ℕ, ◌+◌, ◌≤◌, List, [], ◌∷◌, ◌++◌, refl, sym, ◌∙◌, ap, subst, arith}
 use Rattle.std.specs.List.{AllByRecursion}
 use Rattle.std.specs.Iterator.{Yields, YieldsFirst, Drains, HoldsAlong}
@@ -12,16 +12,16 @@ use Rattle.qrcode_bits.proofs.SegmentRanges.{tile_le}
 use Rattle.qrcode_bits.proofs.RunLaws.{runs-tile}
 
 module _ {S A : Type 0} (rest : S → List A) where
-  -- the items so far are a front of what was left
+  -- the items so far are the first of those that were left
   pub front : (s t : S) (xs : List A) → Yields (YieldsFirst rest) s xs t → rest s ≡ xs ++ rest t
   front s t [] y = ap rest y
   front s t (x ∷ xs) (j, st, y) = st ∙ ap (λ l. x ∷ l) (front j t xs y)
 
-  -- all items are what was left
+  -- all items are those that were left
   pub whole : (s : S) (xs : List A) → Drains (YieldsFirst rest) s xs → xs ≡ rest s
   whole s xs (u, (t, y, over)) = sym (front s t xs y ∙ (ap (λ l. xs ++ l) over.0 ∙ append-nil xs))
 
-  -- what holds of each front of what is left holds along the calls
+  -- a property of the first items, however many, holds after each call
   pub along-fronts : (P : List A → Type 0) (s : S) → ((xs ys : List A) → rest s ≡ xs ++ ys → P xs) → HoldsAlong (YieldsFirst rest) s P
   along-fronts P s h = λ xs t y. h xs (rest t) (front s t xs y)
 
@@ -29,7 +29,7 @@ inside-front : (xs ys : List Segment) (from to n : ℕ) → Tile from (xs ++ ys)
 inside-front [] ys from to n h le = tt
 inside-front (x ∷ xs) ys from to n h le = let e = tile_le x.end (xs ++ ys) to h.1.1 in ((omega (arith, h.1.0), omega (arith, e, le)), inside-front xs ys x.end to n h.1.1 le)
 
--- and lie inside its data
+-- the runs of a parser lie inside its data
 pub parser-inside : (p : Parser) (n : ℕ) → data_end p ≤ n → HoldsAlong (YieldsFirst runs_left) p (AreInside n)
 parser-inside p n le = along-fronts runs_left (AreInside n) p (λ xs ys e. inside-front xs ys p.begin (data_end p) n (subst (λ l. Tile p.begin l (data_end p)) e (runs-tile p.begin p.rest.now)) le)
 
@@ -45,6 +45,6 @@ front-joinable : (xs ys : List Segment) (from to : ℕ) → Tile from (xs ++ ys)
 front-joinable [] ys from to t le = tt
 front-joinable (x ∷ xs) ys from to t le = ((refl, (front-adjoin (x ∷ xs) ys from to t).1), front-ends (x ∷ xs) ys from to (x.begin + range_limit) t (omega (arith, t.0, le)))
 
--- and may be joined, where they are not too long
+-- and can be joined, if the data is not too long
 pub parser-joinable : (p : Parser) → data_left p ≤ range_limit → HoldsAlong (YieldsFirst runs_left) p IsJoinable
 parser-joinable p small = along-fronts runs_left IsJoinable p (λ xs ys e. front-joinable xs ys p.begin (data_end p) (subst (λ l. Tile p.begin l (data_end p)) e (runs-tile p.begin p.rest.now)) (omega (arith, small)))

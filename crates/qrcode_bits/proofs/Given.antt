@@ -1,4 +1,4 @@
--- What an iterator over a list gives.
+-- The items of an iterator over a list.
 use Rattle.std.proofs.Common.{◌≡◌, ℕ, zero, suc, ◌<◌, Bool, List, [], ◌∷◌, ◌++◌, length, take, refl, sym, ap, subst, ◌∙◌, arith, append-nil, length-append, Option}
 use Rattle.std.specs.Prelude.{slice_get, IfSome, IfOk, IfErr, OnOk, Result, Ok, Err}
 use Rattle.std.specs.Iterator.{Yields, Drains, AlwaysYields}
@@ -11,7 +11,7 @@ use Rattle.qrcode_bits.specs.Refusals.{pieces_refusal, piece_refusal, IsCause, S
 use Rattle.qrcode_bits.specs.declared.optimize.Segment.{Segment}
 use Rattle.qrcode_bits.proofs.Several.{piece_of}
 
--- some of the list is given, and the others are left
+-- the items so far and those that are left make up the list
 pub given_first : {S A : Type 0} (steps : S → Option A → S → Type 0) (all : List A) (s t : S) (xs : List A) → AlwaysYields steps (λ x. x) s all → Yields steps s xs t
     → (rest : List A) × ((all ≡ xs ++ rest) × AlwaysYields steps (λ x. x) t rest)
 given_first steps all s t [] always yields = (all, (refl, subst (λ u. AlwaysYields steps (λ x. x) u all) yields always))
@@ -21,7 +21,7 @@ given_first steps (y ∷ all) s t (x ∷ xs) always yields =
     let r = given_first steps all yields.0 t xs first.1 yields.2 in
     (r.0, (let same = first.0 in let rest = r.1.0 in cc, r.1.1))
 
--- all of the list is given
+-- all items are the list
 pub given_all : {S A : Type 0} (steps : S → Option A → S → Type 0) (all : List A) (s : S) (xs : List A) → AlwaysYields steps (λ x. x) s all → Drains steps s xs → all ≡ xs
 given_all steps all s xs always drains =
     let r = given_first steps all s drains.1.0 xs always drains.1.1 in
@@ -39,7 +39,7 @@ get-append [] ys k h = absurd (omega arith)
 get-append (x ∷ xs) ys zero h = refl
 get-append (x ∷ xs) ys (suc k) h = get-append xs ys k (omega arith)
 
--- a stop among the first segments is one among all
+-- a push that stops among the first segments stops among all
 pub stops_first : (v : Version) (old : List Bool) (bytes : List ℕ) (xs rest : List Segment) (e : QrError) (new : List Bool)
     → StopsAt v old (pieces_of bytes xs) e new → StopsAt v old (pieces_of bytes (xs ++ rest)) e new
 stops_first v old bytes xs rest e new s =
@@ -55,7 +55,7 @@ stops_first v old bytes xs rest e new s =
       cause = subst (λ o. IfSome o (λ p. IsCause (piece_refusal v (length new) p) e)) (sym (get-append ps qs s.place s.inside)) s.cause;
     })
 
--- what follows from what holds of a value, on success, or of an error
+-- a conclusion about the value of a result, or about its error
 pub if_ok : {T : Type 0} {P Q : T → Type 0} (r : Result T QrError) → ((x : T) → P x → Q x) → IfOk r P → IfOk r Q
 if_ok (Ok x) f h = f x h
 if_ok (Err e) f h = tt

@@ -1,4 +1,4 @@
--- The calls of an optimizer give the groups.
+-- The calls of an optimizer return the groups.
 use Rattle.std.proofs.Common.{◌≡◌, ℕ, ◌<◌, ◌≤◌, Bool, true, false, not, List, [], ◌∷◌, ◌++◌, IsTrue, refl, sym, ◌∙◌, ap, subst, arith}
 use Rattle.std.specs.Prelude.{Option, Some, None, unwrap_or}
 use Rattle.std.specs.Iterator.{Count, IsFinite, Drains, HoldsAlong, MakesProgress, Yields, size}
@@ -52,7 +52,7 @@ module _ {S : Type 0} (steps : S → Option Segment → S → Type 0) where
       let p = joint-cases (is_joined w last x) last x j (sym e) in
       subst (λ s. HoldsAlong steps next (λ xs. IsJoinable (s ∷ xs))) p.1 (λ xs t y. joinable-joint last x xs (h (x ∷ xs) t (next, st, y)))
 
-  -- from `start` to `now` segments came that all joined the first, and make `last`
+  -- the segments between `start` and `now` all joined `first`, and make `last`
   pub record Joined (v : Version) (first : Segment) (start : S) (last : Segment) (now : S) : Type 0 where
     pub further : List Segment
     pub came : Yields steps start further now
@@ -70,7 +70,7 @@ module _ {S : Type 0} (steps : S → Option Segment → S → Type 0) where
         is = sym p.1 ∙ (ap (λ l. joint l x) h.is ∙ sym (joint_of-append first x h.further));
       }
 
-  -- a group is handed out where the next segment is not joined
+  -- a group is returned if the next segment does not join
   pub step-apart : (o : Optimizer S) (now next : S) (first last x : Segment) (w : Version) → o.last ≡ Some first → w ≡ o.version → Joined o.version first o.segments last now → steps now (Some x) next → is_joined w last x ≡ false
       → TakesGroup steps o last (record { segments = next; last = Some x; version = w })
   step-apart o now next first last x w h same f st e = record {
@@ -84,7 +84,7 @@ module _ {S : Type 0} (steps : S → Option Segment → S → Type 0) where
     version = same;
   }
 
-  -- the last group is handed out at the end
+  -- the last group is returned at the end
   pub step-end : (o : Optimizer S) (now next : S) (first last : Segment) (w : Version) → o.last ≡ Some first → w ≡ o.version → Joined o.version first o.segments last now → steps now None next
       → TakesGroup steps o last (record { segments = next; last = None; version = w })
   step-end o now next first last w h same f st = record {
@@ -141,7 +141,7 @@ module _ {S : Type 0} (steps : S → Option Segment → S → Type 0) where
       let h = new-drained v s t r gs st (drained (record { segments = t; last = r; version = v }) gs d) in
       (h.0, (h.1, subst (λ l. AreGroups v h.0 l) (sym h.2) (groups_are v h.0)))
 
-  -- the groups are inside, where the segments are
+  -- the groups lie inside the data, if the segments do
   abbrev StartsInside : ℕ → Option Segment → S → Type 0
   StartsInside n r s = (x : Segment) → r ≡ Some x → HoldsAlong steps s (λ xs. IsJoinable (x ∷ xs) × AreInside n (x ∷ xs))
 

@@ -1,4 +1,4 @@
--- What a grouping keeps: the range, and no more bits than before.
+-- A grouping keeps the range, and takes no more bits.
 use Rattle.std.proofs.Common.{ℕ, ◌+◌, ◌≤◌, List, [], ◌∷◌, ◌++◌, refl, arith}
 use Rattle.std.proofs.lemmas.Bool.{leb-true}
 use Rattle.std.proofs.lemmas.List.Sums.{sum_by-cons}

@@ -1,4 +1,4 @@
--- The grouping is what its relation describes, and nothing else is.
+-- `grouping` satisfies `IsGrouping`, and nothing else does.
 use Rattle.std.proofs.Common.{◌≡◌, Bool, true, false, ◌&&◌, not, List, [], ◌∷◌, ◌++◌, map, refl, ap, sym, ◌∙◌, append_assoc, true≢false}
 use Rattle.std.specs.Prelude.{flat_map}
 use Rattle.std.proofs.lemmas.Bool.{and_parts, and_from}
@@ -64,7 +64,7 @@ holds v f done a (s ∷ more) e h =
     (λ j. holds v f (done ++ s ∷ []) (joint a s) more (joint_of-append f s done ∙ ap (λ t. joint t s) e) (is_group-append v f s done h (ap (λ t. is_joined v t s) e ∙ j)))
     (λ j. and_from _ _ (and_from _ _ h (begins v (joint_of f done) s [] s more ∙ ap not (ap (λ t. is_joined v t s) e ∙ j))) (holds v s [] s more refl refl))
 
--- the function meets the relation
+-- the function satisfies the relation
 pub grouping_is : (v : Version) (segments : List Segment) → IsGrouping v segments (grouping v segments)
 grouping_is v [] = record { groups = []; cut = refl; joined = refl; holds = refl }
 grouping_is v (s ∷ more) = record { groups = groups_from v s [] s more; cut = cut v s [] s more; joined = joints v s [] s more refl; holds = holds v s [] s more refl refl }

@@ -1,4 +1,4 @@
--- No cut of a rest of the data takes fewer bits than are counted for it.
+-- No cut of the data from a place on takes fewer bits than are counted there.
 use Rattle.std.proofs.Common.{◌≡◌, ℕ, ◌+◌, ◌*◌, ◌/◌, ◌<◌, ◌≤◌, nat_lt, Bool, true, false, List, [], ◌∷◌, ◌++◌, length, drop, get_or, set, ◌-◌, refl, sym, ap, ◌∙◌, arith, true≢false, le_trans, inl, inr, get_or-set_other, get_or-set_same}
 use Rattle.std.specs.List.{list_all}
 use Rattle.std.proofs.lemmas.List.{drop_more}
@@ -59,7 +59,7 @@ ends h (b ∷ bytes) =
       pairs = open_ends s (takes Kanji k) (13 + next.half_pair);
     }
 
--- a rest is small where it takes few bits, and so does the rest behind its first byte
+-- the costs at a place are small, if the best starts there and after its first byte take few bits
 all_small : (h : HeaderBits) (b : ℕ) (bytes : List ℕ) → (costs_of h (b ∷ bytes)).start.bits ≤ cost_limit → (costs_of h bytes).start.bits ≤ cost_limit → IsSmall (costs_of h (b ∷ bytes))
 all_small h b bytes here next =
     let e = ends h (b ∷ bytes) in
@@ -83,7 +83,7 @@ better_if_right : (t : Bool) (s : BestStart) (m : Mode) (bits : ℕ) → t ≡ t
 better_if_right true s m bits e = better_right s m bits
 better_if_right false s m bits e = cc
 
--- the best start of bytes and letters, and that of digits too
+-- the best start of Byte and Alphanumeric, and then of Numeric too
 abbrev letters_start : HeaderBits → Kind → Costs → BestStart
 letters_start h k next = better_if (takes Alphanumeric k) (record { bits = begun h Byte next; mode = Byte }) Alphanumeric (begun h Alphanumeric next)
 
@@ -103,7 +103,7 @@ start_takes h k next m e =
       | Kanji ↦ λ e. better_if_right (takes Kanji k) (digits_start h k next) Kanji (begun h Kanji next) e
     ] e
 
--- which modes go on with a byte
+-- which modes can take a byte
 takes_digit : (b after : ℕ) → is_digit b ≡ true → takes Numeric (kind_at b after) ≡ true
 takes_digit b after digit = ap (takes Numeric) (digit_kind b after digit)
 
@@ -114,7 +114,7 @@ takes_letter b after letter =
 takes_pair : (b c : ℕ) → is_kanji b c ≡ true → takes Kanji (kind_at b c) ≡ true
 takes_pair b c pair = ap (takes Kanji) (pair_kind b c pair)
 
--- a chunk that goes on an open segment, and a rest behind it
+-- a chunk that continues an open segment, and the data after it
 record TakesDigits (r : Costs) (count least : ℕ) : Type 0 where
   whole : r.digits ≤ (10 * count + 2) / 3 + least
   one : r.one_digit + 4 ≤ (10 * (count + 1) + 2) / 3 + least
@@ -164,7 +164,7 @@ pairs_go h (b ∷ c ∷ chunk) rest e =
     let goes = open_goes (best_start h (kind_at b c) next).bits (takes Kanji (kind_at b c)) (13 + next.half_pair) (takes_pair b c parts.0) in
     omega (arith, goes, pairs_go h chunk rest parts.1)
 
--- a segment in front of a rest
+-- a segment, and the data after it
 pub segment_takes : (h : HeaderBits) (m : Mode) (chunk rest : List ℕ) → 0 < length chunk → can_write m chunk ≡ true
     → (costs_of h (chunk ++ rest)).start.bits ≤ header_in h m + data_bits m (length chunk) + (costs_of h rest).start.bits
 segment_takes h m [] rest some e = absurd (omega arith)
@@ -194,12 +194,12 @@ pub bytes_take : (h : HeaderBits) (bytes : List ℕ) → (costs_of h bytes).star
 bytes_take h [] = omega arith
 bytes_take h (b ∷ bytes) = omega (arith, start_takes h (kind_at b (first_byte bytes)) (costs_of h bytes) Byte refl, open_bytes h bytes)
 
--- so no rest is too great a number
+-- so no cost is too large a number
 pub rest_small : (h : HeaderBits) (bytes : List ℕ) → h.byte ≤ more_than_any → length bytes ≤ data_limit → IsSmall (costs_of h bytes)
 rest_small h [] byte limit = record { start = omega arith; digits = omega arith; one_digit = omega arith; two_digits = omega arith; letters = omega arith; odd_letter = omega arith; bytes = omega arith; pairs = omega arith; half_pair = omega arith }
 rest_small h (b ∷ bytes) byte limit = all_small h b bytes (omega (arith, bytes_take h (b ∷ bytes))) (omega (arith, bytes_take h bytes))
 
--- what is counted from a place on, from what is counted behind the byte there
+-- the costs at a place, from those one byte later
 pub counted_back : (h : HeaderBits) (bytes : List ℕ) (i : ℕ) → 1 ≤ i → i ≤ length bytes
     → step h (kind_at (get_or bytes (i - 1) 0) (first_byte (drop (i - 1 + 1) bytes))) (costs_of h (drop i bytes)) ≡ costs_of h (drop (i - 1) bytes)
 counted_back h bytes i some inside =
@@ -208,7 +208,7 @@ counted_back h bytes i some inside =
     let more = drop_more bytes place 0 (omega arith) ∙ ap (λ k. get_or bytes place 0 ∷ drop k bytes) next in
     ap (λ k. step h (kind_at (get_or bytes place 0) (first_byte (drop k bytes))) (costs_of h (drop i bytes))) next ∙ sym (ap (costs_of h) more)
 
--- a list is filled from its end, one place further
+-- filling a list from its end, by one more place
 pub filled_back : {A : Type 0} (xs : List A) (i : ℕ) (x z : A) (f : ℕ → A) → 0 < i → i ≤ length xs → x ≡ f (i - 1)
     → (k : ℕ) → i - 1 ≤ k → (i ≤ k → get_or xs k z ≡ f k) → get_or (set xs (i - 1) x) k z ≡ f k
 filled_back xs i x z f some inside new k from behind = elim (cases_lt k i) [

@@ -1,4 +1,4 @@
--- Cuts of the data: what they take, and when there are any.
+-- Cuts of the data: how many bits they take, and when there are any.
 use Rattle.std.proofs.Common.{◌≡◌, ℕ, zero, suc, ◌+◌, ◌-◌, ◌*◌, ◌<◌, ◌≤◌, List, [], ◌∷◌, ◌++◌, length, take, drop, length-append, IsTrue, refl, sym, ap, ap₂, ◌∙◌, arith, subst}
 use Rattle.std.specs.Prelude.{slice_range}
 use Rattle.std.specs.List.{AllByRecursion}
@@ -26,7 +26,7 @@ use Rattle.qrcode_bits.proofs.SegmentRanges.{length-range, tile_le, all-drop}
 use Rattle.qrcode_bits.proofs.LeastCosts.{segment_takes}
 use Rattle.qrcode_bits.proofs.LeastStarts.{begins}
 
--- what is counted for the rest of the data from a place on
+-- the bits that are counted for the data from a place on
 abbrev pub bits_from : Modes → Version → List ℕ → ℕ → ℕ
 bits_from set v bytes place = (costs_of (headers_of set v) (drop place bytes)).start.bits
 
@@ -89,11 +89,11 @@ module _ (set : Modes) (v : Version) (bytes : List ℕ) where
         data_small Byte n = omega arith
         data_small Kanji n = omega arith
 
-  -- what can be cut takes few bits
+  -- if there is a cut, the counted bits are few
   pub cut_is_short : IsTrue (is_valid v) → length bytes ≤ data_limit → (ss : List Segment) → IsCutIn set v bytes ss → (costs_of (headers_of set v) bytes).start.bits < more_than_any
   cut_is_short valid limit ss in_set = omega (arith, counted_least ss in_set, cost_most 0 ss (length bytes) valid in_set.cut.tiles)
 
-  -- segments from a place on
+  -- the segments of a cut from a place on
   record CutFrom (from : ℕ) : Type 0 where
     segments : List Segment
     tiles : Tile from segments (length bytes)
@@ -106,7 +106,7 @@ module _ (set : Modes) (v : Version) (bytes : List ℕ) where
       let parts = and_parts (has_mode v s.mode) (is_among set s.mode) has in
       record { segments = s ∷ c.segments; tiles = (begins, (some, c.tiles)); modes = (parts.0, c.modes); among = (parts.1, c.among); writable = (w, c.writable) }
 
-  -- a first segment, and what a cut of the rest behind it is then
+  -- a first segment, with which a cut of the data after it becomes a cut from here on
   first_from : (from b : ℕ) (rest : List ℕ) → AreBytes (b ∷ rest) → drop from bytes ≡ b ∷ rest → from ≤ length bytes → bits_from set v bytes from < more_than_any
       → ((end : ℕ) → from < end → end ≤ length bytes → bits_from set v bytes end < more_than_any → CutFrom end) → CutFrom from
   first_from from b rest are e low few more =
@@ -137,7 +137,7 @@ module _ (set : Modes) (v : Version) (bytes : List ℕ) where
             record { segments = []; tiles = omega arith; modes = tt; among = tt; writable = tt }
         by_rest more (b ∷ rest) e = first_from from b rest (subst AreBytes e (all-drop (λ n. n < 256) from bytes are)) e low few more
 
-  -- what takes few bits can be cut
+  -- if the counted bits are few, there is a cut
   pub short_is_cut : AreBytes bytes → (costs_of (headers_of set v) bytes).start.bits < more_than_any → (ss : List Segment) × IsCutIn set v bytes ss
   short_is_cut are few =
       let c = cut_from (length bytes) 0 are (omega arith) (omega arith) few in

@@ -1,4 +1,4 @@
--- What is counted for a rest of the data is reached: a segment in the mode that is kept begins it.
+-- The bits counted at a place are reached, by a cut that begins with a segment in the mode of the best start.
 use Rattle.std.proofs.Common.{◌≡◌, ℕ, zero, suc, ◌+◌, ◌<◌, nat_lt, min, Bool, true, false, List, [], ◌∷◌, ◌++◌, length, refl, sym, ap, ◌∙◌, arith, subst, ◌⊎◌, inl, inr}
 use Rattle.std.specs.List.{list_all}
 use Rattle.std.proofs.lemmas.Bool.{and_from, cond_both, cases_lt, lt-ltb}
@@ -16,7 +16,7 @@ use Rattle.qrcode_bits.specs.declared.optimize.costs.HeaderBits.{HeaderBits}
 use Rattle.qrcode_bits.proofs.TokenKinds.{Tells, kind_tells, no_pair_with_zero, digit_is_alphanumeric}
 use Rattle.qrcode_bits.proofs.SegmentRanges.{write_none}
 
--- an open segment takes some bytes of the rest, and ends: it had so many bytes behind its last whole group
+-- an open segment, with `offset` bytes after its last whole group, takes some more bytes and ends
 record Closes (h : HeaderBits) (m : Mode) (bytes : List ℕ) (offset bits : ℕ) : Type 0 where
   chunk : List ℕ
   rest : List ℕ
@@ -32,7 +32,7 @@ close_here h m bytes offset bits e =
 min_cases : (a b : ℕ) → (min a b ≡ a) ⊎ (min a b ≡ b)
 min_cases a b = elim (cases_lt a b) [ inl l ↦ inl (omega arith) | inr l ↦ inr (omega arith) ]
 
--- what a mode can write with one byte more in front
+-- what a mode can write with one more byte before it
 abbrev Writes : Mode → ℕ → Type 0
 Writes m b = (chunk : List ℕ) → can_write m chunk ≡ true → can_write m (b ∷ chunk) ≡ true
 
@@ -55,7 +55,7 @@ choose h m b bytes offset bits offset' bits' more true is w e c =
       | inr goes ↦ subst (λ (n : ℕ). Closes h m (b ∷ bytes) offset n) (sym (is ∙ goes)) (go_on h m b bytes offset (more + bits') offset' bits' (w refl) e c)
     ]
 
--- which bytes a mode goes on with
+-- which bytes a mode can take
 digit_from : (b after : ℕ) (k : Kind) → Tells b after k → takes Numeric k ≡ true → is_digit b ≡ true
 digit_from b after Digit t e = t
 digit_from b after Letter t e = cc
@@ -155,7 +155,7 @@ pairs_close h (b ∷ []) = no_pair h b (costs_of h (b ∷ [])).pairs 13 (takes K
 pairs_close h (b ∷ c ∷ bytes) =
     choose_pair h b c bytes (costs_of h (b ∷ c ∷ bytes)).pairs (costs_of h bytes).pairs (takes Kanji (kind_at b c)) refl (pair_from b c (kind_at b c) (kind_tells b c)) (pairs_close h bytes)
 
--- a segment in the mode of a start begins the bytes, and they take what the start says
+-- the bytes begin with a segment in the mode of a start, and take the bits that the start says
 pub record Begins (h : HeaderBits) (bytes : List ℕ) (s : BestStart) : Type 0 where
   pub chunk : List ℕ
   pub rest : List ℕ
@@ -164,7 +164,7 @@ pub record Begins (h : HeaderBits) (bytes : List ℕ) (s : BestStart) : Type 0 w
   pub writable : can_write s.mode chunk ≡ true
   pub adds : s.bits ≡ header_in h s.mode + data_bits s.mode (length chunk) + (costs_of h rest).start.bits
 
--- so does a segment in each mode that goes on with the first byte
+-- so they do in each mode that can take the first byte
 begins_in : (h : HeaderBits) (b : ℕ) (bytes : List ℕ) (m : Mode) → AreBytes (b ∷ bytes) → takes m (kind_at b (first_byte bytes)) ≡ true → Begins h (b ∷ bytes) (record { bits = begun h m (costs_of h bytes); mode = m })
 begins_in h b bytes Numeric are e =
     let c = (digits_close h bytes).one in
@@ -185,7 +185,7 @@ better_begins : (h : HeaderBits) (bytes : List ℕ) (t : Bool) (s : BestStart) (
 better_begins h bytes false s m bits b f = f
 better_begins h bytes true s m bits b f = cond_both (nat_lt bits s.bits) (record { bits = bits; mode = m }) s (Begins h bytes) (λ e. b refl) (λ e. f)
 
--- and so does the best of them
+-- and so in the best of them
 pub begins : (h : HeaderBits) (b : ℕ) (bytes : List ℕ) → AreBytes (b ∷ bytes) → Begins h (b ∷ bytes) (costs_of h (b ∷ bytes)).start
 begins h b bytes are =
     let next = costs_of h bytes in

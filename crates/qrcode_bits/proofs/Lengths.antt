@@ -1,4 +1,4 @@
--- Written pieces are as long as they cost.
+-- A written piece has as many bits as its cost.
 use Rattle.std.proofs.Common.{◌≡◌, ℕ, ◌+◌, ◌-◌, ◌*◌, ◌/◌, List, [], ◌∷◌, ◌++◌, length, ap₂, ◌∙◌, arith, length-append}
 use Rattle.std.specs.Prelude.{flat_map}
 use Rattle.qrcode_types.specs.Bits.{number_bits}

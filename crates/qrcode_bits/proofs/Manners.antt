@@ -1,4 +1,4 @@
--- Versions in their order, and which hold data in a manner.
+-- The order of versions, and which of them hold data in a manner.
 use Rattle.std.proofs.Common.{◌≡◌, ℕ, ◌+◌, ◌≤◌, ◌<◌, nat_le, pos, negsuc, List, length, refl, sym, ap, subst, arith, IsTrue}
 use Rattle.std.proofs.lemmas.Bool.{and_parts, leb-true}
 use Rattle.qrcode_types.specs.Versions.{is_valid, has_level, capacity}
@@ -15,7 +15,7 @@ use Rattle.qrcode_bits.specs.declared.bits.manner.Manner.TheVariants.{Bytes, Tex
 use Rattle.qrcode_bits.specs.declared.bits.choice.Chosen.{Chosen}
 use Rattle.qrcode_bits.proofs.Bands.{normal_level, cost_same, cut_in, last_of, last_of-most, same_band, capacity_rises}
 
--- a version by its place
+-- a Normal version by its rank
 pub record IsNormalAt (v : Version) : Type 0 where
   pub number : ℕ
   pub is : v ≡ Normal (pos number)
@@ -31,28 +31,28 @@ normal_at (Micro (negsuc n)) valid high = cc
 pub valid_of : (v : Version) (l : EcLevel) → IsTrue (has_level v l) → IsTrue (is_valid v)
 valid_of v l has = (and_parts (is_valid v) _ has).0
 
--- each version of Normal may have each manner's bits in front
+-- each Normal version allows each manner's front
 pub front_normal : (m : Manner) (n : ℕ) → IsTrue (has_front (Normal (pos n)) m)
 front_normal m n = elim m as (λ m. IsTrue (has_front (Normal (pos n)) m)) [ Bytes ↦ refl | Text ↦ refl | MarkedText ↦ refl ]
 
--- a cut in a manner in one Normal version is one in each
+-- a cut in a manner in one Normal version is a cut in every other
 pub cut_as : (m : Manner) (i j : ℕ) (bytes : List ℕ) (ss : List Segment) → IsCutIn (modes_of m) (Normal (pos i)) bytes ss → IsCutIn (modes_of m) (Normal (pos j)) bytes ss
 cut_as m i j bytes ss cut = record { cut = cut_in i j bytes ss cut.cut; among = cut.among }
 
 module _ (m : Manner) (l : EcLevel) (bytes : List ℕ) where
-  -- the versions of a band take the same bits
+  -- segments take the same bits in all versions of a band
   same_costs : (first k : ℕ) (ss : List Segment) → first ≤ k → k ≤ last_of first → total_cost (Normal (pos (last_of first))) ss ≡ total_cost (Normal (pos k)) ss
   same_costs first k ss low high =
       subst (λ n. total_cost (Normal (pos n)) ss ≡ total_cost (Normal (pos k)) ss) (same_band first k low high) (cost_same k ss (omega (arith, last_of-most first)))
 
-  -- what a version of a band holds, the last one holds too
+  -- data that a version of a band holds, the last one holds too
   pub fits_last : (first k : ℕ) → 1 ≤ first → first ≤ k → k ≤ last_of first → HoldsAs m (Normal (pos k)) l bytes
       → (ss : List Segment) × (IsCutIn (modes_of m) (Normal (pos (last_of first))) bytes ss × (length (front m) + total_cost (Normal (pos (last_of first))) ss ≤ capacity (Normal (pos k)) l))
   fits_last first k some low high holds =
       let fits = holds.room in
       (fits.0, (cut_as m k (last_of first) bytes fits.0 fits.1.0, omega (arith, same_costs first k fits.0 low high, fits.1.1)))
 
-  -- none of the band from a version on holds what the last one does not
+  -- data that the last version of a band does not hold, no other holds
   pub none_in_band : (first : ℕ) → 1 ≤ first → ¬ FitsAs m (Normal (pos (last_of first))) bytes (capacity (Normal (pos (last_of first))) l)
       → NoneHolds m l bytes (4 + first) (5 + last_of first)
   none_in_band first some not v from to holds =

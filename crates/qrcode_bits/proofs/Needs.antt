@@ -1,4 +1,4 @@
--- What is refused where there is no version, or no cut.
+-- How calls fail that need a version or a cut.
 use Rattle.std.proofs.Common.{◌≡◌, ℕ, ◌≤◌, List, length, sym, subst, ◌∙◌, arith, IsTrue, inl, inr, true≢false, Result, Ok, Err, IfErr}
 use Rattle.std.specs.Prelude.{IsErr, IsErrAnd, IsOkUnless}
 use Rattle.std.proofs.lemmas.Bool.{false≢true}
@@ -14,7 +14,7 @@ use Rattle.qrcode_bits.specs.declared.optimize.Segment.{Segment}
 use Rattle.qrcode_bits.specs.declared.bits.manner.Manner.{Manner}
 
 module _ {A : Type 0} (m : Manner) (from : Version) (l : EcLevel) (bytes : List ℕ) where
-  -- of a version that exists and data within the limit the causes say all
+  -- for a version that exists and data within the limit, the causes are enough
   pub version_by_causes : (r : Result A QrError) → IsTrue (is_valid from) → length bytes ≤ data_limit → IfErr r (IsRefusedFrom m from l bytes) → NeedsVersion m from l bytes r
   version_by_causes (Ok x) valid short causes = record {
     no_version = λ no. absurd (true≢false (sym valid ∙ no));
@@ -33,7 +33,7 @@ module _ {A : Type 0} (m : Manner) (from : Version) (l : EcLevel) (bytes : List 
   }
 
 module _ {A B : Type 0} (m : Manner) (from : Version) (l : EcLevel) (bytes : List ℕ) where
-  -- an error that a `?` hands on
+  -- an error that a `?` passes on
   pub version_handed_on : (e : QrError) (r : Result B QrError) → NeedsVersion {A = A} m from l bytes (Err e) → IsErr r × IsErrAnd r (λ x. x ≡ e) → NeedsVersion m from l bytes r
   version_handed_on e (Ok y) needs is = absurd (false≢true is.0)
   version_handed_on e (Err x) needs is = subst (λ e. NeedsVersion {A = B} m from l bytes (Err e)) (sym is.1) (record {
@@ -43,7 +43,7 @@ module _ {A B : Type 0} (m : Manner) (from : Version) (l : EcLevel) (bytes : Lis
     too_long = λ valid long. (let h = needs.too_long valid long in cc);
   })
 
-  -- once a version is found only memory is refused
+  -- once a version is found, only memory can run out
   pub version_found : (x : A) (r : Result B QrError) → NeedsVersion {A = A} m from l bytes (Ok x) → IsOkUnless r OutOfMemory → NeedsVersion m from l bytes r
   version_found x r needs memory = record {
     no_version = λ no. (let h = needs.no_version no in cc);
@@ -56,7 +56,7 @@ module _ {A B : Type 0} (m : Manner) (from : Version) (l : EcLevel) (bytes : Lis
     if_refused (Err e) want = inl want
 
 module _ {A : Type 0} (Cuts : List Segment → Type 0) where
-  -- where there is a cut only memory is refused
+  -- if there is a cut, only memory can run out
   pub cut_found : (segments : List Segment) (r : Result A QrError) → Cuts segments → IsOkUnless r OutOfMemory → NeedsCut Cuts r
   cut_found segments (Ok x) cut memory = record { no_cut = λ none. absurd (none segments cut); accepts = λ _ _. tt; causes = tt }
   cut_found segments (Err e) cut memory = record { no_cut = λ none. absurd (none segments cut); accepts = λ _ _. memory; causes = inr memory }

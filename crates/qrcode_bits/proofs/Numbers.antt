@@ -11,7 +11,7 @@ unfolding number_bits
 length-number_bits zero n = refl
 length-number_bits (suc count) n = ap suc (length-number_bits count n)
 
--- two lists that begin with as many items
+-- equal lists, split after the same number of items
 pub same_front : {X : Type 0} (a b x y : List X) → length a ≡ length b → a ++ x ≡ b ++ y → (a ≡ b) × (x ≡ y)
 same_front [] [] x y l e = (refl, e)
 same_front [] (b ∷ v) x y l e = cc

@@ -1,4 +1,4 @@
--- The maximal rows of the tokens are the runs, and nothing else is.
+-- The longest rows of tokens of one kind are the runs, and nothing else is.
 use Rattle.std.proofs.Common.{◌≡◌, ℕ, ◌+◌, ◌*◌, zero, suc, Bool, true, false, List, [], ◌∷◌, ◌++◌, refl, sym, ◌∙◌, ap, subst, arith}
 use Rattle.std.specs.Prelude.{replicate}
 use Rattle.qrcode_bits.specs.declared.optimize.Segment.{Segment}
@@ -90,7 +90,7 @@ rows-are place (r ∷ rows) h =
     let two = runs_after-over r.kind place (row_end place r) (spelled rows) (next-apart r rows h.1.0) in
     ap (λ l. segment r.kind place (row_end place r) ∷ l) (rows-are (row_end place r) rows h.1.1) ∙ sym (one ∙ two)
 
--- nothing else are the runs
+-- nothing else is
 pub only-runs : (bytes : List ℕ) (segments : List Segment) → IsRuns bytes segments → segments ≡ runs bytes
 only-runs bytes segments h = h.are ∙ (rows-are 0 h.rows h.maximal ∙ ap (runs_from 0) h.tokens)
 

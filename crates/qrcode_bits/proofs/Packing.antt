@@ -1,4 +1,4 @@
--- Bits of numbers that are joined, cut and packed into bytes.
+-- The bits of numbers that are joined, split and packed into bytes.
 use Rattle.std.proofs.Common.{◌≡◌, ℕ, zero, suc, ◌+◌, ◌-◌, ◌*◌, ◌/◌, ◌%◌, ◌^◌, ◌<◌, Bool, false, ◌==◌, List, [], ◌∷◌, ◌++◌, length, get_or, replicate, bit_and, refl, ap, ap₂, sym, subst, ◌∙◌, arith, append_assoc, append-nil, length-append, add-zero}
 use Rattle.std.specs.Int.{bit_at, byte_at, bytes_high_first, to_be_bytes, from_be_bytes, w64}
 use Rattle.std.proofs.lemmas.Nat.Bits.{bit_at_cat_low, bit_at_cat_high, bit_at-zero}
@@ -14,7 +14,7 @@ same_bits zero a b h = refl
 same_bits (suc count) a b h =
     ap₂ (λ (x : ℕ) (bits : List Bool). (x == 1) ∷ bits) (h count (omega arith)) (same_bits count a b (λ i l. h i (omega arith)))
 
--- the bits of a number in front, and then those of one behind
+-- the bits of one number, and then those of another
 pub number_bits-cat : (m n a b : ℕ) → b < 2 ^ n → number_bits (m + n) (a * 2 ^ n + b) ≡ number_bits m a ++ number_bits n b
 unfolding number_bits
 number_bits-cat zero n a b h = let e : zero + n ≡ n = omega arith in rw e (same_bits n (a * 2 ^ n + b) b (λ i l. bit_at_cat_low a n b i l))
@@ -24,7 +24,7 @@ number_bits-cat (suc m) n a b h =
     let top : bit_at (a * 2 ^ n + b) (m + n) ≡ bit_at a m = bit_at_cat_high a n b (m + n) h (omega arith) ∙ ap (λ i. bit_at a i) d in
     rw e (ap₂ (λ (x : ℕ) (bits : List Bool). (x == 1) ∷ bits) top (number_bits-cat m n a b h))
 
--- a number cut in two
+-- a number split in two
 number_bits-cut : (m n number : ℕ) → number_bits (m + n) number ≡ number_bits m (number / 2 ^ n) ++ number_bits n (number % 2 ^ n)
 number_bits-cut m n number =
     ap (λ x. number_bits (m + n) x) (sym (shr_split number n)) ∙ number_bits-cat m n (number / 2 ^ n) (number % 2 ^ n) (mod_below number (2 ^ n) (pow_pos n))
@@ -47,7 +47,7 @@ pub bits_of-append : (a b : List ℕ) → bits_of (a ++ b) ≡ bits_of a ++ bits
 bits_of-append [] b = refl
 bits_of-append (x ∷ a) b = ap (λ r. number_bits 8 x ++ r) (bits_of-append a b) ∙ sym (append_assoc (number_bits 8 x) (bits_of a) (bits_of b))
 
--- as many bytes as bits
+-- k bytes are 8k bits
 bytes_unit : (k : ℕ) → 256 ^ k ≡ 2 ^ (8 * k)
 bytes_unit zero = refl
 bytes_unit (suc k) =
@@ -57,7 +57,7 @@ bytes_unit (suc k) =
 pub bits_of-push : (a : List ℕ) (x : ℕ) → bits_of (a ++ x ∷ []) ≡ bits_of a ++ number_bits 8 x
 bits_of-push a x = bits_of-append a (x ∷ []) ∙ ap (λ r. bits_of a ++ r) (append-nil (number_bits 8 x))
 
--- one whole byte more, and what is left of a number
+-- appending one whole byte of a number, and the rest of it
 pub bits_of-whole : (bytes : List ℕ) (n number : ℕ) → bits_of (bytes ++ (number / 2 ^ n % 2 ^ 8) ∷ []) ++ number_bits n number ≡ bits_of bytes ++ number_bits (8 + n) number
 bits_of-whole bytes n number =
     rw (bits_of-push bytes (number / 2 ^ n % 2 ^ 8), append_assoc, number_bits-mod 8 (number / 2 ^ n), ← number_bits-mod n number, ← number_bits-cut 8 n number)
@@ -70,7 +70,7 @@ pub length-packed : (bytes : List ℕ) (count rest : ℕ) → length (bits_of by
 length-packed bytes count rest =
     length-append (bits_of bytes) (number_bits count rest) ∙ omega (arith, length-bits_of bytes, length-number_bits count rest)
 
--- a number of m bits in front of one of k bits has m + k bits
+-- a number of m bits before one of k bits has m + k bits
 pub joined-lt : (r m v k : ℕ) → r < 2 ^ m → v < 2 ^ k → r * 2 ^ k + v < 2 ^ (m + k)
 joined-lt r m v k p q = omega (arith, mul-add-lt r (2 ^ k) v (2 ^ m) p q, pow-add 2 m k)
 
@@ -84,7 +84,7 @@ pub front_bits : (count left free rest number : ℕ) → count + free ≡ 64 →
 front_bits count left free rest number whole fits =
     rw (← whole, number_bits-cat count free rest (number / 2 ^ left) (shr_below number free left fits), append_assoc, number_bits-cut free left number, number_bits-mod left number) refl
 
--- a shift by 64 places less some, in two steps
+-- a shift by 64 - count places, in two steps
 pub shifted_twice : (rest count : ℕ) → count < 64 → rest < 2 ^ count → rest * 2 ^ (63 - count) % 2 ^ 64 * 2 % 2 ^ 64 ≡ rest * 2 ^ (64 - count)
 shifted_twice rest count less fits =
     let most = 63 - count in
@@ -95,7 +95,7 @@ shifted_twice rest count less fits =
     let small : rest * 2 ^ most * 2 < 2 ^ 64 = omega (arith, subst (λ n. rest * 2 ^ most < 2 ^ n) all below) in
     rw (once, one_more, pow-suc 2 most) (omega (arith, small))
 
--- zeros behind a number
+-- zeros after a number
 pub number_bits-filled : (rest count zeros : ℕ) → number_bits (count + zeros) (rest * 2 ^ zeros) ≡ number_bits count rest ++ replicate zeros false
 number_bits-filled rest count zeros =
     ap (λ n. number_bits (count + zeros) n) (sym (add-zero (rest * 2 ^ zeros)))

@@ -18,7 +18,7 @@ range_more : (a n : ℕ) → range_with_len a (suc n) ≡ range_with_len a n ++ 
 range_more a zero = ap (λ i. i ∷ []) (let e : a ≡ a + 0 = omega arith in e)
 range_more a (suc n) = ap (λ is. a ∷ is) (range_more (a + 1) n ∙ ap (λ i. range_with_len (a + 1) n ++ i ∷ []) (let e : a + 1 + n ≡ a + suc n = omega arith in e))
 
--- one byte more
+-- appending one byte
 pub padding_bytes-more : (n : ℕ) → padding_bytes (n + 1) ≡ padding_bytes n ++ number_bits 8 (if n % 2 == 0 then 0xEC else 0x11)
 padding_bytes-more n =
     ap padding_bytes (let e : n + 1 ≡ suc n = omega arith in e)

@@ -42,7 +42,7 @@ begins-on : (k : Kind) (place : ℕ) (ks : List Kind) → goes_on k ks ≡ true 
 begins-on k place [] e = cc
 begins-on k place (j ∷ js) e = subst (λ i. BeginsWith (mode_of i) (runs_from place (j ∷ js))) (sym (together-same k j e)) (begins j place js)
 
--- the bytes of a token, written before others of its mode
+-- a mode that can write some bytes can also write a token of its kind before them
 abbrev Writes : Kind → List ℕ → Type 0
 Writes k token = (xs : List ℕ) → can_write (mode_of k) xs ≡ true → can_write (mode_of k) (token ++ xs) ≡ true
 
@@ -140,7 +140,7 @@ widths-kinds (b ∷ c ∷ more) = widths-two b c more (is_kanji b c) (widths-kin
 pub runs-tile : (place : ℕ) (bytes : List ℕ) → Tile place (runs_from place (kinds bytes)) (place + length bytes)
 runs-tile place bytes = subst (λ n. Tile place (runs_from place (kinds bytes)) (place + n)) (widths-kinds bytes) (kinds-tile place (kinds bytes))
 
--- the same of bytes that stand after others
+-- the same for bytes after others
 pub valid-from-cuts : (before bytes : List ℕ) (ss : List Segment) → Cuts (length before) bytes ss → AreWritable (before ++ bytes) ss
 valid-from-cuts before bytes [] h = tt
 valid-from-cuts before bytes (s ∷ ss) (xs, ys, e, begin, end, some, valid, more) =

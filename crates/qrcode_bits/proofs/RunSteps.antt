@@ -8,7 +8,7 @@ use Rattle.qrcode_bits.specs.Runs.{mode_of, width, go_together, goes_on, first_f
 abbrev pub segment : Kind → ℕ → ℕ → Segment
 segment k begin end = record { mode = mode_of k; begin = begin; end = end }
 
--- the runs where tokens of one kind came from `begin` up to `end`, and these come after them
+-- the runs if tokens of one kind go from `begin` to `end`, and these tokens come after them
 abbrev pub runs_after : Kind → ℕ → ℕ → List Kind → List Segment
 runs_after k begin end ks = cond (goes_on k ks) (first_from begin (runs_from end ks)) (segment k begin end ∷ runs_from end ks)
 
@@ -52,7 +52,7 @@ pub runs_after-more : (k j : Kind) (begin end : ℕ) (ks : List Kind) → go_tog
 runs_after-more k j begin end ks e =
     rw e (subst (λ (i : Kind). first_from begin (runs_from end (i ∷ ks)) ≡ runs_after k begin (end + width i) ks) (together-same k j e) (first-after k begin end (end + width k) ks (goes_on k ks)))
 
--- no token of the kind comes
+-- the next token is of another kind
 pub runs_after-over : (k : Kind) (begin end : ℕ) (ks : List Kind) → goes_on k ks ≡ false → runs_after k begin end ks ≡ segment k begin end ∷ runs_from end ks
 runs_after-over k begin end ks e = rw e refl
 

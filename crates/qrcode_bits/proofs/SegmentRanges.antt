@@ -17,7 +17,7 @@ pub tile_le : (from : ℕ) (ss : List Segment) (to : ℕ) → Tile from ss to �
 tile_le from [] to t = omega arith
 tile_le from (s ∷ ss) to t = omega (arith, t.0, t.1.0, tile_le s.end ss to t.1.1)
 
--- one more segment behind those that cover a range
+-- one more segment after those that cover a range
 pub tile-push : (from : ℕ) (ss : List Segment) (s : Segment) → Tile from ss s.begin → s.begin < s.end → Tile from (ss ++ s ∷ []) s.end
 tile-push from [] s t some = (sym t, (some, refl))
 tile-push from (r ∷ ss) s t some = (t.0, (t.1.0, tile-push r.end ss s t.1.1 some))
@@ -70,7 +70,7 @@ kanji_front (suc n) (x ∷ y ∷ a) h =
     let e : suc n * 2 ≡ suc (suc (n * 2)) = omega arith in
     ap (λ k. are_kanji (take k (x ∷ y ∷ a))) e ∙ and_from (is_kanji x y) (are_kanji (take (n * 2) a)) r.0 (kanji_front n a r.1)
 
--- the first characters of what a mode can write
+-- a mode that can write bytes can write their first characters
 pub write_front : (m : Mode) (n : ℕ) (a : List ℕ) → can_write m a ≡ true → can_write m (take (n * bytes_each m) a) ≡ true
 write_front Numeric n a h = list_all_front is_digit (n * 1) a h
 write_front Alphanumeric n a h = list_all_front is_alphanumeric (n * 1) a h

@@ -27,7 +27,7 @@ option_or-both : {A : Type 0} (a b : Option A) → a ≡ None → b ≡ None →
 option_or-both (Some x) b h k = cc
 option_or-both None b h k = k
 
--- one piece more
+-- appending one piece
 refusal-push : (v : Version) (used : ℕ) (ps : List Piece) (p : Piece) → pieces_refusal v used ps ≡ None → piece_refusal v (used + length (written v ps)) p ≡ None → pieces_refusal v used (ps ++ p ∷ []) ≡ None
 refusal-push v used [] p h k =
     let e : used + 0 ≡ used = omega arith in
@@ -62,7 +62,7 @@ pub small_inside : (n : ℕ) (ss : List Segment) → n ≤ 134217728 → AreInsi
 small_inside n [] small h = tt
 small_inside n (s ∷ ss) small h = ((h.0.0, omega (arith, h.0.1, small)), small_inside n ss small h.1)
 
--- one segment more
+-- appending one segment
 pushes_more : (v : Version) (old : List Bool) (bytes : List ℕ) (ss : List Segment) (s : Segment) (now new : List Bool) → s.begin ≤ s.end → s.end ≤ length bytes
     → PushesAll v old bytes ss now → piece_refusal v (length now) (piece_of bytes s) ≡ None → new ≡ now ++ written_piece v (piece_of bytes s) → PushesAll v old bytes (ss ++ s ∷ []) new
 pushes_more v old bytes ss s now new ordered inside before taken e =
@@ -79,7 +79,7 @@ at_end : {X : Type 0} (xs : List X) (x : X) → slice_get (xs ++ x ∷ []) (leng
 at_end [] x = refl
 at_end (y ∷ xs) x = at_end xs x
 
--- a push that is not refused has no cause, and the error of another is its cause
+-- a push that succeeds has no cause, and one that fails has its error as cause
 not_refused : (r : Option QrError) (old after new : BitList) (u : Unit {0}) → Changes r old after new (Ok u) → r ≡ None
 not_refused (Some cause) old after new u h = let same = h.refused cause refl in cc
 not_refused None old after new u h = refl
@@ -88,12 +88,12 @@ cause_of : (r : Option QrError) (old after new : BitList) (e : QrError) → Chan
 cause_of (Some cause) old after new e h = let same = h.refused cause refl in cc
 cause_of None old after new e h = h.accepted refl
 
--- an error that a `?` hands on
+-- an error that a `?` passes on
 pub handed_on : {T : Type 0} (result : Result T QrError) (e : QrError) (P : QrError → Type 0) → IsErr result × IsErrAnd result (λ x. x ≡ e) → P e → IfErr result P
 handed_on (Ok u) e P h p = tt
 handed_on (Err x) e P h p = subst P (sym h.1) p
 
--- the segment behind those that were written is refused
+-- the segment after those that were written fails
 stops : (v : Version) (old : List Bool) (bytes : List ℕ) (ss : List Segment) (s : Segment) (now : List Bool) (e : QrError)
     → PushesAll v old bytes ss now → IsCause (piece_refusal v (length now) (piece_of bytes s)) e → StopsAtLast v old (pieces_of bytes (ss ++ s ∷ [])) e now
 stops v old bytes ss s now e before cause =
@@ -111,7 +111,7 @@ stops v old bytes ss s now e before cause =
       last = omega (arith, length-append ps (p ∷ []));
     })
 
--- a segment that is pushed, behind others
+-- a segment that is pushed after others
 pub pushes_segment : (v : Version) (old : List Bool) (bytes : List ℕ) (ss : List Segment) (s : Segment) (now new : BitList) (u : Unit {0}) → (s.begin ≤ s.end) × (s.end ≤ length bytes)
     → now.version ≡ v → PushesAll v old bytes ss now.bits
     → Changes (piece_refusal now.version (length now.bits) (piece_of bytes s)) now (with_bits now (written_piece now.version (piece_of bytes s))) new (Ok u)
@@ -124,7 +124,7 @@ pushes_segment v old bytes ss s now new u range same before pushed =
           (ap (λ (l : BitList). l.bits) pushed.changed ∙ ap (λ w. now.bits ++ written_piece w p) same),
     )
 
--- a segment that is refused, behind others
+-- a segment that fails after others
 pub refuses_segment : (v : Version) (old : List Bool) (bytes : List ℕ) (ss : List Segment) (s : Segment) (now new : BitList) (e : QrError)
     → now.version ≡ v → PushesAll v old bytes ss now.bits
     → Changes (piece_refusal now.version (length now.bits) (piece_of bytes s)) now (with_bits now (written_piece now.version (piece_of bytes s))) new (Err e)
@@ -135,7 +135,7 @@ refuses_segment v old bytes ss s now new e same before refused =
     let stop = stops v old bytes ss s now.bits e before (subst (λ w. IsCause (piece_refusal w (length now.bits) p) e) same cause) in
     subst (StopsAtLast v old (pieces_of bytes (ss ++ s ∷ [])) e) (sym (ap (λ (l : BitList). l.bits) refused.unchanged)) stop
 
--- all segments are written, and what comes behind them is refused
+-- all segments are written, and the push after them fails
 pub stops_behind : (v : Version) (old : List Bool) (bytes : List ℕ) (ss : List Segment) (r : Option QrError) (now after new : BitList) (result : Result (Unit {0}) QrError)
     → now.version ≡ v → PushesAll v old bytes ss now.bits → Changes r now after new result
     → IfErr result (λ _. (n : ℕ) × (new ≡ record { version = v; bits = old ++ written v (take n (pieces_of bytes ss)) }))

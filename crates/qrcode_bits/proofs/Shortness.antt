@@ -52,11 +52,11 @@ least_tiles v bytes from (s ∷ ss) t w =
       least_tiles v bytes s.end ss t.1.1 w.1,
     )
 
--- what each cut takes at least
+-- a lower bound for the bits of every cut
 pub least_cut : (v : Version) (bytes : List ℕ) (ss : List Segment) → IsCut v bytes ss → 33 * length bytes ≤ 13 * count_by is_digit bytes + 6 * total_cost v ss
 least_cut v bytes ss cut = omega (arith, least_tiles v bytes 0 ss cut.tiles cut.writable)
 
--- what passes for each item and for the default passes for whatever is read
+-- a test that each item and the default pass, every item read from the list passes
 read_passes : {X : Type 0} (p : X → Bool) (xs : List X) (d : X) (i : ℕ) → list_all p xs ≡ true → p d ≡ true → p (slice_index_or xs i d) ≡ true
 read_passes p [] d i all default = default
 read_passes p (x ∷ xs) d zero all default = (and_parts (p x) (list_all p xs) all).0
@@ -69,7 +69,7 @@ all_small : list_all (list_all is_small) block_table ≡ true
 unfolding block_table
 all_small = refl
 
--- no symbol holds more, of whatever version and level
+-- no symbol of any version and level holds more bits
 pub capacity_at_most : (v : Version) (l : EcLevel) → capacity v l ≤ 23648
 unfolding capacity blocks_entry
 capacity_at_most v l =
@@ -77,6 +77,6 @@ capacity_at_most v l =
     let small = read_passes is_small row (0, 0, 0, 0) (level_number l) (read_passes (list_all is_small) block_table [] (row_of v) all_small refl) refl in
     omega (arith, data_length-is v l, leb-true (data_of (slice_index_or row (level_number l) (0, 0, 0, 0))) 2956 small)
 
--- data of which a cut fits a symbol
+-- data with a cut that fits a symbol has no more bytes than that
 pub fitting_short : (v : Version) (l : EcLevel) (bytes : List ℕ) → FitsIn v bytes (capacity v l) → length bytes ≤ 23648
 fitting_short v l bytes fits = omega (arith, least_cut v bytes fits.0 fits.1.0, count_by-le-length is_digit bytes, fits.1.1, capacity_at_most v l)

@@ -23,7 +23,7 @@ all_both : (a b : List ℕ) → all_scalars a ≡ true → all_scalars b ≡ tru
 all_both [] b h k = k
 all_both (c ∷ a) b h k = let r = and_parts _ (all_scalars a) h in and_from _ (all_scalars (a ++ b)) r.0 (all_both a b r.1 k)
 
--- what segments are shown as is, in UTF-8, their bytes
+-- the text that segments are shown as is their bytes in UTF-8
 shown_bytes : (ps : List Piece) (text : List ℕ) → ArePiecesShown ps text → encode_utf8_all text ≡ flat_map (λ p. p.chunk) ps
 shown_bytes [] text h = ap encode_utf8_all h
 shown_bytes (p ∷ ps) text h =
@@ -50,7 +50,7 @@ no_end : (n : _) (rest : List Bool) → is_end (Normal n) (front MarkedText ++ r
 unfolding number_bits
 no_end n rest e = true≢false (sym e)
 
--- the number of a character set is no segment and no end
+-- an ECI designator is no segment and no end
 no_piece : (v : Version) (rest : List Bool) (ps : List Piece) → IsTrue (has_front v MarkedText) → IsReadAs v (front MarkedText ++ rest) ps → ⊥
 no_piece (Micro n) rest ps has read = cc
 no_piece (Normal n) rest [] has read = no_end n rest read
@@ -59,7 +59,7 @@ no_piece (Normal n) rest (p ∷ ps) has read =
     let e : number_bits 4 7 ++ (eci_bits 26 ++ rest) ≡ _ = sym (append_assoc (number_bits 4 7) (eci_bits 26) rest) ∙ read.1.0 ∙ append_assoc i _ read.0 in
     no_indicator p.mode (same_number 4 7 (2 ^ mode_number p.mode) (eci_bits 26 ++ rest) _ (omega arith) (normal_small p.mode) e).0
 
--- one text for the same bits in front
+-- after the same front there is one text
 same_rest : (v : Version) (bits before r s : List Bool) (ps qs : List Piece) (a b : List ℕ) → bits ≡ before ++ r → bits ≡ before ++ s → IsReadAs v r ps → IsReadAs v s qs
     → ArePiecesShown ps a → ArePiecesShown qs b → b ≡ a
 same_rest v bits before r s ps qs a b e f p q h k =

@@ -34,7 +34,7 @@ use Rattle.qrcode_bits.proofs.Endings.{terminated-ending, ending-is_end, read_as
 abbrev AreBoth : Mode → Segment → Segment → Type 0
 AreBoth m s t = (s.mode ≡ m) × (t.mode ≡ m)
 
--- no two segments of bytes are neighbours
+-- no two Byte segments are neighbours
 abbrev Apart : List Segment → Type 0
 Apart [] = Unit {0}
 Apart (s ∷ []) = Unit {0}
@@ -77,7 +77,7 @@ module _ (v : Version) (bytes : List ℕ) where
       subst (λ b. b < 128) (get_or-take (s.end - s.begin) (drop s.begin bytes) (k - s.begin) 0 (omega arith) ∙ get_or-drop s.begin bytes (k - s.begin) 0 ∙ ap (λ i. get_or bytes i 0) e)
       (narrow_low s.mode (slice_range bytes s.begin s.end) (k - s.begin) among not w)
 
-  -- between two segments a character begins, unless both are of bytes; and at the end
+  -- a segment ends at a character boundary, if no two Byte segments are neighbours
   border : (from : ℕ) (s : Segment) (ss : List Segment) → IsUtf8 bytes → Tile from (s ∷ ss) (length bytes) → AreAmong text_modes (s ∷ ss) → AreWritable bytes (s ∷ ss) → Apart (s ∷ ss) → IsCharBoundary bytes s.end
   border from s [] u t a w apart = subst (IsCharBoundary bytes) (sym t.1.1) (IsCharBoundary-end bytes)
   border from s (x ∷ ss) u t a w apart = elim (is_byte s.mode) [
@@ -95,7 +95,7 @@ module _ (v : Version) (bytes : List ℕ) where
         ]
   ]
 
-  -- segments with fewer bits between the same places
+  -- segments between the same places that take fewer bits
   record Shorter (from : ℕ) (ss : List Segment) (to : ℕ) : Type 0 where
     segments : List Segment
     tiles : Tile from segments to
@@ -104,7 +104,7 @@ module _ (v : Version) (bytes : List ℕ) where
     writable : AreWritable bytes segments
     fewer : total_cost v segments < total_cost v ss
 
-  -- two segments of bytes as one
+  -- two neighbouring Byte segments as one take fewer bits
   joined : (from : ℕ) (s u : Segment) (ss : List Segment) (to : ℕ) → to ≤ length bytes → Tile from (s ∷ u ∷ ss) to → HaveModes v (s ∷ u ∷ ss) → AreAmong text_modes (s ∷ u ∷ ss) → AreWritable bytes (s ∷ u ∷ ss)
       → s.mode ≡ Byte → u.mode ≡ Byte → Shorter from (s ∷ u ∷ ss) to
   joined from s u ss to in_ t h a w first second =
@@ -156,7 +156,7 @@ module _ (v : Version) (bytes : List ℕ) where
             absurd (omega (arith, less.fewer, least.least less.segments other))
       ]
 
-  -- what is shown of segments from a place on
+  -- how the segments from a place on are shown
   record ShownFrom (from : ℕ) (ss : List Segment) : Type 0 where
     text : List ℕ
     shown : ArePiecesShown (pieces_of bytes ss) text
@@ -183,11 +183,11 @@ text_manner Bytes e = cc
 text_manner Text e = refl
 text_manner MarkedText e = refl
 
--- in each manner of texts
+-- in both manners of text
 pub segments_shown : (m : Manner) (v : Version) (bytes : List ℕ) (ss : List Segment) → IsTrue (is_text m) → IsUtf8 bytes → IsLeastCutIn (modes_of m) v bytes ss → ArePiecesShown (pieces_of bytes ss) (chars bytes)
 segments_shown m v bytes ss text u least = text_shown v bytes ss u (subst (λ set. IsLeastCutIn set v bytes ss) (text_manner m text) least)
 
--- and so is its list, with or without a mark in front, and as nothing else
+-- and so is its list, with or without an ECI designator, and as nothing else
 pub list_shown : (m : Manner) (v : Version) (l : EcLevel) (bytes : List ℕ) (ss : List Segment) → IsTrue (is_valid v) → IsTrue (has_front v m) → IsTrue (is_text m) → IsUtf8 bytes
     → IsLeastCutIn (modes_of m) v bytes ss → length (front m) + total_cost v ss ≤ capacity v l → ShowsOnly v (terminated v l (front m ++ written v (pieces_of bytes ss))) (chars bytes)
 list_shown m v l bytes ss valid has text u least room =

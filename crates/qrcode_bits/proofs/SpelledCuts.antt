@@ -1,4 +1,4 @@
--- Bits that fill a symbol spell data just where a cut of the data fits it.
+-- Some bits that fill a symbol decode to data exactly if a cut of the data fits it.
 use Rattle.std.proofs.Common.{◌≡◌, ℕ, ◌+◌, ◌-◌, ◌≤◌, ◌<◌, Bool, List, [], ◌∷◌, ◌++◌, length, take, drop, refl, sym, ap, ap₂, ◌∙◌, arith, subst, length-append, IsTrue}
 use Rattle.std.specs.Prelude.{◌↔◌, flat_map, slice_range}
 use Rattle.std.specs.List.{AllByRecursion}
@@ -22,7 +22,7 @@ use Rattle.qrcode_bits.proofs.CutPieces.{cut_pieces}
 abbrev chunks : List Piece → List ℕ
 chunks ps = flat_map (λ p. p.chunk) ps
 
--- pieces as ranges, the first of which begins at a place
+-- pieces as ranges, the first of which begins at this place
 abbrev ranges : ℕ → List Piece → List Segment
 ranges from [] = []
 ranges from (p ∷ ps) = (record { mode = p.mode; begin = from; end = from + length p.chunk }) ∷ ranges (from + length p.chunk) ps

@@ -1,4 +1,4 @@
--- Bits spell one list of bytes at most.
+-- Bits decode to at most one list of bytes.
 use Rattle.std.proofs.Common.{◌≡◌, ℕ, zero, suc, ◌-◌, ◌^◌, ◌<◌, Bool, List, [], ◌∷◌, ◌++◌, length, refl, sym, ap, ap₂, ◌∙◌, arith, subst, true≢false, append_assoc}
 use Rattle.std.specs.Prelude.{IsTrue, nat_abs, flat_map}
 use Rattle.std.proofs.lemmas.Bool.{ltb-true}
@@ -51,12 +51,12 @@ mode_of_micro-is Alphanumeric = refl
 mode_of_micro-is Byte = refl
 mode_of_micro-is Kanji = refl
 
--- an indicator tells its mode
+-- an indicator determines its mode
 pub same_mode : (v : Version) (m n : Mode) → indicator v m ≡ indicator v n → m ≡ n
 same_mode (Normal v) m n e = sym (mode_of_normal-is m) ∙ ap mode_of_normal e ∙ mode_of_normal-is n
 same_mode (Micro v) m n e = sym (mode_of_micro-is m) ∙ ap mode_of_micro e ∙ mode_of_micro-is n
 
--- the bits behind a mode indicator
+-- the bits after a mode indicator
 behind : Version → Mode → List ℕ → List Bool → List Bool
 behind v m a x = number_bits (length_bits_count m v) (character_count m (length a)) ++ (data_bits_in m a ++ x)
 

@@ -28,7 +28,7 @@ use Rattle.qrcode_bits.proofs.Fitting.{cut_stop, readable_stop}
 use Rattle.qrcode_bits.proofs.Lengths.{length-piece}
 use Rattle.qrcode_bits.proofs.ShownTexts.{segments_shown, list_shown}
 
--- a piece that is refused behind those before it refuses all
+-- an error of one piece, after those before it, is the error of all
 refusal_at : (v : Version) (used : ℕ) (ps : List Piece) (k : ℕ) (e : QrError) → k < length ps → pieces_refusal v used (take k ps) ≡ None
     → IfSome (slice_get ps k) (λ p. piece_refusal v (used + length (written v (take k ps))) p ≡ Some e) → pieces_refusal v used ps ≡ Some e
 refusal_at v used [] k e inside before at = absurd (omega (arith, inside))
@@ -49,7 +49,7 @@ too_long : (o : Option QrError) → IsCause o DataTooLong → o ≡ Some DataToo
 too_long (Some cause) is = ap Some (sym is)
 too_long None is = cc
 
--- what stops pieces for their length is what refuses them
+-- if a push of pieces stops because one is too long, this is the error of all
 stop_refusal : (v : Version) (old : List Bool) (ps : List Piece) (new : List Bool) → StopsAt v old ps DataTooLong new → pieces_refusal v (length old) ps ≡ Some DataTooLong
 stop_refusal v old ps new s =
     let used : length new ≡ length old + length (written v (take s.place ps)) = ap length s.written ∙ length-append old (written v (take s.place ps)) in
@@ -58,7 +58,7 @@ stop_refusal v old ps new s =
       each None m n e h = tt
       each (Some p) m n e h = ap (λ k. piece_refusal v k p) (sym e) ∙ too_long (piece_refusal v m p) h
 
--- or a piece is too long
+-- there is no room if a piece is too long
 piece_long : (m : Manner) (bytes : List ℕ) (list : BitList) (ss : List Segment) (new : List Bool) → IsLeastCutIn (modes_of m) list.version bytes ss → length list.bits + length (front m) ≤ bit_limit
     → StopsAt list.version (list.bits ++ front m) (pieces_of bytes ss) DataTooLong new → HasNoRoom m bytes list
 piece_long m bytes list ss new least room stop =
@@ -71,7 +71,7 @@ piece_long m bytes list ss new least room stop =
       ),
     )
 
--- text that a symbol holds is refused only where memory is
+-- pushing a text that a symbol holds fails only if memory runs out
 held_stop : (m : Manner) (l : EcLevel) (bytes : List ℕ) (list : BitList) (ss : List Segment) (e : QrError) (new : List Bool) → IsTrue (is_valid list.version) → IsLeastCutIn (modes_of m) list.version bytes ss
     → HoldsAs m list.version l bytes → length list.bits + capacity list.version l ≤ bit_limit → StopsAt list.version (list.bits ++ front m) (pieces_of bytes ss) e new → e ≡ OutOfMemory
 held_stop m l bytes list ss e new valid least holds room stop =
@@ -82,7 +82,7 @@ held_stop m l bytes list ss e new valid least holds room stop =
     let long = length-written v bytes 0 ss (length bytes) least.reached.cut.tiles (omega arith) in
     readable_stop v (list.bits ++ front m) (pieces_of bytes ss) e new pieces.0 (omega (arith, length-append list.bits (front m), long, short, room)) stop
 
--- the list stays as it was where a text is refused
+-- the list stays as it was if the push of a text fails
 kept : (m : Manner) (bytes : List ℕ) (list : BitList) (e : QrError) (result : Result (Unit {0}) QrError) → IsErr result × IsErrAnd result (λ x. x ≡ e)
     → ((l : EcLevel) → HoldsAs m list.version l bytes → length list.bits + capacity list.version l ≤ bit_limit → e ≡ OutOfMemory) → IsRefusedText m bytes list e → PushesText m bytes list list result
 kept m bytes list e (Ok u) is memory cause = absurd (false≢true is.0)
@@ -97,7 +97,7 @@ long_text m bytes list long = record {
   causes = inl (long, refl);
 }
 
--- a version that cannot have the bits in front holds no text in the manner
+-- in a version that does not allow the front, the push fails
 pub unmarked_text : (m : Manner) (bytes : List ℕ) (list : BitList) (v : Version) → v ≡ list.version → length bytes ≤ data_limit → has_front v m ≡ false → PushesText m bytes list list (Err UnsupportedCharacterSet)
 unmarked_text m bytes list v same short not_there =
     let no : has_front list.version m ≡ false = subst (λ w. has_front w m ≡ false) same not_there in
@@ -108,12 +108,12 @@ unmarked_text m bytes list v same short not_there =
       causes = inr (λ long. omega (arith, short, long), inl (no, refl));
     }
 
--- what refuses a text of few bytes in a version that can have the bits in front
+-- the causes for a text within the limit, in a version that allows the front
 behind_front : (m : Manner) (bytes : List ℕ) (list : BitList) (e : QrError) → length bytes ≤ data_limit → IsTrue (has_front list.version m)
     → IfCause ((ss : List Segment) → ¬ IsCutIn (modes_of m) list.version bytes ss) (e ≡ UnsupportedCharacterSet) ((e ≡ OutOfMemory) ⊎ ((e ≡ DataTooLong) × HasNoRoom m bytes list)) → IsRefusedText m bytes list e
 behind_front m bytes list e short has cause = inr (λ long. omega (arith, short, long), inr (λ no. true≢false (sym has ∙ no), cause))
 
--- a text that the search for a cut refuses
+-- a text for which the search for a cut fails
 pub uncut_text : (m : Manner) (bytes : List ℕ) (list : BitList) (v : Version) (e : QrError) (result : Result (Unit {0}) QrError) → v ≡ list.version → length bytes ≤ data_limit → IsTrue (has_front v m)
     → (e ≡ UnsupportedCharacterSet) ⊎ (e ≡ OutOfMemory) → (((ss : List Segment) → ¬ IsCutIn (modes_of m) v bytes ss) → e ≡ UnsupportedCharacterSet)
     → ((ss : List Segment) → IsCutIn (modes_of m) v bytes ss → e ≡ OutOfMemory) → IsErr result × IsErrAnd result (λ x. x ≡ e) → PushesText m bytes list list result
@@ -125,13 +125,13 @@ uncut_text m bytes list v e result same short has either no_cut memory is =
       | inr refused ↦ inr (λ none. (let h : UnsupportedCharacterSet ≡ OutOfMemory = sym (lacking none) ∙ refused in cc), inl refused)
     ]))
 
--- a text for which memory is refused behind the search
+-- a text for which memory runs out after the search
 pub starved_text : (m : Manner) (bytes : List ℕ) (list : BitList) (ss : List Segment) (e : QrError) (result : Result (Unit {0}) QrError) → length bytes ≤ data_limit → IsTrue (has_front list.version m)
     → IsLeastCutIn (modes_of m) list.version bytes ss → e ≡ OutOfMemory → IsErr result × IsErrAnd result (λ x. x ≡ e) → PushesText m bytes list list result
 starved_text m bytes list ss e result short has least memory is =
     kept m bytes list e result is (λ l holds fits. memory) (behind_front m bytes list e short has (inr (λ none. none ss least.reached, inl memory)))
 
--- a list that has no room for the bits in front
+-- a list that has no room for the front
 pub full_list : (m : Manner) (bytes : List ℕ) (list : BitList) (ss : List Segment) → length bytes ≤ data_limit → IsTrue (has_front list.version m) → IsLeastCutIn (modes_of m) list.version bytes ss
     → bit_limit < length list.bits + length (front m) → PushesText m bytes list list (Err DataTooLong)
 full_list m bytes list ss short has least over =
@@ -143,7 +143,7 @@ full_list m bytes list ss short has least over =
       causes = behind_front m bytes list DataTooLong short has (inr (λ none. none ss least.reached, inr (refl, (ss, (least, refusal)))));
     }
 
--- a text of which a piece is refused
+-- a text of which a piece fails
 pub refused_text : (m : Manner) (bytes : List ℕ) (list : BitList) (ss : List Segment) (new : List Bool) (e : QrError) (result : Result (Unit {0}) QrError)
     → IsTrue (is_valid list.version) → length bytes ≤ data_limit → IsTrue (has_front list.version m) → IsLeastCutIn (modes_of m) list.version bytes ss → length list.bits + length (front m) ≤ bit_limit
     → StopsAt list.version (list.bits ++ front m) (pieces_of bytes ss) e new → IsErr result × IsErrAnd result (λ x. x ≡ e) → PushesText m bytes list list result
@@ -154,7 +154,7 @@ refused_text m bytes list ss new e result valid short has least room stop is =
       cause (inl long) = inr (long, piece_long m bytes list ss new least room (subst (λ e. StopsAt list.version (list.bits ++ front m) (pieces_of bytes ss) e new) long stop))
       cause (inr memory) = inl memory
 
--- the bits in front and all pieces are written
+-- the front and all pieces are written
 pub appended_text : (m : Manner) (bytes : List ℕ) (old new : BitList) (ss : List Segment) → IsTrue (is_valid old.version) → IsTrue (has_front old.version m) → IsTrue (is_text m) → IsUtf8 bytes
     → IsLeastCutIn (modes_of m) old.version bytes ss → PushesAll old.version (old.bits ++ front m) bytes ss new.bits → new.version ≡ old.version → PushesText m bytes old new (Ok tt)
 appended_text m bytes old new ss valid has text utf8 least pushed version =

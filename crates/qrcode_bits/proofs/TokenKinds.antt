@@ -17,13 +17,13 @@ no_more : agree_below (λ n. is_alphanumeric (91 + n)) (λ n. false) 165 ≡ tru
 unfolding is_alphanumeric alphabet
 no_more = refl
 
--- the last letter is the greatest byte of the alphabet
+-- `Z` is the largest alphanumeric byte
 pub above_letters : (b : ℕ) → b < 2 ^ 8 → 90 < b → is_alphanumeric b ≡ false
 above_letters b small above =
     let e : b ≡ 91 + (b - 91) = omega (arith, above) in
     ap is_alphanumeric e ∙ agree_below_at (λ n. is_alphanumeric (91 + n)) (λ n. false) 165 (b - 91) no_more (omega (arith, small, above))
 
--- the letters and digits stand below the bytes that can begin a pair
+-- bytes below 129 cannot begin a pair
 low_not_lead : (b : ℕ) → b < 129 → is_lead b ≡ false
 low_not_lead b below = agree_below_at is_lead (λ b. false) 129 b refl below
 
@@ -58,7 +58,7 @@ some_place : (o : Option ℕ) → is_some o ≡ true → o ≡ Some (unwrap_or o
 some_place None h = cc
 some_place (Some i) h = refl
 
--- a character of the alphabet is one of ASCII
+-- an alphanumeric byte is ASCII
 pub alphanumeric_low : (b : ℕ) → is_alphanumeric b ≡ true → b < 128
 unfolding is_alphanumeric
 alphanumeric_low b h =
@@ -67,7 +67,7 @@ alphanumeric_low b h =
     let low = AllPass-from_list_all (λ c. nat_lt c 128) alphabet all_low i 0 found.0 in
     subst (λ c. c < 128) (eqb-true (get_or alphabet i 0) b found.1) (ltb-true (get_or alphabet i 0) 128 low)
 
--- a character of the alphabet is a digit or a letter
+-- an alphanumeric byte is a token of the kind Digit or Letter
 pub alphanumeric_kind : (b after : ℕ) → is_alphanumeric b ≡ true → kind_at b after ≡ cond (is_digit b) Digit Letter
 alphanumeric_kind b after h =
     low_kind b after (omega (arith, alphanumeric_low b h))
@@ -76,7 +76,7 @@ alphanumeric_kind b after h =
 pub pair_kind : (b after : ℕ) → is_kanji b after ≡ true → kind_at b after ≡ Pair
 pair_kind b after h = cond-true (is_kanji b after) Pair (single_kind b) h
 
--- what a kind says of the bytes
+-- what a kind says about its bytes
 abbrev pub Tells : ℕ → ℕ → Kind → Type 0
 Tells b after Pair = is_kanji b after ≡ true
 Tells b after LoneLead = Unit {0}

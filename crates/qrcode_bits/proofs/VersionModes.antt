@@ -13,11 +13,11 @@ use Rattle.qrcode_bits.specs.LeastBits.{header_in, headers_of}
 use Rattle.qrcode_bits.specs.ModeSets.{is_among}
 use Rattle.qrcode_bits.specs.declared.optimize.mode_sets.Modes.{Modes}
 
--- the header of each mode is short
+-- the header of each mode is short enough
 abbrev is_short : Version → Mode → Bool
 is_short v m = nat_le (mode_bits_count v + length_bits_count m v) 24
 
--- what each of the 44 versions passes
+-- a test that each of the 44 versions passes
 by_tables : (p : Version → Bool) → agree_below (λ n. p (Normal (pos n))) (λ n. true) 41 ≡ true → agree_below (λ n. p (Micro (pos n))) (λ n. true) 5 ≡ true → (v : Version) → IsTrue (is_valid v) → p v ≡ true
 by_tables p normal micro (Normal (pos n)) e = agree_below_at (λ n. p (Normal (pos n))) (λ n. true) 41 n normal (omega (arith, leb-true n 40 (and_parts (nat_le 1 n) (nat_le n 40) e).1))
 by_tables p normal micro (Micro (pos n)) e = agree_below_at (λ n. p (Micro (pos n))) (λ n. true) 5 n micro (omega (arith, leb-true n 4 (and_parts (nat_le 1 n) (nat_le n 4) e).1))
@@ -30,7 +30,7 @@ all_short = by_tables (λ v. for_all (is_short v)) refl refl
 pub header_short : (v : Version) (m : Mode) → IsTrue (is_valid v) → mode_bits_count v + length_bits_count m v ≤ 24
 header_short v m valid = leb-true (mode_bits_count v + length_bits_count m v) 24 (at_each (is_short v) (all_short v valid) m)
 
--- the length field of digits is two bits longer than that of each mode, at most
+-- the length field of Numeric is at most two bits longer than that of any other mode
 abbrev is_near : Version → Mode → Bool
 is_near v m = nat_le (length_bits_count Numeric v) (length_bits_count m v + 2)
 
@@ -40,7 +40,7 @@ all_near = by_tables (λ v. for_all (is_near v)) refl refl
 pub digits_length : (v : Version) (m : Mode) → IsTrue (is_valid v) → length_bits_count Numeric v ≤ length_bits_count m v + 2
 digits_length v m valid = leb-true (length_bits_count Numeric v) (length_bits_count m v + 2) (at_each (is_near v) (all_near v valid) m)
 
--- each length field of digits in Normal has ten bits at least
+-- in Normal, the length field of Numeric has at least ten bits
 abbrev is_long : Version → Bool
 is_long (Normal v) = nat_le 10 (length_bits_count Numeric (Normal v))
 is_long (Micro v) = true
@@ -51,7 +51,7 @@ all_long = by_tables is_long refl refl
 pub long_digits : (n : ℤ) → IsTrue (is_valid (Normal n)) → 10 ≤ length_bits_count Numeric (Normal n)
 long_digits n valid = leb-true 10 (length_bits_count Numeric (Normal n)) (all_long (Normal n) valid)
 
--- each version has digits
+-- each version has the mode Numeric
 pub has_digits : (v : Version) → IsTrue (is_valid v) → has_mode v Numeric ≡ true
 has_digits = by_tables (λ v. has_mode v Numeric) refl refl
 

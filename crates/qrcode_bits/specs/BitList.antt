@@ -1,4 +1,4 @@
--- What a list of bits is seen as.
+-- A list of bits as contracts see it.
 use Rattle.std.specs.Prelude.{Bool, List}
 use Rattle.qrcode_types.specs.declared.types.Version.{Version}
 

@@ -1,4 +1,4 @@
--- What the automatic choice of a version gives.
+-- The list of bits that the automatic choice of a version returns.
 use Rattle.std.specs.Prelude.{IsUtf8, chars, ◌≡◌, ℕ, ◌<◌, ◌≤◌, List, ◌++◌, length, IsTrue}
 use Rattle.qrcode_types.specs.Versions.{capacity, has_level, level_number}
 use Rattle.qrcode_types.specs.declared.types.Version.{Version}
@@ -13,7 +13,7 @@ use Rattle.qrcode_bits.specs.Spelling.{SpellsOnly}
 use Rattle.qrcode_bits.specs.declared.optimize.Segment.{Segment}
 use Rattle.qrcode_bits.specs.declared.bits.manner.Manner.{Manner}
 
--- the list is for a version, and its bits are the segments of a cut, terminated; they are read as the data, and as no other
+-- the list is for version v, and its bits are the segments of a cut, terminated; they decode to the data and nothing else
 pub record IsTerminated (v : Version) (l : EcLevel) (bytes : List ℕ) (segments : List Segment) (list : BitList) : Type 0 where
   pub version : list.version ≡ v
   pub level : IsTrue (has_level v l)
@@ -22,14 +22,15 @@ pub record IsTerminated (v : Version) (l : EcLevel) (bytes : List ℕ) (segments
   pub full : length list.bits ≡ capacity v l
   pub spelled : SpellsOnly v list.bits bytes
 
--- the list is for the least version that holds the data, and has the data in a least cut
+-- the list is for the smallest Normal version that holds the data, and has the data in a least cut
 pub record IsChosenList (l : EcLevel) (bytes : List ℕ) (list : BitList) : Type 0 where
   pub least_version : IsLeastHolding l bytes list.version
   pub segments : List Segment
   pub least : IsLeastCut list.version bytes segments
   pub terminated : IsTerminated list.version l bytes segments list
 
--- The list holds the data, and its bits are those in front and a least cut, terminated. A text is shown as its characters.
+-- The version holds the data, and the bits are the manner's front and a least cut, terminated. A reader shows exactly the
+-- characters of a text.
 pub record IsListAs (m : Manner) (l : EcLevel) (bytes : List ℕ) (list : BitList) : Type 0 where
   pub holds : HoldsAs m list.version l bytes
   pub segments : List Segment
@@ -38,12 +39,12 @@ pub record IsListAs (m : Manner) (l : EcLevel) (bytes : List ℕ) (list : BitLis
   pub full : length list.bits ≡ capacity list.version l
   pub shown : IsTrue (is_text m) → IsUtf8 bytes → ShowsOnly list.version list.bits (chars bytes)
 
--- such a list for the least version, from one on, that holds the data
+-- such a list for the smallest version from `from` on that holds the data
 pub record IsListFrom (m : Manner) (from : Version) (l : EcLevel) (bytes : List ℕ) (list : BitList) : Type 0 where
   pub least_version : IsLeastFrom m from l bytes list.version
   pub written : IsListAs m l bytes list
 
--- such a list at the highest level, from one on, at which that version holds the data
+-- such a list at the highest level, from l on, at which the version that is chosen for l holds the data
 pub record IsBoostedList (m : Manner) (from : Version) (l : EcLevel) (bytes : List ℕ) (highest : EcLevel) (list : BitList) : Type 0 where
   pub least_version : IsLeastFrom m from l bytes list.version
   pub written : IsListAs m highest bytes list

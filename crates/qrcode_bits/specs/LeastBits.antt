@@ -1,4 +1,4 @@
--- The fewest bits that a rest of the data takes, from its end on.
+-- The fewest bits for the data from each place on, computed from its end.
 use Rattle.std.specs.Prelude.{◌≡◌, ℕ, ◌+◌, ◌-◌, ◌<◌, ◌≤◌, nat_lt, min, Bool, true, false, List, [], ◌∷◌, length, drop, slice_index_or, slice_range, IsTrue, if◌then◌else◌}
 use Rattle.qrcode_types.specs.Modes.{data_bits_count}
 use Rattle.qrcode_types.specs.Characters.{can_write, character_count}
@@ -15,7 +15,7 @@ use Rattle.qrcode_bits.specs.declared.optimize.costs.BestStart.{BestStart}
 use Rattle.qrcode_bits.specs.declared.optimize.costs.Costs.{Costs}
 use Rattle.qrcode_bits.specs.declared.optimize.costs.HeaderBits.{HeaderBits}
 
-abbrev pub headers_of : Modes → Version → HeaderBits  -- the headers of a version, in the modes of a set
+abbrev pub headers_of : Modes → Version → HeaderBits  -- the headers (bits of mode indicator and length field) of a version, in the modes of a set
 headers_of set v = record { numeric = header set v Numeric; alphanumeric = header set v Alphanumeric; byte = header set v Byte; kanji = header set v Kanji }
 
 abbrev pub header_in : HeaderBits → Mode → ℕ  -- the header of a mode
@@ -30,11 +30,11 @@ pub record AreSmall (h : HeaderBits) : Type 0 where  -- each header is at most m
   pub byte : h.byte ≤ more_than_any
   pub kanji : h.kanji ≤ more_than_any
 
--- more than anything is counted, and so little that with a header and a few bits more it does not wrap
+-- more than any cost, and small enough that adding a header and a few bits does not overflow
 abbrev pub cost_limit : ℕ
 cost_limit = 2147483648
 
-pub record IsSmall (r : Costs) : Type 0 where  -- each of the costs is at most that
+pub record IsSmall (r : Costs) : Type 0 where  -- each cost is at most cost_limit
   pub start : r.start.bits ≤ cost_limit
   pub digits : r.digits ≤ cost_limit
   pub one_digit : r.one_digit ≤ cost_limit
@@ -45,7 +45,7 @@ pub record IsSmall (r : Costs) : Type 0 where  -- each of the costs is at most t
   pub pairs : r.pairs ≤ cost_limit
   pub half_pair : r.half_pair ≤ cost_limit
 
--- a segment of the mode goes on with a byte of the kind, and in Kanji with both bytes of a pair
+-- a segment of the mode can take a byte of the kind; in Kanji, both bytes of a pair
 abbrev pub takes : Mode → Kind → Bool
 takes Numeric Digit = true
 takes Alphanumeric Digit = true
@@ -54,7 +54,7 @@ takes Byte k = true
 takes Kanji Pair = true
 takes _ _ = false
 
--- what a segment takes that begins here: its header, the bits of its first character, and what follows
+-- the bits if a segment of this mode begins here: its header, its first character, and what follows
 abbrev pub begun : HeaderBits → Mode → Costs → ℕ
 begun h Numeric next = h.numeric + 4 + next.one_digit
 begun h Alphanumeric next = h.alphanumeric + 6 + next.odd_letter
@@ -64,7 +64,7 @@ begun h Kanji next = h.kanji + 13 + next.half_pair
 abbrev pub better : BestStart → Mode → ℕ → BestStart  -- the better of a start and one in another mode
 better s m bits = if nat_lt bits s.bits then record { bits = bits; mode = m } else s
 
-abbrev pub better_if : Bool → BestStart → Mode → ℕ → BestStart  -- the same, where the other mode can write the byte
+abbrev pub better_if : Bool → BestStart → Mode → ℕ → BestStart  -- the better of both, if the other mode can write the byte
 better_if true s m bits = better s m bits
 better_if false s m bits = s
 
@@ -75,13 +75,13 @@ best_start h k next =
     let digits = better_if (takes Numeric k) letters Numeric (begun h Numeric next) in
     better_if (takes Kanji k) digits Kanji (begun h Kanji next)
 
--- an open segment goes on, where its mode can write the byte, or it ends and another begins
+-- an open segment goes on, if its mode can write the byte, or a new one begins
 abbrev pub open_or : ℕ → Bool → ℕ → ℕ
 open_or start true goes_on = min start goes_on
 open_or start false goes_on = start
 
--- The costs one byte earlier, by the kind of that byte and the best start there. Each line is a mode and what an open segment
--- has behind its last whole group: the bits of one character more, and what it has behind the group then.
+-- The costs one byte earlier, by the kind of that byte and the best start there. Each line is an open segment, by its mode and
+-- the characters after its last whole group: the bits of one more character, and the cost of the segment with it.
 abbrev pub costs_before : Kind → BestStart → Costs → Costs
 costs_before k s next = record {
   start = s;
@@ -95,10 +95,10 @@ costs_before k s next = record {
   half_pair = next.pairs;
 }
 
-abbrev pub step : HeaderBits → Kind → Costs → Costs  -- the same with the best start
+abbrev pub step : HeaderBits → Kind → Costs → Costs  -- the costs one byte earlier, with the best start
 step h k next = costs_before k (best_start h k next) next
 
-abbrev pub at_end : Costs  -- the end of the data
+abbrev pub at_end : Costs  -- the costs at the end of the data
 at_end = record {
   start = record { bits = 0; mode = Byte };
   digits = 0;
@@ -111,11 +111,11 @@ at_end = record {
   half_pair = 0;
 }
 
-abbrev pub costs_of : HeaderBits → List ℕ → Costs  -- what the rest takes, byte by byte from its end
+abbrev pub costs_of : HeaderBits → List ℕ → Costs  -- the costs of the data, byte by byte from its end
 costs_of h [] = at_end
 costs_of h (b ∷ bytes) = step h (kind_at b (first_byte bytes)) (costs_of h bytes)
 
-abbrev pub past_end : BestStart  -- what is read past the end of a list of starts
+abbrev pub past_end : BestStart  -- the default past the end of a list of starts
 past_end = record { bits = 0; mode = Numeric }
 
 -- a start for each place of the data, and one for its end
@@ -123,10 +123,10 @@ pub record AreStarts (h : HeaderBits) (bytes : List ℕ) (starts : List BestStar
   pub count : length starts ≡ length bytes + 1
   pub least : (place : ℕ) → place ≤ length bytes → slice_index_or starts place past_end ≡ (costs_of h (drop place bytes)).start
 
-abbrev pub data_bits : Mode → ℕ → ℕ  -- the bits of so many bytes in a mode, without a header
+abbrev pub data_bits : Mode → ℕ → ℕ  -- the bits of `count` bytes in a mode, without a header
 data_bits m count = data_bits_count m (character_count m count)
 
--- a segment that begins at a place, with which a rest takes the fewest bits
+-- a segment that begins at a place, and with which the data from there on takes the fewest bits
 pub record IsFirst (h : HeaderBits) (bytes : List ℕ) (place : ℕ) (s : Segment) : Type 0 where
   pub begins : s.begin ≡ place
   pub nonempty : s.begin < s.end

@@ -13,6 +13,6 @@ is_among set Kanji = set.kanji
 abbrev pub all_modes : Modes  -- all four modes
 all_modes = record { numeric = true; alphanumeric = true; byte = true; kanji = true }
 
--- The modes that a text is written in. A reader takes the bytes of a Kanji segment for Shift JIS, and so would show others.
+-- The modes for text. Readers decode the bytes of a Kanji segment as Shift JIS, and so would show other characters.
 abbrev pub text_modes : Modes
 text_modes = record { numeric = true; alphanumeric = true; byte = true; kanji = false }

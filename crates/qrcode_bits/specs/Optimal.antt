@@ -1,4 +1,4 @@
--- What a push of data in a least cut does.
+-- What `push_optimal_data` does.
 use Rattle.std.specs.Prelude.{◌≡◌, ℕ, ◌≤◌, Bool, List, flat_map}
 use Rattle.std.specs.List.{AllByRecursion}
 use Rattle.qrcode_types.specs.Versions.{capacity}
@@ -13,7 +13,7 @@ use Rattle.qrcode_bits.specs.Refusals.{StopsAt}
 use Rattle.qrcode_bits.specs.Pushes.{PushesAll}
 use Rattle.qrcode_bits.specs.declared.optimize.Segment.{Segment}
 
--- the pieces of a least cut are written; where they fit a symbol, a reader takes them
+-- the segments of a least cut are written; if they fit a symbol, a reader accepts them
 pub record PushesLeast (v : Version) (old : List Bool) (bytes : List ℕ) (new : List Bool) : Type 0 where
   pub segments : List Segment
   pub least : IsLeastCut v bytes segments
@@ -21,7 +21,7 @@ pub record PushesLeast (v : Version) (old : List Bool) (bytes : List ℕ) (new :
   pub joined : flat_map (λ p. p.chunk) (pieces_of bytes segments) ≡ bytes
   pub readable : (l : EcLevel) → total_cost v segments ≤ capacity v l → AllByRecursion (IsReadBack v) (pieces_of bytes segments)
 
--- a piece of a least cut is refused, and those before it are written
+-- a segment of a least cut is rejected, and those before it are written
 pub record StopsInLeast (v : Version) (old : List Bool) (bytes : List ℕ) (e : QrError) (new : List Bool) : Type 0 where
   pub segments : List Segment
   pub least : IsLeastCut v bytes segments

@@ -1,5 +1,5 @@
--- The runs of one kind in the data. Its tokens are found from the left: a Kanji pair, or else one byte, which is a lone
--- lead, a digit, another character of the alphabet or another byte.
+-- The runs of tokens of one kind in the data. Tokens are found from the left: a Kanji pair, or a single byte: one that could
+-- begin a pair but does not (a lone lead), a digit, another alphanumeric character or another byte.
 use Rattle.std.specs.Prelude.{◌≡◌, ℕ, ◌+◌, ◌*◌, Bool, true, false, List, [], ◌∷◌, ◌++◌, replicate, if◌then◌else◌, ⊤}
 use Rattle.qrcode_types.specs.declared.types.Mode.{Mode}
 use Rattle.qrcode_types.specs.declared.types.Mode.TheVariants.{Numeric, Alphanumeric, Byte, Kanji}
@@ -15,7 +15,7 @@ mode_of Digit = Numeric
 mode_of Letter = Alphanumeric
 mode_of Other = Byte
 
-abbrev pub width : Kind → ℕ  -- the bytes of a token
+abbrev pub width : Kind → ℕ  -- the number of bytes of a token
 width Pair = 2
 width LoneLead = 1
 width Digit = 1
@@ -30,22 +30,22 @@ kinds [] = []
 kinds (b ∷ []) = single_kind b ∷ []
 kinds (b ∷ c ∷ more) = elim (is_kanji b c) [ true ↦ Pair ∷ kinds more | false ↦ single_kind b ∷ kinds (c ∷ more) ]
 
-abbrev pub go_together : Kind → Kind → Bool  -- two neighbours belong to one run; a lone lead stands alone
+abbrev pub go_together : Kind → Kind → Bool  -- two neighbours belong to one run; a lone lead is a run of its own
 go_together Pair Pair = true
 go_together Digit Digit = true
 go_together Letter Letter = true
 go_together Other Other = true
 go_together _ _ = false
 
-abbrev pub goes_on : Kind → List Kind → Bool  -- the run of a token goes on with the tokens after it
+abbrev pub goes_on : Kind → List Kind → Bool  -- the next token belongs to the same run
 goes_on k [] = false
 goes_on k (j ∷ js) = go_together k j
 
-abbrev pub first_from : ℕ → List Segment → List Segment  -- the first segment, begun earlier
+abbrev pub first_from : ℕ → List Segment → List Segment  -- the segments, the first of which begins earlier
 first_from place [] = []
 first_from place (s ∷ ss) = (record s { begin = place }) ∷ ss
 
--- the runs of tokens that begin at a place: a token is the first of the run after it, or a run of its own
+-- the runs of tokens that begin at a place: a token joins the run after it, or is a run of its own
 abbrev pub runs_from : ℕ → List Kind → List Segment
 runs_from place [] = []
 runs_from place (k ∷ ks) =
@@ -57,7 +57,7 @@ runs bytes = runs_from 0 (kinds bytes)
 
 -- The same as a relation.
 
-pub record Row : Type 0 where  -- a token and so many further ones of its kind
+pub record Row : Type 0 where  -- a token and a number of further ones of its kind
   pub kind : Kind
   pub further : ℕ
 
@@ -65,11 +65,11 @@ abbrev pub spelled : List Row → List Kind  -- the tokens of rows
 spelled [] = []
 spelled (r ∷ rows) = r.kind ∷ (replicate r.further r.kind ++ spelled rows)
 
-abbrev pub IsApart : Row → List Row → Type 0  -- only lone leads have a neighbour of their own kind
+abbrev pub IsApart : Row → List Row → Type 0  -- the next row is of another kind, unless both are lone leads
 IsApart r [] = ⊤
 IsApart r (q ∷ rows) = r.kind ≡ q.kind → r.kind ≡ LoneLead
 
-abbrev pub AreMaximal : List Row → Type 0  -- rows are as long as can be, and each lone lead is a row of its own
+abbrev pub AreMaximal : List Row → Type 0  -- rows are as long as possible, and each lone lead is a row of its own
 AreMaximal [] = ⊤
 AreMaximal (r ∷ rows) = (r.kind ≡ LoneLead → r.further ≡ 0) × (IsApart r rows × AreMaximal rows)
 
@@ -80,7 +80,7 @@ abbrev pub row_segments : ℕ → List Row → List Segment  -- rows that begin 
 row_segments place [] = []
 row_segments place (r ∷ rows) = (record { mode = mode_of r.kind; begin = place; end = row_end place r }) ∷ row_segments (row_end place r) rows
 
--- the segments are the maximal rows of the bytes' tokens
+-- the segments are the longest rows of the bytes' tokens
 pub record IsRuns (bytes : List ℕ) (segments : List Segment) : Type 0 where
   pub rows : List Row
   pub tokens : spelled rows ≡ kinds bytes

@@ -10,5 +10,5 @@ runs_left p = runs_from p.begin (kinds p.rest.now)
 abbrev pub data_end : Parser → ℕ  -- where its data ends
 data_end p = p.begin + length p.rest.now
 
-abbrev pub data_left : Parser → ℕ  -- the bytes that it has left
+abbrev pub data_left : Parser → ℕ  -- how many bytes it has left
 data_left p = length p.rest.now

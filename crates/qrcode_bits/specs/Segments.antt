@@ -10,7 +10,7 @@ use Rattle.qrcode_bits.specs.declared.optimize.Segment.{Segment}
 abbrev pub cost : Version → Segment → ℕ  -- the bits that a segment takes: mode indicator, length field, data bits
 cost v s = mode_bits_count v + length_bits_count s.mode v + data_bits_count s.mode (character_count s.mode (s.end - s.begin))
 
-abbrev pub cost_of : Version → Mode → ℕ → ℕ  -- the bits that a segment of so many characters takes
+abbrev pub cost_of : Version → Mode → ℕ → ℕ  -- the bits that a segment of `count` characters takes
 cost_of v m count = mode_bits_count v + length_bits_count m v + data_bits_count m count
 
 abbrev pub total_cost : Version → List Segment → ℕ  -- the bits that all segments take
@@ -25,5 +25,5 @@ abbrev pub AdjoinFrom : ℕ → List Segment → Type 0  -- each range begins wh
 AdjoinFrom from [] = ⊤
 AdjoinFrom from (s ∷ segments) = (s.begin ≡ from) × ((s.begin ≤ s.end) × AdjoinFrom s.end segments)
 
-abbrev pub AreInside : ℕ → List Segment → Type 0  -- ranges in data of n bytes
+abbrev pub AreInside : ℕ → List Segment → Type 0  -- the ranges lie in data of n bytes
 AreInside n segments = AllByRecursion (λ s. (s.begin ≤ s.end) × (s.end ≤ n)) segments

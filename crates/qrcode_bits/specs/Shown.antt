@@ -1,4 +1,4 @@
--- How a reader shows bits as characters.
+-- Which characters a reader shows for bits.
 use Rattle.std.specs.Prelude.{◌≡◌, ◌⊎◌, ℕ, Bool, List, [], ◌∷◌, ◌++◌, encode_utf8_all, IsTrue}
 use Rattle.std.specs.Str.{all_scalars}
 use Rattle.qrcode_types.specs.declared.types.Version.{Version}
@@ -8,21 +8,21 @@ use Rattle.qrcode_bits.specs.Spelling.{IsReadAs}
 use Rattle.qrcode_bits.specs.Written.{Piece}
 use Rattle.qrcode_bits.specs.declared.bits.manner.Manner.TheVariants.{MarkedText}
 
--- The bytes of a segment are shown as the characters that they are in UTF-8; so digits and letters are shown as themselves.
--- Nothing is said of Kanji segments, which readers take for Shift JIS.
+-- A reader decodes the bytes of a segment as UTF-8; so it shows digits and letters as themselves. Nothing is said about Kanji
+-- segments, which readers decode as Shift JIS.
 pub record IsPieceShown (p : Piece) (text : List ℕ) : Type 0 where
   pub mode : IsTrue (is_among text_modes p.mode)
   pub characters : IsTrue (all_scalars text)
   pub utf8 : encode_utf8_all text ≡ p.chunk
 
-abbrev pub ArePiecesShown : List Piece → List ℕ → Type 0  -- each segment is shown by itself, one after the other
+abbrev pub ArePiecesShown : List Piece → List ℕ → Type 0  -- each segment is shown on its own, one after the other
 ArePiecesShown [] text = text ≡ []
 ArePiecesShown (p ∷ pieces) text = (first rest : List ℕ) × ((text ≡ first ++ rest) × (IsPieceShown p first × ArePiecesShown pieces rest))
 
-abbrev pub IsFront : Version → List Bool → Type 0  -- in front of the segments stands nothing, or the number 26 of UTF-8
+abbrev pub IsFront : Version → List Bool → Type 0  -- before the segments there is nothing, or the ECI designator 26 (UTF-8)
 IsFront v bits = (bits ≡ []) ⊎ (IsTrue (has_front v MarkedText) × (bits ≡ front MarkedText))
 
--- a reader shows these characters of the bits
+-- a reader shows these characters for the bits
 pub record Shows (v : Version) (bits : List Bool) (text : List ℕ) : Type 0 where
   pub before : List Bool
   pub rest : List Bool
@@ -32,7 +32,7 @@ pub record Shows (v : Version) (bits : List Bool) (text : List ℕ) : Type 0 whe
   pub read : IsReadAs v rest pieces
   pub shown : ArePiecesShown pieces text
 
--- a reader shows these characters of the bits, and no others
+-- a reader shows these characters for the bits, and no others
 pub record ShowsOnly (v : Version) (bits : List Bool) (text : List ℕ) : Type 0 where
   pub found : Shows v bits text
   pub only : (others : List ℕ) → Shows v bits others → others ≡ text

@@ -1,4 +1,4 @@
--- What a push of a text does.
+-- What `push_text` and `push_marked_text` do.
 use Rattle.std.specs.Prelude.{◌≡◌, ◌⊎◌, ℕ, ◌+◌, ◌<◌, ◌≤◌, ◌++◌, false, List, [], length, chars, Some, Result, IfErr, OnOk, OnErr, IsOkUnless}
 use Rattle.std.specs.Option.{option_or}
 use Rattle.qrcode_types.specs.Versions.{capacity}
@@ -17,8 +17,8 @@ use Rattle.qrcode_bits.specs.Written.{written, terminated, pieces_of}
 use Rattle.qrcode_bits.specs.declared.bits.manner.Manner.{Manner}
 use Rattle.qrcode_bits.specs.declared.optimize.Segment.{Segment}
 
--- The bits in front and a least cut of the text in the modes of the manner are appended. A reader shows the segments as the
--- text's characters, and exactly these where nothing else stands in a symbol.
+-- The manner's front and a least cut of the text in the manner's modes are appended. A reader shows the segments as the text's
+-- characters, and exactly these if the symbol has nothing else.
 pub record AppendsText (m : Manner) (bytes : List ℕ) (old new : BitList) : Type 0 where
   pub segments : List Segment
   pub least : IsLeastCutIn (modes_of m) old.version bytes segments
@@ -27,14 +27,14 @@ pub record AppendsText (m : Manner) (bytes : List ℕ) (old new : BitList) : Typ
   pub shown : ArePiecesShown (pieces_of bytes segments) (chars bytes)
   pub alone : (l : EcLevel) → old.bits ≡ [] → length new.bits ≤ capacity old.version l → ShowsOnly old.version (terminated old.version l new.bits) (chars bytes)
 
--- the bits in front would pass the limit of a list, or a piece of a least cut behind them is refused for its length
+-- the front would exceed the limit of a list, or a segment of a least cut after it is rejected with DataTooLong
 abbrev pub HasNoRoom : Manner → List ℕ → BitList → Type 0
 HasNoRoom m bytes list =
     (segments : List Segment) × (IsLeastCutIn (modes_of m) list.version bytes segments
     × (option_or (append_refusal (length list.bits) (Some (front m)))
     (pieces_refusal list.version (length list.bits + length (front m)) (pieces_of bytes segments)) ≡ Some DataTooLong))
 
--- why a text is refused in a manner: the first of these causes that applies; memory may be refused behind the third
+-- why a text in a manner is rejected: the first of these causes that applies; after the third, memory may run out instead
 abbrev pub IsRefusedText : Manner → List ℕ → BitList → QrError → Type 0
 IsRefusedText m bytes list e =
     IfCause (data_limit < length bytes) (e ≡ DataTooLong) (
@@ -42,7 +42,7 @@ IsRefusedText m bytes list e =
     IfCause ((segments : List Segment) → ¬ IsCutIn (modes_of m) list.version bytes segments) (e ≡ UnsupportedCharacterSet) (
     (e ≡ OutOfMemory) ⊎ ((e ≡ DataTooLong) × HasNoRoom m bytes list))))
 
--- a text is appended in a manner, or is refused and leaves the list as it was; one that fits a symbol is taken
+-- a text is appended in a manner, or the call fails and leaves the list as it was; a text that fits a symbol is accepted
 pub record PushesText (m : Manner) (bytes : List ℕ) (old new : BitList) (result : Result (Unit {0}) QrError) : Type 0 where
   pub appends : OnOk result (AppendsText m bytes old new)
   pub unchanged : OnErr result (new ≡ old)

@@ -1,4 +1,4 @@
-//! The list of bits in which segments are written.
+//! Writes segments into a list of bits, and ends it with terminator and padding.
 
 ghost use Rattle.std.specs.Prelude.{◌≡◌, ℕ, false, ◌+◌, ◌<◌, ◌≤◌, ◌^◌, ◌==◌, [], ◌++◌, length, slice_range, flat_map, replicate, unwrap_or, List, Some, None, Ok, Err, is_ok, IsTrue, IfOk, IfErr, OnOk, if◌then◌else◌};
 ghost use Rattle.std.specs.List.{AllByRecursion};
@@ -43,11 +43,11 @@ pub use optimal::DATA_LIMIT;
 use stream::Stream;
 use written::{may_write, push_written};
 
-// A list has no more bits than this.
+// The largest number of bits in a list.
 const BIT_LIMIT: usize = 16_777_216;
 
-/// A list of bits for a symbol of some version. A push that fails leaves it as it was; of several
-/// segments, those before the failing one stay appended.
+/// The bits of a symbol of some version, to which segments are appended. A push that fails leaves
+/// the list unchanged; a push of several segments keeps those before the one that failed.
 #[derive(Drop)]
 pub struct Bits {
     version: Version,
@@ -67,28 +67,28 @@ impl Model for Bits {
     ghost invariant = { λ b. IsTrue (is_valid b.version) × (length b.stream.bits ≤ bit_limit) };
 }
 
-/// What a mode indicator announces.
+/// What comes after a mode indicator.
 #[derive(Copy, Clone)]
 pub enum ExtendedMode {
-    /// The number of a character set.
+    /// An ECI designator, which names a character set.
     Eci,
-    /// Data in a mode.
+    /// Data in this mode.
     Data(Mode),
-    /// A symbol of FNC1 in the first position.
+    /// Data with FNC1 in the first position.
     Fnc1First,
-    /// A symbol of FNC1 in the second position.
+    /// Data with FNC1 in the second position.
     Fnc1Second,
-    /// A symbol that is one of several.
+    /// The header of a symbol that is one of several.
     StructuredAppend,
 }
 
 impl Bits {
-    /// The empty list. It takes no memory yet, and grows by the allocator.
+    /// Creates an empty list. It allocates nothing yet.
     pub fn new(alloc: Global, version: Version) -> Self
         requires { IsTrue (versions.is_valid version) }
         ensures empty { result ≡ record { version = version; bits = [] } }
 
-        // A list has room for the bits of a symbol.
+        // A list can hold the bits of every symbol.
         ensures room { (level : EcLevel) → versions.capacity version level ≤ bit_limit }
     {
         Bits {
@@ -97,7 +97,7 @@ impl Bits {
         }
     }
 
-    /// How many bits there are.
+    /// Returns the number of bits.
     pub fn len(&self) -> usize
         ensures value { result ≡ length self.now.bits }
         ensures at_most { result ≤ 16777216 }
@@ -105,14 +105,14 @@ impl Bits {
         self.stream.len()
     }
 
-    /// Whether there is no bit.
+    /// Returns whether the list has no bits.
     pub fn is_empty(&self) -> bool
         ensures { result ≡ (length self.now.bits == 0) }
     {
         self.len() == 0
     }
 
-    /// The version of the symbol.
+    /// Returns the version of the symbol.
     pub fn version(&self) -> Version
         ensures value { result ≡ self.now.version }
         ensures valid { IsTrue (versions.is_valid result) }
@@ -120,9 +120,9 @@ impl Bits {
         self.version
     }
 
-    /// The bits that a symbol of the version and this level holds.
+    /// Returns how many bits a symbol of the version holds at level `ec_level`.
     ///
-    /// `InvalidVersion`: the version lacks the level.
+    /// Errors: `InvalidVersion` if the version lacks the level.
     pub fn max_len(&self, ec_level: EcLevel) -> QrResult<usize>
         ensures exists { is_ok result ≡ versions.has_level self.now.version ec_level }
         ensures value { IfOk result (λ bits. bits ≡ versions.capacity self.now.version ec_level) }
@@ -132,7 +132,7 @@ impl Bits {
         tables::capacity(self.version, ec_level).ok_or(QrError::InvalidVersion)
     }
 
-    /// The bytes that the bits fill, the first bit highest, the last byte filled with zeros.
+    /// Packs the bits into bytes, the first bit highest, and fills the last byte with zeros.
     pub fn into_bytes(self) -> Vec<u8>
         ensures { (zeros : ℕ) × (zeros < 8)
             × (bits_of result.items ≡ self.bits ++ replicate zeros false) }
@@ -140,10 +140,11 @@ impl Bits {
         self.stream.into_bytes()
     }
 
-    /// Appends the mode indicator that announces something (ISO/IEC 18004:2006, 6.4.1).
+    /// Appends a mode indicator (ISO/IEC 18004:2006, 6.4.1).
     ///
-    /// `UnsupportedCharacterSet`: the version has no such indicator. `DataTooLong`: the list would
-    /// pass 16,777,216 bits. `OutOfMemory`: memory was refused.
+    /// Errors, the first that applies: `UnsupportedCharacterSet` if the version has no such
+    /// indicator; `DataTooLong` if the list would exceed 16,777,216 bits; `OutOfMemory` if memory
+    /// runs out.
     pub fn push_mode_indicator(&mut self, mode: ExtendedMode) -> QrResult<()>
         ensures { Appends
             (append_refusal (length self.old.bits) (indicator_bits self.old.version mode))
@@ -153,12 +154,12 @@ impl Bits {
         self.push_number(self.version.mode_bits_count() as u32, number)
     }
 
-    /// Appends the mode indicator of ECI and the number of a character set (ISO/IEC 18004:2006,
+    /// Appends the mode indicator of ECI and the designator of a character set (ISO/IEC 18004:2006,
     /// 6.4.2).
     ///
-    /// `UnsupportedCharacterSet`: the version is one of Micro QR. `InvalidEciDesignator`: the
-    /// number is 1,000,000 or more. `DataTooLong`: the list would pass 16,777,216 bits.
-    /// `OutOfMemory`: memory was refused.
+    /// Errors, the first that applies: `UnsupportedCharacterSet` in Micro versions;
+    /// `InvalidEciDesignator` if the designator is 1,000,000 or more; `DataTooLong` if the list
+    /// would exceed 16,777,216 bits; `OutOfMemory` if memory runs out.
     pub fn push_eci_designator(&mut self, eci_designator: u32) -> QrResult<()>
         ensures { Appends (eci_refusal self.old.version (length self.old.bits) eci_designator)
             (number_bits 4 7 ++ eci_bits eci_designator) self.old self.new result }
@@ -167,7 +168,7 @@ impl Bits {
             return Err(QrError::UnsupportedCharacterSet);
         }
 
-        // The indicator 0111, and then 0, 10 or 110 in front of the number.
+        // The indicator 0111, and then 0, 10 or 110 before the designator.
         if eci_designator <= 127 {
             self.push_number(12, (0b0111 << 8) + eci_designator)
         } else if eci_designator <= 16_383 {
@@ -179,54 +180,57 @@ impl Bits {
         }
     }
 
-    /// Appends digits, with mode indicator and length field (ISO/IEC 18004:2006, 6.4.3).
+    /// Appends a segment of digits (ISO/IEC 18004:2006, 6.4.3).
     ///
-    /// `UnsupportedCharacterSet`: never, since each version has the mode. `DataTooLong`: the length
-    /// field is too small, or the list would pass 16,777,216 bits. `InvalidCharacter`: a byte is no
-    /// digit. `OutOfMemory`: memory was refused.
+    /// Errors, the first that applies: `DataTooLong` if the length field is too small, or the list
+    /// would exceed 16,777,216 bits; `InvalidCharacter` if a byte is not a digit; `OutOfMemory` if
+    /// memory runs out.
     pub fn push_numeric_data(&mut self, bytes: &[u8]) -> QrResult<()>
         ensures { PushesPiece Mode.Numeric bytes.now self.old self.new result }
     {
         self.push_piece(Mode::Numeric, bytes)
     }
 
-    /// Appends digits, capital letters and the nine other characters of the alphabet, with mode
-    /// indicator and length field (ISO/IEC 18004:2006, 6.4.4). Any other byte is written as `0` is.
+    /// Appends an alphanumeric segment: digits, capital letters, space and `$%*+-./:` (ISO/IEC
+    /// 18004:2006, 6.4.4). Any other byte is written like `0`.
     ///
-    /// `UnsupportedCharacterSet`: the version lacks the mode. `DataTooLong`: the length field is
-    /// too small, or the list would pass 16,777,216 bits. `OutOfMemory`: memory was refused.
+    /// Errors, the first that applies: `UnsupportedCharacterSet` if the version lacks the mode;
+    /// `DataTooLong` if the length field is too small, or the list would exceed 16,777,216 bits;
+    /// `OutOfMemory` if memory runs out.
     pub fn push_alphanumeric_data(&mut self, bytes: &[u8]) -> QrResult<()>
         ensures { PushesPiece Mode.Alphanumeric bytes.now self.old self.new result }
     {
         self.push_piece(Mode::Alphanumeric, bytes)
     }
 
-    /// Appends bytes, with mode indicator and length field (ISO/IEC 18004:2006, 6.4.5).
+    /// Appends a segment of bytes (ISO/IEC 18004:2006, 6.4.5).
     ///
-    /// `UnsupportedCharacterSet`: the version lacks the mode. `DataTooLong`: the length field is
-    /// too small, or the list would pass 16,777,216 bits. `OutOfMemory`: memory was refused.
+    /// Errors, the first that applies: `UnsupportedCharacterSet` if the version lacks the mode;
+    /// `DataTooLong` if the length field is too small, or the list would exceed 16,777,216 bits;
+    /// `OutOfMemory` if memory runs out.
     pub fn push_byte_data(&mut self, bytes: &[u8]) -> QrResult<()>
         ensures { PushesPiece Mode.Byte bytes.now self.old self.new result }
     {
         self.push_piece(Mode::Byte, bytes)
     }
 
-    /// Appends pairs of bytes of Shift JIS, with mode indicator and length field (ISO/IEC
-    /// 18004:2006, 6.4.6).
+    /// Appends a Kanji segment: pairs of bytes in Shift JIS (ISO/IEC 18004:2006, 6.4.6).
     ///
-    /// `UnsupportedCharacterSet`: the version lacks the mode. `DataTooLong`: the length field is
-    /// too small for the pairs, or the list would pass 16,777,216 bits. `InvalidCharacter`: the
-    /// bytes are not pairs that the mode can write. `OutOfMemory`: memory was refused.
+    /// Errors, the first that applies: `UnsupportedCharacterSet` if the version lacks the mode;
+    /// `DataTooLong` if the length field is too small for the pairs, or the list would exceed
+    /// 16,777,216 bits; `InvalidCharacter` if the bytes are not pairs that the mode can write;
+    /// `OutOfMemory` if memory runs out.
     pub fn push_kanji_data(&mut self, bytes: &[u8]) -> QrResult<()>
         ensures { PushesPiece Mode.Kanji bytes.now self.old self.new result }
     {
         self.push_piece(Mode::Kanji, bytes)
     }
 
-    /// Appends the mode indicator of FNC1 in the first position (ISO/IEC 18004:2006, 6.4.8.1).
+    /// Appends the mode indicator of FNC1 in the first position, as GS1 data needs it (ISO/IEC
+    /// 18004:2006, 6.4.8.1).
     ///
-    /// `UnsupportedCharacterSet`: the version is one of Micro QR. `DataTooLong`: the list would
-    /// pass 16,777,216 bits. `OutOfMemory`: memory was refused.
+    /// Errors, the first that applies: `UnsupportedCharacterSet` in Micro versions; `DataTooLong`
+    /// if the list would exceed 16,777,216 bits; `OutOfMemory` if memory runs out.
     pub fn push_fnc1_first_position(&mut self) -> QrResult<()>
         ensures { Appends (append_refusal (length self.old.bits)
             (indicator_bits self.old.version ExtendedMode.Fnc1First))
@@ -235,11 +239,11 @@ impl Bits {
         self.push_mode_indicator(ExtendedMode::Fnc1First)
     }
 
-    /// Appends the mode indicator of FNC1 in the second position and the indicator of the
-    /// application, as eight bits (ISO/IEC 18004:2006, 6.4.8.2).
+    /// Appends the mode indicator of FNC1 in the second position and the application indicator, in
+    /// eight bits (ISO/IEC 18004:2006, 6.4.8.2).
     ///
-    /// `UnsupportedCharacterSet`: the version is one of Micro QR. `DataTooLong`: the list would
-    /// pass 16,777,216 bits. `OutOfMemory`: memory was refused.
+    /// Errors, the first that applies: `UnsupportedCharacterSet` in Micro versions; `DataTooLong`
+    /// if the list would exceed 16,777,216 bits; `OutOfMemory` if memory runs out.
     pub fn push_fnc1_second_position(&mut self, application_indicator: u8) -> QrResult<()>
         ensures { Appends (append_refusal (length self.old.bits)
             (option_map (λ bits. bits ++ number_bits 8 application_indicator)
@@ -253,12 +257,12 @@ impl Bits {
         self.push_number(12, (0b1001 << 8) + u32::from(application_indicator))
     }
 
-    /// Ends the list: appends the terminator, and padding up to the bits that a symbol of the
-    /// version and level holds (ISO/IEC 18004:2006, 6.4.9 and 6.4.10). A list of so many bits stays
-    /// as it is.
+    /// Appends the terminator, and padding up to the capacity of a symbol at level `ec_level`
+    /// (ISO/IEC 18004:2006, 6.4.9 and 6.4.10). A list that already fills the symbol stays as it is.
+    /// Call this last, before `QrCode::with_bits`.
     ///
-    /// `InvalidVersion`: the version lacks the level. `DataTooLong`: the list is longer than the
-    /// symbol holds. `OutOfMemory`: memory was refused.
+    /// Errors, the first that applies: `InvalidVersion` if the version lacks the level;
+    /// `DataTooLong` if the list is longer than the symbol holds; `OutOfMemory` if memory runs out.
     pub fn push_terminator(&mut self, ec_level: EcLevel) -> QrResult<()>
         ensures ends { Changes
             (terminator_refusal self.old.version ec_level (length self.old.bits)) self.old
@@ -267,7 +271,7 @@ impl Bits {
         ensures full { OnOk result
             (length self.new.bits ≡ versions.capacity self.old.version ec_level) }
 
-        // Pieces that a reader takes are then read as their bytes, and as no others.
+        // Segments that a reader accepts then decode to their bytes, and to no others.
         ensures spelled { (pieces : List Piece)
             → AllByRecursion (IsReadBack self.old.version) pieces
             → self.old.bits ≡ written self.old.version pieces
@@ -285,11 +289,11 @@ impl Bits {
         Ok(())
     }
 
-    /// Appends the bytes of each segment in its mode. Ranges may come in any order, again, or
-    /// empty.
+    /// Appends the range of `bytes` of each segment, in the segment's mode. Ranges may be in any
+    /// order, repeated or empty.
     ///
-    /// It fails as the first failing segment does, also where memory runs out (`OutOfMemory`); the
-    /// segments before it stay appended.
+    /// Errors: that of the first segment that fails, `OutOfMemory` included; the segments before it
+    /// stay in the list.
     pub fn push_segments<I: Iterator<Item = Segment> + Drop>(
         &mut self,
         bytes: &[u8],
@@ -312,7 +316,7 @@ impl Bits {
         Ok(())
     }
 
-    // Appends the bytes of a segment in its mode.
+    // Appends the range of a segment in its mode.
     fn push_segment(&mut self, bytes: &[u8], segment: Segment) -> QrResult<()>
         requires ordered { segment.begin ≤ segment.end }
         requires inside { segment.end ≤ length bytes.now }
@@ -322,7 +326,7 @@ impl Bits {
         self.push_piece(segment.mode, &bytes[segment.begin..segment.end])
     }
 
-    // Appends the bits of a number.
+    // Appends a number in `count` bits.
     fn push_number(&mut self, count: u32, number: u32) -> QrResult<()>
         requires at_most { count ≤ 32 }
         requires fits { number < 2 ^ count }
@@ -337,7 +341,7 @@ impl Bits {
         Ok(())
     }
 
-    // Appends a piece.
+    // Appends `bytes` in `mode`, with mode indicator and length field.
     fn push_piece(&mut self, mode: Mode, bytes: &[u8]) -> QrResult<()>
         ensures { PushesPiece mode bytes.now self.old self.new result }
     {
@@ -350,7 +354,7 @@ impl Bits {
         Ok(())
     }
 
-    // The bits of a piece of so many characters, where it may be appended.
+    // Returns how many bits a segment of `count` characters takes, if it can be appended.
     fn piece_length(&self, mode: Mode, count: usize) -> QrResult<usize>
         ensures value { IfOk result (λ bits. (bits ≡ cost_of self.now.version mode count)
             × (count_refusal self.now.version (length self.now.bits) mode count ≡ None)) }
@@ -372,8 +376,8 @@ impl Bits {
     }
 }
 
-// The bytes that a list takes at first: those of the codewords of a symbol and some more, so that
-// it grows once.
+// Returns how many bytes a list allocates at first: enough for the codewords of a symbol, so that
+// one allocation does.
 fn symbol_room(version: Version) -> usize {
     let Some(blocks) = Blocks::of(version, EcLevel::L) else {
         return 0;
@@ -384,7 +388,7 @@ fn symbol_room(version: Version) -> usize {
         .saturating_add(10)
 }
 
-// The number of a mode indicator.
+// Returns the value of a mode indicator.
 fn extended_indicator(version: Version, mode: ExtendedMode) -> QrResult<u32>
     requires { IsTrue (versions.is_valid version) }
     ensures value { IfOk result (λ n. (indicator_bits version mode
@@ -407,7 +411,7 @@ fn extended_indicator(version: Version, mode: ExtendedMode) -> QrResult<u32>
     }
 }
 
-// An indicator that Micro QR lacks.
+// Returns an indicator that Micro QR lacks.
 fn only_normal(version: Version, number: u32) -> QrResult<u32>
     ensures { result
         ≡ (if versions.is_micro version then Err QrError.UnsupportedCharacterSet else Ok number) }

@@ -1,4 +1,4 @@
-//! Digits among bytes, sixteen looked at together.
+//! Counts digits among bytes, sixteen bytes at a time.
 
 ghost use Rattle.std.specs.Prelude.{◌≡◌, ◌≤◌, length};
 ghost use Rattle.std.specs.List.{count_by, list_all};
@@ -6,17 +6,17 @@ ghost use Rattle.qrcode_types.specs.Characters as characters;
 
 use qrcode_types::characters::is_digit;
 
-// So many bytes have a count that one byte holds.
+// A count of this many bytes fits a byte.
 const FEW: usize = 192;
 
-/// Whether the bytes are digits alone.
+/// Returns whether all bytes are digits.
 pub(crate) fn are_digits(bytes: &[u8]) -> bool
     ensures { result ≡ list_all characters.is_digit bytes.now }
 {
     count_digits(bytes) == bytes.len()
 }
 
-/// How many of the bytes are digits.
+/// Counts the digits in `bytes`.
 pub(crate) fn count_digits(bytes: &[u8]) -> usize
     ensures { result ≡ count_by characters.is_digit bytes.now }
 {
@@ -30,7 +30,7 @@ pub(crate) fn count_digits(bytes: &[u8]) -> usize
     count + usize::from(count_few(rest))
 }
 
-// The same of a few bytes. The count is a byte, so that LLVM makes sixteen at a time.
+// Counts the digits in a few bytes. The counter is a byte, so that LLVM counts sixteen at a time.
 fn count_few(bytes: &[u8]) -> u8
     requires { length bytes.now ≤ 192 }
     ensures { result ≡ count_by characters.is_digit bytes.now }

@@ -1,4 +1,4 @@
-//! From bytes to bits: segments of the data, and the list of bits that they are written in.
+//! Turns data into bits: `optimize` divides it into segments, `bits` writes them.
 #![tactic(auto)]
 
 pub mod bits;

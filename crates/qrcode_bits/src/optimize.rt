@@ -1,4 +1,4 @@
-//! Segments of the data, each in a mode.
+//! Divides data into segments, each in one mode.
 
 ghost use Rattle.std.specs.Prelude.{◌≡◌, ◌-◌, ◌≤◌, ◌<◌, ◌^◌, ◌↔◌, IsTrue};
 ghost use Rattle.std.specs.List.{AllByRecursion};
@@ -23,20 +23,20 @@ mod runs;
 mod single;
 mod tokens;
 
-/// A range of the data, from the byte `begin` to the byte before `end`, in one mode.
+/// A range of the data, `begin..end`, in one mode.
 #[derive(PartialEq, Eq, Debug, Copy, Clone)]
 pub struct Segment {
     /// The mode in which the range is written.
     pub mode: Mode,
-    /// The place of the first byte.
+    /// The index of the first byte.
     pub begin: usize,
-    /// The place behind the last byte.
+    /// The index after the last byte.
     pub end: usize,
 }
 
 impl Segment {
-    /// The bits that the range takes, with mode indicator and length field. In Kanji a character is
-    /// a pair of bytes, and a last byte without another takes none.
+    /// Returns how many bits the segment takes, with mode indicator and length field. In Kanji, a
+    /// last byte without a second one takes none.
     #[tactic(auto, using(crate::proofs::VersionModes::header_short))]
     pub fn encoded_len(&self, version: Version) -> usize
         requires valid { IsTrue (is_valid version) }
@@ -52,7 +52,7 @@ impl Segment {
     }
 }
 
-/// The bits that all segments take, each as `encoded_len` counts them.
+/// Returns how many bits all segments take: the sum of their `encoded_len`.
 pub fn total_encoded_len(segments: &[Segment], version: Version) -> usize
     requires valid { IsTrue (is_valid version) }
     requires ranges { AllByRecursion
@@ -67,8 +67,8 @@ pub fn total_encoded_len(segments: &[Segment], version: Version) -> usize
     total
 }
 
-// What a token is: a pair of bytes that Kanji can write, or one byte: that could begin such a pair,
-// a digit, another character of the alphabet, or any other.
+// The kind of a token: a pair of bytes that Kanji can write, or a single byte: one that could begin
+// such a pair, a digit, another alphanumeric character, or anything else.
 #[derive(PartialEq, Eq, Copy, Clone)]
 enum Kind {
     Pair,

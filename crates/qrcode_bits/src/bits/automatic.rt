@@ -1,4 +1,4 @@
-//! Data as a terminated list of bits, for a version that is chosen or given.
+//! Writes data as a terminated list of bits, for a version that is chosen or given.
 
 ghost use Rattle.std.specs.Prelude.{◌≡◌, ℕ, false, ◌<◌, ◌≤◌, pos, length, Err, IsTrue, IfOk, OnOk, ◌+◌, IfErr, IsOkUnless, ◌↔◌};
 ghost use Rattle.qrcode_types.specs.Versions.{is_valid, has_level, level_number, capacity};
@@ -20,12 +20,12 @@ use qrcode_types::tables;
 use qrcode_types::types::{EcLevel, QrError, QrResult, Version};
 use std::alloc::Global;
 
-/// Data as a terminated list of bits, in segments of the fewest bits, for the least version of
-/// Normal that holds it. The segments are measured at Normal 9, 26 and 40, where length fields
-/// change, and the first of these versions that holds the data decides.
+/// Writes `bytes` in the fewest bits, terminated, for the smallest Normal version that holds them.
+/// The segments are those for Normal 9, 26 or 40, the first of these that holds the data: up to
+/// each of them, length fields have one size.
 ///
-/// `DataTooLong`: no version of Normal holds the data, or it has more than 1,048,576 bytes.
-/// `OutOfMemory`: memory was refused.
+/// Errors: `DataTooLong` if no Normal version holds `bytes`, or there are more than 1,048,576;
+/// `OutOfMemory` if memory runs out.
 pub fn encode_auto(alloc: Global, bytes: &[u8], ec_level: EcLevel) -> QrResult<Bits>
     ensures bits { IfOk result (IsChosenList ec_level bytes.now) }
     ensures accepts { (n : ℕ) → Holds (Normal (pos n)) ec_level bytes.now
@@ -36,12 +36,12 @@ pub fn encode_auto(alloc: Global, bytes: &[u8], ec_level: EcLevel) -> QrResult<B
     encode_from(alloc, bytes, Manner::Bytes, Version::Normal(1), ec_level)
 }
 
-/// Data as a terminated list of bits, in segments of the fewest bits in the modes of the manner,
-/// for the least version from one on that holds it, in the order Micro 1 to 4, Normal 1 to 40.
+/// Writes `bytes` as `manner` says in the fewest bits, terminated, for the smallest version from
+/// `from` on that holds them, in the order Micro 1 to 4, Normal 1 to 40.
 ///
-/// It is refused by the first of these causes that applies. `InvalidVersion`: there is no such
-/// version as the first. `DataTooLong`: no version from that one on holds the data, or it has more
-/// than 1,048,576 bytes. And `OutOfMemory` may come in place of the second, or where none applies.
+/// Errors, the first that applies: `InvalidVersion` if there is no version `from`; `DataTooLong` if
+/// there are more than 1,048,576 bytes; `DataTooLong` if no version from `from` on holds them.
+/// `OutOfMemory` if memory runs out; it may hide the last.
 pub fn encode_from(
     alloc: Global,
     bytes: &[u8],
@@ -56,8 +56,10 @@ pub fn encode_from(
     encode_chosen(alloc, bytes, manner, ec_level, chosen)
 }
 
-/// The same for the least version from one on, at the highest level, from one on, at which that
-/// version holds the data. The list comes with that level.
+/// Writes `bytes` for the version that `encode_from` chooses for `ec_level`, at the highest level
+/// from `ec_level` on at which that version holds them. Returns the list and that level.
+///
+/// Errors: as for `encode_from`.
 pub fn encode_boosted(
     alloc: Global,
     bytes: &[u8],
@@ -74,14 +76,13 @@ pub fn encode_boosted(
     Ok((bits, highest))
 }
 
-/// Data as a terminated list of bits for a version and level, in segments of the fewest bits in the
-/// modes of the manner.
+/// Writes `bytes` as `manner` says in the fewest bits, terminated, for the given version and level.
 ///
-/// It is refused by the first of these causes that applies. `InvalidVersion`: there is no such
-/// version. `DataTooLong`: the data has more than 1,048,576 bytes. `UnsupportedCharacterSet`: the
-/// version cannot have the bits in front; or it lacks a mode that the data needs. `InvalidVersion`:
-/// the version lacks the level. `DataTooLong`: the symbol does not hold the data. And `OutOfMemory`
-/// may come in place of the last two, or where none applies.
+/// Errors, the first that applies: `InvalidVersion` if there is no such version; `DataTooLong` if
+/// there are more than 1,048,576 bytes; `UnsupportedCharacterSet` if the version has no ECI and
+/// `manner` needs it, or lacks a mode that the data needs; `InvalidVersion` if the version lacks
+/// the level; `DataTooLong` if the symbol does not hold the data. `OutOfMemory` if memory runs out;
+/// it may hide the last two.
 pub fn encode_in(
     alloc: Global,
     bytes: &[u8],
@@ -115,8 +116,7 @@ pub fn encode_in(
     encode_chosen(alloc, bytes, manner, ec_level, chosen)
 }
 
-// The highest level, from one on, at which the version holds so many bits, where it does at that
-// one.
+// Returns the highest level at which the version holds `used` bits, as it does at `ec_level`.
 fn highest_level(version: Version, used: usize, ec_level: EcLevel) -> EcLevel
     requires exists { IsTrue (has_level version ec_level) }
     requires room { used ≤ capacity version ec_level }
@@ -138,7 +138,7 @@ fn highest_level(version: Version, used: usize, ec_level: EcLevel) -> EcLevel
     ec_level
 }
 
-// Whether the version has the level and holds so many bits at it.
+// Returns whether the version has the level and holds `used` bits at it.
 fn holds_at(version: Version, used: usize, ec_level: EcLevel) -> bool
     ensures { IsTrue result
         ↔ (IsTrue (has_level version ec_level) × (used ≤ capacity version ec_level)) }
@@ -149,7 +149,7 @@ fn holds_at(version: Version, used: usize, ec_level: EcLevel) -> bool
     }
 }
 
-// The data in its segments behind the bits in front, terminated.
+// Writes the ECI designator that the manner needs, the segments and the terminator.
 fn encode_chosen(
     alloc: Global,
     bytes: &[u8],
@@ -169,7 +169,7 @@ fn encode_chosen(
 }
 
 impl Bits {
-    // Appends the bits in front.
+    // Appends what the manner needs before the segments: an ECI designator or nothing.
     pub(super) fn push_front(&mut self, manner: Manner) -> QrResult<()>
         requires exists { IsTrue (has_front self.old.version manner) }
         requires room { length self.old.bits + length (front manner) ≤ bit_limit }

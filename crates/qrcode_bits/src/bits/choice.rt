@@ -1,4 +1,4 @@
-//! The least version that holds data.
+//! Finds the smallest version that holds the data.
 
 ghost use Rattle.std.specs.Prelude.{◌≡◌, ℕ, ◌+◌, ◌<◌, ◌≤◌, pos, length, List, MatchOption, IsTrue, IfOk, IfErr, IsOkUnless};
 ghost use Rattle.qrcode_types.specs.Modes.{by_band};
@@ -21,8 +21,8 @@ use qrcode_types::tables;
 use qrcode_types::types::{EcLevel, QrError, QrResult, Version};
 use std::alloc::Global;
 
-// A version that holds data, the data's segments in the fewest bits there, and how many bits these
-// take with those in front.
+// A version, the segments with the fewest bits there, and the bits that they take together with
+// those before them.
 #[derive(Drop)]
 pub(super) struct Chosen {
     pub(super) version: Version,
@@ -30,7 +30,7 @@ pub(super) struct Chosen {
     pub(super) used: usize,
 }
 
-// How the data is written and at which level, and fewer bits than no cut of it takes.
+// How the data is written and at which level, and a lower bound for the bits of its segments.
 #[derive(Copy, Clone)]
 struct Wanted {
     manner: Manner,
@@ -38,10 +38,9 @@ struct Wanted {
     least: usize,
 }
 
-// The least version, from one on, that holds the data.
-//
-// `InvalidVersion`: there is no such version as the first. `DataTooLong`: none holds the data, or
-// it has too many bytes. `OutOfMemory`: memory was refused.
+// Finds the smallest version from `from` on that holds the data. Fails with `InvalidVersion` if
+// there is no version `from`, and with `DataTooLong` if none holds the data, or it has too many
+// bytes.
 pub(super) fn choose(
     alloc: Global,
     bytes: &[u8],
@@ -61,7 +60,7 @@ pub(super) fn choose(
     choose_within(alloc, bytes, manner, from, ec_level)
 }
 
-// The same of a version that exists and data within the limit.
+// Does what `choose` does, for a version that exists and data within the limit.
 fn choose_within(
     alloc: Global,
     bytes: &[u8],
@@ -90,7 +89,7 @@ fn choose_within(
     }
 }
 
-// The same from a version of Micro on, among those.
+// Finds the smallest Micro version from `first` on that holds the data.
 fn choose_micro(
     alloc: Global,
     bytes: &[u8],
@@ -113,7 +112,7 @@ fn choose_micro(
     Ok(None)
 }
 
-// A version, where it holds the data.
+// Returns this version, if it holds the data.
 fn choose_at(
     alloc: Global,
     bytes: &[u8],
@@ -141,8 +140,8 @@ fn choose_at(
     }
 }
 
-// The same from a version of Normal on: in each band, where length fields are of one size, by one
-// search for segments.
+// Finds the smallest Normal version from `first` on that holds the data. In each band of versions,
+// length fields have one size, so that one search for segments does for all of them.
 fn choose_normal(alloc: Global, bytes: &[u8], wanted: Wanted, first: usize) -> QrResult<Chosen>
     requires length_at_most { length bytes.now ≤ data_limit }
     requires least { (version : Version) (segments : List Segment)
@@ -163,8 +162,8 @@ fn choose_normal(alloc: Global, bytes: &[u8], wanted: Wanted, first: usize) -> Q
     Err(QrError::DataTooLong)
 }
 
-// The same from a version of Normal on, among those of its band. If even the lower bound of the
-// bits is more than the last of them holds, the search is skipped.
+// Finds the smallest version from `first` on in its band that holds the data. The search is skipped
+// if even the lower bound is more than the last version of the band holds.
 fn choose_in_band(
     alloc: Global,
     bytes: &[u8],
@@ -195,9 +194,8 @@ fn choose_in_band(
     Ok(Some(chosen))
 }
 
-// The data's segments in the fewest bits for a version, whether or not it has room for them.
-//
-// `UnsupportedCharacterSet`: the data has no cut there. `OutOfMemory`: memory was refused.
+// Finds the segments with the fewest bits for a version, whether or not they fit. Fails with
+// `UnsupportedCharacterSet` if its modes cannot write the data.
 pub(super) fn measure(
     alloc: Global,
     bytes: &[u8],
@@ -218,7 +216,8 @@ pub(super) fn measure(
     })
 }
 
-// Bits that each cut of the data takes at least: three digits take ten, and two other bytes eleven.
+// Returns a lower bound for the bits of any segments: ten for three digits, eleven for two other
+// bytes.
 fn least_bits(bytes: &[u8]) -> usize
     requires { length bytes.now ≤ data_limit }
     ensures { (version : Version) (segments : List Segment) → IsCut version bytes.now segments
@@ -228,7 +227,7 @@ fn least_bits(bytes: &[u8]) -> usize
     (20 * digits + 33 * (bytes.len() - digits)) / 6
 }
 
-// The last version of Normal with length fields of the same sizes.
+// Returns the last Normal version with the same sizes of length fields.
 fn last_in_band(number: usize) -> usize
     ensures { result ≡ by_band number 9 26 40 }
 {
@@ -239,7 +238,7 @@ fn last_in_band(number: usize) -> usize
     }
 }
 
-// The first version of Normal, from one to another, that holds so many bits, where the last does.
+// Returns the first Normal version from `first` to `last` that holds `used` bits, as `last` does.
 fn first_with_room(ec_level: EcLevel, used: usize, first: usize, last: usize) -> usize
     requires at_least { 1 ≤ first }
     requires ordered { first ≤ last }
@@ -259,7 +258,7 @@ fn first_with_room(ec_level: EcLevel, used: usize, first: usize, last: usize) ->
     last
 }
 
-// The bits that a version of Normal holds.
+// Returns how many bits a Normal version holds.
 #[tactic(auto, using(crate::proofs::Bands::normal_level))]
 fn normal_capacity(number: usize, ec_level: EcLevel) -> usize
     requires at_least { 1 ≤ number }

@@ -1,4 +1,4 @@
-//! The segments of a cut in a list of bits.
+//! Appends data that is already divided into segments.
 
 ghost use Rattle.std.specs.Prelude.{◌≡◌, ℕ, ◌+◌, ◌≤◌, [], ◌∷◌, ◌++◌, length, take, IfErr, OnOk, IsOkUnless, IsTrue};
 ghost use Rattle.qrcode_types.specs.Versions.{has_level, capacity};
@@ -14,10 +14,10 @@ use crate::optimize::Segment;
 use qrcode_types::types::{EcLevel, QrResult};
 
 impl Bits {
-    /// Appends data in the segments of a cut, for which the symbol has room, and ends the list: as
-    /// `push_segments` and `push_terminator` do one after the other.
+    /// Appends `bytes` in the given segments, which must cover them and fit the symbol, and then
+    /// the terminator and padding: `push_segments` and `push_terminator` in one.
     ///
-    /// `OutOfMemory`: memory was refused. The segments that were appended before then stand.
+    /// Errors: only `OutOfMemory`; the segments appended before it stay in the list.
     pub fn end_with(
         &mut self,
         bytes: &[u8],
@@ -43,7 +43,7 @@ impl Bits {
         self.push_terminator(ec_level)
     }
 
-    // Appends the bytes of all segments in their modes.
+    // Appends the ranges of all segments in their modes.
     pub(super) fn push_all(&mut self, bytes: &[u8], segments: Vec<Segment>) -> QrResult<()>
         requires { AreInside (length bytes.now) segments.items }
         ensures pushed { OnOk result

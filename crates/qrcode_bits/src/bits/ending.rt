@@ -1,4 +1,4 @@
-//! How a list of bits is ended: by the terminator, and the padding behind it.
+//! Writes the terminator and the padding after it.
 
 ghost use Rattle.std.specs.Prelude.{◌≡◌, ◌+◌, ◌*◌, ◌%◌, ◌==◌, ◌<◌, ◌≤◌, ◌++◌, IsTrue, if◌then◌else◌};
 ghost use Rattle.qrcode_types.specs.Versions.{is_valid};
@@ -7,7 +7,7 @@ ghost use Rattle.qrcode_bits.specs.Written.{terminator_length, ending, padding};
 use super::stream::Stream;
 use qrcode_types::types::Version;
 
-// The zeros of the terminator, where there is room for them.
+// Returns how many zeros the terminator has, if there is room for them.
 pub(super) fn terminator_length(version: Version) -> usize
     requires { IsTrue (is_valid version) }
     ensures value { result ≡ terminator_length version }
@@ -19,7 +19,7 @@ pub(super) fn terminator_length(version: Version) -> usize
     }
 }
 
-// Appends the terminator and the padding, behind so many bits.
+// Appends the terminator and the padding after `used` bits, up to `capacity` bits.
 pub(super) fn push_ending(stream: &mut Stream, terminator: usize, used: usize, capacity: usize)
     requires terminator_at_most { terminator ≤ 9 }
     requires used_at_most { used ≤ capacity }
@@ -33,7 +33,7 @@ pub(super) fn push_ending(stream: &mut Stream, terminator: usize, used: usize, c
     push_padding(stream, capacity - zeros_end);
 }
 
-// Appends so many bits: the bytes 0xEC and 0x11 by turns, and zeros where no whole byte fits.
+// Appends `count` bits: the bytes 0xEC and 0x11 in turn, and zeros if less than a byte is left.
 fn push_padding(stream: &mut Stream, count: usize)
     requires { count ≤ stream.old.room }
     ensures { stream.new.bits ≡ stream.old.bits ++ padding count }

@@ -1,4 +1,4 @@
-//! How bytes are written: in which modes, and with which bits in front.
+//! How bytes are written: as bytes or as text.
 
 ghost use Rattle.std.specs.Prelude.{◌≡◌, ◌≤◌, length};
 ghost use Rattle.qrcode_bits.specs.Manners as manners;
@@ -6,24 +6,24 @@ ghost use Rattle.qrcode_bits.specs.Manners as manners;
 use crate::optimize::Modes;
 use qrcode_types::types::Version;
 
-// The number of UTF-8 among the numbers of character sets (ECI).
+// The ECI designator of UTF-8.
 pub(super) const UTF8_NUMBER: u32 = 26;
 
-/// How bytes are written.
+/// How bytes are written: in which modes, and whether an ECI designator comes first.
 #[derive(PartialEq, Eq, Debug, Copy, Clone)]
 pub enum Manner {
-    /// In segments of all modes, whatever the bytes are.
+    /// As bytes of any kind, in all modes.
     Bytes,
-    /// As a text in UTF-8: in segments that readers show as its characters, and so without Kanji.
-    /// The bytes are not looked at: where they are no UTF-8, nothing is promised of what is shown.
+    /// As UTF-8 text, in modes that readers show as its characters: all except Kanji. The bytes are
+    /// not checked; if they are not UTF-8, nothing is promised about what readers show.
     Text,
-    /// As a text, with the number 26 of UTF-8 (ECI) in front, which takes 12 bits: for readers that
-    /// guess the character set where nothing names it. Micro QR has no such numbers.
+    /// As UTF-8 text after the ECI designator 26, which takes 12 bits: for readers that otherwise
+    /// guess the character set. Micro QR has no ECI.
     MarkedText,
 }
 
 impl Manner {
-    /// The modes of the segments.
+    /// Returns the modes that segments may have.
     pub fn modes(self) -> Modes
         ensures { result ≡ manners.modes_of self }
     {
@@ -33,7 +33,7 @@ impl Manner {
         }
     }
 
-    /// The bits in front of the segments.
+    /// Returns how many bits come before the segments: 12 for the ECI designator, else 0.
     #[tactic(auto, unfolding(crate::specs::Written::eci_bits, qrcode_types::specs::Bits::number_bits))]
     pub fn front_length(self) -> usize
         ensures value { result ≡ length (manners.front self) }
@@ -45,7 +45,7 @@ impl Manner {
         }
     }
 
-    /// Whether a version may have these bits in front.
+    /// Returns whether `version` allows the bits before the segments: Micro versions have no ECI.
     pub fn has_front(self, version: Version) -> bool
         ensures { result ≡ manners.has_front version self }
     {

@@ -1,4 +1,4 @@
-//! Data in the fewest bits.
+//! Appends data in the fewest bits.
 
 ghost use Rattle.std.specs.Prelude.{◌≡◌, ◌+◌, ◌<◌, ◌≤◌, ◌⊎◌, ◌↔◌, List, length, Err, IfErr, OnOk, IsOkUnless};
 ghost use Rattle.qrcode_types.specs.Versions.{capacity};
@@ -14,15 +14,16 @@ use super::Bits;
 use crate::optimize::least_segments;
 use qrcode_types::types::{QrError, QrResult};
 
-/// No more bytes of data than this are taken.
+/// The largest number of bytes of data that calls accept.
 pub const DATA_LIMIT: usize = 1_048_576;
 
 impl Bits {
-    /// Appends data in segments of the fewest bits, as `least_segments` gives them.
+    /// Appends `bytes` in the segments with the fewest bits, which `least_segments` finds.
     ///
-    /// `DataTooLong`: the data has more than 1,048,576 bytes. `UnsupportedCharacterSet`: no modes
-    /// of the version can write it. Both, and `OutOfMemory` in the search, leave the list as it
-    /// was. And then whatever refuses one of the segments, before which the others stand.
+    /// Errors, the first that applies: `DataTooLong` if there are more than 1,048,576 bytes;
+    /// `UnsupportedCharacterSet` if the modes of the version cannot write them; `OutOfMemory` if
+    /// memory runs out in the search. These leave the list unchanged. After them, the error of the
+    /// first segment that cannot be appended; the segments before it stay in the list.
     pub fn push_optimal_data(&mut self, bytes: &[u8]) -> QrResult<()>
         ensures too_long { data_limit < length bytes.now
             → (result ≡ Err QrError.DataTooLong) × (self.new ≡ self.old) }
@@ -36,17 +37,18 @@ impl Bits {
             → IfErr result (λ e. ((e ≡ OutOfMemory) × (self.new ≡ self.old))
             ⊎ StopsInLeast self.old.version self.old.bits bytes.now e self.new.bits) }
 
-        // Data that can be cut fails only for its length, or for lack of memory.
+        // Data that the modes can write fails only because it is too long or memory runs out.
         ensures causes { (cut : List Segment) → IsCut self.old.version bytes.now cut
             → IfErr result (λ e. (e ≡ DataTooLong) ⊎ (e ≡ OutOfMemory)) }
 
-        // Data that fits a symbol is taken.
+        // Data that fits a symbol is accepted.
         ensures accepts { (level : EcLevel)
             → length self.old.bits + capacity self.old.version level ≤ bit_limit
             → FitsIn self.old.version bytes.now (capacity self.old.version level)
             → IsOkUnless result OutOfMemory }
 
-        // A cut of the data fits a symbol exactly when some bits that fill the symbol spell it.
+        // A division of the data fits a symbol exactly if some bits that fill it decode to the
+        // data.
         ensures spelled { (level : EcLevel)
             → FitsIn self.old.version bytes.now (capacity self.old.version level)
             ↔ IsSpelled self.old.version level bytes.now }

@@ -1,4 +1,4 @@
-//! The header of a symbol that is one of several.
+//! Writes the header of a symbol that is one of several.
 
 ghost use Rattle.std.specs.Prelude.{◌≤◌, length, Some, None, if◌then◌else◌};
 ghost use Rattle.qrcode_types.specs.Versions.{is_micro};
@@ -11,12 +11,11 @@ use qrcode_types::types::{QrError, QrResult};
 
 impl Bits {
     /// Appends the header of a symbol that is one of several (structured append, ISO/IEC
-    /// 18004:2006, 8): the mode indicator, the place of the symbol and that of the last one, both
-    /// from 0 on, and the exclusive or of all bytes of the whole data. It stands in front of
-    /// everything else.
+    /// 18004:2006, 8): the mode indicator, the places of this symbol and of the last one, both from
+    /// 0, and in `parity` the XOR of all bytes of the whole data. Call this before any other push.
     ///
-    /// `UnsupportedCharacterSet`: the version is one of Micro QR. `DataTooLong`: the list would
-    /// pass 16,777,216 bits. `OutOfMemory`: memory was refused.
+    /// Errors, the first that applies: `UnsupportedCharacterSet` in Micro versions; `DataTooLong`
+    /// if the list would exceed 16,777,216 bits; `OutOfMemory` if memory runs out.
     pub fn push_structured_append(&mut self, place: u8, last: u8, parity: u8) -> QrResult<()>
         requires inside { place ≤ last }
         requires at_most { last ≤ 15 }

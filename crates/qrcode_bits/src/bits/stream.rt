@@ -1,4 +1,4 @@
-//! Bits packed into bytes, as they are appended.
+//! Packs bits into bytes as they are appended.
 
 ghost use Rattle.std.specs.Prelude.{◌≡◌, ℕ, false, ◌+◌, ◌-◌, ◌*◌, ◌<◌, ◌≤◌, ◌^◌, [], ◌++◌, length, replicate, vec_len, vec_capacity, IfOk, OnOk};
 ghost use Rattle.qrcode_types.specs.Bits.{number_bits, bits_of};
@@ -6,8 +6,8 @@ ghost use Rattle.qrcode_types.specs.Bits.{number_bits, bits_of};
 use std::alloc::{AllocError, Global};
 use std::marker::Model;
 
-// Bits, packed into bytes, eight at a time, and fewer than 64 bits behind them as a number. Memory
-// for so many bytes at least is asked for at first.
+// Bits: `bytes`, filled eight at a time, and then the fewer than 64 bits of `rest`. The first
+// allocation is for at least `first_room` bytes.
 #[derive(Drop)]
 pub(super) struct Stream {
     bytes: Vec<u8>,
@@ -33,7 +33,7 @@ impl Model for Stream {
 }
 
 impl Stream {
-    // No bits yet, and no memory; so many bytes are asked for at first.
+    // Creates an empty stream, which allocates nothing yet.
     pub(super) fn new(alloc: Global, first_room: usize) -> Stream
         ensures { result.bits ≡ [] }
     {
@@ -49,7 +49,7 @@ impl Stream {
         *self.bytes.allocator()
     }
 
-    // The same bits in memory of their own.
+    // Copies the bits.
     pub(super) fn copied(&self) -> Result<Stream, AllocError>
         ensures { IfOk result (λ copy. copy.bits ≡ self.now.bits) }
     {
@@ -63,7 +63,7 @@ impl Stream {
         })
     }
 
-    // How many bits there are.
+    // Returns the number of bits.
     pub(super) fn len(&self) -> usize
         requires { length self.now.bits < 2 ^ 60 }
         ensures { result ≡ length self.now.bits }
@@ -96,7 +96,7 @@ impl Stream {
         self.push_long_number(count, u64::from(number));
     }
 
-    // The same of up to 64 bits. Where eight bytes are full, they are pushed.
+    // Appends the `count` bits of a number, up to 64. Each eight full bytes are pushed at once.
     #[inline(always)]
     pub(super) fn push_long_number(&mut self, count: u32, number: u64)
         requires at_most { count ≤ 64 }
@@ -127,7 +127,7 @@ impl Stream {
         self.rest = push_eight(&mut self.bytes, self.rest, left, number, left);
     }
 
-    // The bytes that the bits fill, the last one filled with zeros.
+    // Returns the bits as bytes, the last one filled with zeros.
     pub(super) fn into_bytes(self) -> Vec<u8>
         ensures { (zeros : ℕ) × (zeros < 8)
             × (bits_of result.items ≡ self.bits ++ replicate zeros false) }
@@ -139,8 +139,8 @@ impl Stream {
     }
 }
 
-// Pushes the first 64 of the bits left over and those of a number behind them, as eight bytes, and
-// answers the rest of the number, of `left` bits.
+// Pushes eight bytes: the bits of `rest` and the first bits of `number`. Returns the last `left`
+// bits of `number`.
 #[inline(always)]
 fn push_eight(bytes: &mut Vec<u8>, rest: u64, rest_len: u32, number: u64, left: u32) -> u64
     requires rest_at_most { rest_len < 64 }
@@ -154,14 +154,14 @@ fn push_eight(bytes: &mut Vec<u8>, rest: u64, rest_len: u32, number: u64, left: 
     ensures length { vec_len bytes.new ≡ vec_len bytes.old + 8 }
     ensures capacity_at_least { vec_capacity bytes.old ≤ vec_capacity bytes.new }
 {
-    // Two shifts, since one of 64 bits is none.
+    // Two shifts, since one by 64 is not allowed.
     let front = rest << (63 - rest_len) << 1;
     let word = front + (number >> left);
     bytes.extend_from_slice(&word.to_be_bytes()).unwrap();
     number & ((1 << left) - 1)
 }
 
-// Pushes the whole bytes at the front of the bits of `number`, and answers how many bits are left.
+// Pushes the whole bytes of `number`, from its first bits on, and returns how many bits are left.
 fn push_whole_bytes(bytes: &mut Vec<u8>, number: u64, length: u32) -> u32
     requires at_most { length ≤ 64 }
     requires room { 8 * vec_len bytes.old + length ≤ 8 * vec_capacity bytes.old }

@@ -1,4 +1,4 @@
-//! Texts in a list of bits.
+//! Appends text to a list of bits.
 
 ghost use Rattle.std.specs.Prelude.{◌≡◌, ◌+◌, ◌≤◌, length, IfOk, IsOkUnless, IsUtf8, IsTrue};
 ghost use Rattle.qrcode_types.specs.declared.types.QrError.TheVariants.{OutOfMemory};
@@ -13,31 +13,31 @@ use super::{BIT_LIMIT, Bits, DATA_LIMIT, Manner};
 use qrcode_types::types::{QrError, QrResult};
 
 impl Bits {
-    /// Appends a text in segments of the fewest bits without Kanji, as `QrCode::of_text` has it, so
-    /// that a reader which takes bytes for UTF-8 shows it. A refused text leaves the list as it
-    /// was.
+    /// Appends `text` in the fewest bits without Kanji, as `QrCode::of_text` does, so that readers
+    /// that decode bytes as UTF-8 show it. On an error the list is unchanged.
     ///
-    /// It is refused by the first of these causes that applies. `DataTooLong`: the text has more
-    /// than 1,048,576 bytes. `UnsupportedCharacterSet`: the version lacks a mode that the text
-    /// needs. `DataTooLong`: a segment has more characters than its length field counts, or the
-    /// list would pass 16,777,216 bits. And `OutOfMemory` may come in place of the last, or where
-    /// none applies.
+    /// Errors, the first that applies: `DataTooLong` if the text has more than 1,048,576 bytes;
+    /// `UnsupportedCharacterSet` if the version lacks a mode that the text needs; `DataTooLong` if
+    /// a segment has more characters than its length field counts, or the list would exceed
+    /// 16,777,216 bits. `OutOfMemory` if memory runs out; it may hide the last.
     pub fn push_text(&mut self, text: &str) -> QrResult<()>
         ensures { PushesText Text text.now self.old self.new result }
     {
         self.push_as(text.as_bytes(), Manner::Text)
     }
 
-    /// The same with the number 26 of UTF-8 (ECI) in front, which takes 12 bits, as
-    /// `QrCode::of_marked_text` has it. Micro QR has none: `UnsupportedCharacterSet`, reported
-    /// before that the version lacks a mode.
+    /// Appends `text` as `push_text` does, after the ECI designator 26 for UTF-8, which takes 12
+    /// bits.
+    ///
+    /// Errors: as for `push_text`; `UnsupportedCharacterSet` for every Micro version, since these
+    /// have no ECI.
     pub fn push_marked_text(&mut self, text: &str) -> QrResult<()>
         ensures { PushesText MarkedText text.now self.old self.new result }
     {
         self.push_as(text.as_bytes(), Manner::MarkedText)
     }
 
-    // Appends a text in a manner, to a copy of the list that takes its place.
+    // Appends a text to a copy of the list, and replaces the list with it on success.
     fn push_as(&mut self, text: &[u8], manner: Manner) -> QrResult<()>
         requires text { IsTrue (is_text manner) }
         requires utf8 { IsUtf8 text.now }
@@ -59,7 +59,7 @@ impl Bits {
         Ok(())
     }
 
-    // The same list in memory of its own, with the bits in front behind it.
+    // Copies the list, and appends the ECI designator that the manner needs.
     fn with_front(&self, manner: Manner) -> QrResult<Bits>
         requires exists { IsTrue (has_front self.now.version manner) }
         requires room { length self.now.bits + length (front manner) ≤ bit_limit }

@@ -1,4 +1,4 @@
-//! How pieces are written: mode indicator, length field and data bits.
+//! Writes segments: mode indicator, length field and data bits.
 
 ghost use Rattle.std.specs.Prelude.{◌≡◌, ◌+◌, ◌-◌, ◌*◌, ◌/◌, ◌<◌, ◌≤◌, ◌^◌, ◌++◌, ◌&&◌, not, false, length, slice_index, IsTrue};
 ghost use Rattle.std.specs.List.{list_all};
@@ -18,7 +18,7 @@ use qrcode_types::characters::{
 use qrcode_types::modes::indicator;
 use qrcode_types::types::{Mode, Version};
 
-// Whether a push in the mode takes the bytes.
+// Returns whether the bytes can be pushed in the mode; Alphanumeric takes any.
 pub(super) fn may_write(mode: Mode, bytes: &[u8]) -> bool
     ensures { result ≡ not (is_checked mode && not (characters.can_write mode bytes.now)) }
 {
@@ -29,7 +29,7 @@ pub(super) fn may_write(mode: Mode, bytes: &[u8]) -> bool
     }
 }
 
-// Appends a piece.
+// Appends `bytes` in `mode`, with mode indicator and length field.
 pub(super) fn push_written(stream: &mut Stream, version: Version, mode: Mode, bytes: &[u8])
     requires valid { IsTrue (is_valid version) }
     requires mode_exists { IsTrue (modes.has_mode version mode) }
@@ -69,7 +69,7 @@ fn push_header(stream: &mut Stream, version: Version, mode: Mode, count: usize)
     stream.push_number(mode.length_bits_count(version) as u32, count as u32);
 }
 
-// Appends digits, twelve in forty bits while there are so many.
+// Appends digits, twelve at a time in forty bits, and then the rest.
 fn push_digits(stream: &mut Stream, digits: &[u8])
     requires digits { IsTrue (list_all characters.is_digit digits.now) }
     requires room { (10 * length digits.now + 2) / 3 ≤ stream.old.room }
@@ -83,7 +83,7 @@ fn push_digits(stream: &mut Stream, digits: &[u8])
     push_last_digits(stream, rest);
 }
 
-// The number that the bits of twelve digits are.
+// Returns the forty bits of twelve digits as a number.
 #[inline(always)]
 fn twelve_digits_number(digits: &[u8; 12]) -> u64
     requires { IsTrue (list_all characters.is_digit digits.now) }
@@ -95,7 +95,7 @@ fn twelve_digits_number(digits: &[u8; 12]) -> u64
     1024 * nine + three_digits_number(digits, 9)
 }
 
-// Appends digits, three in ten bits, two in seven, one in four.
+// Appends digits, three in ten bits, a last two in seven, a last one in four.
 fn push_last_digits(stream: &mut Stream, digits: &[u8])
     requires digits { IsTrue (list_all characters.is_digit digits.now) }
     requires room { (10 * length digits.now + 2) / 3 ≤ stream.old.room }
@@ -115,7 +115,7 @@ fn push_last_digits(stream: &mut Stream, digits: &[u8])
     }
 }
 
-// The number that three digits write: what each byte is above its digit is taken off at the end.
+// Returns the number that three digits spell. The offset of `0` in ASCII is subtracted at the end.
 #[inline(always)]
 fn three_digits_number(digits: &[u8], at: usize) -> u64
     requires digits { IsTrue (list_all characters.is_digit digits.now) }
@@ -128,7 +128,7 @@ fn three_digits_number(digits: &[u8], at: usize) -> u64
     10 * tens + u64::from(digits[at + 2]) - 111 * 48
 }
 
-// Appends characters of the alphabet, two in eleven bits, one in six.
+// Appends alphanumeric characters, two in eleven bits, a last one in six.
 fn push_characters(stream: &mut Stream, text: &[u8])
     requires room { (11 * length text.now + 1) / 2 ≤ stream.old.room }
     ensures { stream.new.bits ≡ stream.old.bits ++ alphanumeric_bits text.now }
@@ -146,7 +146,7 @@ fn push_characters(stream: &mut Stream, text: &[u8])
     }
 }
 
-// Appends bytes, eight at a time while there are so many.
+// Appends bytes, eight at a time, and then the rest.
 fn push_bytes(stream: &mut Stream, bytes: &[u8])
     requires room { 8 * length bytes.now ≤ stream.old.room }
     ensures { stream.new.bits ≡ stream.old.bits ++ bits_of bytes.now }
@@ -169,7 +169,7 @@ fn push_last_bytes(stream: &mut Stream, bytes: &[u8])
     }
 }
 
-// Appends pairs of bytes, each in thirteen bits.
+// Appends Kanji pairs, each in thirteen bits.
 fn push_pairs(stream: &mut Stream, pairs: &[u8])
     requires pairs { IsTrue (characters.are_kanji pairs.now) }
     requires room { 13 * (length pairs.now / 2) ≤ stream.old.room }

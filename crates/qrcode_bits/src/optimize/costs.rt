@@ -1,4 +1,4 @@
-//! What a rest of the data takes at least, by what stands before it.
+//! Counts the fewest bits for the data from a place on, by the segment that is open there.
 
 ghost use Rattle.std.specs.Prelude.{◌≡◌, ◌+◌, IsTrue};
 ghost use Rattle.qrcode_types.specs.Versions.{is_valid};
@@ -8,8 +8,8 @@ use super::headers::header;
 use super::{Kind, Modes};
 use qrcode_types::types::{Mode, Version};
 
-// The bits of mode indicator and length field in each mode, and more than any data takes where the
-// version or the set of modes lacks it.
+// The bits of mode indicator and length field in each mode: more than any data takes if the version
+// or the set lacks the mode.
 #[derive(Copy, Clone)]
 pub(super) struct HeaderBits {
     numeric: u32,
@@ -44,7 +44,7 @@ impl HeaderBits {
     }
 }
 
-// The bits of a segment of one character in each mode, added up once.
+// The bits of a segment of one character in each mode, added up beforehand.
 #[derive(Copy, Clone)]
 pub(super) struct SingleCosts {
     headers: HeaderBits,
@@ -73,7 +73,7 @@ impl SingleCosts {
     }
 }
 
-// How a segment begins a rest of the data so that it takes the fewest bits.
+// The mode of a segment that begins at a place, and the fewest bits for the data from there on.
 #[derive(Copy, Clone)]
 pub(super) struct BestStart {
     pub(super) bits: u32,
@@ -81,7 +81,7 @@ pub(super) struct BestStart {
 }
 
 impl BestStart {
-    // This one, or one in another mode where that takes fewer bits.
+    // Returns this start, or one in `mode` if that takes fewer bits.
     fn better_of(self, mode: Mode, bits: u32) -> BestStart
         ensures { result ≡ better self mode bits }
     {
@@ -93,10 +93,9 @@ impl BestStart {
     }
 }
 
-// The fewest bits that a rest of the data takes, by what stands before it: a segment begins here,
-// or one is open to which the rest may add. An open segment of digits counts by how many of them
-// are behind its last group of three, one of letters by whether they are odd, and `half_pair` is
-// `pairs` one byte on.
+// The fewest bits for the data from a place on: if a segment begins there (`start`), or if a
+// segment of some mode is open. For digits it matters how many follow the last group of three, for
+// letters whether one follows the last pair. `half_pair` is `pairs` one byte further on.
 #[derive(Copy, Clone)]
 pub(super) struct Costs {
     pub(super) start: BestStart,
@@ -111,7 +110,7 @@ pub(super) struct Costs {
 }
 
 impl Costs {
-    // What the end of the data takes.
+    // The costs at the end of the data.
     pub(super) fn at_end() -> Costs
         ensures { result ≡ at_end }
     {
@@ -131,7 +130,7 @@ impl Costs {
         }
     }
 
-    // The rest that begins one byte earlier, by the kind of that byte.
+    // Returns the costs one byte earlier, for a byte of this kind.
     pub(super) fn with_byte_before(self, single: SingleCosts, kind: Kind) -> Costs
         requires headers { AreSmall single.headers }
         requires rest { IsSmall self }
@@ -152,7 +151,7 @@ impl Costs {
             Kind::LoneLead | Kind::Other => {
                 let mut rest = self.only_bytes(self.byte_start(single));
 
-                // To go on takes no header, and so fewer bits than the start.
+                // Going on takes no header, so it is shorter than a new segment.
                 rest.bytes = 8 + self.bytes;
                 rest
             }
@@ -187,7 +186,7 @@ impl Costs {
             .better_of(Mode::Alphanumeric, single.letter + self.odd_letter)
     }
 
-    // Behind a byte with which no open segment but one of bytes can go on.
+    // Returns the costs before a byte that only an open Byte segment can take.
     fn only_bytes(self, start: BestStart) -> Costs
         requires { IsSmall self }
         ensures { result ≡ costs_before Kind.Other start self }
@@ -205,7 +204,7 @@ impl Costs {
         }
     }
 
-    // Behind a character of the alphabet.
+    // Returns the costs before an alphanumeric character.
     fn with_letter(self, start: BestStart) -> Costs
         requires { IsSmall self }
         ensures { result ≡ costs_before Kind.Letter start self }

@@ -1,5 +1,5 @@
-//! Segments joined where that takes no more bits. No constructor of a symbol calls the optimizer:
-//! `least_segments` does their work, and the optimizer stays for its callers.
+//! Joins neighbouring segments if that takes no more bits. No constructor calls this: they use
+//! `least_segments`.
 
 ghost use Rattle.std.specs.Prelude.{◌≡◌, ℕ, List, [], ◌∷◌, IsTrue};
 ghost use Rattle.std.specs.Iterator.{IsFinite, Drains, HoldsAlong};
@@ -13,8 +13,8 @@ ghost use Rattle.qrcode_bits.specs.GroupSteps.{joint_if, groups_left, CanGroup, 
 use super::Segment;
 use qrcode_types::types::Version;
 
-/// The segments of an iterator, each joined with those after it, in the least mode that can write
-/// them all, as long as the joint segment takes no more bits in the version than both apart.
+/// An iterator that joins each segment with those after it, as long as the joint segment takes no
+/// more bits than both apart. Its mode is the smallest that can write both.
 #[derive(Drop)]
 pub struct Optimizer<I> {
     segments: I,
@@ -23,7 +23,7 @@ pub struct Optimizer<I> {
 }
 
 impl<I: Iterator<Item = Segment>> Optimizer<I> {
-    /// An optimizer of segments that adjoin.
+    /// Creates an optimizer of `segments`, each of which begins where the one before ends.
     pub fn new(mut segments: I, version: Version) -> Optimizer<I>
         requires valid { IsTrue (is_valid version) }
         requires can { I.can_next segments }
@@ -32,7 +32,7 @@ impl<I: Iterator<Item = Segment>> Optimizer<I> {
         ensures can { CanGroup I.next_gives I.can_next I.remaining result }
         ensures finite { IsFinite (groups_left I.remaining result) }
 
-        // All items together are the groups of all segments.
+        // The items are the groups of all segments.
         ensures groups { (groups : List Segment) → Drains (GroupsStep I.next_gives) result groups
             → (given : List Segment)
             × (Drains I.next_gives segments given × AreGroups version given groups) }
@@ -73,7 +73,7 @@ impl<I: Iterator<Item = Segment>> Iterator for Optimizer<I> {
     }
 }
 
-// Two segments as one, where that takes no more bits than both apart.
+// Joins two segments if that takes no more bits than both apart.
 fn try_join(first: Segment, second: Segment, version: Version) -> Option<Segment>
     requires valid { IsTrue (is_valid version) }
     requires joinable { IsJoinable (first ∷ second ∷ []) }

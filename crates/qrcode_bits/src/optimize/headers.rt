@@ -1,4 +1,4 @@
-//! Mode indicators and length fields.
+//! Counts the bits of mode indicators and length fields.
 
 ghost use Rattle.std.specs.Prelude.{◌≡◌, ◌≤◌, IsTrue};
 ghost use Rattle.qrcode_types.specs.Versions.{is_valid};
@@ -11,7 +11,7 @@ use qrcode_types::types::{Mode, Version};
 // More bits than any data takes.
 pub(super) const MORE_THAN_ANY: u32 = 1 << 30;
 
-// The bits of a mode indicator and a length field, or `MORE_THAN_ANY` where the version or the set
+// Returns the bits of mode indicator and length field, or `MORE_THAN_ANY` if the version or the set
 // lacks the mode.
 pub(super) fn header(version: Version, modes: Modes, mode: Mode) -> u32
     requires { IsTrue (is_valid version) }

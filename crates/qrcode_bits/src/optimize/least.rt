@@ -1,4 +1,4 @@
-//! Segments of the fewest bits.
+//! Finds segments with the fewest bits.
 
 ghost use Rattle.std.specs.Prelude.{◌≡◌, ◌<◌, ◌≤◌, ◌↔◌, nat_lt, length, IsTrue, IfOk};
 ghost use Rattle.qrcode_types.specs.Versions.{is_valid, capacity};
@@ -17,36 +17,38 @@ use qrcode_types::characters::bytes_each;
 use qrcode_types::types::{Mode, QrError, QrResult, Version};
 use std::alloc::{AllocError, Global};
 
-// Few cuts have more segments, so that their list does not grow.
+// The list of segments rarely has to grow beyond this length.
 const USUALLY_ENOUGH: usize = 16;
 
-/// A segmentation of the data in the fewest bits: of all cuts of the data into nonempty ranges,
-/// each in a mode that the version has and that can write its bytes, one of least total length. In
-/// Kanji a range may begin wherever its bytes pair up.
+/// Divides `bytes` into the segments with the fewest bits: no other division into nonempty ranges,
+/// each in a mode that the version has and that can write its bytes, is shorter. A Kanji segment
+/// may begin wherever its bytes pair up.
 ///
-/// `UnsupportedCharacterSet`: there is no such cut. `OutOfMemory`: memory was refused.
+/// Errors: `UnsupportedCharacterSet` if the modes of the version cannot write the data;
+/// `OutOfMemory` if memory runs out.
 pub fn least_segments(alloc: Global, bytes: &[u8], version: Version) -> QrResult<Vec<Segment>>
     requires valid { IsTrue (is_valid version) }
     requires length_at_most { length bytes.now ≤ data_limit }
     ensures least { IfOk result (λ segments. IsLeastCut version bytes.now segments.items) }
 
-    // Where the data cannot be cut, that is known before memory is asked for.
+    // Data that cannot be divided is rejected before memory is requested.
     ensures refusals { NeedsCut (IsCut version bytes.now) result }
 
-    // The ranges lie in the data, in order they give it back, and each mode can write its range.
+    // The ranges lie in the data, make it up in order, and each mode can write its range.
     ensures gives_back { IfOk result (λ segments. GiveBack bytes.now segments.items) }
 
-    // A cut fits a symbol exactly when some bits that fill the symbol spell the data.
+    // A division fits a symbol exactly if some bits that fill the symbol decode to the data.
     ensures spelled { (level : EcLevel) → FitsIn version bytes.now (capacity version level)
         ↔ IsSpelled version level bytes.now }
 {
     least_segments_in(alloc, bytes, version, Modes::ALL)
 }
 
-/// A segmentation of the data in the fewest bits with modes of a set alone: of all cuts as those of
-/// `least_segments`, but each range in a mode of the set, one of least total length.
+/// Divides `bytes` into the segments with the fewest bits as `least_segments` does, but uses only
+/// the modes in `modes`.
 ///
-/// `UnsupportedCharacterSet`: there is no such cut. `OutOfMemory`: memory was refused.
+/// Errors: `UnsupportedCharacterSet` if the modes that are in the set and in the version cannot
+/// write the data; `OutOfMemory` if memory runs out.
 pub fn least_segments_in(
     alloc: Global,
     bytes: &[u8],
@@ -58,10 +60,10 @@ pub fn least_segments_in(
     ensures least { IfOk result (λ segments.
         IsLeastCutIn modes version bytes.now segments.items) }
 
-    // Where the data cannot be cut, that is known before memory is asked for.
+    // Data that cannot be divided is rejected before memory is requested.
     ensures refusals { NeedsCut (IsCutIn modes version bytes.now) result }
 
-    // The ranges lie in the data, in order they give it back, and each mode can write its range.
+    // The ranges lie in the data, make it up in order, and each mode can write its range.
     ensures gives_back { IfOk result (λ segments. GiveBack bytes.now segments.items) }
 {
     if let Some(mode) = single_mode(bytes, version, modes) {
@@ -75,7 +77,7 @@ pub fn least_segments_in(
     searched_segments(alloc, bytes, version, modes)
 }
 
-// The same by a search from the end of the data.
+// Finds such segments by a search from the end of the data.
 fn searched_segments(
     alloc: Global,
     bytes: &[u8],
@@ -103,7 +105,7 @@ fn searched_segments(
     Ok(segments)
 }
 
-// Whether the data can be cut. Bytes can write any, and else it is counted.
+// Returns whether the modes can write the data. Byte writes any; without it, the bits are counted.
 fn can_be_cut(bytes: &[u8], version: Version, modes: Modes) -> bool
     requires valid { IsTrue (is_valid version) }
     requires length_at_most { length bytes.now ≤ data_limit }
@@ -114,7 +116,7 @@ fn can_be_cut(bytes: &[u8], version: Version, modes: Modes) -> bool
     headers.in_mode(Mode::Byte) < MORE_THAN_ANY || counted_bits(bytes, headers) < MORE_THAN_ANY
 }
 
-// The bits that the data takes at least.
+// Returns the fewest bits that the data takes.
 fn counted_bits(bytes: &[u8], headers: HeaderBits) -> u32
     requires headers { AreSmall headers }
     requires length_at_most { length bytes.now ≤ data_limit }
@@ -128,8 +130,7 @@ fn counted_bits(bytes: &[u8], headers: HeaderBits) -> u32
     costs.start.bits
 }
 
-// For each place of the data, and for its end, how the rest from there on begins in the fewest
-// bits.
+// Returns for each place of the data, and for its end, the best start of the data from there on.
 fn least_starts(
     alloc: Global,
     bytes: &[u8],
@@ -145,7 +146,7 @@ fn least_starts(
     for i in (0..bytes.len()).rev() {
         costs = costs.with_byte_before(single, Kind::at(bytes, i));
 
-        // Field by field, as joining them into one number first takes longer.
+        // Field by field: assigning the whole struct takes longer.
         let start = &mut starts[i];
         start.bits = costs.start.bits;
         start.mode = costs.start.mode;
@@ -153,8 +154,8 @@ fn least_starts(
     Ok(starts)
 }
 
-// The first segment from a place on, in the mode of its start: the shortest with which the rest
-// takes as few bits as the start says.
+// Returns the segment that begins at `begin`, in the mode of the best start there. It ends at the
+// first place from which the data goes on in the bits that the start counts.
 fn first_segment(bytes: &[u8], starts: &[BestStart], headers: HeaderBits, begin: usize) -> Segment
     requires length_at_most { length bytes.now ≤ data_limit }
     requires headers { AreSmall headers }

@@ -27,8 +27,7 @@ impl Modes {
         kanji: true,
     };
 
-    /// The modes that a text is written in: all but Kanji, whose bytes a reader takes for Shift
-    /// JIS.
+    /// The modes for text: all except Kanji, whose bytes readers decode as Shift JIS.
     pub const TEXT: Modes = Modes {
         numeric: true,
         alphanumeric: true,
@@ -36,7 +35,7 @@ impl Modes {
         kanji: false,
     };
 
-    /// Whether a mode is in the set.
+    /// Returns whether the set contains `mode`.
     pub fn has(self, mode: Mode) -> bool
         ensures { result ≡ is_among self mode }
     {

@@ -1,5 +1,4 @@
-//! The runs of the data. No constructor of a symbol calls the parser: `least_segments` does their
-//! work, and the parser stays for its callers.
+//! Splits data into runs of one mode. No constructor calls this: they use `least_segments`.
 
 ghost use Rattle.std.specs.Prelude.{◌≡◌, ◌+◌, ◌<◌, ◌^◌, List, length, slice_range, IsTrue};
 ghost use Rattle.std.specs.List.{AllByRecursion};
@@ -14,9 +13,9 @@ use super::groups::Optimizer;
 use super::tokens::split_token;
 use qrcode_types::types::Version;
 
-/// The runs of the data, each in the narrowest mode: as many pairs of Kanji, digits, other
-/// characters of the alphabet or other bytes as follow one another. A byte that could begin a pair,
-/// and begins none, is a run of its own.
+/// An iterator over the runs of the data, each in the narrowest mode: as many Kanji pairs, digits,
+/// other alphanumeric characters or other bytes as follow one another. A byte that could begin a
+/// pair but does not is a run of its own.
 #[derive(Drop)]
 pub struct Parser<'a> {
     rest: &'a [u8],
@@ -32,13 +31,13 @@ impl<'a> Parser<'a> {
     ghost use Rattle.qrcode_bits.specs.GroupSteps.{groups_left, CanGroup, GroupsStep};
     ghost use Rattle.qrcode_bits.specs.RunsLeft.{runs_left, data_end, data_left};
 
-    /// A parser of data, which it borrows.
+    /// Creates a parser of `bytes`.
     pub fn new(bytes: &'a [u8]) -> Parser<'a>
         ensures runs { runs_left result ≡ runs bytes.now }
         ensures end { data_end result ≡ length bytes.now }
         ensures left { data_left result ≡ length bytes.now }
 
-        // The runs are the maximal rows of tokens of one kind, and no other segments are.
+        // The runs are the longest rows of tokens of one kind, and no other segments are.
         ensures are { IsRuns bytes.now (runs bytes.now) }
         ensures only { (segments : List Segment)
             → IsRuns bytes.now segments → segments ≡ runs bytes.now }
@@ -57,7 +56,7 @@ impl<'a> Parser<'a> {
         }
     }
 
-    /// The runs that are left, joined where that takes no more bits in the version.
+    /// Joins the remaining runs if that takes no more bits in this version.
     pub fn optimize(self, version: Version) -> Optimizer<Parser<'a>>
         requires valid { IsTrue (is_valid version) }
         requires at_most { data_left self ≤ range_limit }

@@ -1,4 +1,4 @@
-//! Data that one segment writes in the fewest bits, which is known without a search.
+//! Recognises data for which a single segment is the shortest, without a search.
 
 ghost use Rattle.std.specs.Prelude.{◌≡◌, ℕ, ◌+◌, ◌<◌, ◌≤◌, true, false, [], ◌∷◌, length, IsTrue, IfSome};
 ghost use Rattle.qrcode_types.specs.Versions.{is_valid};
@@ -9,11 +9,11 @@ use super::Modes;
 use crate::digits::are_digits;
 use qrcode_types::types::{Mode, Version};
 
-// So many places are looked at before dense data is left.
+// The search for dense data can stop after each stretch of this many places.
 const STRETCH: usize = 64;
 
-/// The mode in which one segment of all the data is a least cut, where no search is needed to tell:
-/// digits alone, or bytes of a version of Normal with few letters and digits together.
+/// Returns the mode in which a single segment is the shortest, if that is clear without a search:
+/// Numeric for digits only; Byte, in Normal versions, if few letters and digits stand together.
 pub(super) fn single_mode(bytes: &[u8], version: Version, modes: Modes) -> Option<Mode>
     requires valid { IsTrue (is_valid version) }
     ensures { IfSome result (λ mode. IsLeastCutIn modes version bytes.now
@@ -28,8 +28,8 @@ pub(super) fn single_mode(bytes: &[u8], version: Version, modes: Modes) -> Optio
     None
 }
 
-// Whether no byte begins a pair, and of four neighbours one at least is above the alphabet, as
-// small letters are.
+// Returns whether no byte can begin a Kanji pair, and of any four neighbours at least one is above
+// the alphanumeric characters, as lower-case letters are.
 fn is_sparse(bytes: &[u8]) -> bool
     requires { 3 < length bytes.now }
     ensures { result ≡ true → IsSparse bytes.now }
@@ -46,8 +46,8 @@ fn is_sparse(bytes: &[u8]) -> bool
     bytes[last] < 0x81 && bytes[last + 1] < 0x81 && bytes[last + 2] < 0x81
 }
 
-// Whether four neighbours from one of some places on are not so. Each place is looked at, so that
-// LLVM takes sixteen together.
+// Returns whether four neighbours that begin at one of the places `from..to` are dense. It never
+// stops early, so that LLVM checks sixteen places at a time.
 fn has_dense(bytes: &[u8], from: usize, to: usize) -> bool
     requires ordered { from ≤ to }
     requires inside { to + 3 ≤ length bytes.now }
@@ -60,7 +60,7 @@ fn has_dense(bytes: &[u8], from: usize, to: usize) -> bool
     dense
 }
 
-// Whether the first of four neighbours may begin a pair, or all are at most the greatest letter.
+// Returns whether the first of four neighbours may begin a Kanji pair, or all are at most `Z`.
 #[inline(always)]
 fn is_dense(first: u8, second: u8, third: u8, fourth: u8) -> bool
     ensures { result ≡ is_dense first second third fourth }

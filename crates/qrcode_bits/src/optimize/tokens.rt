@@ -1,4 +1,4 @@
-//! The tokens of the data: pairs of bytes, and single bytes.
+//! Splits data into tokens: Kanji pairs and single bytes.
 
 ghost use Rattle.std.specs.Prelude.{◌≡◌, ◌+◌, ◌<◌, [], ◌∷◌, length, drop, slice_index, MatchOption, if◌then◌else◌};
 ghost use Rattle.qrcode_types.specs.Characters as characters;
@@ -11,7 +11,7 @@ use qrcode_types::characters::{is_alphanumeric, is_digit, is_kanji, is_lead};
 use qrcode_types::types::Mode;
 
 impl Kind {
-    // The narrowest mode that can write such tokens.
+    // Returns the narrowest mode that can write such tokens.
     pub(super) fn mode(self) -> Mode
         ensures { result ≡ mode_of self }
     {
@@ -23,14 +23,14 @@ impl Kind {
         }
     }
 
-    // Whether a token belongs to the run of the one before it.
+    // Returns whether a token of kind `next` belongs to the same run.
     pub(super) fn goes_with(self, next: Kind) -> bool
         ensures { result ≡ go_together self next }
     {
         self == next && self != Kind::LoneLead
     }
 
-    // The kind of the token that the byte at a place begins.
+    // Returns the kind of the token that begins at `place`.
     pub(super) fn at(bytes: &[u8], place: usize) -> Kind
         requires { place < length bytes.now }
         ensures { result ≡ kind_at (slice_index bytes.now place)
@@ -46,8 +46,8 @@ impl Kind {
         }
     }
 
-    // The kind of a byte below those that can begin a pair. Small letters, above all of the
-    // alphabet, are recognised by one comparison.
+    // Returns the kind of a byte below those that can begin a pair. One comparison recognises
+    // lower-case letters, since they are above all alphanumeric characters.
     #[tactic(auto, using(crate::proofs::TokenKinds::above_letters))]
     fn of_low(byte: u8) -> Kind
         ensures { result ≡ (if characters.is_digit byte then Digit
@@ -62,7 +62,7 @@ impl Kind {
         }
     }
 
-    // The kind of a byte that begins no pair.
+    // Returns the kind of a byte that begins no pair.
     pub(super) fn of_single(byte: u8) -> Kind
         ensures { result ≡ single_kind byte }
     {
@@ -78,7 +78,7 @@ impl Kind {
     }
 }
 
-// The kind of the first token, and the bytes after it.
+// Returns the kind of the first token, and the bytes after it.
 pub(super) fn split_token(bytes: &[u8]) -> Option<(Kind, &[u8])>
     ensures { MatchOption result (bytes.now ≡ []) (λ p. (kinds bytes.now ≡ p.0 ∷ kinds p.1.now)
         × (length bytes.now ≡ width p.0 + length p.1.now)) }
