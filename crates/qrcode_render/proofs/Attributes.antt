@@ -7,7 +7,7 @@ use Rattle.std.proofs.lemmas.List.Elements.{All-head, All-tail, All-from_get_or}
 use Rattle.std.proofs.lemmas.Str.{encode_ascii, encodes-append, inside_one}
 use Rattle.qrcode_render.specs.Paths.{attribute_byte, attribute}
 
--- one text after another
+-- the value of two texts joined
 attribute-append : (xs ys : List ℕ) → attribute (xs ++ ys) ≡ attribute xs ++ attribute ys
 unfolding attribute
 attribute-append xs ys = flat_map-append attribute_byte xs ys
@@ -39,7 +39,7 @@ attribute_low c low = rw (encode_ascii c low) (append-nil _)
 pub entity : (c d : ℕ) → c ≡ d → d < 128 → attribute (encode_utf8 c) ≡ attribute_byte d
 entity c d is low = ap (λ k. attribute (encode_utf8 k)) is ∙ attribute_low d low
 
--- a character that stands for itself
+-- a character without an entity
 pub attribute_plain : (c : ℕ) → attribute_byte c ≡ c ∷ [] → attribute (encode_utf8 c) ≡ encode_utf8 c
 attribute_plain c is =
     ⊎_elim

@@ -10,7 +10,7 @@ use Rattle.qrcode_render.specs.Paths.{Run, Pen, run_text, behind, path_from, pen
 use Rattle.qrcode_render.proofs.Grids.{cell_outside}
 use Rattle.qrcode_render.proofs.LineTexts.{flat_range_more}
 
--- one path behind another
+-- a path followed by another
 pub path-append : (pen : Pen) (xs ys : List Run) → path_from pen (xs ++ ys) ≡ path_from pen xs ++ path_from (pen_after pen xs) ys
 path-append pen [] ys = refl
 path-append pen (x ∷ xs) ys = ap (λ t. run_text pen x ++ t) (path-append (behind x) xs ys) ∙ sym (append_assoc (run_text pen x) (path_from (behind x) xs) (path_from (pen_after (behind x) xs) ys))
@@ -71,7 +71,7 @@ ended_inside top end (suc n) c from below fits =
     let row : nat_eq top top ≡ true = grind (arith, nat_tests) in
     or_false (covers (record { left = end - suc n; top = top; width = suc n }) c top) ∙ three_hold (nat_le (end - suc n) c) (nat_lt c (end - suc n + suc n)) (nat_eq top top) left right row
 
--- it fills nothing behind it
+-- it fills nothing after it
 ended_behind : (top end width c : ℕ) → end ≤ c → width ≤ end → is_filled (ended top end width) c top ≡ false
 ended_behind top end zero c behind fits = refl
 ended_behind top end (suc n) c behind fits =
@@ -86,7 +86,7 @@ row_elsewhere top column width (false ∷ marks) c r other =
     filled-append (ended top column width) (runs_from top (column + 1) 0 marks) c r
     ∙ ap₂ (λ a b. a || b) (ended_elsewhere top column width c r other) (row_elsewhere top (column + 1) 0 marks c r other)
 
--- before the run that is open they fill nothing
+-- they fill nothing before the run that has not ended yet
 row_before : (top column width : ℕ) (marks : List Bool) (c : ℕ) → c < column - width → is_filled (runs_from top column width marks) c top ≡ false
 row_before top column width [] c before = ended_before top column width c before
 row_before top column width (true ∷ marks) c before = row_before top (column + 1) (width + 1) marks c (omega arith)
@@ -94,7 +94,7 @@ row_before top column width (false ∷ marks) c before =
     filled-append (ended top column width) (runs_from top (column + 1) 0 marks) c top
     ∙ ap₂ (λ a b. a || b) (ended_before top column width c before) (row_before top (column + 1) 0 marks c (omega arith))
 
--- they fill the run that is open
+-- they fill the run that has not ended yet
 row_inside : (top column width : ℕ) (marks : List Bool) (c : ℕ) → column - width ≤ c → c < column → width ≤ column → is_filled (runs_from top column width marks) c top ≡ true
 row_inside top column width [] c from below fits = ended_inside top column width c from below fits
 row_inside top column width (true ∷ marks) c from below fits = row_inside top (column + 1) (width + 1) marks c (omega arith) (omega arith) (omega arith)
@@ -102,7 +102,7 @@ row_inside top column width (false ∷ marks) c from below fits =
     filled-append (ended top column width) (runs_from top (column + 1) 0 marks) c top
     ∙ ap (λ a. a || is_filled (runs_from top (column + 1) 0 marks) c top) (ended_inside top column width c from below fits)
 
--- behind it they fill the dark marks
+-- after it they fill the cells whose flags are true
 row_from : (top column width : ℕ) (marks : List Bool) (c : ℕ) → column ≤ c → width ≤ column → is_filled (runs_from top column width marks) c top ≡ get_or marks (c - column) false
 row_from top column width [] c from fits = ended_behind top column width c from fits ∙ sym (get_or_past [] (c - column) false (omega arith))
 row_from top column width (true ∷ marks) c from fits =
@@ -126,7 +126,7 @@ row_from top column width (false ∷ marks) c from fits =
           row_before top (column + 1) 0 marks c (omega arith) ∙ sym (ap (λ n. get_or (false ∷ marks) n false) none)
     ]
 
--- a cell of the marks of its row
+-- the flag of a cell in its row
 cell_of_row : (g : Grid) (c r : ℕ) → get_or (cell_row g r) c false ≡ is_dark_cell g c r
 cell_of_row g c r =
     let n = all_columns g in

@@ -19,7 +19,7 @@ use Rattle.qrcode_render.specs.Texts.{marks_text, raw_bytes}
 use Rattle.qrcode_render.proofs.Pictures.{both_from, not_true, some_side}
 use Rattle.qrcode_render.proofs.LineTexts.{flat_range_from, flat_range_more, joined_more}
 
--- how many elements these are
+-- the length of `each`
 pub length-each : {A : Type 0} (a : ℕ) (xs : List A) → length (each a xs) ≡ length xs * a
 length-each a [] = omega arith
 length-each a (x ∷ xs) = omega (arith, length-append (replicate a x) (each a xs), length-replicate a x, length-each a xs)
@@ -27,7 +27,7 @@ length-each a (x ∷ xs) = omega (arith, length-append (replicate a x) (each a x
 div_small : (x a : ℕ) → x < a → x / a ≡ 0
 div_small x a h = let place : x ≡ 0 * a + x = omega arith in ap (λ k. k / a) place ∙ div-mul-add 0 a x h
 
--- where an element stands among all of them
+-- element x of `each`
 pub get_or-each : {A : Type 0} (a : ℕ) (xs : List A) (x : ℕ) (d : A) → 0 < a → x < length xs * a → get_or (each a xs) x d ≡ get_or xs (x / a) d
 get_or-each a [] x d some h = absurd (omega arith)
 get_or-each a (y ∷ xs) x d some h =
@@ -48,7 +48,7 @@ get_or-each a (y ∷ xs) x d some h =
           ∙ sym (ap (λ k. get_or (y ∷ xs) k d) (more ∙ after))
     ]
 
--- the pixels of a row are the cells of its row of cells, each as often as a cell has pixels across
+-- the pixels of a row are the cells of its row of cells, each once for each pixel of its width
 pub row_of-pixels : (g : Grid) (y : ℕ) → 0 < g.across → 0 < g.down → y < all_rows g * g.down → row_of (pixels_of g) y ≡ each g.across (cell_row g (y / g.down))
 row_of-pixels g y some_wide some_high inside =
     let w = all_columns g * g.across in
@@ -108,7 +108,7 @@ some_rows R d r (suc k) h =
     ∙ ap₂ (λ a b. a ++ b) (some_rows R d r k (omega arith)) (ap R (div-mul-add r d k (omega arith)))
     ∙ sym (flat_range_more (λ y. R r) k (suc k) (omega arith))
 
--- what depends on the row of cells alone comes as often as a cell has pixels down
+-- what depends only on the row of cells is repeated for each pixel of a cell's height
 pub cell_rows : (R : ℕ → List ℕ) (d m : ℕ) → flat_map (λ y. R (y / d)) (range_with_len 0 (m * d)) ≡ flat_map (λ r. repeated d (R r)) (range_with_len 0 m)
 cell_rows R d zero = let none : 0 * d ≡ 0 = omega arith in ap (λ n. flat_map (λ y. R (y / d)) (range_with_len 0 n)) none
 cell_rows R d (suc m) =
@@ -120,19 +120,19 @@ cell_rows R d (suc m) =
     ∙ ap₂ (λ a b. a ++ b) (cell_rows R d m) (ap (λ a. flat_map row (range_with_len a d)) (omega arith) ∙ some_rows R d m d (omega arith))
     ∙ sym (flat_range_more (λ r. repeated d (R r)) m (suc m) (omega arith))
 
--- what comes of the rows of pixels, by rows of cells
+-- a text made of the rows of pixels, from rows of cells
 pub rows_by_cells : (f : List Bool → List ℕ) (g : Grid) → 0 < g.across → 0 < g.down
     → flat_map (λ y. f (row_of (pixels_of g) y)) (range_with_len 0 (all_rows g * g.down)) ≡ flat_map (λ r. repeated g.down (f (each g.across (cell_row g r)))) (range_with_len 0 (all_rows g))
 rows_by_cells f g some_wide some_high =
     flat_range_same (λ y. f (row_of (pixels_of g) y)) (λ y. f (each g.across (cell_row g (y / g.down)))) (all_rows g * g.down) (λ y inside. ap f (row_of-pixels g y some_wide some_high inside))
     ∙ cell_rows (λ r. f (each g.across (cell_row g r))) g.down (all_rows g)
 
--- where a range begins does not matter to a text that is repeated
+-- repeating a text does not depend on where the range begins
 times_from : (text : List ℕ) (a b n : ℕ) → text ++ flat_map (λ (_ : ℕ). text) (range_with_len a n) ≡ text ++ flat_map (λ (_ : ℕ). text) (range_with_len b n)
 times_from text a b zero = refl
 times_from text a b (suc n) = ap (λ t. text ++ t) (times_from text (a + 1) (b + 1) n)
 
--- the text of so many dark marks, and of so many light ones
+-- the text of a dark cells; below, of a light cells
 dark_times : (dark light : List ℕ) (a : ℕ) → marks_text dark light (replicate a true) ≡ repeated a dark
 dark_times dark light zero = refl
 dark_times dark light (suc a) = ap (λ t. dark ++ t) (dark_times dark light a) ∙ times_from dark 0 1 a
@@ -145,13 +145,13 @@ text_times : (dark light : List ℕ) (a : ℕ) (c : Bool) → marks_text dark li
 text_times dark light a true = dark_times dark light a
 text_times dark light a false = light_times dark light a
 
--- the text of marks that come so many times each
+-- the text of flags that are repeated a times each
 text_each : (dark light : List ℕ) (a : ℕ) (cells : List Bool) → marks_text dark light (each a cells) ≡ marks_text (repeated a dark) (repeated a light) cells
 text_each dark light a [] = refl
 text_each dark light a (c ∷ cells) =
     flat_map-append _ (replicate a c) (each a cells) ∙ ap₂ (λ x y. x ++ y) (text_times dark light a c) (text_each dark light a cells)
 
--- the texts of the rows of pixels, each with what ends a line
+-- the texts of the rows of pixels, each followed by `end`
 pub lines_rows_text : (dark light end : List ℕ) (g : Grid) → 0 < g.across → 0 < g.down
     → flat_map (λ y. marks_text dark light (row_of (pixels_of g) y) ++ end) (range_with_len 0 (all_rows g * g.down)) ≡ rows_text dark light end g
 lines_rows_text dark light end g some_wide some_high =
@@ -163,7 +163,7 @@ flat_map-flat_map : {A B C : Type 0} (f : B → List C) (h : A → List B) (xs :
 flat_map-flat_map f h [] = refl
 flat_map-flat_map f h (x ∷ xs) = flat_map-append f (h x) (flat_map h xs) ∙ ap (λ t. flat_map f (h x) ++ t) (flat_map-flat_map f h xs)
 
--- the texts of all pixels, by rows of cells
+-- the texts of all pixels, from rows of cells
 pub raw_rows_text : (dark light : List ℕ) (g : Grid) → 0 < g.across → 0 < g.down → raw_bytes dark light (pixels_of g) ≡ rows_text dark light [] g
 raw_rows_text dark light g some_wide some_high =
     let w = all_columns g * g.across in
@@ -176,7 +176,7 @@ raw_rows_text dark light g some_wide some_high =
     ∙ flat_range_same (λ y. marks_text dark light (row_of (pixels_of g) y)) (λ y. marks_text dark light (row_of (pixels_of g) y) ++ []) h (λ y _. sym (append-nil _))
     ∙ lines_rows_text dark light [] g some_wide some_high
 
--- lines with a newline between each two are lines that end with one, without the last
+-- lines with newlines between them, and one more at the end, are lines that each end with one
 pub joined-ended : (f : ℕ → List ℕ) (n : ℕ) → join_with_byte 10 (map f (range_with_len 0 (suc n))) ++ (10 ∷ []) ≡ flat_map (λ y. f y ++ (10 ∷ [])) (range_with_len 0 (suc n))
 joined-ended f zero = sym (append-nil (f 0 ++ (10 ∷ [])))
 joined-ended f (suc n) =
@@ -188,7 +188,7 @@ joined-ended f (suc n) =
     ∙ append_assoc (flat_map (λ y. f y ++ end) (range_with_len 0 (suc n))) (f (suc n)) end
     ∙ sym (flat_range_more (λ y. f y ++ end) (suc n) (suc (suc n)) (omega arith))
 
--- the marks of the dark cells of a row, in front of which so many are light
+-- the flags after the modules of a row were written between others
 marked-between : (line : List Color) (before : List Bool) (rest : List Bool) → marked_line (length before) line (before ++ (replicate (length line) false ++ rest)) ≡ before ++ (map is_dark line ++ rest)
 marked-between [] before rest = refl
 marked-between (c ∷ line) before rest =
@@ -201,7 +201,7 @@ marked-between (c ∷ line) before rest =
     ∙ marked-between line (before ++ is_dark c ∷ []) rest
     ∙ sym (grouped (map is_dark line ++ rest))
 
--- the marks of a row, where light ones stand around
+-- the flags of a row with a border of light cells
 pub marked-zone : (line : List Color) (zone n : ℕ) → n ≡ length line + 2 * zone → marked_line zone line (replicate n false) ≡ replicate zone false ++ (map is_dark line ++ replicate zone false)
 marked-zone line zone n is =
     let light = replicate zone false in
@@ -242,7 +242,7 @@ outside_row g row out =
     fill_by_all (λ column. is_dark_cell g column row) (replicate n false) n false (length-replicate n false) (λ k inside.
     get_or-replicate n k false false inside ∙ sym (cell_outside g k row (λ _ _ top bottom. out top bottom)))
 
--- a row inside has its cells between light ones
+-- a row inside is its cells between light ones
 pub inside_row : (g : Grid) (row : ℕ) → g.zone ≤ row → row < g.zone + g.rows → length g.cells ≡ g.rows * g.columns → replicate g.zone false ++ (map is_dark (slice_range g.cells ((row - g.zone) * g.columns) ((row - g.zone) * g.columns + g.columns)) ++ replicate g.zone false) ≡ cell_row g row
 inside_row g row top bottom whole =
     let z = g.zone in
@@ -280,7 +280,7 @@ inside_row g row top bottom whole =
           ]
     ])
 
--- nothing is taken of nothing
+-- taking from the empty list gives the empty list
 take-nil : (n : ℕ) → take {A = Color} n [] ≡ []
 take-nil zero = refl
 take-nil (suc n) = refl
@@ -297,7 +297,7 @@ light_cells n k xs none start =
     ∙ ap (λ ys. map is_dark (ys ++ replicate n Light)) (take-nil n)
     ∙ light_run n
 
--- the picture of cells of one pixel, with none around
+-- the bitmap of cells of one pixel without a border
 pub single_pixels : (cells : List Color) (w h : ℕ) → length cells ≡ w * h → (pixels_of (record { cells = cells; columns = w; rows = h; zone = 0; across = 1; down = 1 })) ≡ record { across = w; down = h; marks = map is_dark cells }
 single_pixels cells w h whole =
     let g : Grid = record { cells = cells; columns = w; rows = h; zone = 0; across = 1; down = 1 } in

@@ -1,4 +1,4 @@
--- Texts of marks, and lines of a text.
+-- Texts of rows of flags, and lines of text.
 use Rattle.std.proofs.Common.{◌≡◌, ℕ, zero, suc, ◌+◌, ◌*◌, ◌/◌, ◌<◌, ◌≤◌, ◌-◌, List, [], ◌∷◌, ◌++◌, Bool, false, length, get_or, take, drop, map, refl, ap, ap₂, ◌∙◌, sym, arith, append_assoc, add-zero, if◌then◌else◌, ◌==◌}
 use Rattle.std.specs.List.{flat_map, join_with_byte, range_with_len}
 use Rattle.std.proofs.lemmas.List.{take_more, take-append-drop, take_all, append-nil, length-drop}
@@ -33,7 +33,7 @@ flat_range_more f n m next =
 regroup : (x a b : List ℕ) → x ++ (a ++ (b ++ [])) ≡ x ++ a ++ b
 regroup x a b = simp (append_assoc, append-nil)
 
--- the texts of the first pairs of marks are those of the marks
+-- the texts of the first pairs of flags are the texts of these flags
 first_twos : (dark light : List ℕ) (two : Bool → Bool → List ℕ) (marks : List Bool) → ((a b : Bool) → two a b ≡ marks_text dark light (a ∷ b ∷ [])) → (k : ℕ) → 2 * k ≤ length marks
     → flat_map (λ i. two (get_or marks (2 * i) false) (get_or marks (2 * i + 1) false)) (range_with_len 0 k) ≡ marks_text dark light (take (2 * k) marks)
 first_twos dark light two marks is zero inside = refl
@@ -49,7 +49,7 @@ first_twos dark light two marks is (suc k) inside =
     ∙ sym (ap (λ t. t ++ mark (at + 1)) (flat_map_one text marks at (at + 1) false refl (omega arith)))
     ∙ sym (flat_map_one text marks (at + 1) (2 * suc k) false (omega arith) (omega arith))
 
--- the texts of pairs of marks, then those of the rest
+-- the texts of all pairs of flags followed by that of the rest are the text of all flags
 pub twos_and_rest : (dark light : List ℕ) (two : Bool → Bool → List ℕ) (marks : List Bool) → ((a b : Bool) → two a b ≡ marks_text dark light (a ∷ b ∷ []))
     → let k = length marks / 2 * 2 in twos_text two marks ++ marks_text dark light (take (length marks - k) (drop k marks)) ≡ marks_text dark light marks
 twos_and_rest dark light two marks is =
@@ -60,7 +60,7 @@ twos_and_rest dark light two marks is =
     ∙ sym (flat_map-append _ (take k marks) (drop k marks))
     ∙ ap (marks_text dark light) (take-append-drop k marks)
 
--- one more line after others
+-- join_with_byte of lines and one more
 join-push : (lines : List (List ℕ)) (line : List ℕ) → join_with_byte 10 (lines ++ line ∷ []) ≡ join_with_byte 10 lines ++ line_start (length lines) ++ line
 join-push [] line = refl
 join-push (first ∷ []) line = sym (append_assoc first (10 ∷ []) line)
@@ -77,7 +77,7 @@ joined_more f y =
     ∙ join-push lines (f y)
     ∙ ap (λ n. join_with_byte 10 lines ++ line_start n ++ f y) (length-map-range_with_len f 0 y)
 
--- lines that have a width
+-- lines_text of lines that have a width
 pub some_lines : (across : ℕ) (lines : List (List ℕ)) → 0 < across → lines_text across lines ≡ join_with_byte 10 lines
 some_lines zero lines h = absurd (omega arith)
 some_lines (suc n) lines h = let some : (suc n == 0) ≡ false = grind (arith, nat_tests) in ap (λ b. if b then [] else join_with_byte 10 lines) some

@@ -1,4 +1,4 @@
--- Rows of cells as pixels, eight in a byte.
+-- Rows of cells as pixels, eight to a byte.
 use Rattle.std.proofs.Common.{◌≡◌, ℕ, zero, suc, ◌+◌, ◌*◌, ◌/◌, ◌^◌, ◌<◌, ◌≤◌, inl, inr, Bool, true, false, List, [], ◌∷◌, ◌++◌, length, map, replicate, get_or, refl, ap, ap₂, ◌∙◌, sym, arith, if◌then◌else◌}
 use Rattle.std.proofs.Math.Nat.{pow-suc, pow-le-pow_right, div-mul-le_self}
 use Rattle.std.proofs.lemmas.Bool.{cases_lt}
@@ -35,7 +35,7 @@ pub bits_more : (blacks : List Bool) (start count : ℕ) → bits_from blacks st
 unfolding bits_from
 bits_more blacks start count = let e : count + 1 ≡ suc count = omega arith in ap (bits_from blacks start) e
 
--- where a pixel of a row of cells stands among the cells
+-- a pixel of a row of cells has the flag of its cell
 pub get_or-each-all : {A : Type 0} (a : ℕ) (xs : List A) (x : ℕ) (d : A) → 0 < a → get_or (each a xs) x d ≡ get_or xs (x / a) d
 get_or-each-all a xs x d some =
     elim (cases_lt x (length xs * a)) [
@@ -49,7 +49,7 @@ inked_times : (marked other : Bool) (n : ℕ) (m : Bool) → inked marked other 
 inked_times marked other zero m = refl
 inked_times marked other (suc n) m = ap (λ xs. (if m then marked else other) ∷ xs) (inked_times marked other n m)
 
--- the cells are black, and their pixels with them
+-- turning flags into black or white commutes with repeating them
 pub inked-each : (marked other : Bool) (a : ℕ) (xs : List Bool) → inked marked other (each a xs) ≡ each a (inked marked other xs)
 inked-each marked other a [] = refl
 inked-each marked other a (m ∷ xs) =
@@ -64,14 +64,14 @@ bit_inside marked other a xs x some inside =
     ap (λ b. if b then 1 else 0)
     (sym (ap (λ l. get_or l x false) (inked-each marked other a xs) ∙ get_or-each-all a (inked marked other xs) x false some ∙ get_or-map ink xs (x / a) false false inside))
 
--- the bit of a pixel behind the end
+-- the bit of a pixel after the end
 pub bit_past : (marked other : Bool) (a : ℕ) (xs : List Bool) (x : ℕ) → 0 < a → length xs ≤ x / a → 0 ≡ black_bit (inked marked other (each a xs)) x
 bit_past marked other a xs x some past =
     let ink : Bool → Bool = λ m. if m then marked else other in
     let end : get_or (inked marked other xs) (x / a) false ≡ false = get_or_past (inked marked other xs) (x / a) false (omega (arith, length-map xs ink)) in
     ap (λ b. if b then 1 else 0) (sym (ap (λ l. get_or l x false) (inked-each marked other a xs) ∙ get_or-each-all a (inked marked other xs) x false some ∙ end))
 
--- a later pixel stands in no earlier cell
+-- a later pixel is in no earlier cell
 div_grows : (a x y : ℕ) → 0 < a → x ≤ y → x / a ≤ y / a
 div_grows a x y some h = le-div (x / a) y a some (omega (arith, div-mul-le_self x a, h))
 
@@ -100,7 +100,7 @@ bytes_more blacks i =
     let f : ℕ → ℕ = λ k. bits_from blacks (8 * k) 8 in
     sym (map-append f (range_with_len 0 i) (i ∷ [])) ∙ ap (map f) (sym (range_append 0 i 1 ∙ ap (λ k. range_with_len 0 i ++ k ∷ []) (omega arith)))
 
--- what stands before the rows is what does by their sides
+-- a file whose head is the one for the sides of the bitmap
 pub other_head : (head : List ℕ) (before : ℕ → ℕ → List ℕ) (row : List ℕ → List ℕ) (behind : List ℕ) (marked other : Bool) (b : Bitmap) → head ≡ before b.across b.down
     → packed_file (λ _ _. head) row behind marked other b ≡ packed_file before row behind marked other b
 unfolding packed_file

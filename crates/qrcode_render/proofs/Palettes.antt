@@ -23,7 +23,7 @@ length-pairs ts (x ∷ xs) = omega (arith, length-append (map (λ b. x ++ b) ts)
 pub length-paired : (ts : List (List ℕ)) → length ts ≡ 4 → length (paired ts) ≡ 16
 length-paired ts four = length-pairs ts ts ∙ ap (λ n. n * n) four
 
--- the pair of two texts
+-- the text of a pair, by its number
 get_or-pairs : (ts xs : List (List ℕ)) (i j : ℕ) → i < length xs → j < length ts → get_or (flat_map (λ a. map (λ b. a ++ b) ts) xs) (i * length ts + j) [] ≡ get_or xs i [] ++ get_or ts j []
 get_or-pairs ts [] i j h k = absurd (omega arith)
 get_or-pairs ts (x ∷ xs) zero j h k =
@@ -46,7 +46,7 @@ get_or-paired ts i j four h k =
     let place : 4 * i + j ≡ i * length ts + j = omega (arith, ap (λ n. i * n) four) in
     ap (λ n. get_or (paired ts) n []) place ∙ get_or-pairs ts ts i j (omega arith) (omega arith)
 
--- the texts of two pairs of marks more
+-- the texts after two more pairs of flags
 pub twos_more : (two : Bool → Bool → List ℕ) (marks : List Bool) (i : ℕ)
     → let text : ℕ → List ℕ = λ k. two (get_or marks (2 * k) false) (get_or marks (2 * k + 1) false) in
     flat_map text (range_with_len 0 (2 * (i + 1)))
@@ -65,7 +65,7 @@ twos_more two marks i =
     ∙ append_assoc before (text x) (text (x + 1))
     ∙ ap₂ (λ s t. before ++ (s ++ t)) (ap₂ two (ap mark a) (ap mark b)) (ap₂ two (ap mark c) (ap mark d))
 
--- the texts of columns, whose marks stand one behind the other
+-- the texts of columns, from the two rows in turn
 pub columns_are : (two : Bool → Bool → List ℕ) (upper lower columns : List Bool) → length columns ≡ 2 * length upper → ((x : ℕ) → x < length upper → AreMarksAt upper lower columns x)
     → twos_text two columns ≡ columns_text two upper lower
 columns_are two upper lower columns long are =
@@ -74,7 +74,7 @@ columns_are two upper lower columns long are =
     ap (λ n. flat_map text (range_with_len 0 n)) count
     ∙ flat_range_same text (λ x. two (get_or upper x false) (get_or lower x false)) (length upper) (λ x inside. ap₂ two (are x inside).first (are x inside).second)
 
--- the marks of one more column
+-- the flags after one more column
 pub interleaved_more : (upper lower columns : List Bool) (x : ℕ) → 2 * x + 1 < length columns → ((k : ℕ) → k < x → AreMarksAt upper lower columns k) → (k : ℕ) → k < x + 1 → AreMarksAt upper lower (set (set columns (2 * x) (get_or upper x false)) (2 * x + 1) (get_or lower x false)) k
 interleaved_more upper lower columns x inside before k below =
     let u = get_or upper x false in

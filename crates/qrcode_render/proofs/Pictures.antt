@@ -17,7 +17,7 @@ use Rattle.qrcode_render.specs.Bitmap.{marked}
 use Rattle.qrcode_render.specs.Picture.{picture, is_dark_pixel}
 use Rattle.qrcode_render.proofs.Rectangles.{Outcome, rect_outcome, length-filled}
 
--- the module of a pixel, where it is inside
+-- the module of a pixel outside the quiet zone
 abbrev module_at : Layout → ℕ → ℕ → ℕ
 module_at at x y = (y / at.down - at.zone) * at.count + (x / at.across - at.zone)
 
@@ -56,7 +56,7 @@ past_light at content i ps is drawn x y inside below =
           )
     ]
 
--- the cell of a number
+-- a number between two multiples has this quotient
 cell_is : (c n x : ℕ) → c * n ≤ x → x < c * n + n → x / n ≡ c
 cell_is c n x low up =
     let rest : x - c * n < n = omega arith in
@@ -69,7 +69,7 @@ cell_low n x = omega (arith, div-add-mod' x n)
 cell_high : (n x : ℕ) → 1 ≤ n → x < x / n * n + n
 cell_high n x some = omega (arith, div-add-mod' x n, mod_below x n some)
 
--- cells within cells
+-- the pixels of a cell inside are inside
 cell_fits : (c m n : ℕ) → c < m → c * n + n ≤ m * n
 cell_fits c m n h = let le : (c + 1) * n ≤ m * n = mul-le-mul_right n (omega arith) in omega arith
 
@@ -221,7 +221,7 @@ pixels_are at content ps whole drawn =
       | inr none ↦ ap (λ j. get_or ps j false) (sym place) ∙ none.1 ∙ sym (not_true (is_dark_pixel at content x y) (λ h. none.0 (dark_is_hit at content x y h)))
     ])
 
--- the marks of a drawing on light pixels are those of the picture
+-- the flags of a drawing on light pixels are those of the picture
 pub drawn-marks : (at : Layout) (content : List Color) → length content ≡ at.count * at.count → 1 ≤ at.across → 1 ≤ at.down
     → drawn (filled (marked (pixels_across at))) at content (replicate (pixels_across at * pixels_down at) false) ≡ (picture at content).marks
 drawn-marks at content square some_wide some_high =

@@ -1,4 +1,4 @@
--- Which pixels of a list the rectangle steps make dark.
+-- Which pixels of a bitmap rectangles make dark.
 use Rattle.std.proofs.Common.{◌≡◌, ℕ, zero, suc, ◌+◌, ◌*◌, ◌/◌, ◌%◌, ◌-◌, ◌<◌, ◌≤◌, ◌≢◌, ◌⊎◌, inl, inr, List, [], ◌∷◌, length, get_or, refl, ap, ◌∙◌, arith, length-set, Bool, true, false}
 use Rattle.std.proofs.Math.Nat.{mul-le-mul_right}
 use Rattle.std.proofs.lemmas.Bool.{cases_lt}
@@ -11,7 +11,7 @@ use Rattle.qrcode_render.specs.Drawn.{filled, module_step, drawn_from}
 use Rattle.qrcode_render.specs.Layout.{Layout}
 use Rattle.qrcode_render.specs.Bitmap.{marked}
 
--- a pixel is dark where a fact holds, and as it was where it does not
+-- a pixel is dark if a fact holds, and unchanged if not
 abbrev pub Outcome : Type 0 → Bool → Bool → Type 0
 Outcome In now old = (In × (now ≡ true)) ⊎ ((In → ⊥) × (now ≡ old))
 
@@ -22,7 +22,7 @@ length-dark_row : (across : ℕ) (left y n : ℕ) (ps : List Bool) → length (d
 length-dark_row across left y zero ps = refl
 length-dark_row across left y (suc n) ps = length-dark_row across (left + 1) y n (marked across left y ps) ∙ length-set ps (y * across + left) true
 
--- a row of dark pixels
+-- the pixels after a part of a row was made dark
 row_outcome : (across : ℕ) (left y n i : ℕ) (ps : List Bool) → y * across + left + n ≤ length ps
     → Outcome ((y * across + left ≤ i) × (i < y * across + left + n)) (get_or (dark_row across left y n ps) i false) (get_or ps i false)
 row_outcome across left y zero i ps inside = inr ((λ h. let a = h.0 in let b = h.1 in omega arith), refl)
@@ -52,7 +52,7 @@ pub length-filled : (across : ℕ) (left top width n : ℕ) (ps : List Bool) →
 length-filled across left top width zero ps = refl
 length-filled across left top width (suc n) ps = length-filled across left (top + 1) width n (dark_row across left top width ps) ∙ length-dark_row across left top width ps
 
--- a place of a row lies in that row
+-- a pixel between the first and the last of a part of a row is in that row
 same_row : (across left width y x top : ℕ) → left + width ≤ across → x < across → top * across + left ≤ y * across + x → y * across + x < top * across + left + width → (y ≡ top) × (left ≤ x) × (x < left + width)
 same_row across left width y x top fits inside low high =
     let d = y * across + x - top * across in
@@ -62,7 +62,7 @@ same_row across left width y x top fits inside low high =
     let column : x ≡ d = same.1 in
     (same.0, omega arith, omega arith)
 
--- a rectangle of dark pixels
+-- the pixels after a rectangle was made dark
 pub rect_outcome : (across : ℕ) (left top width n x y : ℕ) (ps : List Bool) → left + width ≤ across → x < across → (top + n) * across ≤ length ps
     → Outcome ((left ≤ x) × (x < left + width) × (top ≤ y) × (y < top + n)) (get_or (filled (marked across) left top width n ps) (y * across + x) false) (get_or ps (y * across + x) false)
 rect_outcome across left top width zero x y ps fits inside whole = inr ((λ h. let a = h.2 in let b = h.3 in omega arith), refl)
@@ -92,7 +92,7 @@ rect_outcome across left top width (suc n) x y ps fits inside whole =
       ]
     ]
 
--- steps that agree through a function agree in a drawing
+-- if a function maps each step of one kind to one of another, it does so for whole drawings
 pub drawn_from-through : {D E : Type 0} (h : D → E) (rect : ℕ → ℕ → ℕ → ℕ → D → D) (rect' : ℕ → ℕ → ℕ → ℕ → E → E) → ((a b c d : ℕ) (e : D) → h (rect a b c d e) ≡ rect' a b c d (h e)) → (at : Layout) (i : ℕ) (content : List Color) (d : D) → h (drawn_from rect at i content d) ≡ drawn_from rect' at i content (h d)
 drawn_from-through h rect rect' same at i [] d = refl
 drawn_from-through h rect rect' same at i (Light ∷ content) d = drawn_from-through h rect rect' same at (i + 1) content d

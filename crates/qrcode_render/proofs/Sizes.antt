@@ -7,7 +7,7 @@ reaches : (side pixels n : ℕ) → pixels ≤ side * n → pixels ≤ side * ma
 reaches side pixels zero h = omega arith
 reaches side pixels (suc n) h = let e : max (suc n) 1 ≡ suc n = omega arith in rw e h
 
--- the quotient rounded up is the least size that reaches the request
+-- the quotient rounded up is the smallest size that reaches the request
 pub is_least_size : (side pixels : ℕ) → 1 ≤ side → IsLeastSize side pixels (least_size side pixels)
 is_least_size side pixels some = record {
   positive = omega arith;
@@ -19,7 +19,7 @@ keeps : (side pixels n : ℕ) → side * n ≤ pixels → (side * max n 1 ≤ pi
 keeps side pixels zero h = inr refl
 keeps side pixels (suc n) h = let e : max (suc n) 1 ≡ suc n = omega arith in inl (rw e h)
 
--- the quotient is the greatest size that keeps the request, and 1 stands for none
+-- the quotient is the largest size that keeps the request; 1 if it is 0
 pub is_greatest_size : (side pixels : ℕ) → 1 ≤ side → IsGreatestSize side pixels (greatest_size side pixels)
 is_greatest_size side pixels some = record {
   positive = omega arith;

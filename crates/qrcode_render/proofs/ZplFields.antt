@@ -28,13 +28,13 @@ read_ones n field before t k some most is =
     let one : read_one n (reading t before) (70 + k) ≡ reading (t + k) before = grind (arith, nat_tests) in
     read_more n field (70 + k) ∙ ap (λ r. read_one n r (70 + k)) is ∙ one
 
--- a digit behind letters
+-- a digit after letters
 pub read_digit : (n : ℕ) (field before : List ℕ) (t d : ℕ) → d < 16 → read n field ≡ reading t before → IsRead n (field ++ hex_digit d ∷ []) (before ++ replicate (max t 1) d)
 read_digit n field before t d small is =
     let one : read_one n (reading t before) (hex_digit d) ≡ reading 0 (before ++ replicate (max t 1) d) = grind (arith, nat_tests) in
     read_more n field (hex_digit d) ∙ ap (λ r. read_one n r (hex_digit d)) is ∙ one
 
--- a colon behind a row
+-- a colon after a row
 pub read_colon : (n : ℕ) (field before row : List ℕ) → length row ≡ n → IsRead n field (before ++ row) → IsRead n (field ++ 58 ∷ []) ((before ++ row) ++ row)
 read_colon n field before row long is =
     let start : length (before ++ row) - n ≡ length before = omega (arith, length-append before row) in
@@ -43,11 +43,11 @@ read_colon n field before row long is =
     ∙ ap (λ k. reading 0 ((before ++ row) ++ drop k (before ++ row))) start
     ∙ ap (λ xs. reading 0 ((before ++ row) ++ xs)) (drop-append_seam before row)
 
--- a text once more
+-- a text repeated once more
 pub repeated_more : (k : ℕ) (text : List ℕ) → repeated (suc k) text ≡ repeated k text ++ text
 repeated_more k text = flat_range_more (λ _. text) k (suc k) (omega arith)
 
--- so many colons behind a row
+-- k colons after a row
 pub read_colons : (n k : ℕ) (field before row : List ℕ) → length row ≡ n → IsRead n field (before ++ row) → IsRead n (field ++ repeated k (58 ∷ [])) ((before ++ repeated k row) ++ row)
 read_colons n zero field before row long is =
     ap (read n) (append-nil field) ∙ is ∙ ap (λ xs. reading 0 (xs ++ row)) (sym (append-nil before))

@@ -8,75 +8,75 @@ use Rattle.qrcode_render.specs.Layout.{Layout, pixels_across, pixels_down}
 use Rattle.qrcode_render.specs.Paths.{thousandths}
 use Rattle.qrcode_render.specs.Strokes.{rect_text, regroup}
 
--- what follows is drawn in this colour
+-- sets the colour of what follows
 abbrev pub eps_paint : eps.Color → List ℕ
 eps_paint p =
     decimal p.red ++ (codes " 255 div " ++ (decimal p.green ++ (codes " 255 div " ++ (decimal p.blue ++ codes " 255 div setrgbcolor\n"))))
 
--- the head, whose box has its lower left corner at 0 0, and a point for a pixel
+-- the header of a picture of w by h pixels, each a point: its lower left corner is at 0 0
 abbrev pub eps_head : ℕ → ℕ → List ℕ
 eps_head w h =
     codes "%!PS-Adobe-3.0 EPSF-3.0\n%%BoundingBox: 0 0 " ++ (decimal w ++ (codes " " ++ (decimal h ++ codes "\n%%LanguageLevel: 2\n%%EndComments\n")))
 
--- a rectangle, given by its corner next to the origin and its sides
+-- fills a rectangle, given by its corner next to the origin and its sides
 abbrev pub eps_box : ℕ → ℕ → ℕ → ℕ → List ℕ
 eps_box left top width height =
     decimal left ++ (codes " " ++ (decimal top ++ (codes " " ++ (decimal width ++ (codes " " ++ (decimal height ++ codes " rectfill\n"))))))
 
--- the origin goes to the upper left corner, and rows are counted from above
+-- moves the origin to the upper left corner, so that rows count from the top
 abbrev pub eps_turn : ℕ → List ℕ
 eps_turn h = codes "0 " ++ (decimal h ++ codes " translate 1 -1 scale\n")
 
--- the light ground, from the lower left corner on
+-- fills the light background, from the lower left corner on
 abbrev pub eps_ground : ℕ → ℕ → List ℕ
 eps_ground w h = codes "0 0 " ++ (decimal w ++ (codes " " ++ (decimal h ++ codes " rectfill\n")))
 
--- what stands before the first dark rectangle: the head, and a light ground
+-- the text before the first dark rectangle: the header and the light background
 abbrev pub eps_start : ℕ → ℕ → eps.Color → eps.Color → List ℕ
 eps_start w h dark light = eps_head w h ++ (eps_paint light ++ (eps_ground w h ++ (eps_turn h ++ eps_paint dark)))
 
--- the points, each 1/72 of an inch, that pixels begin, of which an inch has so many
+-- n pixels in points (1/72 of an inch), rounded up, with `dots` pixels to an inch
 abbrev pub begun_points : ℕ → ℕ → ℕ
 begun_points dots n = (72 * n + dots - 1) / dots
 
--- the lines of the head that say how large a picture is: the points that it begins, and those that it has, to the next thousandth
+-- the lines of the header that state the picture's size in points: rounded up to whole points, and to thousandths of one
 unfoldable pub eps_boxes : ℕ → ℕ → ℕ → List ℕ
 eps_boxes dots w h =
     codes "%!PS-Adobe-3.0 EPSF-3.0\n%%BoundingBox: 0 0 " ++ (decimal (begun_points dots w) ++ (codes " " ++ (decimal (begun_points dots h)
     ++ (codes "\n%%HiResBoundingBox: 0 0 " ++ (thousandths (begun_points dots (1000 * w)) ++ (codes " " ++ (thousandths (begun_points dots (1000 * h)) ++ codes "\n")))))))
 
--- the head, and how large a pixel is
+-- the header, and the size of a pixel
 abbrev pub eps_sized_head : ℕ → ℕ → ℕ → List ℕ
 eps_sized_head dots w h = eps_boxes dots w h ++ (codes "%%LanguageLevel: 2\n%%EndComments\n72 " ++ (decimal dots ++ codes " div dup scale\n"))
 
--- what stands before the first dark rectangle then
+-- the text before the first dark rectangle, with `dots` pixels to an inch
 abbrev pub eps_sized_start : ℕ → ℕ → ℕ → eps.Color → eps.Color → List ℕ
 eps_sized_start dots w h dark light = eps_sized_head dots w h ++ (eps_paint light ++ (eps_ground w h ++ (eps_turn h ++ eps_paint dark)))
 
--- a dark rectangle
+-- the text followed by a dark rectangle
 abbrev pub eps_rect : ℕ → ℕ → ℕ → ℕ → List ℕ → List ℕ
 eps_rect left top width height text = text ++ eps_box left top width height
 
--- what its column determines of a box, and what its row and its sides do
+-- the parts of a rectangle's text that depend on its column; `eps_row` has those that depend on its row and its sides
 abbrev pub eps_column : ℕ → List ℕ × List ℕ
 eps_column left = (decimal left ++ codes " ", [])
 
 abbrev pub eps_row : ℕ → ℕ → ℕ → List ℕ × List ℕ
 eps_row top width height = (decimal top ++ codes " " ++ decimal width ++ codes " " ++ decimal height, codes " rectfill\n")
 
--- a box is that of its column and of its row and its sides
+-- the text of a rectangle is put together of these parts
 pub eps_rect-is : (left top width height : ℕ) (text : List ℕ) → eps_rect left top width height text ≡ text ++ rect_text (eps_column left) (eps_row top width height)
 eps_rect-is left top width height text =
     regroup text [] (decimal left) (codes " ") (decimal top) (codes " ") (decimal width) (codes " ") (decimal height) [] [] [] (codes " rectfill\n")
 
--- what stands behind the last dark rectangle
+-- the text after the last dark rectangle
 abbrev pub eps_end : List ℕ
 eps_end = codes "showpage\n%%EOF\n"
 
--- the picture of modules, of a dark and a light colour
+-- the picture of modules in a dark and a light colour
 abbrev pub eps_text : Layout → List Color → eps.Color → eps.Color → List ℕ
 eps_text at content dark light = drawn eps_rect at content (eps_start (pixels_across at) (pixels_down at) dark light) ++ eps_end
 
--- the same, of so many pixels to an inch
+-- the picture of modules in a dark and a light colour, with `dots` pixels to an inch
 abbrev pub eps_sized_text : ℕ → Layout → List Color → eps.Color → eps.Color → List ℕ
 eps_sized_text dots at content dark light = drawn eps_rect at content (eps_sized_start dots (pixels_across at) (pixels_down at) dark light) ++ eps_end

@@ -1,41 +1,41 @@
--- The bytes of picture files of pixels.
+-- Image files of the netpbm formats: PBM, PGM and PPM.
 use Rattle.std.specs.Prelude.{ℕ, zero, suc, ◌+◌, ◌*◌, ◌/◌, Bool, false, List, [], ◌∷◌, ◌++◌, codes, decimal, length, map, flat_map, slice_index_or, if◌then◌else◌}
 use Rattle.std.specs.List.{range_with_len}
 use Rattle.qrcode_render.specs.Bitmap.{Bitmap, row_of}
 use Rattle.qrcode_render.specs.Texts.{raw_bytes}
 
--- a PGM file: its kind, its sides, the greatest grey, and the grey of each pixel, row by row
+-- a PGM file: its type P5, its width and height, the value of white, and the grey of each pixel, row by row
 unfoldable pub pgm_file : ℕ → ℕ → Bitmap → List ℕ
 pgm_file dark light b =
     codes "P5\n" ++ (decimal b.across ++ (codes " " ++ (decimal b.down ++ codes "\n255\n")))
     ++ raw_bytes (dark ∷ []) (light ∷ []) b
 
--- a PPM file: its kind, its sides, the greatest red, green and blue, and those of each pixel, row by row
+-- a PPM file: its type P6, its width and height, the largest value, and red, green and blue of each pixel, row by row
 unfoldable pub ppm_file : List ℕ → List ℕ → Bitmap → List ℕ
 ppm_file dark light b = codes "P6\n" ++ (decimal b.across ++ (codes " " ++ (decimal b.down ++ codes "\n255\n"))) ++ raw_bytes dark light b
 
--- which pixels of a row are black, where dark ones are or are not, and light ones are or are not
+-- which pixels of a row are black: dark ones if `marked` is true, light ones if `other` is
 abbrev pub inked : Bool → Bool → List Bool → List Bool
 inked marked other marks = map (λ m. if m then marked else other) marks
 
--- the bit of a pixel: 1 for black, and 0 for white and behind the end of the row
+-- the bit of pixel x: 1 for black, 0 for white and after the end of the row
 abbrev pub black_bit : List Bool → ℕ → ℕ
 black_bit blacks x = if slice_index_or blacks x false then 1 else 0
 
--- the number that the bits of so many pixels from a place on make, the first highest
+-- the number that the bits of `count` pixels from `start` on make, the first highest
 unfoldable pub bits_from : List Bool → ℕ → ℕ → ℕ
 bits_from blacks start zero = 0
 bits_from blacks start (suc count) = 2 * bits_from blacks start count + black_bit blacks (start + count)
 
--- a row of pixels, eight in a byte
+-- a row of pixels, eight to a byte
 unfoldable pub packed : List Bool → List ℕ
 packed blacks = map (λ i. bits_from blacks (8 * i) 8) (range_with_len 0 ((length blacks + 7) / 8))
 
--- the head of a PBM file: its kind, and its sides
+-- the header of a PBM file: its type P4, its width and height
 abbrev pub pbm_head : ℕ → ℕ → List ℕ
 pbm_head w h = codes "P4\n" ++ (decimal w ++ (codes " " ++ (decimal h ++ codes "\n")))
 
--- a PBM file: its head, and the rows of pixels, each in bytes of its own
+-- a PBM file: the header, and the rows of pixels, each in bytes of its own
 unfoldable pub pbm_file : Bool → Bool → Bitmap → List ℕ
 pbm_file marked other b =
     pbm_head b.across b.down

@@ -1,7 +1,7 @@
--- Where modules stand in a picture.
+-- Where the modules are in a picture.
 use Rattle.std.specs.Prelude.{ℕ, ◌+◌, ◌*◌}
 
--- the modules along a side, the modules of the quiet zone at each side, and the pixels of a module across and down
+-- the number of modules along a side, that of the quiet zone on each side, and the width and height of a module in pixels
 pub record Layout : Type 0 where
   pub count : ℕ
   pub zone : ℕ
@@ -11,14 +11,14 @@ pub record Layout : Type 0 where
 abbrev pub layout : ℕ → ℕ → ℕ → ℕ → Layout
 layout count zone across down = record { count = count; zone = zone; across = across; down = down }
 
--- the modules along a side, with the quiet zone
+-- the number of modules along a side, quiet zone included
 abbrev pub modules_across : Layout → ℕ
 modules_across at = at.count + 2 * at.zone
 
--- the pixels of a picture across
+-- the width of the picture in pixels
 abbrev pub pixels_across : Layout → ℕ
 pixels_across at = modules_across at * at.across
 
--- the pixels of a picture down
+-- the height of the picture in pixels
 abbrev pub pixels_down : Layout → ℕ
 pixels_down at = modules_across at * at.down

@@ -1,4 +1,4 @@
--- PDF 1.4 of one page as large as the picture, on which the runs of dark modules are filled.
+-- PDF 1.4 with one page of the picture's size, on which the runs of dark modules are filled.
 use Rattle.std.specs.Prelude.{◌≡◌, ℕ, ◌+◌, ◌*◌, ◌/◌, ◌%◌, ◌^◌, ◌<◌, ◌==◌, if◌then◌else◌, List, [], ◌∷◌, ◌++◌, codes, decimal, length, map, flat_map}
 use Rattle.std.specs.Char.Escape.{encode_utf16}
 use Rattle.std.specs.List.{range_with_len}
@@ -7,21 +7,21 @@ use Rattle.qrcode_render.specs.Bitmap.{Bitmap}
 use Rattle.qrcode_render.specs.Paths.{Run, is_filled}
 use Rattle.qrcode_render.specs.Printers.{hex_pair}
 
--- the digit of a number that stands for a power of ten
+-- the decimal digit of a number at a power of ten
 abbrev pub digit_at : ℕ → ℕ → ℕ
 digit_at n power = 48 + n / power % 10
 
--- millionths, as a number with six digits behind its point
+-- n millionths, as a number with six decimals
 unfoldable pub millionths : ℕ → List ℕ
 millionths n =
     decimal (n / 1000000) ++ 46 ∷ digit_at n 100000 ∷ digit_at n 10000 ∷ digit_at n 1000 ∷ digit_at n 100 ∷ digit_at n 10 ∷ digit_at n 1 ∷ []
 
--- a number in ten digits
+-- the last ten decimal digits of a number
 unfoldable pub ten_digits : ℕ → List ℕ
 ten_digits n =
     digit_at n 1000000000 ∷ digit_at n 100000000 ∷ digit_at n 10000000 ∷ digit_at n 1000000 ∷ digit_at n 100000 ∷ digit_at n 10000 ∷ digit_at n 1000 ∷ digit_at n 100 ∷ digit_at n 10 ∷ digit_at n 1 ∷ []
 
--- a picture on its page: the modules across and down, the pixels of each, those of the picture, and those of an inch
+-- a picture on its page: the modules across and down, the pixels of a module, those of the picture, and those to an inch
 pub record Sheet : Type 0 where
   pub columns : ℕ
   pub rows : ℕ
@@ -31,52 +31,52 @@ pub record Sheet : Type 0 where
   pub high : ℕ
   pub dots : ℕ
 
--- pixels, in points: 1/72 of an inch
+-- a length of n pixels in points, 1/72 of an inch
 abbrev pub points : Sheet → ℕ → List ℕ
 points s n = millionths (n * 72000000 / s.dots)
 
--- a module is the unit, and rows are counted from above
+-- the coordinates: the unit is a module, and rows count from the top
 abbrev pub turn : Sheet → List ℕ
 turn s = points s s.across ++ (codes " 0 0 -" ++ (points s s.down ++ (codes " 0 " ++ (points s s.high ++ codes " cm\n"))))
 
--- a part of a colour, of 0 to 255
+-- a component of a colour, from 0 to 255, as a fraction of 1
 abbrev pub part : ℕ → List ℕ
 part c = millionths ((c * 1000000 + 127) / 255) ++ codes " "
 
--- what follows is filled in the colour of red, green and blue
+-- sets the fill colour, given as red, green and blue
 abbrev pub paint : List ℕ → List ℕ
 paint parts = flat_map part parts ++ codes "rg\n"
 
--- the ground, filled
+-- fills the background
 abbrev pub ground : Sheet → List ℕ
 ground s = codes "0 0 " ++ (decimal s.columns ++ (codes " " ++ (decimal s.rows ++ codes " re f\n")))
 
--- the rectangle of a run: its left, its top and its width; it is one module high
+-- the rectangle of a run: its left, its top, its width and its height of one module
 abbrev pub run_box : Run → List ℕ
 run_box r = decimal r.left ++ (codes " " ++ (decimal r.top ++ (codes " " ++ (decimal r.width ++ codes " 1 re\n"))))
 
--- what is drawn before the runs
+-- the operators before the runs
 abbrev pub under : Sheet → List ℕ → List ℕ → List ℕ
 under s dark light = turn s ++ (paint light ++ (ground s ++ paint dark))
 
--- runs, filled as one path
+-- the runs, filled as one path
 abbrev pub filled : List Run → List ℕ
 filled runs = flat_map run_box runs ++ codes "f"
 
--- what is drawn: the light ground, the runs, and what is over them
+-- the operators of the page: the light background, the runs, and what is drawn over them
 abbrev pub content : Sheet → List ℕ → List ℕ → List Run → List ℕ → List ℕ
 content s dark light runs over = (under s dark light ++ filled runs) ++ over
 
--- a file while it is written, and its table of where objects begin
+-- a file that is being written: its objects, and the cross-reference table of where they begin
 pub record Body : Type 0 where
   pub text : List ℕ
   pub table : List ℕ
 
--- one object more: its text, and in the table where it begins
+-- the file after another object: its text, and in the table where it begins
 abbrev pub with_object : List ℕ → Body → Body
 with_object object b = record { text = b.text ++ object; table = b.table ++ (ten_digits (length b.text) ++ codes " 00000 n \n") }
 
--- what the file begins with, and its table
+-- the beginning of the file, and of the table
 abbrev pub start : Body
 start = record { text = codes "%PDF-1.4\n"; table = codes "0000000000 65535 f \n" }
 
@@ -86,54 +86,54 @@ catalog = codes "1 0 obj\n<</Type/Catalog/Pages 2 0 R>>\nendobj\n"
 abbrev pub pages : List ℕ
 pages = codes "2 0 obj\n<</Type/Pages/Kids[3 0 R]/Count 1>>\nendobj\n"
 
--- how large the page is
+-- the width and height of the page
 abbrev pub sides : Sheet → List ℕ
 sides s = points s s.wide ++ (codes " " ++ points s s.high)
 
--- the page, as large as the picture
+-- the page object, of the picture's size
 abbrev pub page : Sheet → List ℕ
 page s = codes "3 0 obj\n<</Type/Page/Parent 2 0 R/Resources<<>>/Contents 4 0 R/MediaBox[0 0 " ++ (sides s ++ codes "]>>\nendobj\n")
 
--- what is drawn, behind its length
+-- the content stream of the page, with its length
 abbrev pub stream : List ℕ → List ℕ
 stream drawn = codes "4 0 obj\n<</Length " ++ (decimal (length drawn) ++ (codes ">>\nstream\n" ++ (drawn ++ codes "\nendstream\nendobj\n")))
 
--- a character as digits to the base 16 of its units in UTF-16
+-- the UTF-16 units of a character as hexadecimal digits
 abbrev pub character_digits : ℕ → List ℕ
 character_digits c = flat_map (λ unit. hex_pair (unit / 256) ++ hex_pair (unit % 256)) (encode_utf16 c)
 
--- a title as a text of PDF, which begins with the mark of UTF-16
+-- a title as a hexadecimal string in UTF-16, which begins with a byte order mark
 unfoldable pub title_text : List ℕ → List ℕ
 title_text title = codes "<FEFF" ++ (flat_map character_digits (chars title) ++ codes ">")
 
--- what is said of the file: its title, if it has one
+-- the information object: the title, if there is one
 abbrev pub information : List ℕ → List ℕ
 information title = codes "5 0 obj\n<<" ++ (if length title == 0 then [] else codes "/Title" ++ title_text title) ++ codes ">>\nendobj\n"
 
--- the five objects
+-- the file with its five objects
 abbrev pub body : Sheet → List ℕ → List ℕ → Body
 body s drawn title = with_object (information title) (with_object (stream drawn) (with_object (page s) (with_object pages (with_object catalog start))))
 
--- the table, and where it begins
+-- the cross-reference table and the trailer, which says where the table begins
 abbrev pub ending : List ℕ → ℕ → List ℕ
 ending table start = codes "xref\n0 6\n" ++ table ++ (codes "trailer\n<</Size 6/Root 1 0 R/Info 5 0 R>>\nstartxref\n" ++ (decimal start ++ codes "\n%%EOF\n"))
 
--- the objects, and behind them the table
+-- the objects, followed by the table
 abbrev pub closed : Body → List ℕ
 closed b = b.text ++ ending b.table (length b.text)
 
--- the pixels of runs of modules, each of so many pixels across and down, are the dark ones
+-- the dark pixels of a bitmap are those of the runs' modules, each of which is `across` by `down` pixels
 abbrev pub AreRunsOf : ℕ → ℕ → Bitmap → List Run → Type 0
 AreRunsOf across down b runs = b.marks ≡ map (λ i. is_filled runs (i % b.across / across) (i / b.across / down)) (range_with_len 0 (b.across * b.down))
 
--- operators fill the dark pixels of a picture, each of which is a unit, in a colour
+-- PDF operators that fill the dark pixels of a bitmap in a colour, with a pixel as the unit
 pub record IsLayerOf (parts : List ℕ) (b : Bitmap) (text : List ℕ) : Type 0 where
   pub runs : List Run
   pub written : text ≡ codes "\n" ++ paint parts ++ filled runs
   pub shown : AreRunsOf 1 1 b runs
 
--- a file of a page that shows the picture: each module is so many pixels across and down, the pixels of the filled ones are dark, and
--- operators are drawn over them; the file has a title, unless that is empty
+-- a PDF file whose page shows the picture: the dark pixels are those of the filled modules, each of which has a fixed
+-- width and height in pixels, and the operators `over` are drawn on top; the file has the title, unless that is empty
 pub record IsPdfOf (dots : ℕ) (dark light : List ℕ) (b : Bitmap) (over title file : List ℕ) : Type 0 where
   pub sheet : Sheet
   pub runs : List Run

@@ -6,29 +6,29 @@ use Rattle.qrcode_render.specs.Drawn.{drawn}
 use Rattle.qrcode_render.specs.Layout.{Layout, pixels_across, pixels_down}
 use Rattle.qrcode_render.specs.Strokes.{rect_text, regroup}
 
--- what stands before the first box
+-- the text before the first box
 abbrev pub pic_start : ℕ → ℕ → List ℕ
 pic_start w h =
     codes "maxpswid=" ++ (decimal w ++ (codes ";maxpsht=" ++ (decimal h ++ codes ";movewid=0;moveht=1;boxwid=1;boxht=1\ndefine p { box wid $3 ht $4 fill 1 with .nw at $1,-$2 }\nbox wid maxpswid ht maxpsht with .nw at 0,0\n")))
 
--- the box of one rectangle
+-- the text followed by the box of a rectangle
 abbrev pub pic_rect : ℕ → ℕ → ℕ → ℕ → List ℕ → List ℕ
 pic_rect left top width height text =
     text ++ (codes "p(" ++ (decimal left ++ (codes "," ++ (decimal top ++ (codes "," ++ (decimal width ++ (codes "," ++ (decimal height ++ codes ")\n"))))))))
 
--- what its column determines of a box, and what its row and its sides do
+-- the parts of a box's text that depend on its column; `pic_row` has those that depend on its row and its sides
 abbrev pub pic_column : ℕ → List ℕ × List ℕ
 pic_column left = (codes "p(" ++ decimal left ++ codes ",", [])
 
 abbrev pub pic_row : ℕ → ℕ → ℕ → List ℕ × List ℕ
 pic_row top width height = (decimal top ++ codes "," ++ decimal width ++ codes "," ++ decimal height, codes ")\n")
 
--- a box is that of its column and of its row and its sides
+-- the text of a box is put together of these parts
 pub pic_rect-is : (left top width height : ℕ) (text : List ℕ) → pic_rect left top width height text ≡ text ++ rect_text (pic_column left) (pic_row top width height)
 pic_rect-is left top width height text =
     regroup text (codes "p(") (decimal left) (codes ",") (decimal top) (codes ",") (decimal width) (codes ",") (decimal height) [] [] [] (codes ")\n")
 
--- nothing stands behind the last box
+-- nothing follows the last box
 abbrev pub pic_end : List ℕ
 pic_end = []
 

@@ -6,7 +6,8 @@ use Rattle.qrcode_render.specs.Drawn.{drawn}
 use Rattle.qrcode_render.specs.Layout.{Layout, layout, modules_across, pixels_across, pixels_down}
 use Rattle.qrcode_render.specs.Picture.{picture}
 
--- modules in row order, the modules along a side, the modules of the quiet zone that is drawn, the pixels of a module across and down, the pixels that stand for dark and light, and the modules of the quiet zone where it is switched on
+-- modules in row order, their number along a side, that of the quiet zone as drawn, the width and height of a module in
+-- pixels, the pixels for dark and light, and the modules of the quiet zone when it is on
 pub record Setting (P : Type 0) : Type 0 where
   pub content : List Color
   pub count : ℕ
@@ -17,7 +18,7 @@ pub record Setting (P : Type 0) : Type 0 where
   pub light : P
   pub whole_zone : ℕ
 
--- modules in row order, the modules along a side, those of the quiet zone, and the pixels of a module across and down
+-- modules in row order, their number along a side, that of the quiet zone, and the width and height of a module in pixels
 pub record Square : Type 0 where
   pub content : List Color
   pub count : ℕ
@@ -25,13 +26,13 @@ pub record Square : Type 0 where
   pub across : ℕ
   pub down : ℕ
 
--- the modules make a square, and each has a pixel or more across and down
+-- the modules form a square, and each has at least one pixel across and down
 pub record IsSquare (m : Square) : Type 0 where
   pub square : length m.content ≡ m.count * m.count
   pub across : 1 ≤ m.across
   pub down : 1 ≤ m.down
 
--- the square of a renderer's setting
+-- the modules of a renderer's setting
 abbrev pub square_of : {P : Type 0} → Setting P → Square
 square_of s = record {
   content = s.content;
@@ -41,11 +42,11 @@ square_of s = record {
   down = s.down;
 }
 
--- where the modules of a square stand
+-- where the modules of a square are in its picture
 abbrev pub square_layout : Square → Layout
 square_layout m = layout m.count m.zone m.across m.down
 
--- a renderer's setting of a square, with the pixels that stand for dark and light, and the quiet zone where it is switched on
+-- the setting of a renderer of these modules, with the pixels for dark and light, and the modules of the quiet zone when it is on
 abbrev pub setting_of : {P : Type 0} → Square → P → P → ℕ → Setting P
 setting_of m dark light whole = record {
   content = m.content;
@@ -58,26 +59,26 @@ setting_of m dark light whole = record {
   whole_zone = whole;
 }
 
--- what holds of every renderer: its modules make a square, and each has a pixel or more across and down
+-- what holds for every renderer: its modules form a square, and each has at least one pixel across and down
 pub record IsWhole {P : Type 0} (s : Setting P) : Type 0 where
   pub square : length s.content ≡ s.count * s.count
   pub across : 1 ≤ s.across
   pub down : 1 ≤ s.down
 
--- where modules stand
+-- where the modules are in the picture
 abbrev pub layout_of : {P : Type 0} → Setting P → Layout
 layout_of s = layout s.count s.zone s.across s.down
 
--- the modules along a side of the picture
+-- the number of modules along a side of the picture
 abbrev pub side_of : {P : Type 0} → Setting P → ℕ
 side_of s = modules_across (layout_of s)
 
--- the picture has a column and a row of pixels
+-- the picture has at least one column and one row of pixels
 pub record HasPixels {P : Type 0} (s : Setting P) : Type 0 where
   pub across : 1 ≤ pixels_across (layout_of s)
   pub down : 1 ≤ pixels_down (layout_of s)
 
--- the modules and the pixels along each side are below 2^32
+-- whether the modules and the pixels along each side are below 2^32
 abbrev pub fits : {P : Type 0} → Setting P → Bool
 fits s = nat_lt (side_of s) (2 ^ 32) && nat_lt (side_of s * s.across) (2 ^ 32) && nat_lt (side_of s * s.down) (2 ^ 32)
 
@@ -85,26 +86,26 @@ fits s = nat_lt (side_of s) (2 ^ 32) && nat_lt (side_of s * s.across) (2 ^ 32) &
 abbrev pub picture_of : {P : Type 0} → Setting P → Bitmap
 picture_of s = picture (layout_of s) s.content
 
--- what a canvas shows in the end: its start, and the rectangles of the dark modules in row order
+-- the complete drawing of a canvas: its start, and a rectangle for each dark module, in row order
 abbrev pub drawing_of : {P D : Type 0} → (ℕ → ℕ → P → P → D) → (ℕ → ℕ → ℕ → ℕ → D → D) → Setting P → D
 drawing_of start rect s =
     drawn rect (layout_of s) s.content (start (pixels_across (layout_of s)) (pixels_down (layout_of s)) s.dark s.light)
 
--- the pixels of a module of which `side` modules reach `pixels`
+-- the size of a module with which `side` modules have at least `pixels` pixels
 abbrev pub least_size : ℕ → ℕ → ℕ
 least_size side pixels = max ((pixels + side - 1) / side) 1
 
--- the pixels of a module of which `side` modules stay within `pixels`, or 1
+-- the size of a module with which `side` modules have at most `pixels` pixels, or 1 if there is none
 abbrev pub greatest_size : ℕ → ℕ → ℕ
 greatest_size side pixels = max (pixels / side) 1
 
--- the least size of at least 1 that reaches the request
+-- the smallest size, of at least 1, with which `side` modules have at least `pixels` pixels
 pub record IsLeastSize (side pixels size : ℕ) : Type 0 where
   pub positive : 1 ≤ size
   pub reaches : pixels ≤ side * size
   pub least : (k : ℕ) → 1 ≤ k → pixels ≤ side * k → size ≤ k
 
--- the greatest size that keeps the request, or 1 where none of at least 1 does
+-- the largest size with which `side` modules have at most `pixels` pixels, or 1 if none of at least 1 does
 pub record IsGreatestSize (side pixels size : ℕ) : Type 0 where
   pub positive : 1 ≤ size
   pub keeps : (side * size ≤ pixels) ⊎ (size ≡ 1)

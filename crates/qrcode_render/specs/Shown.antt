@@ -1,10 +1,10 @@
--- What images show.
+-- What an `ImageBuffer` shows.
 use Rattle.std.specs.Prelude.{◌≡◌, ℕ, List}
 use Rattle.qrcode_render.specs.Bitmap.{Bitmap}
 use Rattle.qrcode_render.specs.Texts.{raw_bytes}
 use Rattle.qrcode_render.specs.declared.image.ImageBuffer.{ImageBuffer}
 
--- the sides of a picture, and the bytes of its pixels in row order
+-- an image has the sides of the bitmap, and the bytes of its pixels in row order
 pub record IsBufferOf {P : Type 0} (dark light : List ℕ) (b : Bitmap) (image : ImageBuffer P) : Type 0 where
   pub across : image.width ≡ b.across
   pub down : image.height ≡ b.down

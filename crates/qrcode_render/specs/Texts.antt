@@ -1,28 +1,28 @@
--- The texts and bytes of pictures.
+-- Pictures as text, and as the bytes of their pixels.
 use Rattle.std.specs.Prelude.{ℕ, ◌+◌, ◌*◌, ◌/◌, ◌==◌, nat_lt, Bool, true, false, List, [], ◌∷◌, length, map, flat_map, slice_index_or, if◌then◌else◌}
 use Rattle.std.specs.List.{range_with_len, join_with_byte}
 use Rattle.qrcode_render.specs.Bitmap.{Bitmap, row_of}
 
--- what stands for each pixel, one after the other: dark pixels stand for one text, light ones for another
+-- a text for each pixel in turn: one for dark pixels, one for light ones
 abbrev pub marks_text : List ℕ → List ℕ → List Bool → List ℕ
 marks_text dark light marks = flat_map (λ m. if m then dark else light) marks
 
--- lines with a newline between each two, and nothing where they have no width
+-- lines with newlines between them, or nothing if they have no width
 abbrev pub lines_text : ℕ → List (List ℕ) → List ℕ
 lines_text across lines = if across == 0 then [] else join_with_byte 10 lines
 
--- a line for each row, with the text of a dark or of a light pixel for each pixel
+-- a line for each row, with the text of a dark or a light pixel for each pixel
 unfoldable pub text_of : List ℕ → List ℕ → Bitmap → List ℕ
 text_of dark light b = lines_text b.across (map (λ y. marks_text dark light (row_of b y)) (range_with_len 0 b.down))
 
--- a space, the lower half, the upper half or the whole block
+-- a space, the lower half block, the upper half block or the full block
 abbrev pub half_blocks : Bool → Bool → List ℕ
 half_blocks false false = 32 ∷ []
 half_blocks false true = 0xe2 ∷ 0x96 ∷ 0x84 ∷ []
 half_blocks true false = 0xe2 ∷ 0x96 ∷ 0x80 ∷ []
 half_blocks true true = 0xe2 ∷ 0x96 ∷ 0x88 ∷ []
 
--- the character of two marks, one above the other, where marked pixels are drawn dark or not and others dark or not
+-- the character of two pixels, one above the other: dark ones are drawn if `marked` is true, light ones if `other` is
 abbrev pub column_text : Bool → Bool → Bool → Bool → List ℕ
 column_text marked other upper lower = half_blocks (if upper then marked else other) (if lower then marked else other)
 
@@ -31,7 +31,7 @@ abbrev pub columns_text : (Bool → Bool → List ℕ) → List Bool → List Bo
 columns_text text upper lower =
     flat_map (λ x. text (slice_index_or upper x false) (slice_index_or lower x false)) (range_with_len 0 (length upper))
 
--- a line of two rows, or of a last row alone, which stands over light pixels
+-- line i: the characters of two rows, or of a last row alone, whose lower halves are blank
 abbrev pub dense_line : Bool → Bool → Bitmap → ℕ → List ℕ
 dense_line marked other b i =
     if nat_lt (2 * i + 1) b.down

@@ -1,11 +1,11 @@
--- What a printer reads of a graphic field of ZPL II, and the file of a label.
+-- How a printer reads a graphic field of ZPL II, and the file of a label.
 use Rattle.std.specs.Prelude.{◌≡◌, ℕ, ◌+◌, ◌-◌, ◌*◌, ◌/◌, ◌%◌, ◌==◌, nat_le, nat_lt, ◌&&◌, Bool, List, [], ◌∷◌, ◌++◌, codes, decimal, drop, flat_map, fold, length, max, replicate, if◌then◌else◌}
 use Rattle.std.specs.List.{range_with_len}
 use Rattle.qrcode_render.specs.Bitmap.{Bitmap, row_of}
 use Rattle.qrcode_render.specs.Files.{inked, packed}
 use Rattle.qrcode_render.specs.Printers.{bytes_across}
 
--- what is read so far: how many times the next digit counts, by the letters before it, and the digits of all rows
+-- what has been read: the count that letters gave for the next digit, and the digits of all rows
 pub record Reading : Type 0 where
   pub times : ℕ
   pub digits : List ℕ
@@ -13,16 +13,17 @@ pub record Reading : Type 0 where
 abbrev pub reading : ℕ → List ℕ → Reading
 reading times digits = record { times = times; digits = digits }
 
--- the value of a digit to the base 16; of other characters 16, which no digit has
+-- the value of a hexadecimal digit; 16 for other characters
 abbrev pub digit_value : ℕ → ℕ
 digit_value c = if nat_le 48 c && nat_lt c 58 then c - 48 else (if nat_le 65 c && nat_lt c 71 then c - 55 else 16)
 
--- the digits that are left in a row of so many
+-- the number of digits still missing in a row of n digits
 abbrev pub left_in_row : ℕ → List ℕ → ℕ
 left_in_row n digits = n - length digits % n
 
--- one character more, where a row has so many digits: a comma fills the row with zeros, an exclamation mark with ones, a colon is the row above once more; the letters G to Y stand for 1 to 19
--- and g to z for 20, 40, .. 400, and all letters before a digit say together how many times it stands
+-- the reading after another character, with n digits in a row: a comma fills the row with zeros, an exclamation mark
+-- with ones, and a colon repeats the row above; the letters G to Y stand for 1 to 19 and g to z for 20, 40, .. 400, and
+-- the letters before a digit add up to how many times it is repeated
 abbrev pub read_one : ℕ → Reading → ℕ → Reading
 read_one n r c =
     if c == 44 then reading 0 (r.digits ++ replicate (left_in_row n r.digits) 0)
@@ -32,11 +33,11 @@ read_one n r c =
     else (if nat_le 103 c && nat_lt c 123 then reading (r.times + 20 * (c - 102)) r.digits
     else reading 0 (r.digits ++ replicate (max r.times 1) (digit_value c))))))
 
--- what is read of a field whose rows have so many digits
+-- the reading of a field with n digits in a row
 unfoldable pub read : ℕ → List ℕ → Reading
 read n field = fold (read_one n) (reading 0 []) field
 
--- a field is read as digits, and no letter is left over
+-- a field is read as these digits, and no letter is left over
 abbrev pub IsRead : ℕ → List ℕ → List ℕ → Type 0
 IsRead n field digits = read n field ≡ reading 0 digits
 
@@ -44,7 +45,7 @@ IsRead n field digits = read n field ≡ reading 0 digits
 abbrev pub digits_of : List ℕ → List ℕ
 digits_of bytes = flat_map (λ b. b / 16 ∷ b % 16 ∷ []) bytes
 
--- a label with a field at a place: how many bytes it has, twice, and how many are in a row
+-- a label with a field at a place: the number of its bytes, twice, and that of the bytes in a row
 abbrev pub zpl_head : ℕ × ℕ → ℕ → ℕ → List ℕ
 zpl_head place w h =
     codes "^XA^FO" ++ (decimal place.0 ++ (codes "," ++ (decimal place.1 ++ (codes "^GFA," ++ (decimal (bytes_across w * h) ++ (codes "," ++ (decimal (bytes_across w * h) ++ (codes "," ++ (decimal (bytes_across w) ++ codes ",")))))))))
@@ -52,7 +53,7 @@ zpl_head place w h =
 abbrev pub zpl_tail : List ℕ
 zpl_tail = codes "^FS^XZ\n"
 
--- a file whose field at a place, so many dots from the left and from the top, is read as the rows of the picture
+-- a label whose field, at a place in dots from the left and from the top, is read as the rows of the picture
 pub record IsZplOf (place : ℕ × ℕ) (marked other : Bool) (b : Bitmap) (file : List ℕ) : Type 0 where
   pub field : List ℕ
   pub written : file ≡ zpl_head place b.across b.down ++ (field ++ zpl_tail)

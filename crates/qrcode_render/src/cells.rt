@@ -1,4 +1,4 @@
-//! Which pixels of a picture are dark, while it is drawn.
+//! Pixels of a picture that is being drawn, each dark or light.
 
 ghost use Rattle.std.specs.Prelude.{◌≡◌, ◌+◌, ◌*◌, ◌^◌, ◌<◌, ◌≤◌, length, IfOk, IsOkUnless, fold, filter};
 ghost use Rattle.std.specs.List.{range_with_len};
@@ -12,7 +12,7 @@ use qrcode_types::types::{Color, QrResult};
 use std::alloc::Global;
 use std::marker::Model;
 
-/// Which pixels of a picture are dark, in row order.
+/// The pixels of a picture that is being drawn, in row order, each dark or light.
 #[derive(Drop)]
 pub struct Cells {
     width: u32,
@@ -38,7 +38,9 @@ impl Model for Cells {
 }
 
 impl Cells {
-    /// A picture with no dark pixel. Refuses with `OutOfMemory` alone.
+    /// Creates a picture of `width` by `height` light pixels.
+    ///
+    /// Errors: only `OutOfMemory`.
     pub fn new(alloc: Global, width: u32, height: u32) -> QrResult<Cells>
         ensures value { IfOk result (λ marks. marks ≡ blank width height) }
         ensures memory { IsOkUnless result OutOfMemory }
@@ -62,7 +64,7 @@ impl Cells {
         self.cells[place] = Color::Dark;
     }
 
-    // Makes pixels of a row dark.
+    // Makes `width` pixels of row `y` dark, from column `left` on.
     #[tactic(auto, using(crate::proofs::Folds::fold_range_more))]
     fn put_run(&mut self, left: u32, y: u32, width: u32)
         requires inside_across { left + width ≤ self.old.across }
@@ -78,7 +80,7 @@ impl Cells {
         }
     }
 
-    /// Makes the pixels of a rectangle dark.
+    /// Makes a rectangle of `width` by `height` pixels dark, from column `left` and row `top` on.
     #[tactic(auto, using(crate::proofs::Folds::fold_range_more))]
     pub fn put_rect(&mut self, left: u32, top: u32, width: u32, height: u32)
         requires inside_across { left + width ≤ self.old.across }
@@ -91,12 +93,12 @@ impl Cells {
         }
     }
 
-    /// The allocator that gave the room of the marks.
+    /// Returns the allocator of the pixels.
     pub fn alloc(&self) -> Global {
         *self.cells.allocator()
     }
 
-    /// The pixels as cells of one pixel.
+    /// Returns the pixels as a grid whose cells are one pixel each.
     pub fn grid(&self) -> Grid
         ensures { pixels_of result ≡ self.now }
     {

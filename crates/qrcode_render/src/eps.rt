@@ -1,5 +1,5 @@
-//! Pictures as Encapsulated PostScript, in which a pixel is a point, 1/72 of an inch, unless
-//! `with_density` says otherwise.
+//! Draws Encapsulated PostScript. A pixel is a point, 1/72 of an inch, unless `with_density` is
+//! used.
 
 ghost use Rattle.std.proofs.Common.{rules};
 ghost use Rattle.std.specs.Prelude.{◌≡◌, ◌<◌, ◌≤◌, ◌^◌, string_bytes, IfOk, IsOkUnless, IsTrue};
@@ -15,7 +15,7 @@ use crate::{Pixel, Renderer};
 use qrcode_types::types::{Color as ModuleColor, QrResult};
 use std::alloc::Global;
 
-/// A colour of PostScript, as red, green and blue from 0 to 255.
+/// A colour of PostScript: red, green and blue.
 #[derive(Copy, Clone, PartialEq, Eq)]
 pub struct Color {
     /// Red, from 0 to 255.
@@ -52,10 +52,10 @@ impl Pixel for Color {
     }
 }
 
-/// A PostScript text while it is drawn: a box for each dark rectangle.
+/// The canvas for EPS: a box for each dark rectangle.
 pub type Canvas = Plot<Color, Boxes>;
 
-/// The texts of PostScript.
+/// The texts of the EPS format.
 #[derive(Copy, Clone)]
 pub struct Boxes;
 
@@ -96,9 +96,9 @@ impl Strokes<Color> for Boxes {
     }
 }
 
-/// The text that `build` makes of a renderer, but with so many pixels to an inch, at least 1.
+/// Draws the picture as `build` does, but with `dots` pixels to an inch, at least 1.
 ///
-/// `OutOfMemory`: memory ran out.
+/// Errors: only `OutOfMemory`.
 pub fn with_density(alloc: Global, renderer: &Renderer<Color>, dots: u32) -> QrResult<String>
     requires fits { IsTrue (fits renderer.now) }
     requires at_least { 1 ≤ dots }
@@ -116,8 +116,8 @@ pub fn with_density(alloc: Global, renderer: &Renderer<Color>, dots: u32) -> QrR
     Ok(text.into_string())
 }
 
-// What stands before the first dark rectangle of a picture of so many pixels across and down, and
-// to an inch.
+// Returns the text before the first dark rectangle, for sides in pixels and `dots` pixels to an
+// inch.
 fn sized_head(
     alloc: Global,
     sides: (u32, u32),
@@ -141,7 +141,7 @@ fn sized_head(
     )?)
 }
 
-// The lines of the head that say how large a picture of so many pixels across and down is.
+// Returns the lines that state the size of a picture, for sides in pixels.
 fn sized_boxes(alloc: Global, sides: (u32, u32), dots: u32) -> QrResult<String>
     requires { 1 ≤ dots }
     ensures value { IfOk result (λ text. string_bytes text ≡ eps_boxes dots sides.0 sides.1) }
@@ -157,7 +157,7 @@ fn sized_boxes(alloc: Global, sides: (u32, u32), dots: u32) -> QrResult<String>
     )?)
 }
 
-// Thousandths, as a number with three digits behind its point.
+// Returns `n` thousandths, as a number with three decimals.
 fn thousandths(alloc: Global, n: u64) -> QrResult<String>
     ensures value { IfOk result (λ text. string_bytes text ≡ thousandths n) }
     ensures memory { IsOkUnless result OutOfMemory }
@@ -166,7 +166,7 @@ fn thousandths(alloc: Global, n: u64) -> QrResult<String>
     Ok(format!(in alloc; "{}.{hundreds}{tens}{ones}", n / 1000)?)
 }
 
-// The points that pixels begin.
+// Returns the length of `pixels` pixels in points, rounded up.
 fn begun_points(dots: u32, pixels: u64) -> u64
     requires at_least { 1 ≤ dots }
     requires few { pixels < 2 ^ 48 }

@@ -1,4 +1,4 @@
-//! Pictures for receipt printers: the raster bit image of ESC/POS, GS v 0.
+//! Draws raster bit images for receipt printers: the command GS v 0 of ESC/POS.
 
 ghost use Rattle.std.specs.Prelude.{◌≡◌, [], IfOk, IsOkUnless};
 ghost use Rattle.qrcode_types.specs.declared.types.QrError.TheVariants.{OutOfMemory};
@@ -8,13 +8,13 @@ use crate::packed::{self, Packing};
 use qrcode_types::types::{QrError, QrResult};
 use std::alloc::Global;
 
-/// A dot of a receipt printer, which prints black ones.
+/// A dot of a receipt printer. Black dots are printed.
 pub type Dot = packed::Dot<Raster>;
 
-/// The most dots along a side, since the command has two bytes for the number of rows.
+/// The most dots along a side. The command has two bytes for the number of rows.
 pub const GREATEST_SIDE: u32 = 65_535;
 
-/// The raster bit image of ESC/POS. A picture of more than 65,535 dots along a side is refused with
+/// The ESC/POS format. A picture of more than `GREATEST_SIDE` dots along a side fails with
 /// `OutOfMemory`.
 #[derive(Copy, Clone)]
 pub struct Raster;

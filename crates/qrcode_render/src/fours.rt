@@ -1,4 +1,4 @@
-//! Texts that stand for two marks, and for four.
+//! Writes rows of flags two or four at a time, from a table of texts.
 
 ghost use Rattle.std.specs.Prelude.{◌≡◌, ℕ, ◌+◌, ◌*◌, ◌/◌, ◌^◌, ◌<◌, ◌≤◌, All, List, ◌++◌, length, map, take, IfOk, OnOk, IsOkUnless};
 ghost use Rattle.qrcode_types.specs.declared.types.QrError.TheVariants.{OutOfMemory};
@@ -10,7 +10,7 @@ use qrcode_types::types::QrResult;
 use std::alloc::Global;
 use std::marker::Model;
 
-// Appends a text followed by each.
+// Appends for each of `texts` the text `first` followed by it.
 fn push_pairs(pairs: &mut Vec<Stamp>, first: &Stamp, texts: &[Stamp]) -> QrResult<()>
     requires first_at_most { length first.now ≤ 16 }
     requires texts_at_most { All (λ text. length text ≤ 16) texts.now }
@@ -24,7 +24,7 @@ fn push_pairs(pairs: &mut Vec<Stamp>, first: &Stamp, texts: &[Stamp]) -> QrResul
     Ok(())
 }
 
-// Each text followed by each, the second changing first.
+// Returns each text followed by each, in the order (0, 0), (0, 1) .. (1, 0) ..
 fn pairs(alloc: Global, texts: &[Stamp]) -> QrResult<Vec<Stamp>>
     requires at_most { All (λ text. length text ≤ 16) texts.now }
     ensures value { IfOk result (λ v. v.items ≡ paired texts.now) }
@@ -37,15 +37,15 @@ fn pairs(alloc: Global, texts: &[Stamp]) -> QrResult<Vec<Stamp>>
     Ok(pairs)
 }
 
-// The number of two marks among the four pairs of marks.
+// Returns two flags as a number from 0 to 3, `first` highest.
 fn pair_number(first: bool, second: bool) -> usize
     ensures { result ≡ pair_number first second }
 {
     2 * usize::from(first) + usize::from(second)
 }
 
-// The number of four marks among the sixteen. Their bytes are one word, which is read at once, and
-// the highest byte of its product by 8, 4, 2 and 1 in one number is the sum of these for the marks.
+// Returns four flags as a number from 0 to 15, `a` highest. They are read as one word; the highest
+// byte of its product with 0x0804_0201 is 8a + 4b + 2c + d.
 fn four_number(a: bool, b: bool, c: bool, d: bool) -> usize
     ensures { result ≡ 4 * pair_number a b + pair_number c d }
 {
@@ -53,7 +53,7 @@ fn four_number(a: bool, b: bool, c: bool, d: bool) -> usize
     (word.wrapping_mul(0x0804_0201) >> 24) as usize
 }
 
-/// Texts of at most 16 bytes that stand for two marks, and those that stand for four.
+/// A table of texts: of at most 16 bytes for each pair of flags, and those of two pairs.
 #[derive(Drop)]
 pub struct Fours {
     twos: [Stamp; 4],
@@ -72,7 +72,10 @@ impl Model for Fours {
 }
 
 impl Fours {
-    /// The palette of the texts that stand for two marks. Refuses with `OutOfMemory` alone.
+    /// Creates the table from the texts of the pairs (false, false), (false, true), (true, false)
+    /// and (true, true).
+    ///
+    /// Errors: only `OutOfMemory`.
     pub fn new(alloc: Global, twos: [Stamp; 4]) -> QrResult<Fours>
         requires at_most { All (λ text. length text ≤ 16) twos }
         ensures value { IfOk result (λ palette. palette ≡ twos) }
@@ -82,14 +85,14 @@ impl Fours {
         Ok(Fours { twos, fours })
     }
 
-    // The text that stands for two marks.
+    // Returns the text of two flags.
     fn two(&self, first: bool, second: bool) -> &Stamp
         ensures { result.now ≡ two_text self.now first second }
     {
         &self.twos[pair_number(first, second)]
     }
 
-    // The text that stands for four marks.
+    // Returns the text of four flags.
     fn four(&self, a: bool, b: bool, c: bool, d: bool) -> &Stamp
         ensures { result.now ≡ two_text self.now a b ++ two_text self.now c d }
     {
@@ -97,7 +100,9 @@ impl Fours {
     }
 }
 
-/// Appends the text that stands for each mark. Refuses with `OutOfMemory` alone.
+/// Appends `dark` for each `true` of `marks` and `light` for each `false`.
+///
+/// Errors: only `OutOfMemory`.
 pub fn push_ones(line: &mut Line, dark: &[u8], light: &[u8], marks: &[bool]) -> QrResult<()>
     ensures appends { OnOk result
         (line.new ≡ line.old ++ marks_text dark.now light.now marks.now) }
@@ -110,7 +115,7 @@ pub fn push_ones(line: &mut Line, dark: &[u8], light: &[u8], marks: &[bool]) -> 
     Ok(())
 }
 
-// Writes the text that stands for each two marks, and answers where it ends.
+// Writes the texts of the pairs of `marks` at `at` and returns where they end.
 fn write_twos(bytes: &mut [u8], at: usize, palette: &Fours, marks: &[bool]) -> usize
     requires { at + (length marks.now / 4 * 32 + 32) ≤ length bytes.old }
     ensures writes { take result bytes.new
@@ -132,8 +137,9 @@ fn write_twos(bytes: &mut [u8], at: usize, palette: &Fours, marks: &[bool]) -> u
     end
 }
 
-/// Appends the text that stands for each two marks. A last mark alone has none. Refuses with
-/// `OutOfMemory` alone.
+/// Appends the texts of the pairs of `marks`. A flag without a partner at the end is left out.
+///
+/// Errors: only `OutOfMemory`.
 pub fn push_twos(line: &mut Line, palette: &Fours, marks: &[bool]) -> QrResult<()>
     requires { length marks.now < 2 ^ 40 }
     ensures appends { OnOk result
@@ -146,7 +152,7 @@ pub fn push_twos(line: &mut Line, palette: &Fours, marks: &[bool]) -> QrResult<(
     Ok(())
 }
 
-/// Puts the marks of the columns of two rows one behind the other.
+/// Writes the flags of two rows into `columns` in turn: the upper and the lower one of each column.
 pub fn interleave(upper: &[bool], lower: &[bool], columns: &mut [bool])
     requires lower { length lower.now ≡ length upper.now }
     requires columns { length columns.old ≡ 2 * length upper.now }

@@ -1,4 +1,4 @@
-//! Cells in rows and columns, of which each shows as a rectangle of pixels.
+//! Grids of cells, each drawn as a rectangle of pixels.
 
 ghost use Rattle.std.specs.Prelude.{◌≡◌, ◌+◌, ◌-◌, ◌*◌, ◌/◌, ◌^◌, ◌<◌, ◌≤◌, false, length, map, slice_index_or};
 ghost use Rattle.std.specs.List.{range_with_len};
@@ -9,7 +9,6 @@ ghost use Rattle.qrcode_render.specs.Grid.{all_columns, all_rows, cell_row, pixe
 use qrcode_types::types::Color;
 use std::marker::Model;
 
-// Whether a module is dark.
 fn is_dark(color: Color) -> bool
     ensures { result ≡ is_dark color }
 {
@@ -19,7 +18,7 @@ fn is_dark(color: Color) -> bool
     }
 }
 
-// Marks which modules of a row are dark, from a place on.
+// Writes into `marks`, from `start` on, whether each module of `line` is dark.
 fn mark_line(marks: &mut [bool], start: usize, line: &[Color])
     requires { start + length line.now ≤ length marks.old }
     ensures { marks.new ≡ marked_line start line.now marks.old }
@@ -29,7 +28,7 @@ fn mark_line(marks: &mut [bool], start: usize, line: &[Color])
     }
 }
 
-// Marks each pixel of which the cell is marked.
+// Writes the flag of each cell once for each of its `across` pixels.
 fn widen(cells: &[bool], across: usize, marks: &mut [bool])
     requires at_least { 1 ≤ across }
     requires length { length marks.old ≡ length cells.now * across }
@@ -41,8 +40,8 @@ fn widen(cells: &[bool], across: usize, marks: &mut [bool])
     }
 }
 
-/// Cells in row order with light ones around them at each side, each of so many pixels across and
-/// down.
+/// A grid of dark and light cells in row order, with a border of light cells. All cells have the
+/// same size in pixels.
 #[derive(Drop)]
 pub struct Grid<'a> {
     cells: &'a [Color],
@@ -76,8 +75,9 @@ impl<'a> Model for Grid<'a> {
 }
 
 impl<'a> Grid<'a> {
-    /// Cells in row order, of which `columns` stand in a row and `rows` in a column, with `zone`
-    /// light ones around, each `across` by `down` pixels.
+    /// Creates a grid of `rows` rows of `columns` cells each, with a border of `zone` light cells
+    /// on each side. A cell is `across` by `down` pixels, each at least 1. The sides, in cells and
+    /// in pixels, must be below 2^32.
     pub fn new(
         cells: &'a [Color],
         columns: u32,
@@ -112,7 +112,7 @@ impl<'a> Grid<'a> {
         }
     }
 
-    /// The columns and the rows, with the light cells around.
+    /// Returns the number of columns and of rows, border included.
     pub fn sides(&self) -> (usize, usize)
         ensures columns { result.0 ≡ all_columns self.now }
         ensures rows { result.1 ≡ all_rows self.now }
@@ -121,7 +121,7 @@ impl<'a> Grid<'a> {
         (self.columns + 2 * self.zone, self.rows + 2 * self.zone)
     }
 
-    /// The pixels of a cell across and down, each at least 1.
+    /// Returns the width and height of a cell in pixels, each at least 1.
     pub fn cell(&self) -> (u32, u32)
         ensures across { result.0 ≡ self.now.across }
         ensures down { result.1 ≡ self.now.down }
@@ -131,7 +131,7 @@ impl<'a> Grid<'a> {
         (self.across, self.down)
     }
 
-    /// The pixels across and down.
+    /// Returns the width and height in pixels, border included.
     pub fn pixels(&self) -> (u32, u32)
         ensures across { result.0 ≡ all_columns self.now * self.now.across }
         ensures down { result.1 ≡ all_rows self.now * self.now.down }
@@ -143,7 +143,8 @@ impl<'a> Grid<'a> {
         )
     }
 
-    /// Marks the dark cells of a row, the light ones around counted.
+    /// Writes into `marks` which cells of row `row` are dark. The border is part of rows and
+    /// columns.
     pub fn mark_row(&self, row: usize, marks: &mut [bool])
         requires inside { row < all_rows self.now }
         requires length { length marks.old ≡ all_columns self.now }
@@ -156,7 +157,8 @@ impl<'a> Grid<'a> {
         }
     }
 
-    /// Marks the dark pixels of a row. `cells` is room for the marks of its cells.
+    /// Writes into `marks` which pixels of row `y` are dark, border included. `cells` is scratch
+    /// space for the flags of a row of cells.
     pub fn mark_pixels(&self, y: u32, cells: &mut [bool], marks: &mut [bool])
         requires inside { y < all_rows self.now * self.now.down }
         requires cells { length cells.old ≡ all_columns self.now }

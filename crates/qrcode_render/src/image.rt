@@ -1,4 +1,4 @@
-//! Pictures as rows of pixels, each of one or more bytes.
+//! Images as rows of pixels, each of one or more bytes.
 
 ghost use Rattle.std.proofs.Common.{rules};
 ghost use Rattle.std.specs.Prelude.{◌≡◌, ℕ, ◌+◌, ◌*◌, ◌<◌, List, [], ◌∷◌, ◌++◌, length, slice_index_or, IfOk, OnOk, IsOkUnless};
@@ -15,11 +15,11 @@ use qrcode_types::types::{Color, QrResult};
 use std::alloc::Global;
 use std::marker::PhantomData;
 
-/// A grey, from 0 for black to 255 for white.
+/// A grey value, from 0 for black to 255 for white.
 #[derive(Copy, Clone, PartialEq, Eq)]
 pub struct Luma(pub [u8; 1]);
 
-/// A grey and its opacity, from 0 for none to 255.
+/// A grey value, from 0 for black to 255 for white, and its opacity, from 0 for none to 255.
 #[derive(Copy, Clone, PartialEq, Eq)]
 pub struct LumaA(pub [u8; 2]);
 
@@ -35,20 +35,20 @@ pub struct Rgba(pub [u8; 4]);
 pub trait Channels: Copy {
     ghost bytes: { Self → List ℕ };
 
-    // The bytes of a colour unless said otherwise.
+    // The default bytes for a colour.
     ghost default_bytes: { Color → List ℕ };
 
     ghost channel_count: { ℕ };
 
-    /// What stands for a colour unless said otherwise: black for dark and white for light, opaque.
+    /// Returns the default pixel for `color`: black for dark, white for light, opaque.
     fn of_color(color: Color) -> Self
         ensures { bytes result ≡ default_bytes color };
 
-    /// How many bytes each pixel has.
+    /// Returns the number of bytes of a pixel.
     fn count() -> usize
         ensures { result ≡ channel_count };
 
-    /// The byte of a channel, counted from 0 and below the count.
+    /// Returns byte `i` of the pixel, counted from 0; it must be below `count`.
     fn channel(self, i: usize) -> u8
         requires { i < channel_count }
         ensures { result ≡ slice_index_or (bytes self) i 0 }
@@ -56,7 +56,7 @@ pub trait Channels: Copy {
         self.channels()[i]
     }
 
-    /// The bytes of the pixel.
+    /// Returns the bytes of the pixel.
     fn channels(&self) -> &[u8]
         ensures value { result.now ≡ bytes self.now }
         ensures length { length result.now ≡ channel_count };
@@ -165,7 +165,7 @@ impl<P: Channels> Pixel for P {
     }
 }
 
-/// Pixels in row order, each as its bytes. No byte stands between rows.
+/// An image: the bytes of its pixels in row order, without padding between rows.
 #[derive(Drop)]
 pub struct ImageBuffer<P> {
     width: u32,
@@ -175,7 +175,7 @@ pub struct ImageBuffer<P> {
 }
 
 impl<P> ImageBuffer<P> {
-    /// The pixels across and down.
+    /// Returns the width and height in pixels.
     pub fn dimensions(&self) -> (u32, u32)
         ensures across { result.0 ≡ self.now.width }
         ensures down { result.1 ≡ self.now.height }
@@ -183,7 +183,7 @@ impl<P> ImageBuffer<P> {
         (self.width, self.height)
     }
 
-    /// The bytes of the pixels, row by row.
+    /// Returns the bytes of the pixels, row by row.
     pub fn into_raw(self) -> Vec<u8>
         ensures { result ≡ self.raw }
     {
@@ -192,10 +192,10 @@ impl<P> ImageBuffer<P> {
     }
 }
 
-/// Rows of pixels while they are drawn.
+/// The canvas that pixels of these types are drawn on.
 pub type Canvas<P> = Page<P, Rows>;
 
-/// Ends rows of pixels as their bytes.
+/// Turns rows of pixels into an `ImageBuffer`.
 #[derive(Copy, Clone)]
 pub struct Rows;
 

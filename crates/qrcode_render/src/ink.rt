@@ -1,4 +1,4 @@
-//! Short texts of words and numbers, and longer ones that are put together of them.
+//! Builds the texts of vector formats from words and numbers.
 
 ghost use Rattle.std.specs.Prelude.{◌≡◌, ◌+◌, ◌*◌, ◌^◌, ◌<◌, ◌≤◌, ◌++◌, length, take, string_bytes, IfOk, OnOk, OnErr, IsOkUnless, decimal};
 ghost use Rattle.std.specs.Str.{IsUtf8};
@@ -28,7 +28,7 @@ impl Model for Word {
 }
 
 impl Word {
-    /// A word.
+    /// Creates a word of `text`, which has at most 32 bytes.
     pub fn of(text: &str) -> Word
         requires { length text.now ≤ 32 }
         ensures value { result ≡ text.now }
@@ -38,7 +38,7 @@ impl Word {
         Word { stamp }
     }
 
-    /// The word with a text behind it.
+    /// Returns the word followed by `text`, together at most 32 bytes.
     pub fn text(self, text: &str) -> Word
         requires { length self + length text.now ≤ 32 }
         ensures value { result ≡ self ++ text.now }
@@ -49,7 +49,7 @@ impl Word {
         Word { stamp }
     }
 
-    /// The word with a number in decimal digits behind it.
+    /// Returns the word followed by `n` in decimal digits. The word must have at most 22 bytes.
     #[tactic(auto, using(crate::proofs::Numbers::number_short))]
     pub fn number(self, n: u32) -> Word
         requires { length self + 10 ≤ 32 }
@@ -62,7 +62,7 @@ impl Word {
     }
 }
 
-/// Two words of a rectangle: those of its column, or those of its row and its sides.
+/// Two words of a rectangle's text: those of its column, or those of its row and its sides.
 #[derive(Drop)]
 pub struct Piece {
     front: Stamp,
@@ -81,7 +81,7 @@ impl Model for Piece {
 }
 
 impl Piece {
-    /// Two words.
+    /// Creates a piece of two words.
     pub fn new(front: Word, back: Word) -> Piece
         ensures { result ≡ (front, back) }
     {
@@ -92,10 +92,10 @@ impl Piece {
     }
 }
 
-// The most bytes of a rectangle.
+// The most bytes that writing a rectangle touches.
 const MOST: usize = 4 * LONGEST;
 
-// Writes a rectangle, and answers where it ends.
+// Writes a rectangle at `at` and returns where it ends.
 #[inline(always)]
 fn write_rect(bytes: &mut [u8], at: usize, column: &Piece, row: &Piece) -> usize
     requires { at + 128 ≤ length bytes.old }
@@ -110,7 +110,7 @@ fn write_rect(bytes: &mut [u8], at: usize, column: &Piece, row: &Piece) -> usize
     row.back.write(bytes, end)
 }
 
-// Writes the rectangles of the dark modules of a row, and answers where they end.
+// Writes the rectangles of the dark modules of a row at `at` and returns where they end.
 fn write_rects(
     bytes: &mut [u8],
     at: usize,
@@ -136,8 +136,8 @@ fn write_rects(
     end
 }
 
-/// A text that is put together. A text or a number that is refused, with `OutOfMemory` alone,
-/// leaves it as it was.
+/// A text that grows. Its calls fail only with `OutOfMemory`; `push` and `push_number` then leave
+/// the text unchanged.
 #[derive(Drop)]
 pub struct Script {
     line: Line,
@@ -155,7 +155,9 @@ impl Model for Script {
 }
 
 impl Script {
-    /// A text that begins with another. Refuses with `OutOfMemory` alone.
+    /// Creates a text that begins with `text`.
+    ///
+    /// Errors: only `OutOfMemory`.
     pub fn of(alloc: Global, text: &str) -> QrResult<Script>
         ensures value { IfOk result (λ script. script ≡ text.now) }
         ensures memory { IsOkUnless result OutOfMemory }
@@ -164,7 +166,9 @@ impl Script {
         Ok(Script { line })
     }
 
-    /// Appends a text.
+    /// Appends `text`.
+    ///
+    /// Errors: only `OutOfMemory`.
     #[inline(always)]
     pub fn push(&mut self, text: &str) -> QrResult<()>
         ensures appends { OnOk result (self.new ≡ self.old ++ text.now) }
@@ -174,7 +178,9 @@ impl Script {
         self.line.push(text.as_bytes())
     }
 
-    /// Appends a number in decimal digits.
+    /// Appends `n` in decimal digits.
+    ///
+    /// Errors: only `OutOfMemory`.
     pub fn push_number(&mut self, n: u32) -> QrResult<()>
         ensures appends { OnOk result (self.new ≡ self.old ++ decimal n) }
         ensures unchanged { OnErr result (self.new ≡ self.old) }
@@ -183,7 +189,9 @@ impl Script {
         self.line.push_number(n)
     }
 
-    /// Appends a rectangle, of the words of its column and those of its row.
+    /// Appends a rectangle, from the words of its column and those of its row.
+    ///
+    /// Errors: only `OutOfMemory`.
     pub fn put_rect(&mut self, column: &Piece, row: &Piece) -> QrResult<()>
         ensures appends { OnOk result (self.new ≡ self.old ++ rect_text column.now row.now) }
         ensures memory { IsOkUnless result OutOfMemory }
@@ -194,8 +202,10 @@ impl Script {
         Ok(())
     }
 
-    /// Appends the rectangles of the dark modules of a row, of the words of their columns and of
-    /// the row.
+    /// Appends the rectangles of the dark modules of a row, from the words of their columns and
+    /// those of the row.
+    ///
+    /// Errors: only `OutOfMemory`.
     pub fn put_rects(&mut self, columns: &[Piece], row: &Piece, content: &[Color]) -> QrResult<()>
         requires columns { length content.now ≤ length columns.now }
         requires few { length content.now < 2 ^ 40 }
@@ -209,13 +219,13 @@ impl Script {
         Ok(())
     }
 
-    /// The whole text.
+    /// Returns the text.
     pub fn into_string(self) -> String
         ensures { string_bytes result ≡ self }
     {
         let bytes = self.line.into_bytes();
 
-        // It is put together of texts.
+        // It is put together of UTF-8 texts.
         unsafe { String::from_utf8_unchecked(bytes) }
     }
 }

@@ -1,4 +1,4 @@
-//! Laws of the pixels that no call stands for, on the contracts of functions that do nothing.
+//! Theorems about pixels, as contracts of functions that do nothing.
 
 ghost use Rattle.std.specs.Prelude.{◌≡◌, ◌↔◌, [], Some, IsTrue};
 ghost use Rattle.std.specs.Cmp.Lexicographic.{slice_cmp};
@@ -27,8 +27,8 @@ use crate::unicode::Dense1x2;
 use crate::{eps, pic, svg};
 use std::hash::Hash;
 
-/// Two pixels are equal by `==` exactly when they are the same, and two that are texts when these
-/// have the same bytes. All of PIC are equal.
+/// Theorem: two pixels are equal by `==` exactly when they are the same, or, for those that are
+/// texts, when these have the same bytes. All PIC colours are equal.
 pub fn equality<'a>()
     ensures halves { (a b : Dense1x2) → IsTrue (⟦<Dense1x2 as PartialEq>⟧.eq a b) ↔ (a ≡ b) }
     ensures bits { (a b : Bit) → IsTrue (⟦<Bit as PartialEq>⟧.eq a b) ↔ (a ≡ b) }
@@ -47,9 +47,9 @@ pub fn equality<'a>()
     ensures texts { (a b : Str) → IsTrue (⟦<Str<'a> as PartialEq>⟧.eq a b) ↔ (a.0.now ≡ b.0.now) }
 {}
 
-/// Colours of SVG are ordered as their texts are, byte by byte, and the empty text is what stands
-/// for one unless said otherwise. Those with the same text make the same writes to a hasher. All
-/// colours of PIC are equal in the order and make the same writes, which are none.
+/// Theorem: SVG colours are ordered as their texts are, byte by byte, and the default one is the
+/// empty text. Those with the same text give a hasher the same input. All PIC colours are equal in
+/// the order and give a hasher the same input.
 pub fn order<'a>()
     ensures svg { (a b : svg.Color) → ⟦<svg::Color<'a> as Ord>⟧.cmp a b
         ≡ slice_cmp nat_cmp a.0.now b.0.now }

@@ -1,4 +1,4 @@
-//! Pictures of a symbol: text, half blocks, SVG, PIC and rows of pixels.
+//! Draws a symbol: as text, as SVG, EPS, PDF or PIC, as rows of pixels, or for a printer.
 #![tactic(auto)]
 
 ghost use Rattle.std.specs.Prelude.{◌≡◌, ℕ, ◌+◌, ◌-◌, ◌*◌, ◌^◌, ◌<◌, ◌≤◌, length, fold, IfOk, OnOk, IsOkUnless, IsTrue};
@@ -43,67 +43,68 @@ pub mod unicode;
 pub mod xbm;
 pub mod zpl;
 
-/// A pixel: what stands for dark or light in a picture.
+/// A pixel type, which chooses the format of the picture. Its values stand for dark and light.
 pub trait Pixel: Copy {
-    /// What a picture of such pixels is.
+    /// The finished picture.
     type Image;
 
-    /// What a picture of such pixels is drawn on.
+    /// The canvas that the picture is drawn on.
     type Canvas: Canvas<Pixel = Self, Image = Self::Image>;
 
-    // What stands for a colour unless said otherwise.
+    // A pixel is the default for a colour.
     ghost is_default_color: { Color → Self → Type 0 };
 
-    // The pixels of a module unless said otherwise, across and down.
+    // The default width and height of a module in pixels.
     ghost unit: { ℕ × ℕ };
 
-    /// The pixels of a module unless said otherwise, across and down, each at least 1.
+    /// Returns the default width and height of a module in pixels, each at least 1.
     fn default_unit_size() -> (u32, u32)
         ensures across { result.0 ≡ unit.0 }
         ensures down { result.1 ≡ unit.1 };
 
-    /// What stands for a colour unless said otherwise.
+    /// Returns the default pixel for `color`.
     fn default_color(color: Color) -> Self
         ensures { is_default_color color result };
 
     ghost unit_positive: { (1 ≤ unit.0) × (1 ≤ unit.1) };
 }
 
-/// What a picture is drawn on. After `OutOfMemory` nothing is known of it, and it may only be
-/// dropped.
+/// A surface on which dark pixels are drawn. After `OutOfMemory` its content is unspecified, and it
+/// may only be dropped.
 pub trait Canvas: Drop {
-    /// What stands for dark and for light.
+    /// The type of its pixels.
     type Pixel;
 
-    /// What the picture ends as.
+    /// The finished picture.
     type Image;
 
-    // What is drawn.
+    // The value of a drawing in contracts.
     ghost Drawing: { Type 0 };
 
     ghost shown: { Self → Drawing };
 
-    // The pixels across and down.
+    // The width in pixels; `down` is the height.
     ghost across: { Self → ℕ };
 
     ghost down: { Self → ℕ };
 
-    // Light pixels, from the pixels across and down and the dark and the light pixel.
+    // The drawing of light pixels only, of a width and a height, a dark pixel and a light pixel.
     ghost start: { ℕ → ℕ → Self.Pixel → Self.Pixel → Drawing };
 
     ghost pixel_step: { ℕ → ℕ → Drawing → Drawing };
 
     ghost rect_step: { ℕ → ℕ → ℕ → ℕ → Drawing → Drawing };
 
-    // The image is what a drawing ends as.
+    // An image is what a drawing is finished as.
     ghost is_end: { Drawing → Self.Image → Type 0 };
 
-    // The image is the picture of what a renderer is set to: what `drawing_of start rect_step` ends
-    // as, or what can be said of that in simpler words.
+    // An image is the picture of a renderer's setting: what `drawing_of start rect_step` is
+    // finished as, or the same in simpler terms.
     ghost is_picture: { Setting Self.Pixel → Self.Image → Type 0 };
 
-    /// A canvas of light pixels, of a width and a height in pixels. Refuses with `OutOfMemory`
-    /// alone.
+    /// Creates a canvas of `width` by `height` light pixels.
+    ///
+    /// Errors: only `OutOfMemory`.
     fn new(
         alloc: Global,
         width: u32,
@@ -117,8 +118,10 @@ pub trait Canvas: Drop {
         ensures down { IfOk result (λ canvas. down canvas ≡ height) }
         ensures memory { IsOkUnless result OutOfMemory };
 
-    /// Draws the dark pixel in column `x` and row `y`, each counted from 0 at the upper left, and
-    /// inside. Refuses with `OutOfMemory` alone.
+    /// Makes the pixel in column `x` and row `y` dark, counted from 0 at the upper left. It must be
+    /// inside.
+    ///
+    /// Errors: only `OutOfMemory`.
     fn draw_dark_pixel(&mut self, x: u32, y: u32) -> QrResult<()>
         requires inside_across { x < across self.old }
         requires inside_down { y < down self.old }
@@ -127,8 +130,10 @@ pub trait Canvas: Drop {
         ensures down { OnOk result (down self.new ≡ down self.old) }
         ensures memory { IsOkUnless result OutOfMemory };
 
-    /// Draws a rectangle of dark pixels, given by its first column and row and its sides in pixels,
-    /// and inside. Refuses with `OutOfMemory` alone.
+    /// Makes a rectangle of `width` by `height` pixels dark, from column `left` and row `top` on.
+    /// It must be inside.
+    ///
+    /// Errors: only `OutOfMemory`.
     fn draw_dark_rect(&mut self, left: u32, top: u32, width: u32, height: u32) -> QrResult<()>
         requires inside_across { left + width ≤ across self.old }
         requires inside_down { top + height ≤ down self.old }
@@ -138,9 +143,11 @@ pub trait Canvas: Drop {
         ensures down { OnOk result (down self.new ≡ down self.old) }
         ensures memory { IsOkUnless result OutOfMemory };
 
-    /// Draws the dark modules of a row of modules, each `width` by `height` pixels, the first with
-    /// its first pixel in column `left` and row `top`, and all inside. A canvas that can draw a row
-    /// at once has a body of its own. Refuses with `OutOfMemory` alone.
+    /// Draws the dark modules of `line`, a row of modules of `width` by `height` pixels each, from
+    /// column `left` and row `top` on. All must be inside. A canvas that can draw a row at once
+    /// overrides this.
+    ///
+    /// Errors: only `OutOfMemory`.
     fn draw_dark_modules(
         &mut self,
         line: &[Color],
@@ -168,17 +175,21 @@ pub trait Canvas: Drop {
         Ok(())
     }
 
-    /// The picture. Refuses with `OutOfMemory` alone.
+    /// Finishes the drawing and returns the picture.
+    ///
+    /// Errors: only `OutOfMemory`.
     fn into_image(self) -> QrResult<Self::Image>
         ensures ends { IfOk result (is_end (shown self)) }
         ensures memory { IsOkUnless result OutOfMemory }
 
-        // What a renderer draws ends as its picture.
+        // A renderer's drawing is finished as its picture.
         ensures picture { (s : Setting Self.Pixel) → IsWhole s
             → shown self ≡ drawing_of start rect_step s → IfOk result (is_picture s) };
 
-    /// Draws the dark modules of a square row by row, `count` along a side, behind a quiet zone of
-    /// `zone` modules, each `width` by `height` pixels. Refuses with `OutOfMemory` alone.
+    /// Draws the dark modules of the square `content` row by row. It has `count` modules along a
+    /// side and a quiet zone of `zone` modules around it; a module is `width` by `height` pixels.
+    ///
+    /// Errors: only `OutOfMemory`.
     fn draw_square(
         &mut self,
         content: &[Color],
@@ -204,8 +215,10 @@ pub trait Canvas: Drop {
         Ok(())
     }
 
-    /// The picture of modules, as a renderer is set. A canvas that can make it at once has a body
-    /// of its own. Refuses with `OutOfMemory` alone.
+    /// Returns the picture of `modules`, drawn with `dark_pixel` and `light_pixel`. A canvas that
+    /// can make it at once overrides this.
+    ///
+    /// Errors: only `OutOfMemory`.
     fn picture(
         alloc: Global,
         modules: &Modules,
@@ -233,8 +246,10 @@ pub trait Canvas: Drop {
     ghost sides_fit: { (canvas : Self) → (across canvas < 2 ^ 32) × (down canvas < 2 ^ 32) };
 }
 
-/// Draws the dark pixels of a rectangle inside one by one, row by row. Refuses with `OutOfMemory`
-/// alone.
+/// Makes a rectangle of `width` by `height` pixels dark, pixel by pixel and row by row, from column
+/// `left` and row `top` on. It must be inside.
+///
+/// Errors: only `OutOfMemory`.
 #[tactic(auto, using(crate::proofs::Folds::fold_range_more))]
 pub fn fill_rect<C: Canvas>(
     canvas: &mut C,
@@ -257,7 +272,7 @@ pub fn fill_rect<C: Canvas>(
     Ok(())
 }
 
-// Draws the dark pixels of a part of a row one by one.
+// Makes `width` pixels of row `y` dark one by one, from column `left` on.
 #[tactic(auto, using(crate::proofs::Folds::fold_range_more))]
 fn fill_row<C: Canvas>(canvas: &mut C, left: u32, y: u32, width: u32) -> QrResult<()>
     requires inside_across { left + width ≤ C.across canvas.old }
@@ -274,8 +289,8 @@ fn fill_row<C: Canvas>(canvas: &mut C, left: u32, y: u32, width: u32) -> QrResul
     Ok(())
 }
 
-/// A square of modules in row order, with a quiet zone at each side, and the pixels of a module.
-/// The sides of its picture fit.
+/// The modules of a picture: a square in row order, its quiet zone, and the size of a module in
+/// pixels. The sides of the picture, in modules and in pixels, are below 2^32.
 #[derive(Drop)]
 pub struct Modules<'a> {
     content: &'a [Color],
@@ -306,14 +321,14 @@ impl<'a> Model for Modules<'a> {
 }
 
 impl<'a> Modules<'a> {
-    /// The modules in row order.
+    /// Returns the modules in row order, without the quiet zone.
     pub fn content(&self) -> &[Color]
         ensures { result.now ≡ self.now.content }
     {
         self.content
     }
 
-    /// The modules of a row, counted from 0.
+    /// Returns the modules of row `row`, counted from 0, without the quiet zone.
     pub fn row(&self, row: u32) -> &[Color]
         requires { row < self.now.count }
         ensures { result.now ≡ slice_range self.now.content
@@ -323,7 +338,7 @@ impl<'a> Modules<'a> {
         &self.content[start..start + self.count as usize]
     }
 
-    /// The modules along a side, and those of the quiet zone at each side.
+    /// Returns the number of modules along a side, and that of the quiet zone on each side.
     pub fn counts(&self) -> (u32, u32)
         ensures count { result.0 ≡ self.now.count }
         ensures zone { result.1 ≡ self.now.zone }
@@ -331,7 +346,7 @@ impl<'a> Modules<'a> {
         (self.count, self.zone)
     }
 
-    /// The pixels of a module across and down.
+    /// Returns the width and height of a module in pixels.
     pub fn module_dimensions(&self) -> (u32, u32)
         ensures across { result.0 ≡ self.now.across }
         ensures down { result.1 ≡ self.now.down }
@@ -339,7 +354,7 @@ impl<'a> Modules<'a> {
         (self.width, self.height)
     }
 
-    /// The pixels of the picture across and down.
+    /// Returns the width and height of the picture in pixels, quiet zone included.
     pub fn pixels(&self) -> (u32, u32)
         ensures across { result.0 ≡ (self.now.count + 2 * self.now.zone) * self.now.across }
         ensures down { result.1 ≡ (self.now.count + 2 * self.now.zone) * self.now.down }
@@ -349,7 +364,7 @@ impl<'a> Modules<'a> {
         (side * self.width, side * self.height)
     }
 
-    // The modules as cells.
+    // Returns the modules as a grid of cells.
     fn grid(&self) -> Grid
         ensures value { result ≡ grid_of self.now }
         ensures whole { IsSquare self.now }
@@ -365,7 +380,7 @@ impl<'a> Modules<'a> {
     }
 }
 
-/// Draws pictures of a square of modules, as it is set.
+/// Draws pictures of a symbol, in the colours and with the quiet zone and module size set on it.
 #[derive(Drop)]
 pub struct Renderer<'a, P> {
     content: &'a [Color],
@@ -400,9 +415,9 @@ impl<'a, P> Model for Renderer<'a, P> {
 }
 
 impl<'a, P: Pixel> Renderer<'a, P> {
-    /// A renderer of modules in row order, of which `modules_count` stand along a side, with a
-    /// quiet zone of so many modules at each side. The quiet zone is on, and the size of a module
-    /// and the colours are those that the pixel has by default.
+    /// Creates a renderer of `content`: modules in row order, `modules_count` along a side. The
+    /// quiet zone of `quiet_zone` modules on each side is on; module size and colours are the pixel
+    /// type's defaults.
     pub fn new(content: &'a [Color], modules_count: usize, quiet_zone: u32) -> Renderer<'a, P>
         requires square { length content.now ≡ modules_count * modules_count }
         requires at_most { modules_count < 2 ^ 32 }
@@ -428,18 +443,20 @@ impl<'a, P: Pixel> Renderer<'a, P> {
         }
     }
 
-    /// The picture. Its sides are the modules along a side, with the quiet zone where it is on,
-    /// times the pixels of a module; they fit, as `fits` says. Refuses with `OutOfMemory` alone.
+    /// Draws the picture. Each side has as many pixels as the modules along it, including the quiet
+    /// zone if it is on, times those of a module. The picture must fit, as `fits` says.
+    ///
+    /// Errors: only `OutOfMemory`.
     pub fn build(&self, alloc: Global) -> QrResult<P::Image>
         requires { IsTrue (fits self.now) }
         ensures picture { IfOk result (P.Canvas.is_picture self.now) }
         ensures memory { IsOkUnless result OutOfMemory }
 
-        // A module or more makes a column and a row of pixels.
+        // A symbol with modules gives a picture with pixels.
         ensures pixels { 1 ≤ self.now.count → HasPixels self.now }
         ensures whole { IsWhole self.now }
 
-        // On any canvas, the picture is what the drawing of the dark modules ends as.
+        // On any canvas, the picture is what the drawing of the dark modules is finished as.
         ensures ends { IfOk result
             (P.Canvas.is_end (drawing_of P.Canvas.start P.Canvas.rect_step self.now)) }
     {
@@ -453,7 +470,9 @@ impl<'a, P: Pixel> Renderer<'a, P> {
         P::Canvas::picture(alloc, &modules, self.dark_color, self.light_color)
     }
 
-    /// The picture, as `build` gives it. Refuses with `OutOfMemory` alone.
+    /// Draws the picture, as `build` does.
+    ///
+    /// Errors: only `OutOfMemory`.
     pub fn to_image(&self, alloc: Global) -> QrResult<P::Image>
         requires { IsTrue (fits self.now) }
         ensures picture { IfOk result (P.Canvas.is_picture self.now) }

@@ -1,4 +1,4 @@
-//! Black and white pixels, eight in a byte, as printers and files have them.
+//! Formats of printers and files with black and white pixels, eight to a byte.
 
 ghost use Rattle.std.proofs.Common.{rules};
 ghost use Rattle.std.specs.Prelude.{◌≡◌, ℕ, ◌+◌, ◌*◌, ◌/◌, ◌^◌, ◌<◌, ◌≤◌, List, ◌++◌, length, flat_map, slice_index_or, false, if◌then◌else◌, IfOk, OnOk, IsOkUnless};
@@ -19,35 +19,38 @@ use qrcode_types::types::{Color, QrResult};
 use std::alloc::Global;
 use std::marker::PhantomData;
 
-/// A format of rows of black and white pixels, of which each byte has eight, the first highest, and
-/// 1 for black.
+/// A format with rows of black and white pixels. Rows are given as bytes of eight pixels each, the
+/// first in the highest bit, 1 for black.
 pub trait Packing: Copy {
-    // What stands before the rows, from the pixels across and down.
+    // The bytes before the rows, from the width and height in pixels.
     ghost before: { ℕ → ℕ → List ℕ };
 
-    // What stands for a row of these bytes.
+    // The bytes that the format has for a row of these bytes.
     ghost row_of: { List ℕ → List ℕ };
 
-    // What stands behind the rows.
+    // The bytes after the rows.
     ghost behind: { List ℕ };
 
-    /// What stands before the rows of a picture of so many pixels across and down. Refuses with
-    /// `OutOfMemory` alone.
+    /// Returns the bytes before the rows of a picture of `width` by `height` pixels.
+    ///
+    /// Errors: only `OutOfMemory`.
     fn head(alloc: Global, width: u32, height: u32) -> QrResult<Vec<u8>>
         ensures value { IfOk result (λ head. head.items ≡ before width height) }
         ensures memory { IsOkUnless result OutOfMemory };
 
-    /// What stands for a row of these bytes. Refuses with `OutOfMemory` alone.
+    /// Returns the bytes that the format has for a row of `bytes`.
+    ///
+    /// Errors: only `OutOfMemory`.
     fn row(bytes: Vec<u8>) -> QrResult<Vec<u8>>
         ensures value { IfOk result (λ row. row.items ≡ row_of bytes.items) }
         ensures memory { IsOkUnless result OutOfMemory };
 
-    /// What stands behind the rows.
+    /// Returns the bytes after the rows.
     fn tail() -> &'static [u8]
         ensures { result.now ≡ behind };
 }
 
-/// A pixel of such a format: black or white.
+/// A pixel of the format `F`: black or white.
 #[derive(Copy, Clone)]
 pub struct Dot<F> {
     is_black: bool,
@@ -55,7 +58,7 @@ pub struct Dot<F> {
 }
 
 impl<F> Dot<F> {
-    /// A black or a white pixel.
+    /// Creates a black or white pixel.
     pub fn of(bit: Bit) -> Dot<F>
         ensures { result.is_black ≡ is_black bit }
     {
@@ -65,7 +68,7 @@ impl<F> Dot<F> {
         }
     }
 
-    /// Whether it is black.
+    /// Returns whether the pixel is black.
     pub(crate) fn is_black(self) -> bool
         ensures { result ≡ self.is_black }
     {
@@ -93,7 +96,7 @@ impl<F: Packing> Pixel for Dot<F> {
     }
 }
 
-/// Ends black and white pixels in such a format.
+/// Turns black and white pixels into a file of the format `F`.
 #[derive(Copy, Clone)]
 pub struct Rows<F> {
     of: PhantomData<F>,
@@ -110,8 +113,9 @@ impl<F: Packing> Finish<Dot<F>> for Rows<F> {
     }
 }
 
-/// The file of cells, where dark cells are black or not and light ones are or are not. Refuses with
-/// `OutOfMemory` alone.
+/// Returns the file of `grid`. Dark cells are black if `marked` is true, light ones if `other` is.
+///
+/// Errors: only `OutOfMemory`.
 pub(crate) fn packed_file<F: Packing>(
     alloc: Global,
     grid: &Grid,
@@ -128,7 +132,9 @@ pub(crate) fn packed_file<F: Packing>(
     Ok(file)
 }
 
-/// The same behind another head. Refuses with `OutOfMemory` alone.
+/// Returns the file that `packed_file` makes of `grid`, but with `head` before the rows.
+///
+/// Errors: only `OutOfMemory`.
 pub(crate) fn packed_behind<F: Packing>(
     head: Vec<u8>,
     grid: &Grid,
@@ -150,7 +156,7 @@ pub(crate) fn packed_behind<F: Packing>(
     Ok(file)
 }
 
-// Appends the rows of pixels, where dark cells are black or not and light ones are or are not.
+// Appends the rows of pixels. Dark cells are black if `marked` is true, light ones if `other` is.
 fn push_packed_rows<F: Packing>(
     file: &mut Vec<u8>,
     grid: &Grid,
@@ -176,8 +182,10 @@ fn push_packed_rows<F: Packing>(
     Ok(())
 }
 
-/// A row of cells of so many pixels across, eight pixels in a byte. Refuses with `OutOfMemory`
-/// alone.
+/// Packs a row of cells of `across` pixels each, eight pixels to a byte. `marks` says which cells
+/// are dark; these are black if `marked` is true, the others if `other` is.
+///
+/// Errors: only `OutOfMemory`.
 pub(crate) fn packed_row(
     alloc: Global,
     marks: &[bool],
@@ -199,8 +207,8 @@ pub(crate) fn packed_row(
     Ok(bytes)
 }
 
-// Eight pixels of a row of cells from a place on, the first highest, with zeros behind the end. All
-// eight are alike where they lie in one cell.
+// Returns eight pixels of a row from pixel `start` on, the first highest, with zeros after the end.
+// Eight pixels of one cell are found at once.
 fn packed_byte(marks: &[bool], across: u32, start: usize, marked: bool, other: bool) -> u8
     requires at_least { 1 ≤ across }
     requires at_most { start < 2 ^ 32 }
@@ -216,21 +224,21 @@ fn packed_byte(marks: &[bool], across: u32, start: usize, marked: bool, other: b
     byte
 }
 
-// Whether a cell is black.
+// Returns whether a cell is black: `mark` says whether it is dark.
 fn ink(mark: bool, marked: bool, other: bool) -> bool
     ensures { result ≡ if mark then marked else other }
 {
     if mark { marked } else { other }
 }
 
-// 1 for black.
+// Returns 1 for black, 0 for white.
 fn bit_of(black: bool) -> u8
     ensures { result ≡ if black then 1 else 0 }
 {
     if black { 1 } else { 0 }
 }
 
-// The bit of a pixel of a row of cells, 0 behind its end.
+// Returns the bit of pixel `x` of a row: 1 for black, 0 for white and after the end.
 fn black_bit(marks: &[bool], across: u32, x: usize, marked: bool, other: bool) -> u8
     requires at_least { 1 ≤ across }
     ensures value { result ≡ black_bit (inked marked other (each across marks.now)) x }

@@ -1,4 +1,4 @@
-//! Rows of pixels while they are drawn, whatever they end as.
+//! The canvas of the formats that are made of rows of pixels.
 
 ghost use Rattle.std.specs.Prelude.{◌≡◌, ◌^◌, ◌<◌, IfOk, IsOkUnless};
 ghost use Rattle.qrcode_types.specs.declared.types.QrError.TheVariants.{OutOfMemory};
@@ -14,21 +14,23 @@ use qrcode_types::types::QrResult;
 use std::alloc::Global;
 use std::marker::PhantomData;
 
-/// How rows of pixels end as an image.
+/// Turns rows of pixels into an image.
 pub trait Finish<P>: Drop {
-    /// What they end as.
+    /// The finished image.
     type Image;
 
-    // The image shows which pixels are dark, by the pixels that stand for dark and for light.
+    // An image shows a bitmap, drawn with a dark and a light pixel.
     ghost is_image: { Bitmap → P → P → Self.Image → Type 0 };
 
-    /// The image of cells. Refuses with `OutOfMemory` alone.
+    /// Returns the image of `grid`, drawn with the pixels `dark` and `light`.
+    ///
+    /// Errors: only `OutOfMemory`.
     fn image(alloc: Global, grid: &Grid, dark: P, light: P) -> QrResult<Self::Image>
         ensures value { IfOk result (is_image (pixels_of grid.now) dark light) }
         ensures memory { IsOkUnless result OutOfMemory };
 }
 
-/// Rows of pixels, and the pixels that stand for dark and for light.
+/// A canvas of rows of pixels, with the pixels for dark and light. `E` turns it into an image.
 #[derive(Drop)]
 pub struct Page<P, E> {
     cells: Cells,

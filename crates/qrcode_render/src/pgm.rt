@@ -1,4 +1,4 @@
-//! Pictures as PGM files: grey pixels behind a head that says their sides.
+//! Draws PGM files: a header with the sides, and a byte of grey for each pixel.
 
 ghost use Rattle.std.proofs.Common.{rules};
 ghost use Rattle.std.specs.Prelude.{◌≡◌, IfOk};
@@ -36,10 +36,10 @@ impl Pixel for Grey {
     }
 }
 
-/// Grey pixels while they are drawn.
+/// The canvas for PGM files.
 pub type Canvas = Page<Grey, File>;
 
-/// Ends grey pixels as a PGM file.
+/// Turns grey pixels into a PGM file.
 #[derive(Copy, Clone)]
 pub struct File;
 

@@ -1,4 +1,4 @@
-//! Pictures as PIC.
+//! Draws PIC, for troff, with a box for each dark module.
 
 ghost use Rattle.std.proofs.Common.{rules};
 ghost use Rattle.qrcode_render.specs.Pic.{pic_start, pic_rect, pic_rect-is, pic_column, pic_row, pic_end};
@@ -9,7 +9,7 @@ use crate::strokes::{Plot, Strokes};
 use qrcode_types::types::QrResult;
 use std::alloc::Global;
 
-/// The one colour of PIC, in which dark modules are boxes and light ones nothing.
+/// The only colour of PIC: dark modules are filled boxes, and light ones are not drawn.
 #[derive(Copy, Clone, Default, PartialEq, Eq, PartialOrd, Ord, Hash)]
 pub struct Color;
 
@@ -33,10 +33,10 @@ impl Pixel for Color {
     }
 }
 
-/// A PIC text while it is drawn: a box for each dark rectangle.
+/// The canvas for PIC: a box for each dark rectangle.
 pub type Canvas = Plot<Color, Boxes>;
 
-/// The texts of PIC.
+/// The texts of the PIC format.
 #[derive(Copy, Clone)]
 pub struct Boxes;
 

@@ -1,4 +1,4 @@
-//! Pictures as PPM files: pixels of red, green and blue behind a head that says their sides.
+//! Draws PPM files: a header with the sides, and red, green and blue for each pixel.
 
 ghost use Rattle.std.proofs.Common.{rules};
 ghost use Rattle.std.specs.Prelude.{◌≡◌, [], ◌∷◌, IfOk};
@@ -38,10 +38,10 @@ impl Pixel for Color {
     }
 }
 
-/// Coloured pixels while they are drawn.
+/// The canvas for PPM files.
 pub type Canvas = Page<Color, File>;
 
-/// Ends coloured pixels as a PPM file.
+/// Turns coloured pixels into a PPM file.
 #[derive(Copy, Clone)]
 pub struct File;
 

@@ -1,4 +1,4 @@
-//! Rows of cells as bytes: one row of pixels, copied for the further rows.
+//! Writes grids row by row: of each row of cells one row of pixels is built, the rest are copies.
 
 ghost use Rattle.std.specs.Prelude.{◌≡◌, ◌^◌, ◌<◌, ◌++◌, [], ◌∷◌, Bool, length, IfOk, OnOk, IsOkUnless};
 ghost use Rattle.std.specs.Option.{ForSome};
@@ -13,8 +13,9 @@ use crate::stamps::{Line, Stamp};
 use qrcode_types::types::QrResult;
 use std::alloc::Global;
 
-/// Appends a text so many times. Refuses with `OutOfMemory` alone. Apart from its callers, so that
-/// its few variables stay in registers.
+/// Appends `text` `times` times. Not inlined, so that its few variables stay in registers.
+///
+/// Errors: only `OutOfMemory`.
 #[inline(never)]
 pub fn push_times(raw: &mut Vec<u8>, text: &[u8], times: u32) -> QrResult<()>
     ensures appends { OnOk result (raw.new.items ≡ raw.old.items ++ repeated times text.now) }
@@ -26,7 +27,7 @@ pub fn push_times(raw: &mut Vec<u8>, text: &[u8], times: u32) -> QrResult<()>
     Ok(())
 }
 
-// A text so many times.
+// Returns `text` repeated `times` times.
 fn times(alloc: Global, text: &[u8], times: u32) -> QrResult<Vec<u8>>
     ensures value { IfOk result (λ whole. whole.items ≡ repeated times text.now) }
     ensures memory { IsOkUnless result OutOfMemory }
@@ -36,10 +37,11 @@ fn times(alloc: Global, text: &[u8], times: u32) -> QrResult<Vec<u8>>
     Ok(whole)
 }
 
-// The most bytes of the text of a cell of which four are written at once.
+// The longest text of a cell, in bytes, with which cells are written four at a time.
 const SHORT: usize = 8;
 
-// The palette of the texts that stand for a dark and a light cell, where these are short.
+// Returns the texts of two and of four cells, or `None` if `dark` or `light` is longer than
+// `SHORT`.
 fn palette_of(alloc: Global, dark: &[u8], light: &[u8]) -> QrResult<Option<Fours>>
     ensures twos { IfOk result (λ palette. ForSome palette (λ p. (a b : Bool) →
         two_text p a b ≡ marks_text dark.now light.now (a ∷ b ∷ []))) }
@@ -59,7 +61,7 @@ fn palette_of(alloc: Global, dark: &[u8], light: &[u8]) -> QrResult<Option<Fours
     Ok(Some(Fours::new(alloc, twos)?))
 }
 
-// The texts that stand for a dark and a light cell, and for two and four where they are short.
+// The texts of a dark and a light cell; if these are short, also those of two and of four cells.
 #[derive(Drop)]
 struct CellTexts {
     dark: Vec<u8>,
@@ -70,7 +72,8 @@ struct CellTexts {
 }
 
 impl CellTexts {
-    // The texts of cells of so many pixels across, of those of a pixel.
+    // Makes the texts of cells of `across` pixels in a row from `dark` and `light`, those of one
+    // pixel.
     fn new(alloc: Global, across: u32, dark: &[u8], light: &[u8]) -> QrResult<CellTexts>
         ensures dark { IfOk result (λ texts. texts.dark.items ≡ repeated across dark.now) }
         ensures light { IfOk result (λ texts. texts.light.items ≡ repeated across light.now) }
@@ -86,12 +89,12 @@ impl CellTexts {
         })
     }
 
-    // The most bytes of the text of a cell.
+    // Returns the length in bytes of the longer text.
     fn longest(&self) -> usize {
         self.dark.len().max(self.light.len())
     }
 
-    // Appends the text of marks.
+    // Appends the texts of cells; `marks` says which are dark.
     fn write(&self, line: &mut Line, marks: &[bool]) -> QrResult<()>
         requires { length marks.now < 2 ^ 40 }
         ensures appends { OnOk result
@@ -107,8 +110,10 @@ impl CellTexts {
     }
 }
 
-/// Appends the rows of cells, of which each pixel is the text that stands for dark or for light,
-/// and each row of pixels has a text at its end. Refuses with `OutOfMemory` alone.
+/// Appends the rows of pixels of `grid`, border included: `dark` or `light` for each pixel, and
+/// `end` after each row.
+///
+/// Errors: only `OutOfMemory`.
 pub fn push_rows(
     raw: &mut Vec<u8>,
     grid: &Grid,

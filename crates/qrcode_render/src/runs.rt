@@ -1,4 +1,4 @@
-//! The runs of dark cells of the rows, as the subpaths of an SVG path.
+//! Writes the runs of dark cells in each row as the subpaths of an SVG path.
 
 ghost use Rattle.std.specs.Prelude.{◌≡◌, ◌+◌, ◌^◌, ◌<◌, ◌≤◌, ◌++◌, length, OnOk, IsOkUnless};
 ghost use Rattle.qrcode_types.specs.declared.types.QrError.TheVariants.{OutOfMemory};
@@ -10,7 +10,7 @@ use crate::ink::Script;
 use qrcode_types::types::QrResult;
 use std::marker::Model;
 
-// Where the pen stands: the column and the row at whose upper left corner.
+// The pen's position: the upper left corner of the cell in this column and row.
 #[derive(Drop)]
 struct Pen {
     column: u32,
@@ -25,8 +25,7 @@ impl Model for Pen {
     ghost view = { λ p. record { column = p.column; row = p.row } };
 }
 
-// Appends how far it is from one number to another, forward behind one text, or back behind
-// another.
+// Appends the distance from `from` to `to`, after `forward` or, if `to` is smaller, after `back`.
 #[inline(always)]
 fn push_step(text: &mut Script, forward: &str, back: &str, from: u32, to: u32) -> QrResult<()>
     ensures appends { OnOk result
@@ -42,7 +41,7 @@ fn push_step(text: &mut Script, forward: &str, back: &str, from: u32, to: u32) -
     }
 }
 
-// Appends the run of so many cells that ends before a column, where there are some.
+// Appends the run of `width` cells that ends before column `end`, or nothing if `width` is 0.
 fn push_run(text: &mut Script, pen: &mut Pen, top: u32, end: u32, width: u32) -> QrResult<()>
     requires width_at_most { width ≤ end }
     requires row_fits { top + 1 < 2 ^ 32 }
@@ -65,7 +64,7 @@ fn push_run(text: &mut Script, pen: &mut Pen, top: u32, end: u32, width: u32) ->
     Ok(())
 }
 
-// Appends the runs of the marks of a row.
+// Appends the runs of row `top`; `marks` says which of its cells are dark.
 fn push_row(text: &mut Script, pen: &mut Pen, marks: &[bool], top: u32) -> QrResult<()>
     requires columns_fit { length marks.now < 2 ^ 32 }
     requires row_fits { top + 1 < 2 ^ 32 }
@@ -86,7 +85,9 @@ fn push_row(text: &mut Script, pen: &mut Pen, marks: &[bool], top: u32) -> QrRes
     push_run(text, pen, top, marks.len() as u32, width)
 }
 
-/// Appends the runs of all rows, by marks of a row to write into. Refuses with `OutOfMemory` alone.
+/// Appends the runs of all rows. `marks` is scratch space for a row of cells.
+///
+/// Errors: only `OutOfMemory`.
 pub fn push_runs(text: &mut Script, grid: &Grid, marks: &mut [bool]) -> QrResult<()>
     requires length { length marks.old ≡ all_columns grid.now }
     ensures appends { OnOk result (text.new ≡ text.old ++ path_text (runs_of grid.now)) }

@@ -1,4 +1,4 @@
-//! What a renderer is set to: its colours, its quiet zone and the sizes of its modules.
+//! The renderer's settings: colours, quiet zone and module size.
 
 ghost use Rattle.std.specs.Prelude.{◌≡◌, ◌+◌, ◌-◌, ◌*◌, ◌^◌, ◌<◌, ◌≤◌, IsTrue, max, if◌then◌else◌};
 ghost use Rattle.qrcode_render.specs.Grid.{all_columns, all_rows, pixels_of};
@@ -8,7 +8,7 @@ use crate::grid::Grid;
 use crate::{Modules, Pixel, Renderer};
 
 impl<'a, P: Pixel> Renderer<'a, P> {
-    /// Sets the pixel of dark modules.
+    /// Sets the pixel for dark modules.
     pub fn dark_color(&mut self, color: P) -> &mut Self
         ensures same { result.ghost_name ≡ self.entry.ghost_name }
         ensures sets { result.now ≡ record self.old { dark = color } }
@@ -17,7 +17,7 @@ impl<'a, P: Pixel> Renderer<'a, P> {
         self
     }
 
-    /// Sets the pixel of light modules.
+    /// Sets the pixel for light modules.
     pub fn light_color(&mut self, color: P) -> &mut Self
         ensures same { result.ghost_name ≡ self.entry.ghost_name }
         ensures sets { result.now ≡ record self.old { light = color } }
@@ -26,7 +26,7 @@ impl<'a, P: Pixel> Renderer<'a, P> {
         self
     }
 
-    /// Switches the quiet zone on or off. Sizes of modules that were set before stay.
+    /// Switches the quiet zone on or off. A module size that was set before stays as it is.
     pub fn quiet_zone(&mut self, has_quiet_zone: bool) -> &mut Self
         ensures same { result.ghost_name ≡ self.entry.ghost_name }
         ensures sets { result.now ≡ record self.old {
@@ -41,11 +41,12 @@ impl<'a, P: Pixel> Renderer<'a, P> {
         self
     }
 
-    /// Sets the quiet zone to so many modules at each side and switches it on. Sizes of modules
-    /// that were set before stay.
+    /// Sets the quiet zone to `modules` modules on each side and switches it on. A module size that
+    /// was set before stays as it is.
     ///
-    /// The standard asks for four modules, and for two of a Micro symbol. A picture of up to 65,536
-    /// modules along a side fits with modules of up to 65,535 pixels.
+    /// The standard asks for four modules, and for two around a Micro symbol. The picture fits, as
+    /// `fits` says, if it has up to 65,536 modules along a side, quiet zone included, and a module
+    /// has up to 65,535 pixels.
     pub fn quiet_zone_modules(&mut self, modules: u32) -> &mut Self
         ensures same { result.ghost_name ≡ self.entry.ghost_name }
         ensures sets { result.now ≡ record self.old { zone = modules; whole_zone = modules } }
@@ -57,9 +58,10 @@ impl<'a, P: Pixel> Renderer<'a, P> {
         self
     }
 
-    /// Sets the pixels of a module across and down, each raised to at least 1.
+    /// Sets the width and height of a module in pixels. 0 counts as 1.
     ///
-    /// A picture of up to 65,536 modules along a side fits with modules of up to 65,535 pixels.
+    /// The picture fits, as `fits` says, if it has up to 65,536 modules along a side, quiet zone
+    /// included, and a module has up to 65,535 pixels.
     pub fn module_dimensions(&mut self, width: u32, height: u32) -> &mut Self
         ensures same { result.ghost_name ≡ self.entry.ghost_name }
         ensures sets { result.now
@@ -72,9 +74,10 @@ impl<'a, P: Pixel> Renderer<'a, P> {
         self
     }
 
-    /// Sets the pixels of a module across and down to the same number, raised to at least 1.
+    /// Sets the width and height of a module to `width` pixels each. 0 counts as 1.
     ///
-    /// A picture of up to 65,536 modules along a side fits with modules of up to 65,535 pixels.
+    /// The picture fits, as `fits` says, if it has up to 65,536 modules along a side, quiet zone
+    /// included, and a module has up to 65,535 pixels.
     pub fn module_size(&mut self, width: u32) -> &mut Self
         ensures same { result.ghost_name ≡ self.entry.ghost_name }
         ensures sets { result.now
@@ -84,7 +87,7 @@ impl<'a, P: Pixel> Renderer<'a, P> {
         self.module_dimensions(width, width)
     }
 
-    // The modules along a side of the picture, with the quiet zone where it is on.
+    // Returns the modules along a side of the picture, including the quiet zone if it is on.
     fn side(&self) -> u32
         requires { side_of self.now < 2 ^ 32 }
         ensures { result ≡ side_of self.now }
@@ -92,11 +95,12 @@ impl<'a, P: Pixel> Renderer<'a, P> {
         self.modules_count + 2 * self.quiet_zone
     }
 
-    /// Sets the least size of a module with which the picture has at least so many pixels across
-    /// and down, with the quiet zone where it is on at this call. The picture fits then.
+    /// Sets the smallest module width and height with which the picture is at least `width` by
+    /// `height` pixels, including the quiet zone if it is on at this call. The picture then fits,
+    /// as `fits` says.
     ///
-    /// The picture has a module, and its modules along a side and the pixels asked for are together
-    /// at most 4,294,967,296.
+    /// The picture must have from 1 to 4,294,967,295 modules along a side. These plus `width`, and
+    /// these plus `height`, must be at most 4,294,967,296.
     #[tactic(auto, using(crate::proofs::Sizes::is_least_size))]
     pub fn min_dimensions(&mut self, width: u32, height: u32) -> &mut Self
         requires at_least { 1 ≤ side_of self.old }
@@ -117,11 +121,11 @@ impl<'a, P: Pixel> Renderer<'a, P> {
         self.module_dimensions((width + more) / side, (height + more) / side)
     }
 
-    /// Sets the least size of a module with which the picture has at least so many pixels across
-    /// and down alike. The picture fits then.
+    /// Sets the smallest module width and height with which the picture is at least `width` by
+    /// `width` pixels, as `min_dimensions` does. The picture then fits, as `fits` says.
     ///
-    /// The picture has a module, and its modules along a side and the pixels asked for are together
-    /// at most 4,294,967,296.
+    /// The picture must have from 1 to 4,294,967,295 modules along a side. These plus `width` must
+    /// be at most 4,294,967,296.
     pub fn min_width(&mut self, width: u32) -> &mut Self
         requires at_least { 1 ≤ side_of self.old }
         requires side_fits { side_of self.old < 2 ^ 32 }
@@ -137,11 +141,11 @@ impl<'a, P: Pixel> Renderer<'a, P> {
         self.min_dimensions(width, width)
     }
 
-    /// Sets the greatest size of a module with which the picture has at most so many pixels across
-    /// and down, or 1 where no size has, with the quiet zone where it is on at this call. The
-    /// picture fits then.
+    /// Sets the largest module width and height with which the picture is at most `width` by
+    /// `height` pixels, including the quiet zone if it is on at this call. Each is at least 1, even
+    /// if the picture is then larger. The picture then fits, as `fits` says.
     ///
-    /// The picture has a module, and at most 4,294,967,295 along a side.
+    /// The picture must have from 1 to 4,294,967,295 modules along a side.
     #[tactic(auto, using(crate::proofs::Sizes::is_greatest_size))]
     pub fn max_dimensions(&mut self, width: u32, height: u32) -> &mut Self
         requires at_least { 1 ≤ side_of self.old }
@@ -159,8 +163,8 @@ impl<'a, P: Pixel> Renderer<'a, P> {
         self.module_dimensions(width / side, height / side)
     }
 
-    /// Whether the modules and the pixels along each side of the picture are at most
-    /// 4,294,967,295.
+    /// Returns whether the modules and the pixels along each side of the picture, including the
+    /// quiet zone if it is on, are at most 4,294,967,295.
     pub fn fits(&self) -> bool
         ensures { result ≡ fits self.now }
     {
@@ -170,7 +174,8 @@ impl<'a, P: Pixel> Renderer<'a, P> {
             && side * (self.module_height as u64) < 1 << 32
     }
 
-    /// The modules as cells, with the quiet zone where it is on.
+    /// Returns the modules as a grid of cells, including the quiet zone if it is on. The picture
+    /// must fit, as `fits` says.
     pub fn grid(&self) -> Grid
         requires { IsTrue (fits self.now) }
         ensures pixels { pixels_of result ≡ picture_of self.now }
@@ -187,7 +192,7 @@ impl<'a, P: Pixel> Renderer<'a, P> {
         )
     }
 
-    /// The modules, with the quiet zone where it is on.
+    /// Returns the modules, including the quiet zone if it is on.
     pub(crate) fn modules(&self) -> Modules
         requires { IsTrue (fits self.now) }
         ensures { result ≡ square_of self.now }
@@ -201,7 +206,7 @@ impl<'a, P: Pixel> Renderer<'a, P> {
         }
     }
 
-    /// What stands for dark and for light.
+    /// Returns the pixels for dark and for light modules.
     pub fn colors(&self) -> (P, P)
         ensures dark { result.0 ≡ self.now.dark }
         ensures light { result.1 ≡ self.now.light }

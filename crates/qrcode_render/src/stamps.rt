@@ -1,4 +1,4 @@
-//! Texts that are put together of short ones, each of which is written with the bytes behind it.
+//! Builds texts from short pieces, each copied as a block of fixed size.
 
 ghost use Rattle.std.specs.Prelude.{◌≡◌, ◌+◌, ◌-◌, ◌≤◌, ◌<◌, [], ◌++◌, length, take, vec_len, OnOk, OnErr, IsOkUnless, decimal};
 ghost use Rattle.qrcode_types.specs.declared.types.QrError.TheVariants.{OutOfMemory};
@@ -8,11 +8,11 @@ use std::alloc::Global;
 use std::marker::Model;
 use std::simd::Simd;
 
-/// The most bytes of a stamp. What is written past the end of a text is overwritten by the next
-/// one.
+/// The size of a stamp's block in bytes. The next text overwrites what is written past a text's
+/// end.
 pub const LONGEST: usize = 32;
 
-// Writes a text, and answers where it ends.
+// Writes `text` at `at` and returns where it ends.
 #[inline(always)]
 fn put_text(bytes: &mut [u8], at: usize, text: &[u8]) -> usize
     requires { at + length text.now ≤ length bytes.old }
@@ -25,7 +25,7 @@ fn put_text(bytes: &mut [u8], at: usize, text: &[u8]) -> usize
     end
 }
 
-// Writes a number in decimal digits, and answers where it ends.
+// Writes `n` in decimal digits at `at` and returns where they end.
 fn put_number(bytes: &mut [u8], at: usize, n: u32) -> usize
     requires { at + length (decimal n) ≤ length bytes.old }
     ensures writes { take result bytes.new ≡ take at bytes.old ++ decimal n }
@@ -41,8 +41,7 @@ fn put_number(bytes: &mut [u8], at: usize, n: u32) -> usize
     place + 1
 }
 
-/// A text of at most 32 bytes, with bytes behind it that are written too, so that all are copied at
-/// once.
+/// A text of at most 32 bytes in a block of 32, so that copying it is one move of fixed size.
 #[derive(Drop)]
 pub struct Stamp {
     start: [u8; LONGEST],
@@ -60,7 +59,7 @@ impl Model for Stamp {
 }
 
 impl Stamp {
-    /// The stamp of a text.
+    /// Creates a stamp of `text`, which has at most 32 bytes.
     pub fn new(text: &[u8]) -> Stamp
         requires { length text.now ≤ 32 }
         ensures { result ≡ text.now }
@@ -73,7 +72,7 @@ impl Stamp {
         }
     }
 
-    /// The stamp of a text and another behind it.
+    /// Returns the stamp of this text followed by `other`, together at most 32 bytes.
     pub fn and(&self, other: &Stamp) -> Stamp
         requires { length self.now + length other.now ≤ 32 }
         ensures { result ≡ self.now ++ other.now }
@@ -83,7 +82,7 @@ impl Stamp {
         Stamp { start, len }
     }
 
-    /// Appends a text.
+    /// Appends `text`; the result must have at most 32 bytes.
     pub fn push(&mut self, text: &[u8])
         requires { length self.old + length text.now ≤ 32 }
         ensures { self.new ≡ self.old ++ text.now }
@@ -91,7 +90,7 @@ impl Stamp {
         self.len = put_text(&mut self.start, self.len, text);
     }
 
-    /// Appends a number in decimal digits.
+    /// Appends `n` in decimal digits; the result must have at most 32 bytes.
     pub fn push_number(&mut self, n: u32)
         requires { length self.old + length (decimal n) ≤ 32 }
         ensures { self.new ≡ self.old ++ decimal n }
@@ -99,7 +98,8 @@ impl Stamp {
         self.len = put_number(&mut self.start, self.len, n);
     }
 
-    /// Writes the text and the bytes behind it, and answers where the text ends.
+    /// Copies the whole block to `bytes` at `at`, where 32 bytes must fit, and returns where the
+    /// text ends.
     pub fn write(&self, bytes: &mut [u8], at: usize) -> usize
         requires { at + 32 ≤ length bytes.old }
         ensures writes { take result bytes.new ≡ take at bytes.old ++ self.now }
@@ -112,10 +112,11 @@ impl Stamp {
     }
 }
 
-// What a text grows by at least. Only its room doubles: bytes far behind its end are not written.
+// The fewest bytes that a text's vector grows by. Its capacity may double, but bytes that are not
+// needed yet are not filled with zeros.
 const STEP: usize = 1024;
 
-// Grows bytes, of which those up to an end are kept, to hold so many more behind these.
+// Lengthens `bytes` so that `count` bytes fit after `end`. Keeps those before `end`.
 fn grow(bytes: &mut Vec<u8>, end: usize, count: usize) -> QrResult<()>
     requires { end ≤ vec_len bytes.old }
     ensures keeps { take end bytes.new.items ≡ take end bytes.old.items }
@@ -130,7 +131,10 @@ fn grow(bytes: &mut Vec<u8>, end: usize, count: usize) -> QrResult<()>
     Ok(())
 }
 
-/// Makes room for so many bytes behind those up to an end, which are kept.
+/// Makes room in `bytes` for `count` bytes after `end`. Those before `end` are kept, even on an
+/// error.
+///
+/// Errors: only `OutOfMemory`.
 #[inline(always)]
 pub fn make_room(bytes: &mut Vec<u8>, end: usize, count: usize) -> QrResult<()>
     requires { end ≤ vec_len bytes.old }
@@ -145,7 +149,7 @@ pub fn make_room(bytes: &mut Vec<u8>, end: usize, count: usize) -> QrResult<()>
     Ok(())
 }
 
-/// A text that grows. A step that refuses, with `OutOfMemory` alone, leaves it as it was.
+/// A text that grows. Its calls fail only with `OutOfMemory`, which leaves the text unchanged.
 #[derive(Drop)]
 pub struct Line {
     pub(crate) bytes: Vec<u8>,
@@ -163,7 +167,7 @@ impl Model for Line {
 }
 
 impl Line {
-    /// The text of bytes.
+    /// Returns a text that begins with `bytes`.
     pub fn of(bytes: Vec<u8>) -> Line
         ensures { result ≡ bytes.items }
     {
@@ -178,7 +182,9 @@ impl Line {
         self.end = 0;
     }
 
-    /// Appends a text of any length. Within its callers, where most texts have a known length.
+    /// Appends `text`. Inlined, since most callers pass a text of known length.
+    ///
+    /// Errors: only `OutOfMemory`.
     #[inline(always)]
     pub fn push(&mut self, text: &[u8]) -> QrResult<()>
         ensures appends { OnOk result (self.new ≡ self.old ++ text.now) }
@@ -190,7 +196,9 @@ impl Line {
         Ok(())
     }
 
-    /// Appends a number in decimal digits.
+    /// Appends `n` in decimal digits.
+    ///
+    /// Errors: only `OutOfMemory`.
     #[tactic(auto, using(crate::proofs::Numbers::number_short))]
     pub fn push_number(&mut self, n: u32) -> QrResult<()>
         ensures appends { OnOk result (self.new ≡ self.old ++ decimal n) }
@@ -202,14 +210,14 @@ impl Line {
         Ok(())
     }
 
-    /// The text.
+    /// Returns the text.
     pub fn as_slice(&self) -> &[u8]
         ensures { result.now ≡ self.now }
     {
         &self.bytes[..self.end]
     }
 
-    /// The bytes of the text.
+    /// Returns the bytes of the text.
     pub fn into_bytes(self) -> Vec<u8>
         ensures { result.items ≡ self }
     {

@@ -1,4 +1,4 @@
-//! Pictures as texts, with a text for each pixel.
+//! Draws lines of text, with a character or a short text for each pixel.
 
 ghost use Rattle.std.proofs.Common.{rules};
 ghost use Rattle.std.specs.Prelude.{◌≡◌, ℕ, ◌<◌, List, [], ◌∷◌, ◌++◌, length, encode_utf8, string_bytes, IfOk, OnOk, IsOkUnless};
@@ -15,22 +15,24 @@ use crate::rows::push_rows;
 use qrcode_types::types::{Color, QrResult};
 use std::alloc::Global;
 
-/// What stands for a pixel in a text.
+/// A pixel that is drawn as a text, such as a `char`.
 pub trait Element: Copy {
     ghost text: { Self → List ℕ };
 
-    // What stands for a colour unless said otherwise.
+    // An element is the default for a colour.
     ghost is_default: { Color → Self → Type 0 };
 
-    /// What stands for a colour unless said otherwise.
+    /// Returns the default element for `color`.
     fn default_color(color: Color) -> Self
         ensures { is_default color result };
 
-    /// How many bytes the text has.
+    /// Returns the length of the text in bytes.
     fn strlen(self) -> usize
         ensures { result ≡ length (text self) };
 
-    /// Appends the text. After `OutOfMemory` nothing is known of the string.
+    /// Appends the text to `string`. After `OutOfMemory` the content of `string` is unspecified.
+    ///
+    /// Errors: only `OutOfMemory`.
     fn append_to_string(self, string: &mut String) -> QrResult<()>
         ensures appends { OnOk result
             (string_bytes string.new ≡ string_bytes string.old ++ text self) }
@@ -56,7 +58,7 @@ impl Element for char {
     }
 }
 
-/// A text that stands for a pixel.
+/// A pixel that is drawn as a text of any length.
 #[derive(Copy, Clone, PartialEq, Eq)]
 pub struct Str<'a>(pub &'a str);
 
@@ -124,11 +126,11 @@ impl<'a> Pixel for Str<'a> {
     }
 }
 
-/// Rows of pixels while they are drawn. The picture is a line of text for each row, with a newline
-/// between two lines and none at the end; without a column it is empty.
+/// The canvas for text. The picture has a line for each row, with newlines between lines and none
+/// at the end; without a column it is empty.
 pub type Canvas<P> = Page<P, Lines>;
 
-/// Ends rows of pixels as lines of text.
+/// Turns rows of pixels into lines of text.
 #[derive(Copy, Clone)]
 pub struct Lines;
 
@@ -150,7 +152,7 @@ impl<P: Element> Finish<P> for Lines {
     }
 }
 
-// The text of an element.
+// Returns the text of an element.
 fn element_text<P: Element>(alloc: Global, element: P) -> QrResult<String>
     ensures value { IfOk result (λ text. string_bytes text ≡ P.text element) }
     ensures memory { IsOkUnless result OutOfMemory }
@@ -160,7 +162,7 @@ fn element_text<P: Element>(alloc: Global, element: P) -> QrResult<String>
     Ok(text)
 }
 
-// The lines of cells, with a text that stands for dark and one that stands for light.
+// Returns the lines of `grid`, with `dark` or `light` for each pixel.
 fn lines_of(alloc: Global, grid: &Grid, dark: &str, light: &str) -> QrResult<String>
     requires across { 0 < (pixels_of grid.now).across }
     requires down { 0 < (pixels_of grid.now).down }
@@ -172,6 +174,6 @@ fn lines_of(alloc: Global, grid: &Grid, dark: &str, light: &str) -> QrResult<Str
     push_rows(&mut raw, grid, dark.as_bytes(), light.as_bytes(), b"\n")?;
     raw.pop();
 
-    // Lines of texts are a text.
+    // Lines of UTF-8 texts are UTF-8.
     Ok(unsafe { String::from_utf8_unchecked(raw) })
 }

@@ -1,4 +1,5 @@
-//! Vector formats: a text for each dark rectangle, between a head and a tail.
+//! The canvas of vector formats that have a text for each dark rectangle, between a head and a
+//! tail.
 
 ghost use Rattle.std.specs.Prelude.{◌≡◌, ℕ, ◌+◌, ◌*◌, ◌^◌, ◌<◌, ◌≤◌, List, ◌++◌, string_bytes, IfOk, OnOk, IsOkUnless};
 ghost use Rattle.qrcode_types.specs.declared.types.QrError.TheVariants.{OutOfMemory};
@@ -12,45 +13,49 @@ use qrcode_types::types::QrResult;
 use std::alloc::Global;
 use std::marker::PhantomData;
 
-/// The texts of a vector format, of which pixels say the colours.
+/// The texts of a vector format. Pixels `P` are its colours.
 pub trait Strokes<P>: Drop {
-    // What stands before the first rectangle, from the pixels across and down and the dark and the
-    // light pixel, and what stands behind the last.
+    // The text before the first rectangle, from the width, the height, the dark and the light
+    // pixel; `end` is the text after the last one.
     ghost start: { ℕ → ℕ → P → P → List ℕ };
 
     ghost end: { List ℕ };
 
-    // A rectangle behind a text.
+    // A text followed by a rectangle, from its first column, its first row, its width and its
+    // height.
     ghost rect: { ℕ → ℕ → ℕ → ℕ → List ℕ → List ℕ };
 
-    // What its column determines of it, and what its row and its sides do.
+    // The two parts of a rectangle's text that depend on its column; `row_texts` are the two that
+    // depend on its row and its sides.
     ghost column_texts: { ℕ → List ℕ × List ℕ };
 
     ghost row_texts: { ℕ → ℕ → ℕ → List ℕ × List ℕ };
 
-    /// What stands before the first rectangle. Refuses with `OutOfMemory` alone.
+    /// Returns the text before the first rectangle of a picture of `width` by `height` pixels.
+    ///
+    /// Errors: only `OutOfMemory`.
     fn head(alloc: Global, width: u32, height: u32, dark: P, light: P) -> QrResult<String>
         ensures value { IfOk result (λ text. string_bytes text ≡ start width height dark light) }
         ensures memory { IsOkUnless result OutOfMemory };
 
-    /// What stands behind the last rectangle.
+    /// Returns the text after the last rectangle.
     fn tail() -> &'static str
         ensures { result.now ≡ end };
 
-    /// What a column determines of a rectangle.
+    /// Returns the parts of a rectangle's text that depend on its first column, `left`.
     fn column(left: u32) -> Piece
         ensures { result ≡ column_texts left };
 
-    /// What a row and the sides determine of a rectangle.
+    /// Returns the parts of a rectangle's text that depend on its first row, `top`, and its sides.
     fn row(top: u32, width: u32, height: u32) -> Piece
         ensures { result ≡ row_texts top width height };
 
-    // A rectangle is put together of these.
+    // The text of a rectangle is put together of these parts.
     ghost rect_is: { (left top width height : ℕ) (text : List ℕ) → rect left top width height text
         ≡ text ++ rect_text (column_texts left) (row_texts top width height) };
 }
 
-/// The text of a vector format while it is drawn.
+/// The canvas of a vector format: its text so far.
 #[derive(Drop)]
 pub struct Plot<P, S> {
     width: u32,
@@ -122,7 +127,9 @@ impl<P: Copy, S: Strokes<P>> Canvas for Plot<P, S> {
     }
 }
 
-/// Appends the rectangles of the dark modules, row by row. Refuses with `OutOfMemory` alone.
+/// Appends the rectangles of the dark modules, row by row.
+///
+/// Errors: only `OutOfMemory`.
 pub fn push_modules<P, S: Strokes<P>>(
     alloc: Global,
     text: &mut Script,
@@ -142,7 +149,7 @@ pub fn push_modules<P, S: Strokes<P>>(
     Ok(())
 }
 
-// What the columns of modules of so many pixels determine, from a first pixel on.
+// Returns the column parts of `count` modules of `width` pixels each, from column `left` on.
 fn columns<P, S: Strokes<P>>(
     alloc: Global,
     left: u32,

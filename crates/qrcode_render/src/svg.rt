@@ -1,4 +1,4 @@
-//! Pictures as SVG.
+//! Draws SVG with a rectangle for each dark module.
 
 ghost use Rattle.std.proofs.Common.{rules};
 ghost use Rattle.std.specs.Prelude.{◌≡◌, codes};
@@ -12,7 +12,7 @@ pub use crate::svg_path::{Frame, Path, PathElement, Size, framed};
 use qrcode_types::types::{Color as ModuleColor, QrResult};
 use std::alloc::Global;
 
-/// A colour of SVG. Its text is written as it is, with no escapes.
+/// A colour of SVG. It is written as it is, without escapes.
 #[derive(Copy, Clone, Default, PartialEq, Eq, PartialOrd, Ord, Hash)]
 pub struct Color<'a>(pub &'a str);
 
@@ -39,10 +39,10 @@ impl<'a> Pixel for Color<'a> {
     }
 }
 
-/// An SVG text while it is drawn: a path of the dark rectangles on a light ground.
+/// The canvas for SVG: a path of the dark rectangles on a light background.
 pub type Canvas<'a> = Plot<Color<'a>, Paths>;
 
-/// The texts of SVG.
+/// The texts of the SVG format.
 #[derive(Copy, Clone)]
 pub struct Paths;
 

@@ -1,4 +1,4 @@
-//! Pictures as SVG of one path, which is drawn by the runs of dark modules of the rows.
+//! Draws SVG with one path, whose subpaths are the runs of dark modules in each row.
 
 ghost use Rattle.std.proofs.Common.{rules};
 ghost use Rattle.std.specs.Prelude.{◌≡◌, ◌*◌, ◌++◌, [], encode_utf8, codes, string_bytes, IfOk, OnOk, IsOkUnless, IsTrue};
@@ -17,13 +17,12 @@ use qrcode_types::types::{Color as ModuleColor, QrResult};
 use std::alloc::Global;
 use std::fmt::Write;
 
-/// A colour of an SVG file of one path. Quotation marks, `<`, `>` and `&` in it are
-/// escaped.
+/// A colour of an SVG file with one path. Quotation marks, `<`, `>` and `&` in it are escaped.
 #[derive(Copy, Clone, Default, PartialEq, Eq, PartialOrd, Ord, Hash)]
 pub struct Path<'a>(pub &'a str);
 
-/// A colour of an SVG element of one path, with no XML head, to stand in a page of HTML. Quotation
-/// marks, `<`, `>` and `&` in it are escaped.
+/// A colour of an SVG element with one path, without the XML declaration, for use in an HTML page.
+/// Quotation marks, `<`, `>` and `&` in it are escaped.
 #[derive(Copy, Clone, Default, PartialEq, Eq, PartialOrd, Ord, Hash)]
 pub struct PathElement<'a>(pub &'a str);
 
@@ -73,11 +72,11 @@ impl<'a> Pixel for PathElement<'a> {
     }
 }
 
-/// Ends rows of pixels as a path in a file of its own.
+/// Turns rows of pixels into an SVG file with one path.
 #[derive(Copy, Clone)]
 pub struct WithHead;
 
-/// Ends rows of pixels as a path in an element.
+/// Turns rows of pixels into an SVG element with one path, without the XML declaration.
 #[derive(Copy, Clone)]
 pub struct WithoutHead;
 
@@ -109,35 +108,35 @@ impl<'a> Finish<PathElement<'a>> for WithoutHead {
     }
 }
 
-/// How large an element is.
+/// The width and height of an SVG element.
 #[derive(Copy, Clone)]
 pub enum Size {
-    /// As many pixels of the page as the picture has.
+    /// As many CSS pixels as the picture has pixels.
     Pixels,
-    /// It does not say: it is as large as what it stands in holds, and keeps its shape.
+    /// None: the element fills what contains it, and keeps its shape.
     Free,
-    /// In millimetres, where so many pixels, at least 1, are an inch.
+    /// In millimetres, with this many pixels to an inch. 0 counts as 1.
     Dots(u32),
 }
 
-/// What stands at an SVG element besides its picture. Texts that are empty are left out; in others
-/// quotation marks, `<`, `>` and `&` are escaped.
+/// The attributes and texts of an SVG element. Empty texts are left out; in others quotation marks,
+/// `<`, `>` and `&` are escaped.
 #[derive(Clone, Copy)]
 pub struct Frame<'a> {
-    /// Its name in the page.
+    /// The `id` attribute.
     pub id: &'a str,
-    /// The classes that rules of style name.
+    /// The `class` attribute.
     pub class: &'a str,
-    /// What it is called, for screen readers and as a pointer rests on it.
+    /// The `<title>`, which screen readers read out and browsers show as a tooltip.
     pub title: &'a str,
-    /// What it shows, for screen readers.
+    /// The `<desc>`: what the picture shows, for screen readers.
     pub description: &'a str,
-    /// How large it is.
+    /// The width and height of the element.
     pub size: Size,
 }
 
 impl<'a> Frame<'a> {
-    /// No texts, and a pixel of the page for each pixel.
+    /// Returns a frame without texts, in which a pixel of the picture is a CSS pixel.
     pub fn plain() -> Frame<'a>
         ensures { frame_of result ≡ plain }
     {
@@ -151,9 +150,10 @@ impl<'a> Frame<'a> {
     }
 }
 
-/// The text that `build` makes of a renderer, but in a frame. A module is a unit of its box.
+/// Draws the picture as `build` does, but with the texts and the size of `frame`. A module is one
+/// unit of the `viewBox`.
 ///
-/// `OutOfMemory`: memory ran out.
+/// Errors: only `OutOfMemory`.
 pub fn framed(alloc: Global, renderer: &Renderer<Path<'_>>, frame: &Frame<'_>) -> QrResult<String>
     requires fits { IsTrue (fits renderer.now) }
     ensures shows { IfOk result (λ text. IsPathIn (side_of renderer.now) (side_of renderer.now)
@@ -167,7 +167,7 @@ pub fn framed(alloc: Global, renderer: &Renderer<Path<'_>>, frame: &Frame<'_>) -
     Ok(whole)
 }
 
-// A text and the picture behind it.
+// Returns `text` followed by the element.
 fn with_element(
     text: String,
     frame: &Frame<'_>,
@@ -196,7 +196,7 @@ fn with_element(
     Ok(script.into_string())
 }
 
-// Appends the head of the element, and what is said of it.
+// Appends the start tag, the title and the description.
 fn push_frame(text: &mut String, frame: &Frame<'_>, grid: &Grid) -> QrResult<()>
     ensures appends { OnOk result (string_bytes text.new ≡ string_bytes text.old
         ++ frame_text (frame_of frame.now) (all_columns grid.now * grid.now.across)
@@ -215,7 +215,7 @@ fn push_frame(text: &mut String, frame: &Frame<'_>, grid: &Grid) -> QrResult<()>
     Ok(())
 }
 
-// Appends a text between two others, where there is one.
+// Appends `value`, escaped, between `before` and `after`, or nothing if it is empty.
 fn push_between(text: &mut String, before: &str, value: &str, after: &str) -> QrResult<()>
     ensures appends { OnOk result (string_bytes text.new
         ≡ string_bytes text.old ++ between before.now value.now after.now) }
@@ -230,7 +230,7 @@ fn push_between(text: &mut String, before: &str, value: &str, after: &str) -> Qr
     Ok(())
 }
 
-// Appends how large the element is, if it says so.
+// Appends the attributes of width and height, unless the size is `Free`.
 fn push_size(text: &mut String, size: Size, width: u32, height: u32) -> QrResult<()>
     ensures appends { OnOk result (string_bytes text.new
         ≡ string_bytes text.old ++ size_text size width height) }
@@ -247,7 +247,7 @@ fn push_size(text: &mut String, size: Size, width: u32, height: u32) -> QrResult
     Ok(())
 }
 
-// Appends a side of so many pixels.
+// Appends the length of a side of `pixels` pixels.
 fn push_side(text: &mut String, size: Size, pixels: u32) -> QrResult<()>
     ensures appends { OnOk result (string_bytes text.new
         ≡ string_bytes text.old ++ side_text size pixels) }
@@ -264,8 +264,8 @@ fn push_side(text: &mut String, size: Size, pixels: u32) -> QrResult<()>
     Ok(())
 }
 
-// Appends the box of the element in cells. It fills the sides that the element says, and without
-// them keeps its shape.
+// Appends the `viewBox`, in cells. The picture is stretched to the element's width and height, or
+// keeps its shape if these are not set.
 fn push_box(text: &mut String, size: Size, columns: usize, rows: usize) -> QrResult<()>
     ensures appends { OnOk result (string_bytes text.new
         ≡ string_bytes text.old ++ box_text size columns rows) }
@@ -276,7 +276,7 @@ fn push_box(text: &mut String, size: Size, columns: usize, rows: usize) -> QrRes
     Ok(())
 }
 
-// What follows the numbers of the box.
+// Returns what follows the numbers of the `viewBox`.
 fn box_end(size: Size) -> &'static str
     ensures { result.now ≡ box_end size }
 {
@@ -286,7 +286,7 @@ fn box_end(size: Size) -> &'static str
     }
 }
 
-// Appends the light ground, up to its colour.
+// Appends the light background, up to its colour.
 fn push_ground(text: &mut String, columns: usize, rows: usize) -> QrResult<()>
     ensures appends { OnOk result (string_bytes text.new
         ≡ string_bytes text.old ++ path_ground columns rows) }
@@ -296,7 +296,7 @@ fn push_ground(text: &mut String, columns: usize, rows: usize) -> QrResult<()>
     Ok(())
 }
 
-// Appends a character of the value of an attribute.
+// Appends a character of an attribute's value, escaped.
 fn push_character(text: &mut String, character: char) -> QrResult<()>
     ensures appends { OnOk result (string_bytes text.new
         ≡ string_bytes text.old ++ attribute (encode_utf8 character)) }
@@ -316,7 +316,7 @@ fn push_character(text: &mut String, character: char) -> QrResult<()>
     Ok(())
 }
 
-// Appends a text as the value of an attribute.
+// Appends an attribute's value, escaped.
 fn push_attribute(text: &mut String, value: &str) -> QrResult<()>
     ensures appends { OnOk result
         (string_bytes text.new ≡ string_bytes text.old ++ attribute value.now) }

@@ -1,4 +1,4 @@
-//! Pictures for label printers that speak TSPL: a bitmap of 0 for black, on a label of its size.
+//! Draws labels for TSPL printers: a bitmap, in which 0 is black, on a label of its size.
 
 ghost use Rattle.std.specs.Prelude.{◌≡◌, IfOk, IsOkUnless, IsTrue, map};
 ghost use Rattle.qrcode_types.specs.declared.types.QrError.TheVariants.{OutOfMemory};
@@ -10,10 +10,10 @@ use crate::packed::{self, Packing, packed_behind};
 use qrcode_types::types::QrResult;
 use std::alloc::Global;
 
-/// A dot of a label printer, which prints black ones.
+/// A dot of a label printer. Black dots are printed.
 pub type Dot = packed::Dot<Bitmap>;
 
-/// The commands of TSPL.
+/// The TSPL format.
 #[derive(Copy, Clone)]
 pub struct Bitmap;
 
@@ -44,10 +44,10 @@ impl Packing for Bitmap {
     }
 }
 
-/// The label that `build` makes of a renderer, but with the picture so many dots from the left and
-/// from the top.
+/// Draws the label as `build` does, but with the picture `place.0` dots from the left and `place.1`
+/// dots from the top. The label ends with the picture.
 ///
-/// `OutOfMemory`: memory ran out.
+/// Errors: only `OutOfMemory`.
 pub fn at_place(alloc: Global, renderer: &Renderer<Dot>, place: (u32, u32)) -> QrResult<Vec<u8>>
     requires fits { IsTrue (fits renderer.now) }
     ensures value { IfOk result (λ file. file.items ≡ tspl_file_at place renderer.now.dark.is_black
@@ -62,7 +62,7 @@ pub fn at_place(alloc: Global, renderer: &Renderer<Dot>, place: (u32, u32)) -> Q
     Ok(label)
 }
 
-// What stands before the rows of a picture of so many pixels across and down at a place.
+// Returns the commands before the rows of a picture of `width` by `height` pixels at `place`.
 fn head_at(alloc: Global, place: (u32, u32), width: u32, height: u32) -> QrResult<Vec<u8>>
     ensures value { IfOk result (λ head. head.items ≡ tspl_head_at place width height) }
     ensures memory { IsOkUnless result OutOfMemory }

@@ -1,4 +1,4 @@
-//! Pictures as texts of half blocks: two rows of pixels in a line.
+//! Draws text of half blocks: two rows of pixels in a line.
 
 ghost use Rattle.std.proofs.Common.{rules};
 ghost use Rattle.std.specs.Prelude.{◌≡◌, ◌+◌, ◌*◌, ◌^◌, ◌<◌, ◌≤◌, Bool, [], ◌∷◌, ◌++◌, length, string_bytes, IfOk, OnOk, IsOkUnless};
@@ -21,9 +21,9 @@ use std::alloc::Global;
 /// A pixel that is half a character high.
 #[derive(Copy, Clone, PartialEq)]
 pub enum Dense1x2 {
-    /// A half that is drawn.
+    /// A half in the colour of the text.
     Dark,
-    /// A half that is left out.
+    /// A blank half, in the colour of the background.
     Light,
 }
 
@@ -61,12 +61,12 @@ impl Pixel for Dense1x2 {
     }
 }
 
-/// Rows of pixels while they are drawn. The picture is a line of text for every two rows, with a
-/// newline between two lines and none at the end. Below a last row alone nothing is drawn: its
-/// lower halves stay blank, whatever light pixels look like.
+/// The canvas for half blocks. The picture has a line for every two rows, with newlines between
+/// lines and none at the end. If the last row has no partner, the lower halves of its line are
+/// blank, whatever the light pixel is.
 pub type Canvas1x2 = Page<Dense1x2, HalfBlocks>;
 
-/// Ends rows of pixels as half blocks.
+/// Turns rows of pixels into half blocks.
 #[derive(Copy, Clone)]
 pub struct HalfBlocks;
 
@@ -90,10 +90,10 @@ impl Finish<Dense1x2> for HalfBlocks {
     }
 }
 
-// The most bytes of the character of a column.
+// The most bytes of a half block character.
 const LONGEST_HALF: usize = 3;
 
-// The character of a column of two pixels, of which each is dark or not.
+// Returns the character whose upper and lower half are drawn if `upper` and `lower` are true.
 fn half(upper: bool, lower: bool) -> &'static str
     ensures value { result.now ≡ half_blocks upper lower }
     ensures at_most { length result.now ≤ 3 }
@@ -106,7 +106,8 @@ fn half(upper: bool, lower: bool) -> &'static str
     }
 }
 
-// The characters of columns, where marked pixels are drawn dark or not and others dark or not.
+// The characters of two pixels, one above the other. Dark pixels are drawn if `marked` is true,
+// light ones if `other` is.
 #[derive(Drop)]
 struct Halves {
     marked: bool,
@@ -136,7 +137,8 @@ impl Halves {
     }
 }
 
-// Room for the marks of a row of cells, of two rows of pixels and of both, and the line of these.
+// Scratch space: flags of a row of cells, of two rows of pixels, and of both in turn; and their
+// line.
 #[derive(Drop)]
 struct Strip {
     cells: Vec<bool>,
@@ -162,7 +164,7 @@ impl Strip {
         })
     }
 
-    // Writes the line of two rows, or of a last row alone, and a newline.
+    // Writes line `i`, of rows 2i and 2i + 1 or of a last row alone, and a newline.
     fn write(&mut self, grid: &Grid, halves: &Halves, i: u32) -> QrResult<()>
         requires fits { IsStripOf grid.now self.old }
         requires inside { 2 * i < (pixels_of grid.now).down }
@@ -193,7 +195,7 @@ impl Strip {
     }
 }
 
-// The lines of cells, where marked pixels are drawn dark or not and others dark or not.
+// Returns the lines of `grid`. Dark pixels are drawn if `marked` is true, light ones if `other` is.
 fn lines_of(alloc: Global, grid: &Grid, marked: bool, other: bool) -> QrResult<String>
     requires across { 0 < (pixels_of grid.now).across }
     requires down { 0 < (pixels_of grid.now).down }
@@ -213,6 +215,6 @@ fn lines_of(alloc: Global, grid: &Grid, marked: bool, other: bool) -> QrResult<S
     }
     lines.pop();
 
-    // Lines of half blocks are a text.
+    // Half blocks, spaces and newlines are UTF-8.
     Ok(unsafe { String::from_utf8_unchecked(lines) })
 }

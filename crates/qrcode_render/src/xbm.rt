@@ -1,4 +1,4 @@
-//! Pictures as XBM files: black and white pixels as a text in C.
+//! Draws XBM files: black and white pixels as C source code.
 
 ghost use Rattle.std.specs.Prelude.{◌≡◌, ◌++◌, codes, flat_map, IfOk, OnOk, IsOkUnless};
 ghost use Rattle.qrcode_types.specs.declared.types.QrError.TheVariants.{OutOfMemory};
@@ -12,7 +12,7 @@ use std::alloc::Global;
 /// A pixel of an XBM file.
 pub type Dot = packed::Dot<Text>;
 
-/// The text of XBM.
+/// The XBM format.
 #[derive(Copy, Clone)]
 pub struct Text;
 
@@ -45,7 +45,7 @@ impl Packing for Text {
     }
 }
 
-// A byte whose bits stand the other way round.
+// Returns the byte with its bits in reverse order.
 fn turned(b: u8) -> u8
     ensures { result ≡ turned b }
 {
@@ -59,7 +59,7 @@ fn turned(b: u8) -> u8
         + b / 128
 }
 
-// Appends a number in C, and a comma.
+// Appends a hexadecimal number in C syntax, and a comma.
 fn push_number(text: &mut Vec<u8>, byte: u8) -> QrResult<()>
     ensures appends { OnOk result (text.new.items
         ≡ text.old.items ++ (codes "0x" ++ hex_pair byte ++ codes ",")) }

@@ -4,7 +4,7 @@ use Rattle.qrcode_render.specs.Eps.{eps_boxes}
 use Rattle.qrcode_render.specs.Paths.{thousandths}
 use Rattle.qrcode_render.proofs.eps.sized_boxes.Goals as goal
 
--- The pieces of the text, one behind the other.
+-- The pieces of the text in a row.
 pub returns-clause-value : goal.returns-clause-value
 unfolding eps_boxes
 returns-clause-value c =

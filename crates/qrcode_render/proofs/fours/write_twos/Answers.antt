@@ -5,7 +5,7 @@ use Rattle.qrcode_render.proofs.LineTexts.{flat_range_more}
 use Rattle.qrcode_render.proofs.Palettes.{twos_more}
 use Rattle.qrcode_render.proofs.fours.write_twos.Goals as goal
 
--- The texts of two pairs behind those before them.
+-- The texts so far, followed by those of the next two pairs.
 pub loop-i-preserved : goal.loop-i-preserved
 loop-i-preserved c =
     let old = take c.args.at c.args.bytes.now in

@@ -2,7 +2,7 @@ use Rattle.std.proofs.Common.{◌≡◌, ◌<◌, ◌^◌, length, ap, ap₂, �
 use Rattle.qrcode_render.specs.Pdf.{body, catalog, closed, pages, with_object}
 use Rattle.qrcode_render.proofs.pdf.document.Goals as goal
 
--- the objects, one behind the other
+-- the objects in a row
 objects : (c : goal.After-drop-page-2) → c.push-5.new.self ≡ body c.args.sheet.now c.args.drawn.now c.args.title.now
 objects c =
     c.in_ok-push-5.ensures.appends

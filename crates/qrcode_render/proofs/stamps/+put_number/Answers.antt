@@ -4,7 +4,7 @@ use Rattle.std.proofs.lemmas.List.{take_more_set}
 use Rattle.qrcode_render.proofs.stamps.+put_number.Goals as goal
 use Rattle.qrcode_render.proofs.stamps.+put_number.Goals.{then-n-lt10, else-n-lt10}
 
--- the digits of a number of two digits or more, by those of its tenth
+-- the digits of a number of two digits or more, from those of its tenth
 length_step : (n : ℕ) → 10 ≤ n → n < 2 ^ 32 → length (decimal n) ≡ length (decimal (n / 10)) + 1
 length_step n h fits = omega (arith, ap length (decimal_step n h (omega arith)), length-append (decimal (n / 10)) ((48 + n % 10) ∷ []))
 

@@ -40,7 +40,7 @@ put_rects-requires-clause-columns g c =
     let columns = ap length c.in_ok-columns.ensures.value ∙ length-map-range_with_len (λ k. g.S.Strokes.column_texts (m.zone * m.width + k * m.width)) 0 m.count in
     omega (arith, ap length c.deref.ensures.value, columns, ap (λ (s : Square). s.count) c.modules.view_is, ap length c.row.ensures, length-take (i + q.count - i) (drop i q.content))
 
--- The rectangles of a row behind those of the rows above it.
+-- The rectangles of the rows above, followed by those of a row.
 pub loop-row-preserved : goal.loop-row-preserved
 loop-row-preserved g c =
     let m = c.args.modules.now in

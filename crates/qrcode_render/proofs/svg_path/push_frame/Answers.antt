@@ -4,7 +4,7 @@ use Rattle.qrcode_render.specs.Grid.{all_columns, all_rows}
 use Rattle.qrcode_render.specs.Paths.{between, box_text, size_text}
 use Rattle.qrcode_render.proofs.svg_path.push_frame.Goals as goal
 
--- seven texts, one behind another
+-- seven texts in a row
 nested : (t a b c d e f g : List ℕ) → ((((((t ++ a) ++ b) ++ c) ++ d) ++ e) ++ f) ++ g ≡ t ++ (a ++ (b ++ (c ++ (d ++ (e ++ (f ++ g))))))
 nested t a b c d e f g = simp append_assoc
 

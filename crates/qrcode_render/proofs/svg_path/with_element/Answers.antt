@@ -6,7 +6,7 @@ use Rattle.qrcode_render.specs.Paths.{frame_of, frame_text, path_ground, path_te
 use Rattle.qrcode_render.proofs.FilledRuns.{runs_fill}
 use Rattle.qrcode_render.proofs.svg_path.with_element.Goals as goal
 
--- nine texts, one behind another
+-- nine texts in a row
 nested : (t a b c d e f g h : List ℕ) → (((((((t ++ a) ++ b) ++ c) ++ d) ++ e) ++ f) ++ g) ++ h ≡ t ++ (a ++ (b ++ (c ++ (d ++ (e ++ (f ++ (g ++ h)))))))
 nested t a b c d e f g h = simp append_assoc
 

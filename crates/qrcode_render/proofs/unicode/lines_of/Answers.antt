@@ -9,7 +9,7 @@ use Rattle.qrcode_render.proofs.PixelRows.{dense_line-IsUtf8}
 use Rattle.qrcode_render.proofs.TextLines.{lines-IsUtf8, without_end}
 use Rattle.qrcode_render.proofs.unicode.lines_of.Goals as goal
 
--- A line behind those before it.
+-- The lines so far, followed by the next one.
 pub loop-i-preserved : goal.loop-i-preserved
 loop-i-preserved c =
     let b = pixels_of c.args.grid.now in

@@ -5,7 +5,7 @@ use Rattle.std.proofs.Math.Seq.{take-append-add}
 use lib.Lanes.{chunk}
 use Rattle.qrcode_render.proofs.stamps.Stamp.write.Goals as goal
 
--- the first bytes of what was written behind others
+-- the first bytes of what was written after others
 first_of : (bytes others start : List ℕ) (at n k : ℕ) → at ≤ length others → n ≤ k → take (at + k) bytes ≡ take at others ++ take k start → take (at + n) bytes ≡ take at others ++ take n start
 first_of bytes others start at n k inside short is =
     let front = take at others in
