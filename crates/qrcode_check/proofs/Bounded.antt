@@ -1,4 +1,4 @@
--- How many parts and bytes some bits have at most.
+-- How many parts and bytes some bits can have at most.
 use Rattle.std.proofs.Common.{ℕ, ◌+◌, ◌*◌, ◌≤◌, List, [], ◌∷◌, Bool, length, ap, arith, length-append}
 use Rattle.std.specs.List.{AllByRecursion}
 use Rattle.qrcode_types.specs.Modes.{data_bits_count}
@@ -20,7 +20,7 @@ data_long Alphanumeric n = omega arith
 data_long Byte n = omega arith
 data_long Kanji n = omega arith
 
--- the bytes of a part, and three for each bit of the rest
+-- a part has at most three bytes for each bit that it takes
 part_short : (v : Version) (p : Part) (bits : List Bool) (chunk : List ℕ) (rest : List Bool) → BeginsWithPart v p bits chunk rest → length chunk + 3 * length rest ≤ 3 * length bits
 part_short v (Front h) bits chunk rest s = omega (arith, part_shortens v (Front h) bits chunk rest s, ap length s.1)
 part_short v (Bytes m n) bits chunk rest s =

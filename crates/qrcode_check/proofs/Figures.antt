@@ -12,7 +12,7 @@ use Rattle.qrcode_layout.specs.Figures.{centres}
 use Rattle.qrcode_layout.specs.declared.figures.Figure.{Figure}
 use Rattle.qrcode_layout.proofs.Versions.{all_normal, all_micro, each_version}
 
--- no version has more than seven coordinates of centres
+-- no version has more than seven coordinates of alignment centres
 few : Version → Bool
 few v = nat_le (length (centres v)) 7
 

@@ -28,7 +28,7 @@ copy_at c v s = bits_at v s (map (copy_place c v) (range_with_len 0 15))
 long : (c : FormatCopy) (v : Version) (s : List Color) (bits : List Bool) → bits ≡ copy_at c v s → length bits ≡ 15
 long c v s bits e = ap length e ∙ length-map (map (copy_place c v) (range_with_len 0 15)) (λ (p : ℕ × ℕ). is_dark (color_at v s p.0 p.1)) ∙ length-map-range_with_len (copy_place c v) 0 15
 
--- how many differ from a word
+-- in how many bits a copy differs from a word
 pub copy_is : (c : FormatCopy) (v : Version) (s : List Color) (bits : List Bool) (w word d : ℕ) → bits ≡ copy_at c v s → w ≡ word → d ≡ bit_distance bits (number_bits (length bits) w)
     → d ≡ bit_distance (copy_at c v s) (number_bits 15 word)
 copy_is c v s bits w word d e f h =
@@ -37,7 +37,7 @@ copy_is c v s bits w word d e f h =
 pub copy_most : (c : FormatCopy) (v : Version) (s : List Color) (bits : List Bool) (w d : ℕ) → bits ≡ copy_at c v s → d ≡ bit_distance bits (number_bits (length bits) w) → d ≤ 15
 copy_most c v s bits w d e h = omega (arith, h, long c v s bits e, distance_most bits (number_bits (length bits) w))
 
--- those of all copies
+-- the wrong bits of all copies
 pub micro_format : (v : Version) (l : EcLevel) (k : MaskPattern) (s : List Color) (d : ℕ) → is_micro v ≡ true → d ≡ bit_distance (copy_at First v s) (number_bits 15 (format_word v l k)) → d ≡ wrong_format v l k s
 unfolding format_copies
 micro_format (Normal n) l k s d micro e = absurd (cc)

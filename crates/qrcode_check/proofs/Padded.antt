@@ -18,7 +18,7 @@ byte_more bits i count d inside long c e =
     ∙ sym (distance_append (take (8 * i) bits) (padding_bytes i) (take 8 (drop (8 * i) bits)) byte (length-take-le (8 * i) bits (omega arith) ∙ sym long))
     ∙ sym (ap₂ bit_distance (ap (λ (n : ℕ). take n bits) next ∙ take-add (8 * i) 8 bits) (padding_bytes-more i))
 
--- and the bits behind the last one
+-- and the bits after the last whole byte
 pub all_bytes : (bits : List Bool) (i count d : ℕ) → i ≡ length bits / 8 → length (padding_bytes i) ≡ 8 * i → count ≡ bit_distance (take (8 * i) bits) (padding_bytes i)
     → d ≡ bit_distance (drop (8 * i) bits) (number_bits (length (drop (8 * i) bits)) 0) → count + d ≡ bit_distance bits (padding (length bits))
 unfolding padding

@@ -22,7 +22,7 @@ digit_lt : (b : Bool) → digit b < 2 ^ 1
 digit_lt true = omega arith
 digit_lt false = omega arith
 
--- one module more in front
+-- one more module in front
 pub packed_back : (cs : List Color) (i row bit new : ℕ) → 1 ≤ i → i ≤ length cs → row ≡ packed is_dark (drop i cs) → bit ≡ digit (is_dark (get_or cs (i - 1) Light))
     → new ≡ bit_or (row * 2 ^ 1) bit → new ≡ packed is_dark (drop (i - 1) cs)
 packed_back cs i row bit new some inside r b n =
@@ -34,14 +34,14 @@ packed_back cs i row bit new some inside r b n =
     let double : row * 2 ^ 1 + bit ≡ 2 * packed is_dark (drop i cs) + digit (is_dark (get_or cs place Light)) = omega (arith, r, b) in
     whole ∙ double ∙ sym (ap (packed is_dark) more)
 
--- a row with room for one bit more can move up
+-- a row with room for one more bit can be shifted
 pub can_move : (cs : List Color) (i row room : ℕ) → 1 ≤ i → i ≤ length cs → length cs < room → row ≡ packed is_dark (drop i cs) → row * 2 ^ 1 < 2 ^ room
 can_move cs i row room some inside few r =
     let short : packed is_dark (drop i cs) < 2 ^ (room - 1) = packed_lt is_dark (drop i cs) (room - 1) (omega (arith, length-drop i cs)) in
     let e : room ≡ suc (room - 1) = omega arith in
     subst (λ (n : ℕ). row * 2 ^ 1 < 2 ^ n) (sym e) (omega (arith, short, r))
 
--- rows that are packed show which modules are dark
+-- packed rows show which modules are dark
 module _ (s : List Color) (w : ℕ) (square : length s ≡ w * w) (rows : List ℕ)
     (are : (y : ℕ) → y < w → slice_index_or rows y 0 ≡ packed is_dark (take w (drop (y * w) s))) where
   long_row : (x y : ℕ) → x < w → y < w → x < length (take w (drop (y * w) s))
@@ -63,15 +63,15 @@ module _ (s : List Color) (w : ℕ) (square : length s ≡ w * w) (rows : List �
     fits = rows_fit rows w e (λ y h. subst (λ (n : ℕ). n < 2 ^ w) (sym (are y h)) (packed_lt is_dark (take w (drop (y * w) s)) w (omega (arith, length-take w (drop (y * w) s)))));
   }
 
--- one mask more
+-- one more mask
 pub masks_more : (f : MaskPattern → ℕ) (ms : List MaskPattern) (i x : ℕ) (d : MaskPattern) → i < length ms → x ≡ f (get_or ms i d) → map f (take i ms) ++ x ∷ [] ≡ map f (take (i + 1) ms)
 masks_more f ms i x d lt e = ap (λ y. map f (take i ms) ++ y ∷ []) e ∙ sym (ap (map f) (take_more ms i d lt) ∙ map-append f (take i ms) (get_or ms i d ∷ []))
 
--- which modules of colours in rows of so many are dark
+-- which modules are dark, in colours with rows of w
 abbrev pub dark_of : ℕ → List Color → ℕ → ℕ → Bool
 dark_of w s x y = is_dark (slice_index_or s (y * w + x) Light)
 
--- what rows that show them cost is their penalty
+-- the penalty counted on such rows is that of the colours
 pub normal_shown : (v : Version) (s : List Color) (w p : ℕ) (rows : List ℕ) → is_micro v ≡ false → w ≡ side v → Shows w rows (dark_of w s)
     → ((dark : ℕ → ℕ → Bool) → Shows w rows dark → p ≡ normal_penalty w (inside w dark)) → p ≡ penalty v s
 unfolding penalty
@@ -84,7 +84,7 @@ unfolding penalty
 micro_shown (Normal n) s w p rows micro e shows h = absurd (cc)
 micro_shown (Micro n) s w p rows micro e shows h = h (dark_of w s) shows ∙ ap (λ (k : ℕ). micro_penalty k (inside k (dark_of k s))) e
 
--- the balance of the penalty, and that in steps in its place
+-- the penalty with the balance replaced by the one in steps
 pub stepped_is : (v : Version) (s : List Color) (w p d b a : ℕ) → is_micro v ≡ false → w ≡ side v → p ≡ penalty v s → d ≡ dark_count (side v) (is_dark_at v s)
     → b ≡ abs_diff (200 * d / (w * w)) 100 → a ≡ abs_diff (20 * d) (10 * (w * w)) → (p - b) + 10 * (a / (w * w)) ≡ stepped_penalty v s
 unfolding balance_penalty

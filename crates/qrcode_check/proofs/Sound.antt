@@ -1,4 +1,4 @@
--- What a square that is read as bits has.
+-- What holds for a square that is read as bits.
 use Rattle.std.proofs.Common.{◌≡◌, ◌≤◌, ◌*◌, Bool, List, length, ap, subst, arith, length-take, IsTrue}
 use Rattle.qrcode_types.specs.Bits.{bits_of}
 use Rattle.qrcode_types.specs.Versions.{has_level, capacity, side}

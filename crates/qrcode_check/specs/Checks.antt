@@ -1,4 +1,4 @@
--- What a check says of a square.
+-- What a check reports of a square.
 use Rattle.std.specs.Prelude.{◌≡◌, ◌==◌, ◌&&◌, ◌||◌, nat_le, ℕ, Bool, true, false, List, drop, Option, Some, None, IfSome, IfNone}
 use Rattle.std.specs.List.{list_all}
 use Rattle.qrcode_types.specs.declared.types.Color.{Color}
@@ -18,7 +18,7 @@ use Rattle.qrcode_check.specs.declared.checking.Check.{Check}
 use Rattle.qrcode_check.specs.declared.checking.Content.{Content}
 use Rattle.qrcode_check.specs.declared.segments.Taken.{Taken}
 
--- what is said of the data bits of a version, which are headers and segments and an end
+-- what is reported of data bits of a version that are headers, segments and an end
 pub record IsContent (v : Version) (bits : List Bool) (c : Content) : Type 0 where
   pub bytes : List ℕ
   pub parts : List Part
@@ -30,11 +30,11 @@ pub record IsContent (v : Version) (bits : List Bool) (c : Content) : Type 0 whe
   pub taken : IfSome c.taken (AreTaken v bytes parts)
   pub not_taken : IfNone c.taken (NotComparable v bytes parts)
 
-abbrev pub IsContentOf : Version → List Bool → Option Content → Type 0  -- or they are none
+abbrev pub IsContentOf : Version → List Bool → Option Content → Type 0  -- the same, or None if they are not
 IsContentOf v bits None = HaveNoParts v bits
 IsContentOf v bits (Some c) = IsContent v bits c
 
-pub record IsCheck (s : List Color) (c : Check) : Type 0 where
+pub record IsCheck (s : List Color) (c : Check) : Type 0 where  -- the square is read as bits, and each field reports what its definition says
   pub bits : List Bool
   pub wrong : List WrongCodeword
   pub read : IsBitReading s c.version c.ec_level c.mask bits wrong
@@ -46,15 +46,15 @@ pub record IsCheck (s : List Color) (c : Check) : Type 0 where
   pub stepped : IsRank (penalties stepped_penalty c.version c.ec_level c.mask s) (place_of c.version c.mask) c.stepped
   pub content : IsContentOf c.version bits c.content
 
-abbrev pub is_least : Option Taken → Bool  -- the segments take the fewest bits, where that is known
+abbrev pub is_least : Option Taken → Bool  -- the segments take the fewest bits, or that is not known
 is_least None = true
 is_least (Some t) = nat_le t.bits t.least
 
-abbrev pub is_content_standard : Option Content → Bool  -- nothing of the data departs from the standard
+abbrev pub is_content_standard : Option Content → Bool  -- nothing in the data departs from the standard
 is_content_standard None = false
 is_content_standard (Some c) = is_least c.taken && (c.ending.terminator == 0 && c.ending.padding == 0)
 
--- nothing departs from the standard, headers aside; the mask has the least penalty by one balance or the other
+-- nothing departs from the standard, headers aside; the mask has the lowest penalty by one balance or the other
 abbrev pub is_standard : Check → Bool
 is_standard c =
     (list_all (λ n. n == 0) c.wrong.items && are_right c.modules)

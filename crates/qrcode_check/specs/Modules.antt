@@ -20,11 +20,11 @@ abbrev pub word_figures_of : Version → List Figure  -- the copies of the versi
 word_figures_of (Normal n) = version_figures (4 * nat_abs n + 17)
 word_figures_of (Micro n) = []
 
--- the bits of all copies of the format word that are not those of a level and mask
+-- how many bits of all copies of the format word are not those of the level and mask
 abbrev pub wrong_format : Version → EcLevel → MaskPattern → List Color → ℕ
 wrong_format v l k s = sum_by (λ places. bit_distance (bits_at v s places) (number_bits 15 (format_word v l k))) (format_copies v)
 
--- the remainder bits that are not zero
+-- how many remainder bits are not zero
 abbrev pub wrong_remainder : Version → EcLevel → MaskPattern → List Color → ℕ
 wrong_remainder v l k s = count_by (λ b. b) (drop (capacity v l + 8 * total_ec_length v l) (stream v k s))
 
@@ -37,5 +37,5 @@ pub record AreWrongModules (v : Version) (l : EcLevel) (k : MaskPattern) (s : Li
   pub version : w.version ≡ wrong_of v s (word_figures_of v)
   pub remainder : w.remainder ≡ wrong_remainder v l k s
 
-abbrev pub are_right : WrongModules → Bool  -- none is wrong
+abbrev pub are_right : WrongModules → Bool  -- no module is wrong
 are_right w = w.finder == 0 && (w.alignment == 0 && (w.timing == 0 && (w.format == 0 && (w.version == 0 && w.remainder == 0))))

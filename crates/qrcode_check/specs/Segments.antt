@@ -1,4 +1,4 @@
--- How many bits segments take, and how many the fewest are.
+-- How many bits segments take, and how few they could take.
 use Rattle.std.specs.Prelude.{◌≡◌, ◌⊎◌, ℕ, Bool, true, false, List, [], ◌∷◌, sum_by, if◌then◌else◌}
 use Rattle.std.specs.List.{list_any, list_all}
 use Rattle.qrcode_types.specs.Characters.{character_count}
@@ -15,11 +15,11 @@ use Rattle.qrcode_reader.specs.declared.spell.parts.Part.{Part}
 use Rattle.qrcode_reader.specs.declared.spell.parts.Part.TheVariants.{Front, Bytes}
 use Rattle.qrcode_check.specs.declared.segments.Taken.{Taken}
 
-abbrev pub part_bits : Version → Part → ℕ  -- the bits that a segment takes; a header is not counted
+abbrev pub part_bits : Version → Part → ℕ  -- the bits of a segment; 0 for a header
 part_bits v (Front h) = 0
 part_bits v (Bytes m n) = cost_of v m (character_count m n)
 
-abbrev pub taken : Version → List Part → ℕ  -- the bits that all segments take
+abbrev pub taken : Version → List Part → ℕ  -- the bits of all segments
 taken v parts = sum_by (part_bits v) parts
 
 abbrev pub is_kanji : Mode → Bool  -- the mode Kanji
@@ -32,15 +32,15 @@ abbrev pub is_kanji_part : Part → Bool  -- a Kanji segment
 is_kanji_part (Front h) = false
 is_kanji_part (Bytes m n) = is_kanji m
 
--- the modes that count: where no segment is in Kanji, data is taken for a text, which Kanji does not write
+-- the modes for a shortest division: if no segment is Kanji, the data is taken for a text, for which Kanji is not used
 abbrev pub modes_of : List Part → Modes
 modes_of parts = if list_any is_kanji_part parts then all_modes else text_modes
 
-abbrev pub is_segment : Part → Bool  -- a segment
+abbrev pub is_segment : Part → Bool  -- a segment, not a header
 is_segment (Front h) = false
 is_segment (Bytes m n) = true
 
--- a header behind which a percent sign is one in each mode
+-- a header after which a percent sign means the same in each mode
 abbrev pub is_plain_header : Part → Bool
 is_plain_header (Front (Eci n)) = true
 is_plain_header (Front Fnc1First) = false
@@ -48,21 +48,21 @@ is_plain_header (Front (Fnc1Second n)) = false
 is_plain_header (Front (StructuredAppend place last parity)) = true
 is_plain_header (Bytes m n) = false
 
--- the segments stand together behind such headers
+-- such headers, and then only segments
 abbrev pub are_comparable : List Part → Bool
 are_comparable [] = true
 are_comparable (p ∷ parts) = if is_plain_header p then are_comparable parts else list_all is_segment (p ∷ parts)
 
--- the bits of a least cut with modes of a set
+-- the bits of a shortest division into segments, with modes of a set
 abbrev pub IsLeastLengthIn : Modes → Version → List ℕ → ℕ → Type 0
 IsLeastLengthIn set v bytes n = (segments : List Segment) × (IsLeastCutIn set v bytes segments × (n ≡ total_cost v segments))
 
--- the bits that segments take which stand so, and those of a least cut of their bytes
+-- the bits of the segments, if only such headers come before them, and those of a shortest division of their bytes
 pub record AreTaken (v : Version) (bytes : List ℕ) (parts : List Part) (t : Taken) : Type 0 where
   pub comparable : are_comparable parts ≡ true
   pub bits : t.bits ≡ taken v parts
   pub least : IsLeastLengthIn (modes_of parts) v bytes t.least
 
--- or nothing is said: there are other headers, or none of these modes can write all bytes
+-- nothing is reported: there are other headers, or the bytes cannot be divided into segments of these modes
 abbrev pub NotComparable : Version → List ℕ → List Part → Type 0
 NotComparable v bytes parts = (are_comparable parts ≡ false) ⊎ ((segments : List Segment) → ¬ IsCutIn (modes_of parts) v bytes segments)

@@ -1,4 +1,4 @@
-//! All that is said of a square.
+//! Checks a whole square of modules.
 
 ghost use Rattle.std.specs.Prelude.{◌≡◌, ◌==◌, ◌≤◌, ◌*◌, ℕ, length, IfOk, IfErr, IsTrue};
 ghost use Rattle.std.specs.List.{list_all};
@@ -21,54 +21,55 @@ use qrcode_reader::{Position, Unread, read_bits, seen, version_of};
 use qrcode_types::types::{Color, EcLevel, Version};
 use std::alloc::{AllocError, Global};
 
-/// What is said of headers and segments.
+/// What a check reports of headers and segments.
 #[derive(Debug, PartialEq, Eq, Copy, Clone)]
 pub struct Content {
-    /// The bits of the segments, and those of a least cut of their bytes; nothing where a header
-    /// stands between segments, or FNC1 in front of them.
+    /// The bits of the segments, and those of a shortest division of their bytes; `None` if a
+    /// header follows a segment, or one is FNC1.
     pub taken: Option<Taken>,
-    /// What is wrong behind them.
+    /// Wrong bits after the segments.
     pub ending: Ending,
-    /// Of which a reader has to guess the character set.
+    /// Segments whose character set a reader has to guess.
     pub guesses: Guesses,
 }
 
-/// What is said of a square of modules.
+/// What a check reports of a square of modules.
 #[derive(Drop)]
 pub struct Check {
-    /// The version, by the side.
+    /// The version, by the number of modules.
     pub version: Version,
     /// The level that the format word names.
     pub ec_level: EcLevel,
-    /// The mask that it names.
+    /// The mask that the format word names.
     pub mask: MaskPattern,
     /// How many codewords of each block are wrong.
     pub wrong: Vec<usize>,
-    /// How many of a block may be wrong by the standard.
+    /// How many wrong codewords of a block the standard lets readers correct.
     pub allowed: usize,
-    /// The unused error correction in hundredths, of the block that has the least.
+    /// The unused error correction of the worst block, in hundredths.
     pub unused: usize,
-    /// How many modules of patterns are wrong.
+    /// How many modules of each kind of pattern are wrong.
     pub modules: WrongModules,
-    /// How the mask stands among all by the penalty of this project. Where modules are wrong, the
-    /// penalties are those of the wrong modules, but of right format words.
+    /// The rank of the mask by the penalty of `QrCode`. Wrong modules count as they are, but format
+    /// words as if they were right.
     pub own: Rank,
-    /// How it stands by the penalty of the standard, whose balance goes up in steps of 5 %.
+    /// The rank of the mask by the standard's penalty, whose balance goes in steps of 5 %.
     pub stepped: Rank,
-    /// What is said of the data; nothing where the data bits are no segments and an end.
+    /// What is reported of the data; `None` if the data bits are not just headers, segments and an
+    /// end.
     pub content: Option<Content>,
 }
 
 impl Check {
-    /// The number of the mask.
+    /// Returns the number of the mask, among those of the version.
     pub fn mask_number(&self) -> usize
         ensures { result ≡ place_of self.now.version self.now.mask }
     {
         place_of(self.version, self.mask)
     }
 
-    /// Whether nothing departs from the standard. A mask of least penalty is one by either balance;
-    /// which header stands where is not looked at.
+    /// Returns whether nothing departs from the standard. The mask may have the lowest penalty by
+    /// either balance. Guesses, and which headers come where, do not count.
     pub fn is_standard(&self) -> bool
         ensures { result ≡ is_standard self.now }
     {
@@ -78,14 +79,13 @@ impl Check {
     }
 }
 
-// Whether all numbers are zero.
 fn are_zero(numbers: &[usize]) -> bool
     ensures { result ≡ list_all (λ n. n == 0) numbers.now }
 {
     numbers.iter().all(|number| *number == 0)
 }
 
-// Whether segments take the fewest bits, where that is known.
+// Returns whether the segments take the fewest bits, or that is not known.
 fn is_least(taken: Option<Taken>) -> bool
     ensures { result ≡ is_least taken }
 {
@@ -95,7 +95,7 @@ fn is_least(taken: Option<Taken>) -> bool
     }
 }
 
-// Whether nothing of the data departs from the standard.
+// Returns whether nothing in the data departs from the standard.
 fn is_content_standard(content: &Option<Content>) -> bool
     ensures { result ≡ is_content_standard content.now }
 {
@@ -107,7 +107,7 @@ fn is_content_standard(content: &Option<Content>) -> bool
     }
 }
 
-// What is said of data bits.
+// Checks the data bits; `None` if they are not just headers, segments and an end.
 fn content_of(alloc: Global, version: Version, bits: &[bool]) -> Result<Option<Content>, AllocError>
     requires valid { IsTrue (is_valid version) }
     requires room { length bits.now ≤ 30000 }
@@ -125,11 +125,11 @@ fn content_of(alloc: Global, version: Version, bits: &[bool]) -> Result<Option<C
     }))
 }
 
-/// What is said of a square of modules, row by row from the top left corner, dark ones dark: it is
-/// read as bits, and compared with the standard.
+/// Checks a square of `modules`, row by row from the top left corner: reads it as data bits, and
+/// compares it with the standard.
 ///
-/// `NoSuchSide`, `NoFormat`, `Damaged`: it is read as no bits (`read_bits`). `OutOfMemory` is the
-/// only other error.
+/// Errors: `NoSuchSide`, `NoFormat` or `Damaged` if it cannot be read as bits, as in `read_bits`;
+/// `OutOfMemory` if memory runs out.
 pub fn check_square(alloc: Global, modules: &[Color]) -> Result<Check, Unread>
     ensures value { IfOk result (IsCheck modules.now) }
     ensures causes { IfErr result (IsBitCause modules.now) }
@@ -154,9 +154,10 @@ pub fn check_square(alloc: Global, modules: &[Color]) -> Result<Check, Unread>
     })
 }
 
-/// What is said of the symbol that stands so in a square of modules (`check_square`).
+/// Checks the symbol that a square shows in this `position`, and with dark and light swapped if
+/// `is_inverted` (see `check_square`).
 ///
-/// Errors are those of `check_square`.
+/// Errors: those of `check_square`.
 pub fn check_seen(
     alloc: Global,
     position: Position,

@@ -1,4 +1,4 @@
-//! How many codewords are wrong, and how many more may be lost.
+//! Counts wrong codewords, and rates the error correction that is left.
 
 ghost use Rattle.std.specs.Prelude.{◌≡◌, ◌≤◌, length, IsTrue, IfOk};
 ghost use Rattle.qrcode_types.specs.Versions.{has_level};
@@ -20,7 +20,7 @@ pub enum Grade {
     F,
 }
 
-// How many of the wrong codewords are those of a block.
+// Counts the wrong codewords of a block.
 fn wrong_in_block(wrong: &[WrongCodeword], block: usize) -> usize
     ensures { result ≡ wrong_in_block wrong.now block }
 {
@@ -33,9 +33,9 @@ fn wrong_in_block(wrong: &[WrongCodeword], block: usize) -> usize
     count
 }
 
-/// How many of the wrong codewords are those of each block of a version at a level.
+/// Returns how many of the `wrong` codewords are in each block of `version` at `ec_level`.
 ///
-/// `AllocError`: memory was refused.
+/// Errors: only `AllocError`, if memory runs out.
 pub fn wrong_codewords(
     alloc: Global,
     version: Version,
@@ -53,9 +53,9 @@ pub fn wrong_codewords(
     Ok(counts)
 }
 
-/// How many wrong codewords of a block the standard lets readers correct: half of those of error
-/// correction, without those that small symbols keep to tell wrong corrections (ISO/IEC 18004:2006,
-/// 6.5.1). This reader corrects half of all.
+/// Returns how many wrong codewords of a block the standard lets readers correct: half of those for
+/// error correction, without the misdecode protection of small symbols (ISO/IEC 18004:2006, 6.5.1).
+/// `qrcode_reader` corrects half of all.
 pub fn allowed_in_block(version: Version, ec_level: EcLevel) -> usize
     requires { IsTrue (has_level version ec_level) }
     ensures { result ≡ allowed_in_block version ec_level }
@@ -64,7 +64,7 @@ pub fn allowed_in_block(version: Version, ec_level: EcLevel) -> usize
     max_allowed_errors(version, ec_level).unwrap() / blocks.count()
 }
 
-// The unused error correction of a block in hundredths.
+// Returns the unused error correction of a block in hundredths, rounded down.
 fn unused_in_block(allowed: usize, wrong: usize) -> usize
     requires { allowed ≤ 1000 }
     ensures value { result ≡ unused_in_block allowed wrong }
@@ -76,9 +76,10 @@ fn unused_in_block(allowed: usize, wrong: usize) -> usize
     100 * allowed.saturating_sub(wrong) / allowed
 }
 
-/// The unused error correction of a symbol (ISO/IEC 15415, 7.8.8) in hundredths, rounded down: of
-/// its blocks, in which so many codewords are wrong, the least 1 - 2 e / capacity, where the
-/// capacity is twice the codewords that are allowed to be wrong. Where none are, it is 1 or 0.
+/// Returns the unused error correction of a symbol (ISO/IEC 15415, 7.8.8) in hundredths, rounded
+/// down: the lowest of its blocks, whose numbers of wrong codewords are `counts`. With e of them it
+/// is 1 - 2e / capacity, at least 0, where the capacity is 2 * `allowed`. If none are allowed, it
+/// is 1 or, with wrong ones, 0.
 pub fn unused_correction(allowed: usize, counts: &[usize]) -> usize
     requires { allowed ≤ 1000 }
     ensures value { result ≡ unused_correction allowed counts.now }
@@ -91,7 +92,8 @@ pub fn unused_correction(allowed: usize, counts: &[usize]) -> usize
     least
 }
 
-/// The grade of unused error correction in hundredths (ISO/IEC 15415, 7.8.8).
+/// Returns the grade for `unused` hundredths of error correction (ISO/IEC 15415, 7.8.8): A from 62,
+/// B from 50, C from 37, D from 25, else F.
 pub fn grade_of(unused: usize) -> Grade
     ensures { result ≡ grade unused }
 {

@@ -1,4 +1,4 @@
-//! Terminator and padding behind the segments.
+//! Checks the terminator and padding after the segments.
 
 ghost use Rattle.std.specs.Prelude.{◌≡◌, ◌≤◌, ◌+◌, ◌%◌, ◌==◌, length, IsTrue, if◌then◌else◌};
 ghost use Rattle.qrcode_types.specs.Bits.{bit_distance};
@@ -10,16 +10,16 @@ use crate::modules::ones;
 use qrcode_reader::formats::distance;
 use qrcode_types::types::Version;
 
-/// How many bits behind the segments are wrong.
+/// How many bits after the segments are wrong.
 #[derive(Debug, PartialEq, Eq, Copy, Clone)]
 pub struct Ending {
-    /// Of the terminator, and of the zeros behind it up to a whole byte.
+    /// Wrong bits of the terminator, and of the zeros after it up to a whole byte.
     pub terminator: usize,
-    /// Of the padding behind these.
+    /// Wrong bits of the padding after these.
     pub padding: usize,
 }
 
-// The zeros of the terminator, where there is room for them.
+// Returns how many zeros the terminator has, if there is room.
 fn terminator_length(version: Version) -> usize
     requires { IsTrue (is_valid version) }
     ensures value { result ≡ terminator_length version }
@@ -31,7 +31,8 @@ fn terminator_length(version: Version) -> usize
     }
 }
 
-// How many zeros stand behind so many bits.
+// Returns how many zeros should follow the first `used` of `room` bits: the terminator, and more up
+// to a whole byte.
 fn zeros(version: Version, used: usize, room: usize) -> usize
     requires valid { IsTrue (is_valid version) }
     requires inside { used ≤ room }
@@ -43,14 +44,14 @@ fn zeros(version: Version, used: usize, room: usize) -> usize
     whole.min(room) - used
 }
 
-// A byte of the padding.
+// Returns the padding byte at `place`.
 fn padding_byte(place: usize) -> u16
     ensures { result ≡ (if place % 2 == 0 then 0xEC else 0x11) }
 {
     if place % 2 == 0 { 0xEC } else { 0x11 }
 }
 
-// How many bits of the padding are wrong.
+// Counts the wrong bits of the padding.
 fn wrong_padding(bits: &[bool]) -> usize
     requires { length bits.now ≤ 30000 }
     ensures { result ≡ bit_distance bits.now (padding (length bits.now)) }
@@ -65,8 +66,8 @@ fn wrong_padding(bits: &[bool]) -> usize
     count + distance(rest, 0)
 }
 
-/// How many bits are wrong behind the first ones, so many, of the data bits of a version (ISO/IEC
-/// 18004:2006, 6.4.9 and 6.4.10).
+/// Counts the wrong bits of terminator and padding, after the first `used` data `bits` of a version
+/// (ISO/IEC 18004:2006, 6.4.9 and 6.4.10).
 pub fn ending_behind(version: Version, used: usize, bits: &[bool]) -> Ending
     requires valid { IsTrue (is_valid version) }
     requires inside { used ≤ length bits.now }

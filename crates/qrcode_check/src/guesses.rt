@@ -1,4 +1,4 @@
-//! Segments whose character set a reader has to guess.
+//! Finds segments whose character set a reader has to guess.
 
 ghost use Rattle.std.specs.Prelude.{◌≡◌, ◌↔◌, ◌&&◌, nat_le, IsTrue, IsUtf8};
 ghost use Rattle.std.specs.List.{list_any};
@@ -8,23 +8,23 @@ use qrcode_reader::spell::{Header, Part};
 use qrcode_types::types::Mode;
 use std::str;
 
-/// The segments of bytes above 127 in front of which no number of a character set stands.
+/// Byte segments with bytes above 127, before any ECI header.
 #[derive(Debug, PartialEq, Eq, Copy, Clone)]
 pub struct Guesses {
-    /// How many they are.
+    /// How many there are.
     pub segments: usize,
     /// Whether each of them is UTF-8.
     pub are_utf8: bool,
 }
 
-// Whether a part is the number of a character set.
+// Returns whether a part is an ECI header.
 fn is_eci(part: Part) -> bool
     ensures { result ≡ is_eci part }
 {
     matches!(part, Part::Front(Header::Eci(_)))
 }
 
-// The bytes of a part.
+// Returns how many bytes a part has.
 fn byte_count(part: Part) -> usize
     ensures { result ≡ byte_count part }
 {
@@ -34,21 +34,21 @@ fn byte_count(part: Part) -> usize
     }
 }
 
-// Whether a part is a segment of bytes.
+// Returns whether a part is a Byte segment.
 fn has_bytes(part: Part) -> bool
     ensures { result ≡ has_bytes part }
 {
     matches!(part, Part::Bytes(Mode::Byte, _))
 }
 
-// Whether a byte is above 127.
+// Returns whether any byte is above 127.
 fn is_any_above(bytes: &[u8]) -> bool
     ensures { result ≡ list_any (nat_le 128) bytes.now }
 {
     bytes.iter().any(|byte| *byte >= 128)
 }
 
-// Whether the bytes of a part are to be guessed.
+// Returns whether a reader has to guess the character set of a part, whose bytes are `chunk`.
 fn is_guessed(part: Part, chunk: &[u8]) -> bool
     ensures { result ≡ (has_bytes part && list_any (nat_le 128) chunk.now) }
 {
@@ -58,7 +58,6 @@ fn is_guessed(part: Part, chunk: &[u8]) -> bool
     false
 }
 
-// Whether bytes are UTF-8.
 fn is_utf8(bytes: &[u8]) -> bool
     ensures { IsTrue result ↔ IsUtf8 bytes.now }
 {
@@ -68,7 +67,8 @@ fn is_utf8(bytes: &[u8]) -> bool
     }
 }
 
-/// Which segments a reader has to guess of headers and segments with these bytes.
+/// Finds the segments whose character set a reader has to guess. `parts` are all headers and
+/// segments, and `bytes` those of the segments, in order.
 pub fn guesses_in(parts: &[Part], bytes: &[u8]) -> Guesses
     ensures { AreGuesses parts.now bytes.now result }
 {

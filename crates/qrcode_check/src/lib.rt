@@ -1,4 +1,4 @@
-//! What of a square of modules departs from the standard.
+//! Reports where a square of modules departs from the standard.
 #![tactic(auto)]
 
 mod checking;

@@ -1,4 +1,4 @@
-//! How the mask stands among all masks of the version.
+//! Ranks the mask of a square among all masks of its version.
 
 ghost use Rattle.std.specs.Prelude.{◌≡◌, ◌+◌, ◌*◌, ◌<◌, ◌≤◌, ◌^◌, length, slice_index, IsTrue, IfOk};
 ghost use Rattle.qrcode_types.specs.Colors.{is_dark};
@@ -19,17 +19,17 @@ use qrcode_symbol::canvas::remask;
 use qrcode_types::types::{Color, EcLevel, Version};
 use std::alloc::{AllocError, Global};
 
-/// How a mask stands among all masks of its version.
+/// The rank of a mask among all masks of its version, by the penalty.
 #[repr(C)]
 #[derive(Debug, PartialEq, Eq, Copy, Clone)]
 pub struct Rank {
-    /// How many have a lower penalty.
+    /// How many masks have a lower penalty.
     pub lower: usize,
-    /// How many with a lower number have the same penalty.
+    /// How many masks with a lower number have the same penalty.
     pub equal: usize,
 }
 
-// The row of the bit of one module.
+// Packs one module into a row: bit 0 is set if it is dark.
 fn bit<R: PackedRow>(color: Color) -> R
     requires { 1 < R.room }
     ensures { R.bits result ≡ digit (is_dark color) }
@@ -40,7 +40,7 @@ fn bit<R: PackedRow>(color: Color) -> R
     }
 }
 
-// A row of modules in which bit x is set where the module in column x is dark.
+// Packs a row of modules: bit x is set if the module in column x is dark.
 fn packed_row<R: PackedRow>(modules: &[Color]) -> R
     requires few { length modules.now < R.room }
     requires some { 0 < length modules.now }
@@ -53,7 +53,7 @@ fn packed_row<R: PackedRow>(modules: &[Color]) -> R
     row
 }
 
-// The penalty of colours by rows of one kind.
+// Computes the penalty of a square on packed rows of type `R`.
 fn penalty_by<R: PackedRow>(
     alloc: Global,
     version: Version,
@@ -77,10 +77,10 @@ fn penalty_by<R: PackedRow>(
     Ok(normal_penalty(&square))
 }
 
-/// The penalty of the colours of a square (ISO/IEC 18004:2006, 6.8.3), its balance as this project
-/// counts it.
+/// Returns the penalty of a square (ISO/IEC 18004:2006, 6.8.3), with the balance as `QrCode` counts
+/// it.
 ///
-/// `AllocError`: memory was refused.
+/// Errors: only `AllocError`, if memory runs out.
 pub fn penalty(alloc: Global, version: Version, modules: &[Color]) -> Result<u32, AllocError>
     requires valid { IsTrue (is_valid version) }
     requires square { length modules.now ≡ side version * side version }
@@ -97,7 +97,7 @@ pub fn penalty(alloc: Global, version: Version, modules: &[Color]) -> Result<u32
     penalty_by::<Row192>(alloc, version, modules)
 }
 
-// How many modules of a row are dark.
+// Counts the dark modules of row `y`.
 #[tactic(auto, using(qrcode_penalty::proofs::Sums::sum_step), unfolding(qrcode_penalty::specs::Penalty::sum_below, qrcode_penalty::specs::Penalty::dark_count_in))]
 fn dark_in_row(version: Version, modules: &[Color], y: usize) -> usize
     requires valid { IsTrue (is_valid version) }
@@ -117,7 +117,7 @@ fn dark_in_row(version: Version, modules: &[Color], y: usize) -> usize
     count
 }
 
-// How many modules are dark.
+// Counts the dark modules of a square.
 #[tactic(auto, using(qrcode_penalty::proofs::Sums::sum_step), unfolding(qrcode_penalty::specs::Penalty::sum_below, qrcode_penalty::specs::Penalty::dark_count))]
 fn dark_count(version: Version, modules: &[Color]) -> usize
     requires valid { IsTrue (is_valid version) }
@@ -132,8 +132,8 @@ fn dark_count(version: Version, modules: &[Color]) -> usize
     count
 }
 
-// The penalty with the balance as the standard counts it, in steps of 5 %, by the penalty of this
-// project.
+// Returns the penalty with the standard's balance, in steps of 5 %. `own` is the penalty of
+// `QrCode`.
 fn stepped_penalty(version: Version, modules: &[Color], own: u32) -> usize
     requires valid { IsTrue (is_valid version) }
     requires square { length modules.now ≡ side version * side version }
@@ -151,7 +151,7 @@ fn stepped_penalty(version: Version, modules: &[Color], own: u32) -> usize
     (own as usize).saturating_sub(balance) + 10 * ((20 * dark).abs_diff(10 * all) / all)
 }
 
-// How many numbers are lower than that at a place, and how many before it are equal.
+// Counts how many numbers are lower than the one at `place`, and how many before it are equal.
 fn rank_at(numbers: &[usize], place: usize) -> Rank
     requires { place < length numbers.now }
     ensures { IsRank numbers.now place result }
@@ -165,7 +165,7 @@ fn rank_at(numbers: &[usize], place: usize) -> Rank
     Rank { lower, equal }
 }
 
-/// The place of a mask among those of a version.
+/// Returns the place of a mask among those of its version, which is its number.
 pub fn place_of(version: Version, mask: MaskPattern) -> usize
     ensures { result ≡ place_of version mask }
 {
@@ -175,7 +175,7 @@ pub fn place_of(version: Version, mask: MaskPattern) -> usize
     }
 }
 
-// The penalties of a square under another mask of its version.
+// Returns the penalties of a square under the mask `other`: that of `QrCode`, and the standard's.
 fn penalties_under(
     alloc: Global,
     version: Version,
@@ -198,10 +198,10 @@ fn penalties_under(
     Ok((own as usize, stepped_penalty(version, &turned, own)))
 }
 
-/// How the mask of a square stands among all masks: by the penalty as this project counts the
-/// balance, and by the standard's.
+/// Ranks the mask of a square among all masks of its version: by the penalty of `QrCode`, and by
+/// the standard's, whose balance goes in steps of 5 %.
 ///
-/// `AllocError`: memory was refused.
+/// Errors: only `AllocError`, if memory runs out.
 pub fn ranks(
     alloc: Global,
     version: Version,

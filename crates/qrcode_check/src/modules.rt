@@ -1,4 +1,4 @@
-//! How many modules of the functional patterns are wrong, by kind.
+//! Counts wrong modules of the function patterns, by kind.
 
 ghost use Rattle.std.specs.Prelude.{◌≡◌, ◌+◌, ◌*◌, ◌<◌, ◌≤◌, count_by, length, IsTrue, IfOk};
 ghost use Rattle.std.specs.List.{list_all};
@@ -20,26 +20,27 @@ use qrcode_types::tables::{Blocks, capacity};
 use qrcode_types::types::{Color, EcLevel, Version};
 use std::alloc::{AllocError, Global};
 
-/// How many modules of each kind of pattern are wrong. One where two kinds meet counts for both.
+/// How many modules of each kind of pattern are wrong. A module where two kinds meet counts for
+/// both.
 #[repr(C)]
 #[derive(Debug, PartialEq, Eq, Copy, Clone)]
 pub struct WrongModules {
-    /// Of the finder patterns and their separators.
+    /// Finder patterns and their separators.
     pub finder: usize,
-    /// Of the alignment patterns.
+    /// Alignment patterns.
     pub alignment: usize,
-    /// Of the timing patterns.
+    /// Timing patterns.
     pub timing: usize,
-    /// Of the copies of the format word, and the module that is always dark.
+    /// Copies of the format word, and the module that is always dark.
     pub format: usize,
-    /// Of the copies of the version word.
+    /// Copies of the version word.
     pub version: usize,
-    /// Of those behind the last codeword, which are to be light before the mask is put on.
+    /// Remainder bits, after the last codeword, where all should be light before masking.
     pub remainder: usize,
 }
 
 impl WrongModules {
-    /// Whether none is wrong.
+    /// Returns whether no module is wrong.
     pub fn are_right(self) -> bool
         ensures { result ≡ are_right self }
     {
@@ -52,7 +53,7 @@ impl WrongModules {
     }
 }
 
-// How many modules of the alignment patterns with their centres in row `b` are wrong.
+// Counts wrong modules of the alignment patterns whose centres are in row `b`.
 fn wrong_in_alignment_row(version: Version, modules: &[Color], b: usize) -> usize
     requires valid { IsTrue (is_valid version) }
     requires square { length modules.now ≡ side version * side version }
@@ -71,7 +72,7 @@ fn wrong_in_alignment_row(version: Version, modules: &[Color], b: usize) -> usiz
     count
 }
 
-// How many modules of the alignment patterns are wrong.
+// Counts wrong modules of the alignment patterns.
 fn wrong_in_alignments(version: Version, modules: &[Color]) -> usize
     requires valid { IsTrue (is_valid version) }
     requires square { length modules.now ≡ side version * side version }
@@ -84,7 +85,7 @@ fn wrong_in_alignments(version: Version, modules: &[Color]) -> usize
     count
 }
 
-// How many modules of the copies of the version word are wrong.
+// Counts wrong modules of the copies of the version word.
 fn wrong_in_version(version: Version, modules: &[Color]) -> usize
     requires valid { IsTrue (is_valid version) }
     requires square { length modules.now ≡ side version * side version }
@@ -97,7 +98,7 @@ fn wrong_in_version(version: Version, modules: &[Color]) -> usize
     wrong_of(version, modules, &word_figures(width))
 }
 
-// How many bits of the copies of the format word are wrong.
+// Counts wrong bits of the copies of the format word.
 fn wrong_format(version: Version, ec_level: EcLevel, mask: MaskPattern, modules: &[Color]) -> usize
     requires exists { IsTrue (has_level version ec_level) }
     requires mask_exists { IsTrue (exists_in version mask) }
@@ -112,7 +113,7 @@ fn wrong_format(version: Version, ec_level: EcLevel, mask: MaskPattern, modules:
     first + distance(&copy_bits(FormatCopy::Last, version, modules), word)
 }
 
-/// How many of bits are ones.
+/// Counts the bits that are ones.
 pub(crate) fn ones(bits: &[bool]) -> usize
     ensures { result ≡ count_by (λ b. b) bits.now }
 {
@@ -125,7 +126,7 @@ pub(crate) fn ones(bits: &[bool]) -> usize
     count
 }
 
-// How many remainder bits are ones.
+// Counts the remainder bits that are ones.
 fn wrong_remainder(
     alloc: Global,
     version: Version,
@@ -143,10 +144,9 @@ fn wrong_remainder(
     Ok(ones(behind(&bits, capacity + 8 * blocks.total_ec_length())))
 }
 
-/// How many modules of each kind are wrong in a square of a version, by the level and the mask of
-/// its symbol.
+/// Counts wrong modules of each kind in a square, whose symbol has this version, level and mask.
 ///
-/// `AllocError`: memory was refused.
+/// Errors: only `AllocError`, if memory runs out.
 pub fn wrong_modules(
     alloc: Global,
     version: Version,

@@ -1,4 +1,4 @@
-//! How many bits the segments take beyond a least cut.
+//! Compares the bits of the segments with those of a shortest division.
 
 ghost use Rattle.std.specs.Prelude.{◌≡◌, ◌≤◌, List, length, IsTrue, IfOk, IfSome, IfNone};
 ghost use Rattle.std.specs.List.{AllByRecursion, list_all, list_any};
@@ -14,16 +14,16 @@ use qrcode_types::characters::character_count;
 use qrcode_types::types::{Mode, QrError, Version};
 use std::alloc::{AllocError, Global};
 
-/// The bits that segments take.
+/// How many bits the segments take.
 #[derive(Debug, PartialEq, Eq, Copy, Clone)]
 pub struct Taken {
-    /// With mode indicators and length fields.
+    /// The bits of the segments, with mode indicators and length fields.
     pub bits: usize,
-    /// Those of a cut of their bytes that takes the fewest.
+    /// The bits of a shortest division of their bytes into segments.
     pub least: usize,
 }
 
-// The bits that a part takes, where it is a segment.
+// Returns the bits of a segment; 0 for a header.
 fn part_bits(version: Version, part: Part) -> usize
     requires valid { IsTrue (is_valid version) }
     requires few { byte_count part ≤ 100000 }
@@ -40,7 +40,7 @@ fn part_bits(version: Version, part: Part) -> usize
     }
 }
 
-// The bits that all segments take.
+// Returns the bits of all segments.
 fn taken_by(version: Version, parts: &[Part]) -> usize
     requires valid { IsTrue (is_valid version) }
     requires few { length parts.now ≤ 100000 }
@@ -54,21 +54,21 @@ fn taken_by(version: Version, parts: &[Part]) -> usize
     total
 }
 
-// Whether a part is a Kanji segment.
+// Returns whether a part is a Kanji segment.
 fn is_kanji(part: &Part) -> bool
     ensures { result ≡ is_kanji_part part.now }
 {
     matches!(part, Part::Bytes(Mode::Kanji, _))
 }
 
-// Whether a segment is in Kanji.
+// Returns whether any segment is Kanji.
 fn has_kanji(parts: &[Part]) -> bool
     ensures { result ≡ list_any is_kanji_part parts.now }
 {
     parts.iter().any(|part| is_kanji(part))
 }
 
-// The modes that count.
+// Returns the modes for a shortest division: all if a segment is Kanji, else those for texts.
 fn modes_of(parts: &[Part]) -> Modes
     ensures { result ≡ modes_of parts.now }
 {
@@ -79,7 +79,7 @@ fn modes_of(parts: &[Part]) -> Modes
     }
 }
 
-// Whether a part is a header behind which segments can be compared.
+// Returns whether a part is a header after which bytes can be divided freely.
 fn is_plain_header(part: &Part) -> bool
     ensures { result ≡ is_plain_header part.now }
 {
@@ -89,21 +89,19 @@ fn is_plain_header(part: &Part) -> bool
     )
 }
 
-// Whether a part is a segment.
 fn is_segment(part: &Part) -> bool
     ensures { result ≡ is_segment part.now }
 {
     matches!(part, Part::Bytes(_, _))
 }
 
-// Whether all parts are segments.
 fn are_segments(parts: &[Part]) -> bool
     ensures { result ≡ list_all is_segment parts.now }
 {
     parts.iter().all(|part| is_segment(part))
 }
 
-// Whether all headers stand in front, and FNC1 is none of them.
+// Returns whether all headers come before the segments, and none is FNC1.
 fn are_comparable(parts: &[Part]) -> bool
     ensures { result ≡ are_comparable parts.now }
 {
@@ -117,8 +115,8 @@ fn are_comparable(parts: &[Part]) -> bool
     true
 }
 
-// The fewest bits that segments of bytes take in the modes of a set; nothing where these cannot
-// write them.
+// Returns the bits of a shortest division of `bytes` into segments of these `modes`; `None` if
+// these cannot encode them.
 fn least_bits(
     alloc: Global,
     version: Version,
@@ -138,11 +136,12 @@ fn least_bits(
     }
 }
 
-/// The bits that the segments of a symbol take, and those of a least cut of their bytes: of all
-/// modes where one of them is in Kanji, and else of those that write texts. Nothing is said where a
-/// header stands behind a segment, or one is FNC1: there the bytes cannot be cut as one likes.
+/// Returns the bits that the segments of a symbol take, and those of a shortest division of their
+/// `bytes`: into all modes if one segment is Kanji, else into those for texts. `None` if a header
+/// follows a segment or one is FNC1, since the bytes cannot be divided freely then, or if those
+/// modes cannot encode them.
 ///
-/// `AllocError`: memory was refused.
+/// Errors: only `AllocError`, if memory runs out.
 pub fn bits_taken(
     alloc: Global,
     version: Version,

@@ -1,4 +1,4 @@
--- No segments of a rest take fewer bits than are counted for it.
+-- No segments of the rest take fewer bits than are counted for it.
 use Rattle.std.proofs.Common.{◌≡◌, ℕ, ◌+◌, ◌<◌, ◌≤◌, nat_lt, ◌&&◌, not, Bool, true, false, List, [], ◌∷◌, ◌++◌, length, refl, sym, ap, arith, true≢false, length-append, le_trans}
 use Rattle.std.proofs.lemmas.Bool.{and_parts, cond_both, ltb-true}
 use Rattle.std.proofs.lemmas.Bool.Decides.{nat_tests}
@@ -14,18 +14,18 @@ use Rattle.qrcode_gs1.specs.declared.symbol.costs.Start.{Start}
 use Rattle.qrcode_gs1.specs.declared.symbol.costs.Way.{Way}
 use Rattle.qrcode_gs1.proofs.Steps.{left, after, goes_with, count_for, Adds, stepped, begun, begun_adds, left_at_end}
 
--- the header of a mode that is looked for
+-- the header of a mode; Kanji is not used
 abbrev pub header_of : Headers → Mode → ℕ
 header_of h Numeric = h.numeric
 header_of h Alphanumeric = h.alphanumeric
 header_of h Byte = h.byte
 header_of h Kanji = 0
 
--- the bits of a rest
+-- the bits counted for the rest
 abbrev pub fewest : Headers → List ℕ → ℕ
 fewest h rest = (costs_of h rest).start.bits
 
--- the better of two is at most either
+-- the better of two takes at most the bits of either
 ends_here : (w : Way) (t : Bool) (other : Way) → (goes_or w t other).bits ≤ w.bits
 ends_here w false other = omega arith
 ends_here w true other = cond_both (nat_lt other.bits w.bits) other w (λ (x : Way). x.bits ≤ w.bits) (λ e. let l = ltb-true other.bits w.bits e in omega (arith, l)) (λ e. omega arith)
@@ -55,7 +55,7 @@ after_end : (h : Headers) (rest : List ℕ) (m : Mode) (n : ℕ) (t : Bool) → 
 after_end h rest m n true = omega arith
 after_end h rest m n false = may_end h rest m n
 
--- what a segment in the mode can have, it can go on with
+-- a segment can go on with each byte that its mode can write
 pub can_go : (m : Mode) (b : ℕ) → has_characters m b ≡ true → goes_with m b ≡ true
 can_go Numeric b is = is
 can_go Alphanumeric b is = is
@@ -66,16 +66,16 @@ not_end : (t : Bool) → not t ≡ true → t ≡ false
 not_end true is = absurd (true≢false (sym is))
 not_end false is = refl
 
--- the characters for one byte more
+-- the characters of one more byte
 pub length-more : (m : Mode) (b : ℕ) (chunk : List ℕ) → length (characters m (b ∷ chunk)) ≡ count_for m b + length (characters m chunk)
 length-more m b chunk = length-append (characters_for m b) (characters m chunk)
 
--- an open segment goes on with a chunk, and then a rest begins
+-- an open segment that goes on with a chunk, before the rest, takes no fewer bits than are counted
 abbrev GoesLeast : Headers → Mode → List ℕ → List ℕ → Type 0
 GoesLeast h m chunk rest =
     (n : ℕ) → can_stand m chunk ≡ true → data_bits_count m n + (left (costs_of h (chunk ++ rest)) m n).bits ≤ data_bits_count m (n + length (characters m chunk)) + fewest h rest
 
--- and so with a byte in front of the chunk
+-- nor with one more byte in front of the chunk
 adds_least : (h : Headers) (m : Mode) (b : ℕ) (chunk rest : List ℕ) (n : ℕ) (way : Way) → GoesLeast h m chunk rest → Adds m n b (first_byte (chunk ++ rest)) (costs_of h (chunk ++ rest)) way
     → can_stand m (b ∷ chunk) ≡ true → data_bits_count m n + way.bits ≤ data_bits_count m (n + length (characters m (b ∷ chunk))) + fewest h rest
 adds_least h m b [] rest n way more a can =
@@ -111,7 +111,7 @@ goes_least h m (b ∷ chunk) rest = λ n can.
       adds_least h m b chunk rest n s.way (goes_least h m chunk rest) s.adds can,
     )
 
--- the best start takes at most what a segment takes that begins here
+-- the best start takes at most the bits of any segment that begins here
 pub start_least : (h : Headers) (b follows : ℕ) (next : Costs) (m : Mode) → goes_with m b ≡ true → (best_start h b follows next).bits ≤ header_of h m + (begun m b follows next).bits
 start_least h b follows next m can =
     let bytes = with_header Byte h.byte (behind 8 next.bytes) in
@@ -133,7 +133,7 @@ none_before Alphanumeric = refl
 none_before Byte = refl
 none_before Kanji = refl
 
--- no segment in front of a rest makes it take fewer bits than are counted
+-- nor does a segment before the rest take fewer bits than are counted
 pub segment_least : (h : Headers) (m : Mode) (chunk rest : List ℕ) → 0 < length chunk → can_stand m chunk ≡ true
     → fewest h (chunk ++ rest) ≤ header_of h m + data_bits_count m (length (characters m chunk)) + fewest h rest
 segment_least h m [] rest some can = absurd (omega arith)

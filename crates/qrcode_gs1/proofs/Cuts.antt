@@ -1,4 +1,4 @@
--- What is written of cuts, and a least one.
+-- The bits that cuts take, and a shortest cut.
 use Rattle.std.proofs.Common.{◌≡◌, ℕ, zero, suc, ◌+◌, ◌-◌, ◌*◌, ◌<◌, ◌≤◌, false, true, true≢false, List, [], ◌∷◌, ◌++◌, length, drop, get_or, refl, sym, ap, ◌∙◌, arith, nat_abs, length-append, IsTrue, inl, inr, subst}
 use Rattle.std.specs.Prelude.{slice_range}
 use Rattle.std.specs.List.{AllByRecursion}
@@ -29,7 +29,7 @@ use Rattle.qrcode_gs1.proofs.Steps.{left}
 use Rattle.qrcode_gs1.proofs.Bounds.{header_of, fewest, segment_least, may_end, start_least}
 use Rattle.qrcode_gs1.proofs.Reached.{IsFirst, first_at, parts_of}
 
--- what characters stand for bytes in each segment
+-- each segment can write its bytes so that a reader gets them back
 abbrev pub AreStanding : List ℕ → List Segment → Type 0
 AreStanding bytes ss = AllByRecursion (λ s. IsTrue (can_stand s.mode (slice_range bytes s.begin s.end))) ss
 
@@ -48,12 +48,12 @@ length-written v Byte chunk some can = length-piece v (piece Byte chunk)
 length-written v Kanji [] some can = absurd (omega arith)
 length-written v Kanji (b ∷ chunk) some can = absurd (true≢false (sym can))
 
--- a segment costs its header and its characters
+-- a segment takes the bits of its header and its characters
 pub segment_costs : (v : Version) (bytes : List ℕ) (s : Segment) → s.begin < s.end → s.end ≤ length bytes → can_stand s.mode (slice_range bytes s.begin s.end) ≡ true
     → length (written_piece v (piece s.mode (slice_range bytes s.begin s.end))) ≡ piece_bits v bytes s
 segment_costs v bytes s some inside can = length-written v s.mode (slice_range bytes s.begin s.end) (omega (arith, length-range bytes s.begin s.end (omega (arith, some)) inside, some)) can
 
--- one segment more in front, and one behind
+-- one more segment in front, and one more at the end
 pub cost_first : (v : Version) (bytes : List ℕ) (s : Segment) (ss : List Segment) → marked_cost v bytes (s ∷ ss) ≡ length (written_piece v (piece s.mode (slice_range bytes s.begin s.end))) + marked_cost v bytes ss
 cost_first v bytes s ss = length-append (written_piece v (piece s.mode (slice_range bytes s.begin s.end))) (written v (marked_pieces bytes ss))
 
@@ -61,7 +61,7 @@ pub cost_last : (v : Version) (bytes : List ℕ) (ss : List Segment) (s : Segmen
 cost_last v bytes [] s = omega (arith, cost_first v bytes s [])
 cost_last v bytes (r ∷ ss) s = omega (arith, cost_first v bytes r (ss ++ s ∷ []), cost_first v bytes r ss, cost_last v bytes ss s)
 
--- no rest takes more than is counted
+-- no segments of the rest take fewer bits than are counted
 least_from : (v : Version) (bytes : List ℕ) (from : ℕ) (ss : List Segment) → Tile from ss (length bytes) → AreStanding bytes ss → fewest (headers_of v) (drop from bytes) ≤ marked_cost v bytes ss
 least_from v bytes from [] t are = omega (arith, ap (fewest (headers_of v)) (drop_all from bytes (omega (arith, t))))
 least_from v bytes from (s ∷ ss) t are =
@@ -80,11 +80,11 @@ least_from v bytes from (s ∷ ss) t are =
       least_from v bytes s.end ss t.1.1 are.1,
     )
 
--- segments of the bits that are counted are a least cut
+-- a cut that takes the counted bits is a shortest one
 pub least_is : (v : Version) (bytes : List ℕ) (ss : List Segment) → IsMarkedCut bytes ss → marked_cost v bytes ss ≡ fewest (headers_of v) bytes → IsLeastMarkedCut v bytes ss
 least_is v bytes ss cut is = record { reached = cut; least = λ others other. omega (arith, is, least_from v bytes 0 others other.tiles other.standing) }
 
--- segments from a place on, of the bits that are counted
+-- segments from a place on that take the counted bits
 record CutFrom (v : Version) (bytes : List ℕ) (from : ℕ) : Type 0 where
   segments : List Segment
   tiles : Tile from segments (length bytes)
@@ -113,7 +113,7 @@ cut_from v bytes are (suc fuel) from low high =
       | inr end ↦ end_cut v bytes from (omega (arith, low, end))
     ]
 
--- there is a cut of the bits that are counted, which is a least one
+-- some cut takes the counted bits, and is a shortest one
 pub some_least : (v : Version) (bytes : List ℕ) → AreBytes bytes → (ss : List Segment) × (IsLeastMarkedCut v bytes ss × (fewest (headers_of v) bytes ≡ marked_cost v bytes ss))
 some_least v bytes are =
     let c = cut_from v bytes are (length bytes) 0 (omega arith) (omega arith) in
@@ -131,12 +131,12 @@ headers_small (Normal v) normal = record {
 }
 headers_small (Micro v) normal = absurd (true≢false normal)
 
--- each byte takes a header and eight bits at most
+-- each byte takes at most a header and eight bits
 pub bytes_few : (h : Headers) (bytes : List ℕ) → h.byte ≤ 20 → fewest h bytes ≤ 28 * length bytes
 bytes_few h [] byte = omega arith
 bytes_few h (b ∷ bytes) byte = omega (arith, start_least h b (first_byte bytes) (costs_of h bytes) Byte refl, may_end h bytes Byte 0, bytes_few h bytes byte)
 
--- so no rest is too great a number
+-- so the counts do not overflow
 rest_few : (h : Headers) (bytes : List ℕ) → h.byte ≤ 20 → AreBytes bytes → length bytes ≤ data_limit → AreAllFew (costs_of h bytes)
 rest_few h bytes byte are limit =
     let few : (m : Mode) (n : ℕ) → AreFew (left (costs_of h bytes) m n) = λ m n.
@@ -152,12 +152,12 @@ rest_few h bytes byte are limit =
       bytes = few Byte 0;
     }
 
--- nor are the costs of the data from a place on
+-- nor do those of the data from a place on
 pub costs_few : (h : Headers) (bytes : List ℕ) (i : ℕ) (costs : Costs) → costs ≡ costs_of h (drop i bytes) → h.byte ≤ 20 → AreBytes bytes → length bytes ≤ data_limit → AreAllFew costs
 costs_few h bytes i costs is byte are limit =
     subst AreAllFew (sym is) (rest_few h (drop i bytes) byte (all-drop (λ n. n < 256) i bytes are) (omega (arith, length-drop i bytes, limit)))
 
--- what is counted from a place on, from what is counted behind the byte there
+-- the counts at a place, from those after the byte there
 pub counted_back : (h : Headers) (bytes : List ℕ) (i : ℕ) → 1 ≤ i → i ≤ length bytes
     → step h (get_or bytes (i - 1) 0) (first_byte (drop i bytes)) (costs_of h (drop i bytes)) ≡ costs_of h (drop (i - 1) bytes)
 counted_back h bytes i some inside =

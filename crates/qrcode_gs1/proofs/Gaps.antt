@@ -1,4 +1,4 @@
--- Separators that stand apart, from the end of bytes on.
+-- Separators that do not follow each other, from the end of the bytes on.
 use Rattle.std.proofs.Common.{◌≡◌, ℕ, suc, ◌+◌, ◌-◌, ◌<◌, ◌≤◌, ◌==◌, ◌&&◌, not, Bool, true, false, List, [], ◌∷◌, length, drop, get_or, refl, sym, ap, ◌∙◌, arith}
 use Rattle.std.proofs.Math.Seq.{drop-cons}
 use Rattle.std.proofs.lemmas.List.{get_or-drop}
@@ -8,7 +8,7 @@ never : (t : Bool) → (not (t && false) && true) ≡ true
 never true = refl
 never false = refl
 
--- one byte in front
+-- one more byte in front
 apart_front : (b : ℕ) (ys : List ℕ) → (not ((b == 29) && (get_or ys 0 0 == 29)) && are_apart ys) ≡ are_apart (b ∷ ys)
 apart_front b [] = never (b == 29)
 apart_front b (y ∷ ys) = refl

@@ -12,7 +12,7 @@ use Rattle.qrcode_gs1.specs.declared.symbol.Position.TheVariants.{First}
 use Rattle.qrcode_gs1.specs.declared.symbol.errors.SymbolError.{SymbolError}
 use Rattle.qrcode_gs1.specs.declared.symbol.errors.SymbolError.TheVariants.{Symbol}
 
--- a refusal of the element string's symbol that is handed on
+-- why the element string has no symbol is why the elements have none
 pub symbol_refused : (from : ℕ) (l : EcLevel) (items : List Item) (r : Result Code SymbolError) (e : QrError) → IsErr r × IsErrAnd r (λ x. x ≡ Symbol e) → refusal_from 0 items ≡ None
     → IsMarkedRefused from First l (element_string items) e → IfErr r (IsGs1Refused from l items)
 symbol_refused from l items (Ok code) e is none cause = tt

@@ -1,4 +1,4 @@
--- The mark in front of the segments.
+-- The mark before the segments.
 use Rattle.std.proofs.Common.{◌≡◌, ℕ, ◌+◌, ◌≤◌, ◌++◌, None, false, length, arith, true≢false, length-append}
 use Rattle.std.specs.Option.{option_map}
 use Rattle.qrcode_types.specs.Bits.{number_bits}
@@ -18,7 +18,7 @@ length-first = length-number_bits 4 5
 pub length-second : (n : ℕ) → length (mark (Second n)) ≡ 12
 length-second n = omega (arith, length-append (number_bits 4 9) (number_bits 8 n), length-number_bits 4 9, length-number_bits 8 n)
 
--- a mark is taken where it has room
+-- a mark is accepted if it has room
 pub first_taken : (v : Version) (used : ℕ) → is_micro v ≡ false → used + 12 ≤ bit_limit → append_refusal used (indicator_bits v Fnc1First) ≡ None
 first_taken (Normal v) used normal room = append_fits used (number_bits 4 5) (omega (arith, room, length-number_bits 4 5))
 first_taken (Micro v) used normal room = absurd (true≢false normal)

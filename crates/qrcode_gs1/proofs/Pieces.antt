@@ -39,7 +39,7 @@ ranges_written : (bytes : List ℕ) (ss : List Segment) → AllByRecursion (λ p
 ranges_written bytes [] are = tt
 ranges_written bytes (s ∷ ss) are = (are.0, ranges_written bytes ss are.1)
 
--- the ranges of what is written of a cut are a cut of it
+-- the characters that a cut writes are cut by their ranges
 pub written_cut : (n : ℕ) (bytes : List ℕ) (ss : List Segment) (w : List ℕ) (ranges : List Segment) → IsMarkedCut bytes ss → AreCharacters bytes ss w ranges → IsCut (Normal (pos n)) w ranges
 written_cut n bytes ss w ranges cut are = record {
   tiles = are.tiles;
@@ -47,7 +47,7 @@ written_cut n bytes ss w ranges cut are = record {
   writable = ranges_written w ranges (subst (AllByRecursion (λ p. IsTrue (can_write p.mode p.chunk))) (sym are.pieces) (pieces_written bytes ss cut.standing));
 }
 
--- which is as long
+-- and the ranges take as many bits as the cut
 pub written_cost : (n : ℕ) (bytes : List ℕ) (ss : List Segment) (w : List ℕ) (ranges : List Segment) → AreCharacters bytes ss w ranges → total_cost (Normal (pos n)) ranges ≡ marked_cost (Normal (pos n)) bytes ss
 written_cost n bytes ss w ranges are =
     sym (length-written (Normal (pos n)) w 0 ranges (length w) are.tiles (omega arith)) ∙ ap (λ ps. length (written (Normal (pos n)) ps)) are.pieces
@@ -56,11 +56,11 @@ pieces_shown : (bytes : List ℕ) (ss : List Segment) → AreStanding bytes ss �
 pieces_shown bytes [] are = refl
 pieces_shown bytes (s ∷ ss) are = ap₂ (λ (x y : List ℕ). x ++ y) (chunk_shown s.mode (slice_range bytes s.begin s.end) are.0) (pieces_shown bytes ss are.1)
 
--- a reader takes the pieces for the bytes
+-- a reader gets the bytes back from the pieces
 pub cut_shown : (bytes : List ℕ) (ss : List Segment) → IsMarkedCut bytes ss → flat_map shown (marked_pieces bytes ss) ≡ bytes
 cut_shown bytes ss cut = pieces_shown bytes ss cut.standing ∙ pieces_bytes bytes 0 ss (length bytes) cut.tiles ∙ take_all (length bytes - 0) bytes (omega arith)
 
--- a range of bytes before others
+-- a range within the first of two lists
 range_before : (xs more : List ℕ) (a b : ℕ) → a ≤ b → b ≤ length xs → slice_range (xs ++ more) a b ≡ slice_range xs a b
 range_before xs more a b ordered inside =
     ap (take (b - a)) (drop-append-le a xs more (omega (arith, ordered, inside))) ∙ take-append-le (b - a) (drop a xs) more (omega (arith, length-drop a xs, inside))
@@ -87,7 +87,7 @@ range_last w chunk =
     let z : length w + length chunk - length w ≡ length chunk = omega arith in
     ap₂ take z (drop-append_seam w chunk) ∙ take_all (length chunk) chunk (omega arith)
 
--- what is written of one segment more
+-- the characters of one more segment
 pub characters_more : (bytes : List ℕ) (ss : List Segment) (s : Segment) (w : List ℕ) (ranges : List Segment) → AreCharacters bytes ss w ranges → 0 < length (characters s.mode (slice_range bytes s.begin s.end))
     → let chunk = characters s.mode (slice_range bytes s.begin s.end) in
     let range : Segment = record { mode = s.mode; begin = length w; end = length w + length chunk } in
@@ -113,7 +113,7 @@ pub characters_some : (m : Mode) (bytes : List ℕ) → length bytes ≤ length 
 characters_some m [] = omega arith
 characters_some m (b ∷ bytes) = omega (arith, length-append (characters_for m b) (characters m bytes), some_for m b, characters_some m bytes)
 
--- the segments of a tiling are not empty, and they are inside
+-- the segments of a tiling are not empty, and lie inside
 pub tile_at : (from : ℕ) (ss : List Segment) (to i : ℕ) (d : Segment) → Tile from ss to → i < length ss → ((get_or ss i d).begin < (get_or ss i d).end) × ((get_or ss i d).end ≤ to)
 tile_at from [] to i d t inside = absurd (omega arith)
 tile_at from (s ∷ ss) to zero d t inside = (t.1.0, tile_le s.end ss to t.1.1)
@@ -123,7 +123,7 @@ pub tiles_inside : (n from : ℕ) (ss : List Segment) → Tile from ss n → Are
 tiles_inside n from [] t = tt
 tiles_inside n from (s ∷ ss) t = ((omega (arith, t.1.0), tile_le s.end ss n t.1.1), tiles_inside n s.end ss t.1.1)
 
--- a character takes three bits at least
+-- a character takes at least three bits
 least_bits : (m : Mode) (n : ℕ) → 3 * n ≤ data_bits_count m n
 least_bits Numeric n = omega arith
 least_bits Alphanumeric n = omega arith
@@ -147,11 +147,11 @@ cost_long v bytes from (s ∷ ss) t are =
       cost_long v bytes s.end ss t.1.1 are.1,
     )
 
--- a version that holds bytes has three bits for each
+-- if a version holds bytes, it has three bits for each
 pub held_short : (p : Position) (l : EcLevel) (bytes : List ℕ) (n : ℕ) → HoldsMarked p l bytes n → 3 * length bytes ≤ capacity (Normal (pos n)) l
 held_short p l bytes n holds = omega (arith, cost_long (Normal (pos n)) bytes 0 holds.segments holds.cut.tiles holds.cut.standing, holds.room)
 
--- so they are few
+-- so there are few of them
 pub held_few : (p : Position) (l : EcLevel) (bytes : List ℕ) (n : ℕ) → HoldsMarked p l bytes n → length bytes ≤ 23648
 held_few p l bytes n holds = omega (arith, held_short p l bytes n holds, capacity_at_most (Normal (pos n)) l)
 

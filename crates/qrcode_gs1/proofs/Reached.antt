@@ -1,4 +1,4 @@
--- What is counted for a rest some segments take.
+-- Some segments take as many bits as are counted for the rest.
 use Rattle.std.proofs.Common.{◌≡◌, ℕ, ◌+◌, ◌-◌, ◌<◌, ◌≤◌, ◌==◌, nat_lt, ◌&&◌, not, Bool, true, false, List, [], ◌∷◌, ◌++◌, length, take, drop, refl, sym, ap, ap₂, ◌∙◌, arith, true≢false, subst, length-append, ◌⊎◌, inl, inr}
 use Rattle.std.specs.Prelude.{slice_range}
 use Rattle.std.proofs.lemmas.Bool.{and_from, cond_both, lt-ltb}
@@ -17,7 +17,7 @@ use Rattle.qrcode_gs1.specs.declared.symbol.costs.Way.{Way}
 use Rattle.qrcode_gs1.proofs.Steps.{left, after, goes_with, count_for, Adds, stepped, begun, begun_adds, tested, left_at_end}
 use Rattle.qrcode_gs1.proofs.Bounds.{header_of, fewest, length-more, none_before}
 
--- a way behind an open segment is that of a chunk with which it goes on, and a rest
+-- a way after an open segment of n characters: a chunk with which the segment goes on, and a rest, take its bits
 pub record Parts (h : Headers) (m : Mode) (n : ℕ) (bytes : List ℕ) (way : Way) : Type 0 where
   pub chunk : List ℕ
   pub rest : List ℕ
@@ -45,7 +45,7 @@ none_both : (t : Bool) → (t && false) ≡ false
 none_both true = refl
 none_both false = refl
 
--- at the end of a segment it may end
+-- a segment may end at the end of the data
 last_ends : (m : Mode) (b : ℕ) → must_end m b 0 ≡ false
 last_ends Numeric b = refl
 last_ends Alphanumeric b = none_both (b == 29)
@@ -60,7 +60,7 @@ goes_before : (m : Mode) (b : ℕ) (bytes chunk rest : List ℕ) → bytes ≡ c
 goes_before m b bytes [] rest e goes = last_ends m b
 goes_before m b bytes (c ∷ chunk) rest e goes = ap (λ bs. must_end m b (first_byte bs)) (sym e) ∙ goes
 
--- a way on from a byte
+-- a way that goes on with one more byte
 parts_on : (h : Headers) (m : Mode) (n b : ℕ) (bytes : List ℕ) (way : Way) → has_characters m b ≡ true → Adds m n b (first_byte bytes) (costs_of h bytes) way
     → Parts h m (n + count_for m b) bytes (left (costs_of h bytes) m (n + count_for m b)) → Parts h m n (b ∷ bytes) way × (0 < way.taken)
 parts_on h m n b bytes way has a p =
@@ -97,7 +97,7 @@ parts_on h m n b bytes way has a p =
           )
     ]
 
--- each way is that of some parts
+-- each way stands for some chunk and rest
 pub parts_of : (h : Headers) (bytes : List ℕ) → AreBytes bytes → (m : Mode) (n : ℕ) → Parts h m n bytes (left (costs_of h bytes) m n)
 parts_of h [] are m n =
     let e : n ≡ n + 0 = omega arith in
@@ -116,7 +116,7 @@ parts_of h (b ∷ bytes) are m n =
           (parts_on h m n b bytes s.way (has_from m b are.0 both.1) s.adds (parts_of h bytes are.1 m (n + count_for m b))).0
     ]
 
--- the best start is that of a segment and a rest
+-- the best start stands for a segment and a rest
 pub record Begins (h : Headers) (bytes : List ℕ) (s : Start) : Type 0 where
   pub way : Way
   pub parts : Parts h s.mode 0 bytes way
@@ -145,7 +145,7 @@ begins h b bytes are =
       | inr both ↦ in_mode Numeric (best_start h b follows next) both.0 both.1
     ]
 
--- the segment from a place on
+-- the segment that begins at a place
 pub record IsFirst (h : Headers) (bytes : List ℕ) (place : ℕ) (s : Start) : Type 0 where
   pub some : 0 < s.taken
   pub inside : place + s.taken ≤ length bytes

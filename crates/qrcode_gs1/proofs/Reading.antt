@@ -16,7 +16,7 @@ use Rattle.qrcode_gs1.specs.Elements.{Item, number_of, prefix_of, digit_count, f
 use Rattle.qrcode_gs1.specs.Refusals.{is_digit, is_character, is_identifier, numbered_rule, is_checked, is_dated, is_date, cause_by, cause_found, cause_of, refusal_or, refusal_from, checked, Answers}
 use Rattle.qrcode_gs1.specs.Table.{Rule, rules}
 
--- two tests that hold
+-- two tests that both hold
 both : (a b : Bool) → (a && b) ≡ true → (a ≡ true) × (b ≡ true)
 both true b is = (refl, is)
 both false b is = cc
@@ -38,7 +38,7 @@ all_plain p each (b ∷ bytes) is =
     let parts = both (p b) (list_all p bytes) is in
     rw (each b parts.0) (all_plain p each bytes parts.1)
 
--- an equation that a test decides
+-- numbers that pass the test are equal
 equal : (a b : ℕ) → (a == b) ≡ true → a ≡ b
 equal a b is = grind (arith, nat_tests)
 
@@ -46,7 +46,7 @@ denied : (a : Bool) → not a ≡ true → a ≡ false
 denied true is = cc
 denied false is = refl
 
--- what is said of an element with which nothing is wrong
+-- what holds for an element that is not wrong
 record Whole (item : Item) : Type 0 where
   long : length item.0 ≡ digit_count (prefix_of item.0)
   predefined : (not (is_fixed item.0) || (length item.0 + length item.1 == fixed_length (prefix_of item.0))) ≡ true
@@ -91,7 +91,7 @@ all_whole i (item ∷ items) is =
     let parts = refusal_passes (cause_of item) i (refusal_from (i + 1) items) is in
     (whole item parts.0, all_whole (i + 1) items parts.1)
 
--- an identifier has two digits at least
+-- an identifier has at least two digits
 two_at_least : (a b : Bool) → 2 ≤ (if a then 3 else (if b then 4 else 2))
 two_at_least true b = omega arith
 two_at_least false true = omega arith
@@ -121,7 +121,7 @@ starts_plain : (bytes later : List ℕ) → is_plain bytes ≡ true → 2 ≤ le
 starts_plain [] later is least = let no : ⊥ = omega (arith, least) in absurd no
 starts_plain (b ∷ bytes) later is least = rw (denied _ (both (not (b == 29)) (is_plain bytes) is).0) refl
 
--- the element that is cut off
+-- the first element is cut off
 cut : (fixed : Bool) (n : ℕ) (bytes later : List ℕ) → (not fixed || (length bytes == n)) ≡ true → is_plain bytes ≡ true → (fixed ≡ false → before_separator later ≡ []) → (if fixed then take n (bytes ++ later) else before_separator (bytes ++ later)) ≡ bytes
 cut true n bytes later is plain ends =
     ap (λ k. take k (bytes ++ later)) (sym (equal (length bytes) n is)) ∙ take-append_seam bytes later
@@ -144,7 +144,7 @@ item_of-whole item is =
     ap (λ n. (take n bytes, drop n bytes)) (ap digit_count (prefix_more item.0 item.1 (identifier_least item is)) ∙ sym is.long)
     ∙ ap₂ (λ a b. (a, b)) (take-append_seam item.0 item.1) (drop-append_seam item.0 item.1)
 
--- one element of some
+-- one more element is read
 read_step : (n : ℕ) (bytes : List ℕ) → 2 ≤ length bytes → read_items (suc n) bytes ≡ item_of (first_element bytes) ∷ read_items n (behind_separator (drop (length (first_element bytes)) bytes))
 read_step n [] least = let no : ⊥ = omega (arith, least) in absurd no
 read_step n (b ∷ bytes) least = refl
@@ -182,13 +182,13 @@ count (item ∷ items) are =
     let mark = separator (not (is_fixed item.0)) items in
     omega (arith, count items are.1, item_least item are.0, length-append bytes (mark ++ element_string items), length-append mark (element_string items))
 
--- elements of which none is refused are read back
+-- elements that are not wrong are read back
 pub read_back : (items : List Item) → refusal_from 0 items ≡ None → read_elements (element_string items) ≡ items
 read_back items is =
     let are = all_whole 0 items is in
     reads items (length (element_string items)) are (count items are)
 
--- Separators stand apart.
+-- No separator comes right after another.
 
 apart_join : (xs ys : List ℕ) → is_plain xs ≡ true → are_apart ys ≡ true → are_apart (xs ++ ys) ≡ true
 apart_join [] ys plain apart = apart
@@ -210,22 +210,22 @@ apart_behind true (item ∷ items) are =
     let later = separator (not (is_fixed item.0)) items ++ element_string items in
     apart_separator bytes later are.0.plain (item_least item are.0) (apart_join bytes later are.0.plain (apart_behind (not (is_fixed item.0)) items are.1))
 
--- the separators of elements of which none is refused stand apart
+-- nor in the string of elements that are not wrong
 pub apart : (items : List Item) → refusal_from 0 items ≡ None → are_apart (element_string items) ≡ true
 apart [] is = refl
 apart (item ∷ items) is = apart_behind false (item ∷ items) (all_whole 0 (item ∷ items) is)
 
--- a check that passes refuses nothing
+-- a check that passes finds nothing wrong
 pub checked_none : (refusal : Option Gs1Error) (r : Result (Unit {0}) Gs1Error) (x : Unit {0}) → r ≡ checked refusal → r ≡ Ok x → refusal ≡ None
 checked_none None r x is ok = refl
 checked_none (Some e) r x is ok = cc
 
--- bytes that are written where nothing is refused
+-- bytes that are written if nothing is wrong
 pub answered : (refusal : Option Gs1Error) (r : Result (Vec ℕ Global) Gs1Error) (bytes : List ℕ) (P : List ℕ → Type 0) → refusal ≡ None → IfOk r (λ v. v.items ≡ bytes) → IsOkUnless r OutOfMemory → P bytes → Answers refusal r P
 answered refusal (Ok v) bytes P none is memory says = (none, subst P (sym is) says)
 answered refusal (Err e) bytes P none is memory says = inr memory
 
--- what is so of the bytes is so of what is written
+-- what holds for the bytes holds for what is written
 pub written_so : (P : List ℕ → Type 0) (r : Result (Vec ℕ Global) Gs1Error) (bytes : List ℕ) → P bytes → IfOk r (λ v. v.items ≡ bytes) → IfOk r (λ v. P v.items)
 written_so P (Ok v) bytes says is = subst P (sym is) says
 written_so P (Err e) bytes says is = tt

@@ -1,4 +1,4 @@
--- How squares of bytes behind FNC1 are read, and their symbol.
+-- How squares of bytes after FNC1 are read, and their symbol.
 use Rattle.std.proofs.Common.{◌≡◌, ℕ, ◌≤◌, ◌++◌, Bool, List, subst, ◌∙◌, Result, Ok, Err, IfOk}
 use Rattle.std.specs.Prelude.{pos}
 use Rattle.qrcode_types.specs.declared.types.Color.{Color}
@@ -18,7 +18,7 @@ use Rattle.qrcode_gs1.specs.symbol.Symbols.{HoldsMarked, IsMarkedList, IsMarkedS
 use Rattle.qrcode_gs1.specs.declared.symbol.Position.{Position}
 use Rattle.qrcode_gs1.proofs.Spelled.{one_marked}
 
--- a square is read so as one list of bytes
+-- a square decodes to only one list of bytes
 pub reads_marked_only : (s : List Color) (v : Version) (l : EcLevel) (bits : List Bool) (p : Position) (bytes : List ℕ) → ReadsBits s v l bits → SpellsMarked v bits p bytes → ReadsMarkedOnly s p bytes
 reads_marked_only s v l bits p bytes read spelled = record {
   found = record { version = v; level = l; bits = bits; read = read; spelled = spelled };
@@ -27,7 +27,7 @@ reads_marked_only s v l bits p bytes read spelled = record {
       one_marked v bits p bytes others spelled (subst (λ u. SpellsMarked u bits p others) e.0 (subst (λ b. SpellsMarked r.version b p others) e.2 r.spelled));
 }
 
--- and its symbol
+-- the same for the symbol
 pub symbol_of : (from : ℕ) (p : Position) (n : ℕ) (l : EcLevel) (bytes : List ℕ) (list : BitList) (r : Result Code QrError) → from ≤ n → HoldsMarked p l bytes n → ((other : ℕ) → from ≤ other → HoldsMarked p l bytes other → n ≤ other)
     → IsMarkedList p (Normal (pos n)) l bytes list → IfOk r (λ code. code.version ≡ list.version) → IfOk r (λ code. code.level ≡ l) → IfOk r (λ code. EncodesBits list.version l list.bits code.modules)
     → IfOk r (IsMarkedSymbol from p l bytes)

@@ -1,4 +1,4 @@
--- A mode can write what a segment has for bytes, and a reader takes it for them.
+-- A mode can write the characters of a segment, and a reader gets the bytes back from them.
 use Rattle.std.proofs.Common.{◌≡◌, ℕ, ◌==◌, ◌&&◌, ◌||◌, not, Bool, true, false, List, [], ◌∷◌, ◌++◌, refl, sym, ap, ap₂, subst, ◌∙◌, true≢false, inl, inr, if◌then◌else◌}
 use Rattle.std.proofs.lemmas.Bool.{and_parts, and_from}
 use Rattle.qrcode_types.specs.Characters.{alphabet, is_alphanumeric, can_write}
@@ -21,11 +21,11 @@ neither : (a b : Bool) → (a || b) ≡ false → b ≡ false
 neither true b is = absurd (true≢false is)
 neither false b is = is
 
--- what it has for another byte than a separator and a percent sign is that byte
+-- a byte that is neither a separator nor a percent sign is written as it is
 other_for : (b : ℕ) → (b == 29) ≡ false → (b == 37) ≡ false → characters_for Alphanumeric b ≡ b ∷ []
 other_for b separator percent = ap₂ (λ (s t : Bool). if s then 37 ∷ [] else (if t then 37 ∷ 37 ∷ [] else b ∷ [])) separator percent
 
--- the cases of a byte
+-- the cases of a byte in Alphanumeric mode
 pub by_byte : (P : ℕ → List ℕ → Type 0) → P 29 (37 ∷ []) → P 37 (37 ∷ 37 ∷ []) → (b : ℕ) → ((b == 29) ≡ false → (b == 37) ≡ false → P b (b ∷ [])) → P b (characters_for Alphanumeric b)
 by_byte P separator percent b other = elim (tested (b == 29)) [
   | inl is ↦ subst (λ n. P n (characters_for Alphanumeric n)) (sym (equal b 29 is)) separator
@@ -45,7 +45,7 @@ one_written Alphanumeric b has = letter_written b has
 one_written Byte b has = and_from _ _ has refl
 one_written Kanji b has = absurd (true≢false (sym has))
 
--- the mode can write what it has for bytes
+-- a mode can write the characters of a segment
 pub characters_written : (m : Mode) (bytes : List ℕ) → can_stand m bytes ≡ true → can_write m (characters m bytes) ≡ true
 characters_written m [] can = write_none m
 characters_written m (b ∷ bytes) can =
@@ -53,12 +53,12 @@ characters_written m (b ∷ bytes) can =
     let both = and_parts (not (must_end m b (first_byte bytes))) (can_stand m bytes) parts.1 in
     write_both m (characters_for m b) (characters m bytes) (one_written m b parts.0) (characters_written m bytes both.1)
 
--- another character than a percent sign is what it is
+-- a character other than a percent sign is read as it is
 other_first : (b : ℕ) (more : List ℕ) → (b == 37) ≡ false → undoubled (b ∷ more) ≡ b ∷ undoubled more
 other_first b [] other = ap (λ (t : Bool). (if t then 29 else b) ∷ []) other
 other_first b (y ∷ ys) other = ap (λ (t : Bool). if t then (if y == 37 then 37 ∷ undoubled ys else 29 ∷ undoubled (y ∷ ys)) else b ∷ undoubled (y ∷ ys)) other
 
--- a percent sign before another character is a separator
+-- a percent sign before another character is read as a separator
 separator_first : (more : List ℕ) → (first_byte more == 37) ≡ false → undoubled (37 ∷ more) ≡ 29 ∷ undoubled more
 separator_first [] other = refl
 separator_first (y ∷ ys) other = ap (λ (t : Bool). if t then 37 ∷ undoubled ys else 29 ∷ undoubled (y ∷ ys)) other
@@ -71,7 +71,7 @@ left_no : (a b : Bool) → (a || b) ≡ false → a ≡ false
 left_no true b is = absurd (true≢false is)
 left_no false b is = refl
 
--- what stands behind a separator begins with no percent sign
+-- the characters after a separator do not begin with a percent sign
 behind_separator : (bytes : List ℕ) → must_end Alphanumeric 29 (first_byte bytes) ≡ false → (first_byte (characters Alphanumeric bytes) == 37) ≡ false
 behind_separator [] goes = refl
 behind_separator (c ∷ bytes) goes =
@@ -92,7 +92,7 @@ same_bytes : (m : Mode) → ((b : ℕ) → characters_for m b ≡ b ∷ []) → 
 same_bytes m same [] = refl
 same_bytes m same (b ∷ bytes) = ap₂ (λ (x y : List ℕ). x ++ y) (same b) (same_bytes m same bytes)
 
--- a reader takes what a segment has for bytes for them
+-- a reader gets the bytes back from the characters of a segment
 pub chunk_shown : (m : Mode) (bytes : List ℕ) → can_stand m bytes ≡ true → shown_in m (characters m bytes) ≡ bytes
 chunk_shown Numeric bytes can = same_bytes Numeric (λ b. refl) bytes
 chunk_shown Alphanumeric bytes can = letters_shown bytes can

@@ -1,4 +1,4 @@
--- The list of bits of bytes behind FNC1, and how it is read.
+-- The data bits for bytes after FNC1, and how they are read.
 use Rattle.std.proofs.Common.{◌≡◌, ℕ, ◌+◌, ◌≤◌, ◌++◌, Bool, List, [], ◌∷◌, length, refl, sym, ap, ap₂, subst, ◌∙◌, arith, true≢false, length-append, append_assoc, IsTrue, Result, Ok, Err, IfOk}
 use Rattle.std.specs.Prelude.{flat_map, pos}
 use Rattle.std.specs.List.{AllByRecursion}
@@ -24,7 +24,7 @@ use Rattle.qrcode_gs1.specs.symbol.Symbols.{IsMarkedList}
 use Rattle.qrcode_gs1.specs.declared.symbol.Position.{Position}
 use Rattle.qrcode_gs1.proofs.Pieces.{written_cut, written_cost, cut_shown}
 
--- the mark and a cut that fit, terminated, are read as the bytes
+-- the mark and a cut with room, terminated, decode to the bytes
 marked_spelled : (p : Position) (n : ℕ) (l : EcLevel) (bytes : List ℕ) (ss : List Segment) (w : List ℕ) (ranges : List Segment) → AreCharacters bytes ss w ranges → IsTrue (has_level (Normal (pos n)) l)
     → IsMarkedCut bytes ss → length (mark p) + marked_cost (Normal (pos n)) bytes ss ≤ capacity (Normal (pos n)) l
     → SpellsMarked (Normal (pos n)) (terminated (Normal (pos n)) l (mark p ++ written (Normal (pos n)) (marked_pieces bytes ss))) p bytes
@@ -55,13 +55,13 @@ same_shown v bits (p ∷ ps) (q ∷ qs) a b =
     let t = subst (λ z. IsReadAs v z qs) (sym r.2) b.1.1.1.1 in
     ap₂ (λ (x y : List ℕ). x ++ y) (ap₂ shown_in r.0 r.1) (same_shown v a.0 ps qs a.1.1.1.1 t)
 
--- bits are read so as one list of bytes
+-- bits decode to only one list of bytes
 pub one_marked : (v : Version) (bits : List Bool) (p : Position) (a b : List ℕ) → SpellsMarked v bits p a → SpellsMarked v bits p b → b ≡ a
 one_marked v bits p a b s t =
     let same : s.rest ≡ t.rest = append_cancel_left (mark p) s.rest t.rest (sym s.parted ∙ t.parted) in
     sym t.joined ∙ same_shown v s.rest t.pieces s.pieces (subst (λ r. IsReadAs v r t.pieces) (sym same) t.read) s.read ∙ s.joined
 
--- the list of a least cut
+-- the data bits of a shortest cut
 pub marked_list : (p : Position) (n : ℕ) (l : EcLevel) (bytes : List ℕ) (ss : List Segment) (v : Version) (w : List ℕ) (ranges : List Segment) (r : Result BitList QrError) → v ≡ Normal (pos n)
     → AreCharacters bytes ss w ranges → IsTrue (has_level (Normal (pos n)) l) → IsLeastMarkedCut (Normal (pos n)) bytes ss
     → length (mark p) + marked_cost (Normal (pos n)) bytes ss ≤ capacity (Normal (pos n)) l

@@ -1,4 +1,4 @@
--- How an open segment goes on with a byte, by the characters that it has.
+-- How an open segment goes on with a byte, by how many characters it has.
 use Rattle.std.proofs.Common.{◌≡◌, ℕ, zero, suc, ◌+◌, ◌%◌, ◌==◌, Bool, true, false, [], ◌∷◌, length, refl, sym, ap, ap₂, ◌∙◌, arith, true≢false, ◌⊎◌, inl, inr, if◌then◌else◌}
 use Rattle.std.proofs.lemmas.Bool.{and_parts}
 use Rattle.std.proofs.lemmas.Bool.Decides.{nat_tests}
@@ -11,7 +11,7 @@ use Rattle.qrcode_gs1.specs.declared.symbol.costs.Costs.{Costs}
 use Rattle.qrcode_gs1.specs.declared.symbol.costs.Headers.{Headers}
 use Rattle.qrcode_gs1.specs.declared.symbol.costs.Way.{Way}
 
--- an equation that a test decides
+-- numbers that pass the test are equal
 pub equal : (a b : ℕ) → (a == b) ≡ true → a ≡ b
 equal a b is = grind (arith, nat_tests)
 
@@ -28,30 +28,30 @@ abbrev pub by_two : ℕ → Way → Way → Way
 by_two zero a b = a
 by_two (suc n) a b = b
 
--- how the rest goes on behind an open segment of so many characters
+-- how the rest goes on after an open segment of n characters
 abbrev pub left : Costs → Mode → ℕ → Way
 left r Numeric n = by_three (n % 3) r.digits r.one_digit r.two_digits
 left r Alphanumeric n = by_two (n % 2) r.letters r.odd_letter
 left r Byte n = r.bytes
 left r Kanji n = ends r.start
 
--- the same, where it may have to end
+-- the same, or, if the segment must end, the best start
 abbrev pub after : Costs → Mode → ℕ → Bool → Way
 after next m n true = ends next.start
 after next m n false = left next m n
 
--- a segment in the mode can go on with the byte, which is one
+-- a segment in the mode can go on with the byte, which is below 256
 abbrev pub goes_with : Mode → ℕ → Bool
 goes_with Numeric b = has_characters Numeric b
 goes_with Alphanumeric b = has_characters Alphanumeric b
 goes_with Byte b = true
 goes_with Kanji b = false
 
--- the characters that it has for the byte
+-- how many characters a segment in the mode writes for the byte
 abbrev pub count_for : Mode → ℕ → ℕ
 count_for m b = length (characters_for m b)
 
--- a way adds the bits of the characters for a byte
+-- a way that goes on with the byte adds the bits of its characters
 pub record Adds (m : Mode) (n b follows : ℕ) (next : Costs) (way : Way) : Type 0 where
   pub bits : ℕ
   pub adds : data_bits_count m n + bits ≡ data_bits_count m (n + count_for m b)
@@ -73,7 +73,7 @@ one_letter b other = by_test (b == 29) (b == 37) other where
 two_letters : (b : ℕ) → (b == 37) ≡ true → count_for Alphanumeric b ≡ 2
 two_letters b is = ap (λ (k : ℕ). count_for Alphanumeric k) (equal b 37 is)
 
--- a separator is one letter
+-- a separator that must end a segment is one character
 ended_letter : (b follows : ℕ) → must_end Alphanumeric b follows ≡ true → count_for Alphanumeric b ≡ 1
 ended_letter b follows is = ap (λ (k : ℕ). count_for Alphanumeric k) (equal b 29 (and_parts (b == 29) _ is).0)
 
@@ -107,7 +107,7 @@ letters_add n b follows next one first second is_first is_second single double =
       ]
     ]
 
--- what is left of a number by three, and by two
+-- the remainders by three and by two
 three : (n : ℕ) → (n % 3 ≡ 0) ⊎ ((n % 3 ≡ 1) ⊎ (n % 3 ≡ 2))
 three n = grind arith
 

@@ -1,4 +1,4 @@
--- What is said of an element.
+-- An element as its identifier and value.
 use Rattle.qrcode_gs1.specs.declared.elements.Element.{Element}
 use Rattle.qrcode_gs1.specs.Elements.{Item}
 

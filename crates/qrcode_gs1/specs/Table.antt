@@ -1,25 +1,25 @@
--- The application identifiers of GS1, and what values they have (GS1 General Specifications).
+-- The application identifiers of GS1, and the values that they have (GS1 General Specifications).
 use Rattle.std.specs.Prelude.{ℕ, List, [], ◌∷◌}
 
--- the first and the last identifier; the least and the greatest length of a value; how many of its
--- first characters have to be digits; and how many of these end in a check digit, 0 for no check
+-- the first and the last identifier; the shortest and the longest length of a value; how many of its first characters
+-- must be digits; and how many of these end in a check digit, 0 for none
 abbrev pub Rule : Type 0
 Rule = (ℕ × ℕ) × (ℕ × ℕ) × ℕ × ℕ
 
-abbrev pub with_check_digit : (first last count : ℕ) → Rule  -- so many digits, the last a check digit
+abbrev pub with_check_digit : (first last count : ℕ) → Rule  -- digits, as many as the count, the last of them a check digit
 with_check_digit first last count = ((first, last), (count, count), count, count)
 
-abbrev pub digits : (first last least most : ℕ) → Rule  -- from so many digits to so many
+abbrev pub digits : (first last least most : ℕ) → Rule  -- digits, from the least to the most
 digits first last least most = ((first, last), (least, most), most, 0)
 
-abbrev pub characters : (first last least most : ℕ) → Rule  -- from so many characters to so many
+abbrev pub characters : (first last least most : ℕ) → Rule  -- characters, from the least to the most
 characters first last least most = ((first, last), (least, most), 0, 0)
 
--- from so many characters to so many; the first are digits, of which the first end in a check digit
+-- characters, from the least to the most; the first are digits, of which the first end in a check digit
 abbrev pub mixed : (first last least most digits check : ℕ) → Rule
 mixed first last least most digits check = ((first, last), (least, most), digits, check)
 
--- of the identifiers from 3100 to 3699 the last digit counts decimals, as numbered_rule says
+-- from 3100 to 3699 the last digit of an identifier is the number of decimals, as numbered_rule says
 unfoldable pub rules : List Rule
 rules =
     with_check_digit 0 0 18 ∷ with_check_digit 1 3 14 ∷ characters 10 10 1 20 ∷ digits 11 13 6 6 ∷

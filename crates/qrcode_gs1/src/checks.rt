@@ -1,4 +1,4 @@
-//! What is wrong with an element.
+//! Checks an element: identifier, length, characters, check digit and date.
 
 ghost use Rattle.std.specs.Prelude.{◌≡◌};
 ghost use Rattle.std.specs.List.{list_all};
@@ -7,7 +7,7 @@ ghost use Rattle.qrcode_gs1.specs.Refusals.{cause_of, days_in, is_character, is_
 use crate::errors::Cause;
 use crate::table::{Rule, are_digits, fixed_length, number_of, prefix_of, rule_of, start};
 
-// Whether all bytes are among the 82 characters.
+// Returns whether all bytes are among the 82 characters of GS1.
 #[tactic(auto, unfolding(crate::specs::Refusals::is_character))]
 fn are_characters(bytes: &[u8]) -> bool
     ensures { result ≡ list_all is_character bytes.now }
@@ -17,7 +17,7 @@ fn are_characters(bytes: &[u8]) -> bool
     })
 }
 
-// Whether the last digit is the check digit of those before it.
+// Returns whether the last digit is the check digit of those before it.
 fn is_checked(digits: &[u8]) -> bool
     ensures { result ≡ is_checked digits.now }
 {
@@ -31,7 +31,8 @@ fn is_checked(digits: &[u8]) -> bool
     sum == 0
 }
 
-// Whether the value has as many characters as the rule and the first digits of the identifier say.
+// Returns whether the value has a length that the rule allows and, if it is predefined, the one
+// that the first digits of the identifier say.
 fn is_long_enough(rule: &Rule, identifier: &[u8], value: &[u8]) -> bool
     ensures { result ≡ is_long_enough rule.now (identifier.now, value.now) }
 {
@@ -42,21 +43,21 @@ fn is_long_enough(rule: &Rule, identifier: &[u8], value: &[u8]) -> bool
         & ((fixed == 0) | (identifier.len() + value.len() == fixed))
 }
 
-// Whether the value has characters that may stand there.
+// Returns whether the value has only characters that GS1 has, and digits where the rule needs them.
 fn is_written(rule: &Rule, value: &[u8]) -> bool
     ensures { result ≡ is_written rule.now value.now }
 {
     are_characters(value) & are_digits(start(value, rule.2))
 }
 
-// Whether the value of an identifier is a date.
+// Returns whether the value of an identifier is a date.
 fn is_dated(identifier: &[u8]) -> bool
     ensures { result ≡ is_dated identifier.now }
 {
     matches!(prefix_of(identifier), 11..=13 | 15..=17)
 }
 
-// How many days the month of a year has, by the last two digits of the year.
+// Returns how many days a month has, in a year of these last two digits.
 fn days_in(year: usize, month: usize) -> usize
     ensures { result ≡ days_in year month }
 {
@@ -68,7 +69,8 @@ fn days_in(year: usize, month: usize) -> usize
     }
 }
 
-// Whether digits are a date: year, month and day, where day 00 leaves the day open.
+// Returns whether these are six digits of a date: year, month and day, where day 00 leaves the day
+// open.
 #[tactic(auto, unfolding(crate::specs::Refusals::is_date))]
 fn is_date(digits: &[u8]) -> bool
     ensures { result ≡ is_date digits.now }
@@ -81,7 +83,8 @@ fn is_date(digits: &[u8]) -> bool
     0 < month && month < 13 && day <= days_in(number_of(&digits[..2]), month)
 }
 
-/// What is wrong with an element, if anything.
+/// Returns what is wrong with an element, if anything: the first that applies of
+/// `UnknownIdentifier`, `Length`, `Character`, `CheckDigit` and `Range`.
 pub fn cause_of(identifier: &[u8], value: &[u8]) -> Option<Cause>
     ensures { result ≡ cause_of (identifier.now, value.now) }
 {

@@ -1,4 +1,4 @@
-//! Elements and the string of them.
+//! Writes element strings.
 
 ghost use Rattle.std.specs.Prelude.{◌≡◌, ◌++◌, map, IfOk, OnOk, IsOkUnless, IsTrue};
 ghost use Rattle.qrcode_gs1.specs.declared.errors.Gs1Error.TheVariants.{OutOfMemory};
@@ -14,13 +14,13 @@ use std::alloc::Global;
 /// An application identifier with its value.
 #[derive(Copy, Clone, PartialEq, Eq, Debug)]
 pub struct Element<'a> {
-    /// Its digits, without parentheses.
+    /// The digits of the identifier, without parentheses.
     pub identifier: &'a str,
-    /// Its value, with the check digit where it has one.
+    /// The value, with its check digit if it has one.
     pub value: &'a str,
 }
 
-// Refuses the first element with which something is wrong.
+// Rejects the first element that is wrong.
 fn check(elements: &[Element]) -> Gs1Result<()>
     ensures { result ≡ checked (refusal_from 0 (map item elements.now)) }
 {
@@ -32,7 +32,7 @@ fn check(elements: &[Element]) -> Gs1Result<()>
     Ok(())
 }
 
-// The string of elements of which none is refused.
+// Writes the string of elements that are all right.
 fn written(alloc: Global, elements: &[Element]) -> Gs1Result<Vec<u8>>
     ensures value { IfOk result (λ bytes. bytes.items ≡ element_string (map item elements.now)) }
     ensures memory { IsOkUnless result OutOfMemory }
@@ -50,10 +50,11 @@ fn written(alloc: Global, elements: &[Element]) -> Gs1Result<Vec<u8>>
     Ok(bytes)
 }
 
-/// The element string, with a separator (byte 29) behind each element whose length is not
-/// predefined and that another one follows.
+/// Returns the element string: identifiers and values one after the other, with a separator (byte
+/// 29) after each element without a predefined length, except the last one.
 ///
-/// An error names the first element that is refused and why, or is `OutOfMemory`.
+/// Errors: `Refused` with the first wrong element and what is wrong; `OutOfMemory` if memory runs
+/// out.
 pub fn element_string(alloc: Global, elements: &[Element]) -> Gs1Result<Vec<u8>>
     ensures reads { Answers (refusal_from 0 (map item elements.now)) result
         (λ bytes. read_elements bytes ≡ map item elements.now) }

@@ -14,24 +14,24 @@ pub enum Cause {
     UnknownIdentifier,
     /// The value has too few or too many characters.
     Length,
-    /// The value has a character that may not stand there.
+    /// The value has a character that is not allowed at its place.
     Character,
     /// The check digit of the value is wrong.
     CheckDigit,
-    /// The value is to be a date, and the calendar does not have it.
+    /// The value should be a date, but the calendar does not have it.
     Range,
 }
 
-/// Why there is no element string.
+/// Why elements have no element string.
 #[derive(Debug, PartialEq, Eq, Copy, Clone)]
 pub enum Gs1Error {
-    /// The element at this index is the first that is refused, for this cause.
+    /// The element at this index, from 0, is the first wrong one, for this cause.
     Refused(usize, Cause),
-    /// Memory was refused.
+    /// Memory ran out.
     OutOfMemory,
 }
 
-/// The answer of a call that may refuse an element.
+/// The result of a call that may reject an element.
 pub type Gs1Result<T> = Result<T, Gs1Error>;
 
 impl fmt::Display for Gs1Error {

@@ -1,4 +1,4 @@
-//! Laws of the types that no call stands for, on the contract of a function that does nothing.
+//! Theorems about types that belong to no call: the contract of a function that does nothing.
 
 ghost use Rattle.std.specs.Prelude.{◌≡◌, ◌↔◌, IsTrue};
 ghost use Rattle.qrcode_gs1.specs.Items.{item};
@@ -9,7 +9,7 @@ ghost use Rattle.qrcode_gs1.specs.declared.errors.Gs1Error.{Gs1Error};
 use crate::elements::Element;
 use crate::errors::{Cause, Gs1Error};
 
-/// A theorem: two values are equal by `==` exactly when they are the same; two elements, when their
+/// Theorem: two values are equal by `==` exactly if they are the same; two elements, if their
 /// identifiers and values are.
 pub fn equality()
     ensures reasons { (a b : Cause) → IsTrue (⟦<Cause as PartialEq>⟧.eq a b) ↔ (a ≡ b) }

@@ -1,4 +1,4 @@
-//! Element strings of GS1: application identifiers with their values.
+//! GS1 element strings (application identifiers with their values), and symbols with FNC1.
 #![tactic(auto)]
 
 pub mod checks;

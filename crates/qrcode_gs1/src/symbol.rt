@@ -1,5 +1,5 @@
-//! Symbols with FNC1 (ISO/IEC 18004:2006, 6.4.8): elements of GS1 in first position, and data of
-//! other applications in second.
+//! Encodes symbols with FNC1 (ISO/IEC 18004:2006, 6.4.8): GS1 elements in first position, and data
+//! of other applications in second.
 
 ghost use Rattle.std.specs.Prelude.{ℕ, ◌≤◌, map, IfOk, IfErr, IsOkUnless};
 ghost use Rattle.qrcode_types.specs.declared.types.QrError.TheVariants.{OutOfMemory};
@@ -28,21 +28,21 @@ mod least;
 mod mark;
 mod separators;
 
-/// Where FNC1 stands.
+/// The position of FNC1.
 #[derive(Copy, Clone, PartialEq, Eq, Debug)]
 pub enum Position {
-    /// In first position: the bytes are an element string of GS1.
+    /// First position: the bytes are a GS1 element string.
     First,
-    /// In second position, with the indicator of an application.
+    /// Second position, with the indicator of an application.
     Second(u8),
 }
 
-/// The symbol of elements of GS1 at a level, of the least version of Normal that holds them: FNC1
-/// in first position and their element string, in segments of the fewest bits. In the mode
-/// Alphanumeric a separator stands as a percent sign, and a percent sign as two.
+/// Encodes GS1 `elements` at `ec_level`, in the smallest Normal version that holds them: FNC1 in
+/// first position, then their element string in segments of the fewest bits. In Alphanumeric mode a
+/// separator is written as a percent sign, and a percent sign as two.
 ///
-/// `Elements`: which element is refused first, and why. `Symbol(DataTooLong)`: no version of Normal
-/// holds them. `OutOfMemory`, in either: memory was refused.
+/// Errors: `Elements` with the first wrong element and what is wrong; `Symbol(DataTooLong)` if no
+/// Normal version holds the elements; either with `OutOfMemory` if memory runs out.
 pub fn gs1(alloc: Global, elements: &[Element], ec_level: EcLevel) -> SymbolResult<QrCode>
     ensures symbol { IfOk result (IsGs1Symbol 0 ec_level (map item elements.now)) }
     ensures causes { IfErr result (IsGs1Refused 0 ec_level (map item elements.now)) }
@@ -50,11 +50,11 @@ pub fn gs1(alloc: Global, elements: &[Element], ec_level: EcLevel) -> SymbolResu
     gs1_from(alloc, elements, ec_level, 0)
 }
 
-/// The same, of the least version of Normal, from the one of this number on, that holds the
-/// elements.
+/// Encodes GS1 `elements` as `gs1` does, in the smallest Normal version from `from` on that holds
+/// them.
 ///
-/// `Elements`: which element is refused first, and why. `Symbol(DataTooLong)`: no version of Normal
-/// from it on holds them. `OutOfMemory`, in either: memory was refused.
+/// Errors: those of `gs1`, with `Symbol(DataTooLong)` if no Normal version from `from` on holds the
+/// elements.
 pub fn gs1_from(
     alloc: Global,
     elements: &[Element],
@@ -68,11 +68,11 @@ pub fn gs1_from(
     Ok(symbol(alloc, &bytes, Position::First, ec_level, from)?)
 }
 
-/// The symbol of data at a level, of the least version of Normal that holds it: FNC1 in second
-/// position, the indicator of the application, as `indicator_of` gives it, and the data in such
-/// segments. Byte 29 is the separator.
+/// Encodes `bytes` for an application at `ec_level`, in the smallest Normal version that holds
+/// them: FNC1 in second position, the indicator of the `application` (see `indicator_of`), and the
+/// bytes in segments of the fewest bits, as in `gs1`. Byte 29 is the separator.
 ///
-/// `DataTooLong`: no version of Normal holds the data. `OutOfMemory`: memory was refused.
+/// Errors: `DataTooLong` if no Normal version holds `bytes`; `OutOfMemory` if memory runs out.
 pub fn for_application(
     alloc: Global,
     application: u8,
@@ -87,10 +87,11 @@ pub fn for_application(
     for_application_from(alloc, application, bytes, ec_level, 0)
 }
 
-/// The same, of the least version of Normal, from the one of this number on, that holds the data.
+/// Encodes `bytes` as `for_application` does, in the smallest Normal version from `from` on that
+/// holds them.
 ///
-/// `DataTooLong`: no version of Normal from it on holds the data. `OutOfMemory`: memory was
-/// refused.
+/// Errors: `DataTooLong` if no Normal version from `from` on holds `bytes`; `OutOfMemory` if memory
+/// runs out.
 pub fn for_application_from(
     alloc: Global,
     application: u8,

@@ -1,15 +1,17 @@
-//! Application identifiers: how long they are, and what values they have.
+//! The table of application identifiers, and the lengths of their values.
 
 ghost use Rattle.std.specs.Prelude.{◌≡◌, ◌≤◌, length, take};
 ghost use Rattle.std.specs.List.{list_all};
 ghost use Rattle.qrcode_gs1.specs.Elements.{digit_count, fixed_length, number_of, prefix_of};
 ghost use Rattle.qrcode_gs1.specs.Refusals.{is_digit, numbered_rule, rule_of};
 
-/// The first and the last identifier; the least and the greatest length of a value; how many of its
-/// first characters have to be digits; and how many of these end in a check digit, 0 for no check.
+/// The rule for a range of identifiers: the first and the last of them; the shortest and the
+/// longest length of a value; how many of its first characters must be digits; and how many of
+/// these end in a check digit, 0 for none.
 pub type Rule = ((usize, usize), (usize, usize), usize, usize);
 
-/// The identifiers. Of those from 3100 to 3699 the last digit counts decimals and is at most 5.
+/// The rules of all identifiers. From 3100 to 3699 the last digit of an identifier is the number of
+/// decimals, at most 5.
 pub static RULES: [Rule; 106] = [
     ((0, 0), (18, 18), 18, 18),
     ((1, 3), (14, 14), 14, 14),
@@ -119,7 +121,7 @@ pub static RULES: [Rule; 106] = [
     ((91, 99), (1, 90), 0, 0),
 ];
 
-/// The first bytes, all where there are fewer.
+/// Returns the first `count` bytes, or all if there are fewer.
 pub fn start(bytes: &[u8], count: usize) -> &[u8]
     ensures { result.now ≡ take count bytes.now }
 {
@@ -129,7 +131,7 @@ pub fn start(bytes: &[u8], count: usize) -> &[u8]
     bytes.split_at(count).0
 }
 
-/// The number that digits write.
+/// Returns the number that at most four digits write.
 pub fn number_of(digits: &[u8]) -> usize
     requires { length digits.now ≤ 4 }
     ensures { result ≡ number_of digits.now }
@@ -141,14 +143,14 @@ pub fn number_of(digits: &[u8]) -> usize
     number
 }
 
-/// The number that the first two digits write.
+/// Returns the number that the first two digits write.
 pub fn prefix_of(bytes: &[u8]) -> usize
     ensures { result ≡ prefix_of bytes.now }
 {
     number_of(start(bytes, 2))
 }
 
-/// How many digits an identifier has, by its first two.
+/// Returns how many digits an identifier has, by its first two.
 #[tactic(auto, unfolding(crate::specs::Elements::digit_count))]
 pub fn digit_count(prefix: usize) -> usize
     ensures value { result ≡ digit_count prefix }
@@ -161,8 +163,8 @@ pub fn digit_count(prefix: usize) -> usize
     }
 }
 
-/// How many characters an identifier and its value have together, by its first two digits; 0 where
-/// that is not predefined.
+/// Returns how many characters an identifier and its value have together, by its first two digits;
+/// 0 if that is not predefined.
 #[tactic(auto, unfolding(crate::specs::Elements::fixed_length))]
 pub fn fixed_length(prefix: usize) -> usize
     ensures { result ≡ fixed_length prefix }
@@ -179,14 +181,14 @@ pub fn fixed_length(prefix: usize) -> usize
     }
 }
 
-/// Whether all bytes are digits.
+/// Returns whether all bytes are digits.
 pub fn are_digits(bytes: &[u8]) -> bool
     ensures { result ≡ list_all is_digit bytes.now }
 {
     bytes.iter().all(|byte| matches!(*byte, b'0'..=b'9'))
 }
 
-// The rule among these of an identifier, by its number.
+// Returns the rule for identifier `number`, if there is one.
 #[tactic(auto, unfolding(crate::specs::Refusals::numbered_rule))]
 fn numbered_rule(rules: &[Rule], number: usize) -> Option<Rule>
     ensures { result ≡ numbered_rule rules.now number }
@@ -202,7 +204,7 @@ fn numbered_rule(rules: &[Rule], number: usize) -> Option<Rule>
     None
 }
 
-/// The rule of an identifier, where there is one.
+/// Returns the rule for an identifier, if there is one.
 pub fn rule_of(identifier: &[u8]) -> Option<Rule>
     ensures { result ≡ rule_of identifier.now }
 {

@@ -1,4 +1,4 @@
--- The fewest bits that a rest of bytes behind FNC1 takes, from its end on.
+-- The fewest bits that the rest of the bytes after FNC1 takes, counted from the end.
 use Rattle.std.specs.Prelude.{◌≡◌, ℕ, ◌+◌, ◌<◌, ◌≤◌, ◌==◌, nat_lt, ◌&&◌, Bool, true, List, [], ◌∷◌, length, drop, slice_index_or, if◌then◌else◌}
 use Rattle.qrcode_types.specs.Modes.{mode_bits_count, length_bits_count}
 use Rattle.qrcode_types.specs.declared.types.Version.{Version}
@@ -11,7 +11,7 @@ use Rattle.qrcode_gs1.specs.declared.symbol.costs.Headers.{Headers}
 use Rattle.qrcode_gs1.specs.declared.symbol.costs.Start.{Start}
 use Rattle.qrcode_gs1.specs.declared.symbol.costs.Way.{Way}
 
-abbrev pub headers_of : Version → Headers  -- the headers of a version
+abbrev pub headers_of : Version → Headers  -- the bits of mode indicator and length field
 headers_of v = record { numeric = mode_bits_count v + length_bits_count Numeric v; alphanumeric = mode_bits_count v + length_bits_count Alphanumeric v; byte = mode_bits_count v + length_bits_count Byte v }
 
 pub record AreSmall (h : Headers) : Type 0 where  -- each header is at most 20 bits
@@ -19,14 +19,14 @@ pub record AreSmall (h : Headers) : Type 0 where  -- each header is at most 20 b
   pub alphanumeric : h.alphanumeric ≤ 20
   pub byte : h.byte ≤ 20
 
-pub record AreFew (w : Way) : Type 0 where  -- so few that with a few more they do not wrap
+pub record AreFew (w : Way) : Type 0 where  -- so few that adding a few more does not overflow
   pub bits : w.bits ≤ 2147483648
   pub taken : w.taken ≤ 2147483648
 
 abbrev pub ends : Start → Way  -- an open segment ends, and the best start follows
 ends s = record { bits = s.bits; taken = 0 }
 
-pub record AreAllFew (r : Costs) : Type 0 where  -- each of the costs is so few
+pub record AreAllFew (r : Costs) : Type 0 where  -- all costs are so few
   pub start : AreFew (ends r.start)
   pub digits : AreFew r.digits
   pub one_digit : AreFew r.one_digit
@@ -35,19 +35,20 @@ pub record AreAllFew (r : Costs) : Type 0 where  -- each of the costs is so few
   pub odd_letter : AreFew r.odd_letter
   pub bytes : AreFew r.bytes
 
-abbrev pub behind : ℕ → Way → Way  -- a way behind a byte of so many bits
+abbrev pub behind : ℕ → Way → Way  -- a way with a byte of this many bits before it
 behind bits w = record { bits = w.bits + bits; taken = w.taken + 1 }
 
-abbrev pub goes_or : Way → Bool → Way → Way  -- the better of two ways, where the second can be gone
+abbrev pub goes_or : Way → Bool → Way → Way  -- the better of two ways, if the second is possible
 goes_or w can other = if can && nat_lt other.bits w.bits then other else w
 
 abbrev pub with_header : Mode → ℕ → Way → Start  -- a segment that begins, by its header and how it goes on
 with_header m header w = record { bits = header + w.bits; mode = m; taken = w.taken }
 
-abbrev pub better : Start → Bool → Start → Start  -- the better of two starts, where the second can be made
+abbrev pub better : Start → Bool → Start → Start  -- the better of two starts, if the second is possible
 better s can other = if can && nat_lt other.bits s.bits then other else s
 
--- how letters go on with a byte, where pairs of them are open, and where a letter is behind these
+-- how an open Alphanumeric segment goes on with a byte: after whole pairs (even_on), or with one letter after these
+-- (odd_on)
 abbrev pub even_on : ℕ → ℕ → Costs → Way
 even_on b follows next =
     if must_end Alphanumeric b follows then behind 6 (ends next.start) else (if b == 37 then behind 11 next.letters else behind 6 next.odd_letter)
@@ -62,7 +63,7 @@ best_start h b follows next =
     (has_characters Alphanumeric b) (with_header Alphanumeric h.alphanumeric (even_on b follows next)))
     (has_characters Numeric b) (with_header Numeric h.numeric (behind 4 next.one_digit))
 
--- the costs one byte earlier, by that byte, the one behind it and the best start there
+-- the costs one byte earlier: by that byte, the one after it, and the best start there
 abbrev pub costs_before : ℕ → ℕ → Start → Costs → Costs
 costs_before b follows s next = record {
   start = s;
@@ -83,14 +84,14 @@ end_start = record { bits = 0; mode = Byte; taken = 0 }
 abbrev pub at_end : Costs
 at_end = record { start = end_start; digits = ends end_start; one_digit = ends end_start; two_digits = ends end_start; letters = ends end_start; odd_letter = ends end_start; bytes = ends end_start }
 
-abbrev pub costs_of : Headers → List ℕ → Costs  -- what the rest takes, byte by byte from its end
+abbrev pub costs_of : Headers → List ℕ → Costs  -- the costs of the rest, byte by byte from its end
 costs_of h [] = at_end
 costs_of h (b ∷ bytes) = step h b (first_byte bytes) (costs_of h bytes)
 
-abbrev pub past_end : Start  -- what is read past the end of a list of starts
+abbrev pub past_end : Start  -- a value for places past the end of a list of starts
 past_end = record { bits = 0; mode = Numeric; taken = 0 }
 
--- a start for each place of the bytes
+-- the best start at each place of the bytes
 pub record AreStarts (h : Headers) (bytes : List ℕ) (starts : List Start) : Type 0 where
   pub count : length starts ≡ length bytes
   pub least : (place : ℕ) → place < length bytes → slice_index_or starts place past_end ≡ (costs_of h (drop place bytes)).start

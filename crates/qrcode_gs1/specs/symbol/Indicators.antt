@@ -5,7 +5,7 @@ use Rattle.qrcode_types.specs.Characters.{is_digit}
 abbrev pub is_letter : ℕ → Bool  -- a letter from A to Z or from a to z
 is_letter b = (nat_le 65 b && nat_le b 90) || (nat_le 97 b && nat_le b 122)
 
--- the number of an indicator: of a letter its byte and 100, and of two digits the one that they write
+-- the number of an indicator: for a letter its ASCII code plus 100, for two digits the number that they write
 abbrev pub indicator_of : List ℕ → Option ℕ
 indicator_of [] = None
 indicator_of (b ∷ []) = if is_letter b then Some (b + 100) else None

@@ -10,7 +10,7 @@ use Rattle.qrcode_bits.specs.Written.{Piece}
 use Rattle.qrcode_gs1.specs.symbol.Characters.{mark, shown}
 use Rattle.qrcode_gs1.specs.declared.symbol.Position.{Position}
 
--- a reader finds these bytes in the bits, behind FNC1 in a position; Micro has no such mark
+-- the bits decode to these bytes after FNC1 in a position; Micro has no FNC1
 pub record SpellsMarked (v : Version) (bits : List Bool) (p : Position) (bytes : List ℕ) : Type 0 where
   pub exists : is_micro v ≡ false
   pub rest : List Bool
@@ -19,7 +19,7 @@ pub record SpellsMarked (v : Version) (bits : List Bool) (p : Position) (bytes :
   pub read : IsReadAs v rest pieces
   pub joined : flat_map shown pieces ≡ bytes
 
--- a reader finds them in a square
+-- a square decodes to these bytes after FNC1 in a position
 pub record ReadsMarked (s : List Color) (p : Position) (bytes : List ℕ) : Type 0 where
   pub version : Version
   pub level : EcLevel
@@ -27,6 +27,6 @@ pub record ReadsMarked (s : List Color) (p : Position) (bytes : List ℕ) : Type
   pub read : ReadsBits s version level bits
   pub spelled : SpellsMarked version bits p bytes
 
-pub record ReadsMarkedOnly (s : List Color) (p : Position) (bytes : List ℕ) : Type 0 where  -- and no others
+pub record ReadsMarkedOnly (s : List Color) (p : Position) (bytes : List ℕ) : Type 0 where  -- and to no others
   pub found : ReadsMarked s p bytes
   pub only : (others : List ℕ) → ReadsMarked s p others → others ≡ bytes

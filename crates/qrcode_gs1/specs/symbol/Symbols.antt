@@ -1,4 +1,4 @@
--- The symbol of bytes behind FNC1.
+-- The symbol of bytes after FNC1.
 use Rattle.std.specs.Prelude.{◌≡◌, ◌⊎◌, ℕ, ◌+◌, ◌≤◌, pos, List, ◌++◌, length, IsTrue}
 use Rattle.qrcode_types.specs.Versions.{has_level, capacity}
 use Rattle.qrcode_types.specs.declared.types.Version.{Version}
@@ -18,14 +18,14 @@ use Rattle.qrcode_gs1.specs.symbol.Cuts.{IsMarkedCut, IsLeastMarkedCut, marked_c
 use Rattle.qrcode_gs1.specs.symbol.Reading.{SpellsMarked, ReadsMarkedOnly}
 use Rattle.qrcode_gs1.specs.declared.symbol.Position.{Position}
 
--- a version of Normal has the level, and its symbol has room for the mark and some such cut
+-- a Normal version has the level, and room for the mark and some cut
 pub record HoldsMarked (p : Position) (l : EcLevel) (bytes : List ℕ) (number : ℕ) : Type 0 where
   pub exists : IsTrue (has_level (Normal (pos number)) l)
   pub segments : List Segment
   pub cut : IsMarkedCut bytes segments
   pub room : length (mark p) + marked_cost (Normal (pos number)) bytes segments ≤ capacity (Normal (pos number)) l
 
--- the mark and a least cut, terminated
+-- the mark and a shortest cut, terminated
 pub record IsMarkedList (p : Position) (v : Version) (l : EcLevel) (bytes : List ℕ) (list : BitList) : Type 0 where
   pub version : list.version ≡ v
   pub segments : List Segment
@@ -34,7 +34,8 @@ pub record IsMarkedList (p : Position) (v : Version) (l : EcLevel) (bytes : List
   pub full : length list.bits ≡ capacity v l
   pub spelled : SpellsMarked v list.bits p bytes
 
--- The symbol of the mark and a least cut, of the least version of Normal from one on that holds them, of which every damaged symbol is read as the bytes behind that mark, and as no others.
+-- The symbol of the mark and a shortest cut, in the smallest Normal version from this one on that holds them; each
+-- symbol within the promised damage decodes to the bytes after that mark, and to no others.
 pub record IsMarkedSymbol (from : ℕ) (p : Position) (l : EcLevel) (bytes : List ℕ) (code : Code) : Type 0 where
   pub number : ℕ
   pub at_least : from ≤ number
@@ -47,6 +48,6 @@ pub record IsMarkedSymbol (from : ℕ) (p : Position) (l : EcLevel) (bytes : Lis
   pub encodes : EncodesBits (Normal (pos number)) l (terminated (Normal (pos number)) l (mark p ++ written (Normal (pos number)) (marked_pieces bytes segments))) code.modules
   pub read : (other : List Color) → IsDamaged (Normal (pos number)) l encodes.mask code.modules other → ReadsMarkedOnly other p bytes
 
--- why there is none: memory was refused, or no version of Normal from one on holds them
+-- why there is no symbol: memory ran out, or no Normal version from this one on holds the bytes
 abbrev pub IsMarkedRefused : ℕ → Position → EcLevel → List ℕ → QrError → Type 0
 IsMarkedRefused from p l bytes e = (e ≡ OutOfMemory) ⊎ ((e ≡ DataTooLong) × ((number : ℕ) → from ≤ number → ¬ HoldsMarked p l bytes number))

@@ -1,4 +1,4 @@
-//! What is written of segments of bytes behind FNC1.
+//! Spells separators and percent signs as segments after FNC1 write them.
 
 ghost use Rattle.std.specs.Prelude.{◌≡◌, ◌++◌, length, IfOk, OnOk, IsOkUnless};
 ghost use Rattle.qrcode_types.specs.declared.types.QrError.TheVariants.{OutOfMemory};
@@ -10,14 +10,14 @@ use qrcode::types::{Mode, QrResult};
 use qrcode_bits::optimize::Segment;
 use std::alloc::Global;
 
-// What segments have for bytes, one behind the other, and the segments of it.
+// The characters that segments write, one after the other, and the segments of these.
 pub(crate) struct Characters {
     pub(crate) bytes: Vec<u8>,
     pub(crate) segments: Vec<Segment>,
 }
 
 impl Characters {
-    // What segments have for their bytes.
+    // Returns the characters that `segments` of `bytes` write.
     pub(crate) fn of(alloc: Global, bytes: &[u8], segments: &[Segment]) -> QrResult<Characters>
         requires tiles { Tile 0 segments.now (length bytes.now) }
         requires inside { AreInside (length bytes.now) segments.now }
@@ -44,7 +44,7 @@ impl Characters {
     }
 }
 
-// Appends what a segment in a mode has for bytes.
+// Appends the characters that a segment in `mode` writes for `bytes`.
 fn push_characters(written: &mut Vec<u8>, mode: Mode, bytes: &[u8]) -> QrResult<()>
     ensures appends { OnOk result
         (written.new.items ≡ written.old.items ++ characters mode bytes.now) }
@@ -56,7 +56,8 @@ fn push_characters(written: &mut Vec<u8>, mode: Mode, bytes: &[u8]) -> QrResult<
     Ok(())
 }
 
-// Appends what it has for a byte.
+// Appends what it writes for one byte: in Alphanumeric a percent sign for a separator, and two for
+// a percent sign.
 fn push_character(written: &mut Vec<u8>, mode: Mode, byte: u8) -> QrResult<()>
     ensures appends { OnOk result
         (written.new.items ≡ written.old.items ++ characters_for mode byte) }

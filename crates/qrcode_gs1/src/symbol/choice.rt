@@ -1,4 +1,4 @@
-//! The least version that holds bytes behind FNC1.
+//! Chooses the smallest version that holds bytes after FNC1.
 
 ghost use Rattle.std.specs.Prelude.{◌≡◌, ℕ, ◌≤◌, ◌↔◌, length, IsTrue, IfOk, IfErr};
 ghost use Rattle.qrcode_types.specs.declared.types.QrError.TheVariants.{DataTooLong};
@@ -11,7 +11,7 @@ use crate::symbol::mark::mark_length;
 use qrcode::types::{EcLevel, QrError, QrResult, Version};
 use qrcode_types::tables;
 
-// Whether a version of Normal holds bytes behind the mark.
+// Returns whether a Normal version holds `bytes` after the mark.
 fn holds(bytes: &[u8], position: Position, ec_level: EcLevel, number: usize) -> bool
     requires length_at_most { length bytes.now ≤ data_limit }
     requires at_least { 1 ≤ number }
@@ -20,7 +20,7 @@ fn holds(bytes: &[u8], position: Position, ec_level: EcLevel, number: usize) -> 
 {
     let version = Version::Normal(number as i16);
     match tables::capacity(version, ec_level) {
-        // Each byte takes three bits at least, so that few versions are looked at closely.
+        // Each byte takes at least three bits, so few versions need a closer look.
         Some(room) => {
             3 * bytes.len() <= room && mark_length(position) + fewest_bits(bytes, version) <= room
         }
@@ -28,9 +28,9 @@ fn holds(bytes: &[u8], position: Position, ec_level: EcLevel, number: usize) -> 
     }
 }
 
-// The least version of Normal, from one on, that holds bytes behind the mark.
+// Returns the smallest Normal version from `from` on that holds `bytes` after the mark.
 //
-// `DataTooLong`: none does.
+// Errors: `DataTooLong` if none does.
 pub(crate) fn least_number(
     bytes: &[u8],
     position: Position,

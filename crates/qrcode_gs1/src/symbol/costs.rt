@@ -1,4 +1,4 @@
-//! What a rest of bytes behind FNC1 takes at least, by what stands before it.
+//! Counts the fewest bits that the rest of the data takes, by the segment that is open before it.
 
 ghost use Rattle.std.specs.Prelude.{◌≡◌, ◌+◌, ◌≤◌, IsTrue};
 ghost use Rattle.qrcode_types.specs.Versions.{is_valid, is_micro};
@@ -31,8 +31,8 @@ impl Headers {
     }
 }
 
-// How the rest goes on behind an open segment: the bits of all that is left, and how many bytes
-// more the segment takes.
+// How the rest goes on after an open segment: `bits` of all that is left, of which the segment
+// takes the next `taken` bytes.
 #[derive(Copy, Clone)]
 pub(crate) struct Way {
     bits: usize,
@@ -40,7 +40,7 @@ pub(crate) struct Way {
 }
 
 impl Way {
-    // This way, behind a byte of so many bits.
+    // Returns this way with a byte of this many bits before it.
     fn behind(self, bits: usize) -> Way
         requires rest { AreFew self }
         requires at_most { bits ≤ 11 }
@@ -52,7 +52,7 @@ impl Way {
         }
     }
 
-    // This way, or the other, where it can be gone and takes fewer bits.
+    // Returns `other` if it is possible (`can`) and takes fewer bits, else this way.
     fn or_if(self, can: bool, other: Way) -> Way
         ensures { result ≡ goes_or self can other }
     {
@@ -64,8 +64,8 @@ impl Way {
     }
 }
 
-// The segment with which a rest begins so that it takes the fewest bits: its mode, and how many
-// bytes it takes.
+// The first segment of the rest, so that the rest takes the fewest bits: all its `bits`, and the
+// segment's mode and number of bytes.
 #[derive(Copy, Clone)]
 pub(crate) struct Start {
     pub(crate) bits: usize,
@@ -74,7 +74,7 @@ pub(crate) struct Start {
 }
 
 impl Start {
-    // A segment in a mode, by its header and how it goes on from its first byte.
+    // Begins a segment in `mode` with a header, which goes on in this way from its first byte.
     fn new(mode: Mode, header: usize, way: Way) -> Start
         requires { header + way.bits ≤ 18446744073709551615 }
         ensures { result ≡ with_header mode header way }
@@ -86,7 +86,7 @@ impl Start {
         }
     }
 
-    // This start, or the other, where it can be made and takes fewer bits.
+    // Returns `other` if it is possible (`can`) and takes fewer bits, else this start.
     fn or_if(self, can: bool, other: Start) -> Start
         ensures { result ≡ better self can other }
     {
@@ -97,7 +97,7 @@ impl Start {
         }
     }
 
-    // An open segment ends before it.
+    // Returns the way of an open segment that ends here, before this start.
     fn ends(self) -> Way
         ensures { result ≡ ends self }
     {
@@ -108,9 +108,10 @@ impl Start {
     }
 }
 
-// The fewest bits that a rest takes, by what stands before it: a segment begins here, or one is
-// open to which the rest may add. An open segment of digits counts by how many of them are behind
-// its last group of three, one of letters by whether they are odd.
+// The fewest bits that the rest takes, by what comes before it: nothing open, so that a segment
+// starts here, or an open segment, which may take more bytes. An open Numeric segment is told by
+// how many digits follow its last group of three, an Alphanumeric one by whether its number of
+// letters is odd.
 #[derive(Copy, Clone)]
 pub(crate) struct Costs {
     pub(crate) start: Start,
@@ -123,7 +124,7 @@ pub(crate) struct Costs {
 }
 
 impl Costs {
-    // What the end takes.
+    // Returns the costs at the end of the data.
     pub(crate) fn at_end() -> Costs
         ensures { result ≡ at_end }
     {
@@ -144,7 +145,8 @@ impl Costs {
         }
     }
 
-    // The rest that begins one byte earlier, by that byte and the one behind it, if any, or 0.
+    // Returns the costs of the rest from one byte earlier on: `byte`, then `follows`, or 0 at the
+    // end.
     pub(crate) fn with_byte_before(self, headers: Headers, byte: u8, follows: u8) -> Costs
         requires headers { AreSmall headers }
         requires rest { AreAllFew self }
@@ -173,7 +175,7 @@ impl Costs {
         }
     }
 
-    // How letters go on with a byte, where pairs of them are open.
+    // Returns how an open Alphanumeric segment of whole pairs goes on with `byte`.
     fn even_on(self, byte: u8, follows: u8) -> Way
         requires { AreAllFew self }
         ensures { result ≡ even_on byte follows self }
@@ -187,7 +189,7 @@ impl Costs {
         }
     }
 
-    // The same where a letter is behind the pairs.
+    // Returns how an open Alphanumeric segment with one letter after the pairs goes on with `byte`.
     fn odd_on(self, byte: u8, follows: u8) -> Way
         requires { AreAllFew self }
         ensures { result ≡ odd_on byte follows self }
@@ -202,7 +204,7 @@ impl Costs {
     }
 }
 
-// Whether a segment in the mode Alphanumeric ends with a byte where that one follows.
+// Returns whether an Alphanumeric segment must end after `byte`, if `follows` is next.
 fn must_end(byte: u8, follows: u8) -> bool
     ensures { result ≡ must_end Alphanumeric byte follows }
 {

@@ -1,4 +1,4 @@
-//! The symbol of bytes behind FNC1.
+//! Encodes bytes after FNC1 as a symbol.
 
 ghost use Rattle.std.specs.Prelude.{◌≡◌, ◌+◌, ◌++◌, ◌≤◌, ℕ, pos, false, length, IfOk, IfErr, IsOkUnless, IsTrue};
 ghost use Rattle.qrcode_types.specs.Versions.{is_micro, has_level, capacity};
@@ -22,7 +22,8 @@ use qrcode_bits::bits::{Bits, DATA_LIMIT};
 use qrcode_bits::optimize::Segment;
 use std::alloc::Global;
 
-// The mark and segments of bytes that stand behind it as they are written, terminated.
+// Returns the data bits of a symbol: the mark, segments of `bytes`, which are written as they are,
+// terminator and padding.
 fn ended_bits(
     alloc: Global,
     bytes: &[u8],
@@ -50,7 +51,8 @@ fn ended_bits(
     Ok(bits)
 }
 
-// The mark and least segments of bytes in a version that holds them.
+// Returns the data bits for `bytes`: the mark and segments of the fewest bits, in a version that
+// holds them.
 fn marked_bits(
     alloc: Global,
     bytes: &[u8],
@@ -74,10 +76,10 @@ fn marked_bits(
     ended_bits(alloc, &written, segments, position, version, ec_level)
 }
 
-// The symbol of bytes behind FNC1 at a level, of the least version of Normal, from one on, that
+// Encodes `bytes` after FNC1 at `ec_level`, in the smallest Normal version from `from` on that
 // holds them.
 //
-// `DataTooLong`: none does. `OutOfMemory`: memory was refused.
+// Errors: `DataTooLong` if none does; `OutOfMemory` if memory runs out.
 pub(crate) fn symbol(
     alloc: Global,
     bytes: &[u8],

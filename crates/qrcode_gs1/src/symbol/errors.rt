@@ -8,16 +8,16 @@ use qrcode::types::QrError;
 use std::error::Error;
 use std::fmt;
 
-/// Why there is no symbol.
+/// Why elements have no symbol.
 #[derive(Debug, PartialEq, Eq, Copy, Clone)]
 pub enum SymbolError {
     /// They have no element string.
     Elements(Gs1Error),
-    /// The element string has no symbol.
+    /// Their element string has no symbol.
     Symbol(QrError),
 }
 
-/// The answer of a call that may refuse elements or their symbol.
+/// The result of a call that may reject elements or their symbol.
 pub type SymbolResult<T> = Result<T, SymbolError>;
 
 impl fmt::Display for SymbolError {

@@ -3,8 +3,8 @@
 ghost use Rattle.std.specs.Prelude.{◌≡◌};
 ghost use Rattle.qrcode_gs1.specs.symbol.Indicators.{indicator_of};
 
-/// The number of an application's indicator: of two digits the one that they write, and of a letter
-/// its byte and 100. There is none of other bytes.
+/// Returns the number of an application's indicator: for two digits the number that they write, for
+/// a letter its ASCII code plus 100; `None` for other bytes.
 pub fn indicator_of(bytes: &[u8]) -> Option<u8>
     ensures { result ≡ indicator_of bytes.now }
 {

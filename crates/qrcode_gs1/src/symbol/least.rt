@@ -1,4 +1,4 @@
-//! Segments of the fewest bits behind FNC1.
+//! Finds segments of the fewest bits after FNC1.
 
 ghost use Rattle.std.specs.Prelude.{◌≡◌, ℕ, ◌≤◌, false, List, length, IsTrue, IfOk, IsOkUnless};
 ghost use Rattle.qrcode_types.specs.Versions.{is_valid, is_micro};
@@ -13,7 +13,7 @@ use qrcode::types::{QrResult, Version};
 use qrcode_bits::optimize::Segment;
 use std::alloc::{AllocError, Global};
 
-// The bits of least segments.
+// Returns the bits of the segments that take the fewest.
 pub(crate) fn fewest_bits(bytes: &[u8], version: Version) -> usize
     requires valid { IsTrue (is_valid version) }
     requires normal { is_micro version ≡ false }
@@ -32,7 +32,7 @@ pub(crate) fn fewest_bits(bytes: &[u8], version: Version) -> usize
     costs.start.bits
 }
 
-// A segmentation of the fewest bits.
+// Returns segments that take the fewest bits.
 pub(crate) fn least_segments(
     alloc: Global,
     bytes: &[u8],
@@ -61,7 +61,7 @@ pub(crate) fn least_segments(
     Ok(segments)
 }
 
-// For each place the segment with which the rest from there on begins.
+// Returns for each place the first segment of the rest, so that the rest takes the fewest bits.
 fn least_starts(alloc: Global, bytes: &[u8], headers: Headers) -> Result<Vec<Start>, AllocError>
     requires headers { AreSmall headers }
     requires length_at_most { length bytes.now ≤ data_limit }

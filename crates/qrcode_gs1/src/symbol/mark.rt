@@ -1,4 +1,4 @@
-//! The mark in front of the segments.
+//! Writes the mark: the mode indicator of FNC1 and the application's indicator.
 
 ghost use Rattle.std.specs.Prelude.{◌≡◌, ◌+◌, ◌≤◌, false, length, OnOk, IsOkUnless};
 ghost use Rattle.qrcode_types.specs.Versions.{is_micro};
@@ -11,7 +11,7 @@ use crate::symbol::Position;
 use qrcode::types::QrResult;
 use qrcode_bits::bits::Bits;
 
-// How many bits the mark takes.
+// Returns how many bits the mark takes.
 pub(crate) fn mark_length(position: Position) -> usize
     ensures value { result ≡ length (mark position) }
     ensures at_most { result ≤ 12 }
@@ -22,7 +22,7 @@ pub(crate) fn mark_length(position: Position) -> usize
     }
 }
 
-// Appends the mark.
+// Appends the mode indicator of FNC1 and, in second position, the application's indicator.
 pub(crate) fn push_mark(bits: &mut Bits, position: Position) -> QrResult<()>
     requires normal { is_micro bits.old.version ≡ false }
     requires room { length bits.old.bits + 12 ≤ bit_limit }

@@ -1,9 +1,9 @@
-//! Separators.
+//! Checks that separators do not follow each other.
 
 ghost use Rattle.std.specs.Prelude.{◌≡◌};
 ghost use Rattle.qrcode_gs1.specs.Elements.{are_apart};
 
-/// Whether no separator, byte 29, stands right behind another.
+/// Returns whether no separator, byte 29, comes right after another.
 pub fn are_apart(bytes: &[u8]) -> bool
     ensures { result ≡ are_apart bytes.now }
 {

@@ -6,7 +6,7 @@ use Rattle.qrcode_gs1.specs.Refusals.{numbered_rule}
 use Rattle.qrcode_gs1.specs.Table.{rules}
 use Rattle.qrcode_gs1.proofs.table.rule_of.Goals as goal
 
--- the table of the code is the defined one
+-- the table in the code is the one of the definition
 same_table : RULES ≡ rules
 unfolding rules
 same_table = refl

@@ -10,14 +10,14 @@ use Rattle.qrcode_gs1.proofs.Spelled.{marked_list}
 use Rattle.qrcode_gs1.proofs.symbol.drawing.marked_bits.Goals as goal
 use Rattle.qrcode_gs1.proofs.symbol.drawing.marked_bits.Goals.{In_ok-cut, In_ok-written}
 
--- the segments are a least cut
+-- the segments are a shortest cut
 least : (c : In_ok-cut) → IsLeastMarkedCut (Normal (pos c.args.number)) c.args.bytes.now c.in_ok-cut.cut.items
 least c = subst (λ u. IsLeastMarkedCut u c.args.bytes.now c.in_ok-cut.cut.items) (version_is c.args.number c.requires.at_most) c.in_ok-cut.ensures.least
 
 room : (c : In_ok-cut) → length (mark c.args.position) + marked_cost (Normal (pos c.args.number)) c.args.bytes.now c.in_ok-cut.cut.items ≤ capacity (Normal (pos c.args.number)) c.args.ec_level
 room c = let holds = c.requires.holds in omega (arith, (least c).least holds.segments holds.cut, holds.room)
 
--- what is written of them
+-- the characters that they write
 written_is : (c : In_ok-written) → AreCharacters c.args.bytes.now c.in_ok-cut.cut.items c.in_ok-written.field-0.bytes.items c.in_ok-written.field-0.segments.items
 written_is c = subst (λ ss. AreCharacters c.args.bytes.now ss c.in_ok-written.field-0.bytes.items c.in_ok-written.field-0.segments.items) c.deref.ensures.value c.in_ok-written.ensures.value
 

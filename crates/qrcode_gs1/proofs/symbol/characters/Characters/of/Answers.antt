@@ -11,7 +11,7 @@ use Rattle.qrcode_gs1.proofs.Pieces.{characters_more, characters_some, tile_at}
 use Rattle.qrcode_gs1.proofs.symbol.characters.Characters.of.Goals as goal
 use Rattle.qrcode_gs1.proofs.symbol.characters.Characters.of.Goals.{After-len-begin}
 
--- what stands for no segment
+-- the characters of no segments
 abbrev none : Segment
 none = record { mode = Numeric; begin = 0; end = 0 }
 
