@@ -9,11 +9,11 @@ use Rattle.qrcode_bits.specs.Written.{written_piece, terminated, eci_bits}
 use Rattle.qrcode.specs.Pictures.{debug_text}
 use Rattle.qrcode.specs.Reading.{EncodesBits}
 
-abbrev pub greek_bits : List ℕ → List Bool  -- the number of the character set, the bytes, and the end
+abbrev pub greek_bits : List ℕ → List Bool  -- ECI 9 (ISO 8859-7), the text as bytes, terminator and padding
 greek_bits text =
     terminated (Normal (pos 1)) L (number_bits 4 7 ++ eci_bits 9 ++ written_piece (Normal (pos 1)) (record { mode = Byte; chunk = text }))
 
--- the symbol of these bits in rows of `#` and `.`, of which every damaged symbol is read as these bits and as no others
+-- the symbol of these bits in rows of `#` and `.`; each symbol within the promised damage reads as these bits and no others
 pub record IsGreekSymbol (text rows : List ℕ) : Type 0 where
   pub colors : List Color
   pub encodes : EncodesBits (Normal (pos 1)) L (greek_bits text) colors

@@ -1,4 +1,4 @@
-//! Bits made by hand, with the number of a character set before the bytes.
+//! Writes bits manually, with an ECI designator before the bytes.
 
 ghost use Rattle.std.specs.Prelude.{◌≡◌, ◌≤◌, length, string_bytes, IfOk, IsOkUnless, pos};
 ghost use Rattle.qrcode_types.specs.declared.types.QrError.TheVariants.{OutOfMemory};
@@ -12,13 +12,13 @@ use qrcode::types::QrResult;
 use qrcode::{EcLevel, QrCode, Version};
 use std::alloc::Global;
 
-// The number of ISO 8859-7.
+// The ECI designator of ISO 8859-7.
 const GREEK: u32 = 9;
 
-/// A Greek text, in ISO 8859-7, as a Normal 1 symbol that says so, in rows of `#` and `.`. It holds
-/// 16 characters.
+/// Encodes `text`, Greek in ISO 8859-7, in a Normal 1 symbol at level L whose ECI header says so,
+/// and draws it in rows of `#` and `.`. It holds 16 characters.
 ///
-/// `DataTooLong`: the text has more bytes than it holds. `OutOfMemory`: memory was refused.
+/// Errors: `DataTooLong` if `text` has more than 16 bytes; `OutOfMemory` if memory runs out.
 pub fn greek_symbol(alloc: Global, text: &[u8]) -> QrResult<String>
     ensures symbol { IfOk result (λ rows. IsGreekSymbol text.now (string_bytes rows)) }
     ensures accepts { length text.now ≤ 16 → IsOkUnless result OutOfMemory }
@@ -28,10 +28,10 @@ pub fn greek_symbol(alloc: Global, text: &[u8]) -> QrResult<String>
     code.to_debug_str(alloc, '#', '.')
 }
 
-/// The bits of a Greek text, with their terminator, in Normal 1 at level L.
+/// Returns the bits of `text`, Greek in ISO 8859-7, for Normal 1 at level L: the ECI header, one
+/// segment of bytes, terminator and padding.
 ///
-/// `DataTooLong`: they do not hold the text, which they do to 16 bytes. `OutOfMemory`: memory was
-/// refused.
+/// Errors: `DataTooLong` if `text` has more than 16 bytes; `OutOfMemory` if memory runs out.
 pub fn greek_bits(alloc: Global, text: &[u8]) -> QrResult<Bits>
     ensures version { IfOk result (λ bits. bits.version ≡ Normal (pos 1)) }
     ensures bits { IfOk result (λ bits. bits.bits ≡ greek_bits text.now) }

@@ -1,5 +1,4 @@
-//! Six ways to draw a symbol: texts of characters, pairs and half blocks, SVG, PIC and grey pixels.
-//! Each refuses with `OutOfMemory` alone.
+//! Six ways to draw a symbol: characters, pairs of characters, half blocks, SVG, PIC and PGM.
 
 ghost use Rattle.std.specs.Prelude.{◌≡◌, string_bytes, IfOk, IsOkUnless};
 ghost use Rattle.qrcode_types.specs.declared.types.QrError.TheVariants.{OutOfMemory};
@@ -13,9 +12,9 @@ use qrcode::render::{pic, svg};
 use qrcode::types::QrResult;
 use std::alloc::Global;
 
-/// A character for each module: `█` where it is dark, a space where it is light.
+/// Draws `code` with one character per module: `█` for dark, a space for light.
 ///
-/// `OutOfMemory`: memory was refused.
+/// Errors: only `OutOfMemory`.
 pub fn as_chars(alloc: Global, code: &QrCode) -> QrResult<String>
     ensures drawing { IfOk result (λ text.
         string_bytes text ≡ char_text code.now.version code.now.modules) }
@@ -24,9 +23,10 @@ pub fn as_chars(alloc: Global, code: &QrCode) -> QrResult<String>
     code.render::<char>().build(alloc)
 }
 
-/// Two characters for each module, so that it is about as wide as high.
+/// Draws `code` with two characters per module, so that it looks about square: `##` for dark, two
+/// spaces for light.
 ///
-/// `OutOfMemory`: memory was refused.
+/// Errors: only `OutOfMemory`.
 pub fn as_pairs(alloc: Global, code: &QrCode) -> QrResult<String>
     ensures drawing { IfOk result (λ text.
         string_bytes text ≡ pair_text code.now.version code.now.modules) }
@@ -38,9 +38,9 @@ pub fn as_pairs(alloc: Global, code: &QrCode) -> QrResult<String>
     renderer.build(alloc)
 }
 
-/// A character for each two modules, one above the other.
+/// Draws `code` with one character per two modules, one above the other.
 ///
-/// `OutOfMemory`: memory was refused.
+/// Errors: only `OutOfMemory`.
 pub fn as_half_blocks(alloc: Global, code: &QrCode) -> QrResult<String>
     ensures drawing { IfOk result (λ text.
         string_bytes text ≡ half_block_text code.now.version code.now.modules) }
@@ -49,9 +49,9 @@ pub fn as_half_blocks(alloc: Global, code: &QrCode) -> QrResult<String>
     code.render::<Dense1x2>().build(alloc)
 }
 
-/// An SVG text, in modules of 8 pixels.
+/// Draws `code` as SVG, black on white, with 8 pixels per module.
 ///
-/// `OutOfMemory`: memory was refused.
+/// Errors: only `OutOfMemory`.
 pub fn as_svg(alloc: Global, code: &QrCode) -> QrResult<String>
     ensures drawing { IfOk result (λ text.
         string_bytes text ≡ svg_text 8 code.now.version code.now.modules) }
@@ -60,9 +60,9 @@ pub fn as_svg(alloc: Global, code: &QrCode) -> QrResult<String>
     code.render::<svg::Color>().build(alloc)
 }
 
-/// A PIC text, whose unit is a module.
+/// Draws `code` as PIC, one unit per module.
 ///
-/// `OutOfMemory`: memory was refused.
+/// Errors: only `OutOfMemory`.
 pub fn as_pic(alloc: Global, code: &QrCode) -> QrResult<String>
     ensures drawing { IfOk result (λ text.
         string_bytes text ≡ pic_text code.now.version code.now.modules) }
@@ -71,9 +71,9 @@ pub fn as_pic(alloc: Global, code: &QrCode) -> QrResult<String>
     code.render::<pic::Color>().module_size(1).build(alloc)
 }
 
-/// Rows of grey pixels, as a PGM file, in modules of 8 pixels.
+/// Draws `code` as a binary PGM file, with 8 pixels per module.
 ///
-/// `OutOfMemory`: memory was refused.
+/// Errors: only `OutOfMemory`.
 pub fn as_grey_map(alloc: Global, code: &QrCode) -> QrResult<Vec<u8>>
     ensures drawing { IfOk result (λ file.
         file.items ≡ grey_map code.now.version code.now.modules) }

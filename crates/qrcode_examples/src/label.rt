@@ -1,4 +1,4 @@
-//! A canvas of one's own: the bars that a label printer fills.
+//! A canvas of your own: the bars that a label printer fills.
 
 ghost use Rattle.std.proofs.Common.{rules};
 ghost use Rattle.std.specs.Prelude.{◌≡◌, ◌+◌, ◌^◌, ◌<◌, ◌==◌, ◌&&◌, List, [], reverse, IfOk, IfErr, OnOk, IsOkUnless};
@@ -16,18 +16,18 @@ use std::alloc::Global;
 /// A filled rectangle of printer dots.
 #[derive(Clone, Copy, Debug)]
 pub struct Bar {
-    /// The dots left of it.
+    /// Dots to the left of the bar.
     pub left: u32,
-    /// The dots above it.
+    /// Dots above the bar.
     pub top: u32,
-    /// How many dots it is wide.
+    /// Its width in dots.
     pub width: u32,
-    /// How many dots it is high.
+    /// Its height in dots.
     pub height: u32,
 }
 
 impl Bar {
-    // Whether another bar goes on where this one ends.
+    // Whether `other` begins where this bar ends, in the same rows.
     fn goes_on(&self, other: &Bar) -> bool
         ensures { result ≡ goes_on self.now other.now }
     {
@@ -37,10 +37,10 @@ impl Bar {
     }
 }
 
-/// The bars of the symbol of data, each module being 4 dots across and down. Adjoining dark modules
-/// of a row are one bar.
+/// Encodes `bytes` at level M, in the smallest Normal version that holds them, and returns the bars
+/// to print: 4 by 4 dots per module, one bar for each run of dark modules in a row.
 ///
-/// `DataTooLong`: no Normal version holds the data. `OutOfMemory`: memory was refused.
+/// Errors: `DataTooLong` if no Normal version holds `bytes`; `OutOfMemory` if memory runs out.
 pub fn label_bars(alloc: Global, bytes: &[u8]) -> QrResult<Vec<Bar>>
     ensures bars { IfOk result (λ bars. IsLabel bytes.now bars.items) }
     ensures causes { IfErr result (IsRefused M bytes.now) }
@@ -49,7 +49,7 @@ pub fn label_bars(alloc: Global, bytes: &[u8]) -> QrResult<Vec<Bar>>
     bars_of(alloc, &code)
 }
 
-// The bars of a symbol.
+// Draws the bars of `code`.
 fn bars_of(alloc: Global, code: &QrCode) -> QrResult<Vec<Bar>>
     ensures bars { IfOk result (λ bars.
         bars.items ≡ bars_of (layout_in 4 code.now.version) code.now.modules) }
@@ -82,7 +82,7 @@ impl Pixel for Dot {
     }
 }
 
-/// A label while it is drawn.
+/// A label that is being drawn.
 #[derive(Drop)]
 pub struct Label {
     width: u32,
@@ -155,7 +155,7 @@ impl Canvas for Label {
     }
 }
 
-// Appends a bar, or widens the last one where the bar goes on from it.
+// Appends `bar`, or widens the last bar if `bar` begins where that ends.
 fn push_bar(bars: &mut Vec<Bar>, bar: Bar) -> QrResult<()>
     requires { bar.left + bar.width < 2 ^ 32 }
     ensures draws { OnOk result (reverse bars.new.items

@@ -1,4 +1,4 @@
-//! Calls of `qrcode`, to copy from.
+//! Calls of `qrcode` to copy from.
 #![tactic(auto)]
 
 pub mod charset;

@@ -1,6 +1,6 @@
-//! Symbols of payments: a value with named fields, its text, and the symbol in which readers show
-//! that text, no larger than the format allows. Symbols of the other formats are made so too,
-//! without a bound.
+//! Symbols of payments and bills: from a value with named fields to the symbol in which readers
+//! show its text, no larger than the format allows. Symbols of the other formats are made the same
+//! way, without that limit.
 
 ghost use Rattle.std.specs.Prelude.{◌≡◌, ℕ, ◌≤◌, pos, chars, None, IfOk, IfErr, IsTrue};
 ghost use Rattle.qrcode_types.specs.Versions.{is_valid, side};
@@ -21,14 +21,14 @@ use qrcode_contents::errors::ContentError;
 use qrcode_contents::payment::{self, Payment};
 use std::alloc::Global;
 
-/// Why there is no symbol. Where memory was refused it is `OutOfMemory` of either kind.
+/// Why there is no symbol. If memory runs out it is `OutOfMemory`, in `Content` or in `Code`.
 #[derive(Debug, Copy, Clone)]
 pub enum Unmade {
-    /// The format cannot say the value, or memory was refused for its text.
+    /// The format cannot express the value, or memory ran out for its text.
     Content(ContentError),
-    /// No symbol holds the text, or memory was refused for the symbol.
+    /// No symbol holds the text, or memory ran out for the symbol.
     Code(QrError),
-    /// The symbol is larger than the format allows.
+    /// The symbol would be larger than the format allows.
     Large,
 }
 
@@ -48,7 +48,7 @@ impl From<QrError> for Unmade {
     }
 }
 
-// The symbol of a text at a level, where its version is not above the largest.
+// Encodes `text` at `ec_level`; fails with `Large` if that takes a version above `largest`.
 fn bounded(alloc: Global, text: &str, ec_level: EcLevel, largest: Version) -> Result<QrCode, Unmade>
     requires { IsTrue (is_valid largest) }
     ensures accepts { (n : ℕ) → largest ≡ Normal (pos n) → HoldsAs Text largest ec_level text.now
@@ -64,11 +64,11 @@ fn bounded(alloc: Global, text: &str, ec_level: EcLevel, largest: Version) -> Re
     Ok(code)
 }
 
-/// The symbol of a payment, at most Normal 13: 69 modules along a side. Each payment that its
-/// format does not refuse has one.
+/// Encodes `payment` at level M, in at most Normal 13: 69 modules along a side. Each payment that
+/// its format can express fits.
 ///
-/// `Content`: the format cannot say the payment. `OutOfMemory`, in it or in `Code`: memory was
-/// refused.
+/// Errors: `Content` if the format cannot express `payment`; `Content(OutOfMemory)` or
+/// `Code(OutOfMemory)` if memory runs out.
 pub fn payment(alloc: Global, payment: &Payment) -> Result<QrCode, Unmade>
     ensures accepts { payment_refusal (payment_fields payment.now) ≡ None → IfErr result IsWant }
     ensures shown { IfOk result (λ code. IsShownAs code.version M
@@ -79,11 +79,11 @@ pub fn payment(alloc: Global, payment: &Payment) -> Result<QrCode, Unmade>
     bounded(alloc, text.as_str(), payment::LEVEL, payment::LARGEST)
 }
 
-/// The symbol of a Swiss QR bill, at most Normal 25: 117 modules along a side.
+/// Encodes the Swiss QR bill `bill` at level M, in at most Normal 25: 117 modules along a side.
 ///
-/// `Content`: the format cannot say the bill. `Large`: the symbol would be larger.
-/// `Code(DataTooLong)`: no symbol holds its text. `OutOfMemory`, in it or in `Content`:
-/// memory was refused.
+/// Errors: `Content` if the format cannot express `bill`; `Large` if it takes a larger version;
+/// `Code(DataTooLong)` if no version holds its text; `Content(OutOfMemory)` or `Code(OutOfMemory)`
+/// if memory runs out.
 pub fn bill(alloc: Global, bill: &Bill) -> Result<QrCode, Unmade>
     ensures shown { IfOk result (λ code. IsShownAs code.version M
         (chars (bill_text (invoice_of bill.now))) code.modules) }

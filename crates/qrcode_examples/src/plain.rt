@@ -1,5 +1,5 @@
-//! Plain calls, as the README shows them, and others whose bodies are checked with no contract of
-//! the caller. All data is fixed and fits, so that each call can fail only with `OutOfMemory`.
+//! Calls like those in docs/CALLING.md and docs/DRAWING.md, in functions without contracts. All
+//! data is fixed and fits, so each call fails only with `OutOfMemory`.
 
 use qrcode::bits::Bits;
 use qrcode::render::image::{ImageBuffer, Luma, Rgb};
@@ -8,9 +8,9 @@ use qrcode::types::QrResult;
 use qrcode::{EcLevel, QrCode, Version};
 use std::alloc::Global;
 
-/// A text, as SVG and in half blocks.
+/// Draws a text as SVG and in half blocks.
 ///
-/// `OutOfMemory`: memory was refused.
+/// Errors: only `OutOfMemory`.
 pub fn text(alloc: Global) -> QrResult<(String, String)> {
     let code = QrCode::of_text(alloc, "01234567", EcLevel::M)?;
     let svg = code
@@ -21,9 +21,9 @@ pub fn text(alloc: Global) -> QrResult<(String, String)> {
     Ok((svg, text))
 }
 
-/// A payment text to SVG.
+/// Draws the text of a payment as SVG.
 ///
-/// `OutOfMemory`: memory was refused.
+/// Errors: only `OutOfMemory`.
 pub fn payment(alloc: Global) -> QrResult<String> {
     let code = QrCode::of_text(alloc, "BCD\n002\n1\nSCT\n..", EcLevel::M)?;
     code.render::<svg::Color>()
@@ -31,17 +31,17 @@ pub fn payment(alloc: Global) -> QrResult<String> {
         .build(alloc)
 }
 
-/// A ticket number as a Micro symbol in half blocks.
+/// Draws a ticket number as a Micro symbol in half blocks.
 ///
-/// `OutOfMemory`: memory was refused.
+/// Errors: only `OutOfMemory`.
 pub fn ticket(alloc: Global) -> QrResult<String> {
     let code = QrCode::with_version(alloc, b"01234567", Version::Micro(2), EcLevel::L)?;
     code.render::<unicode::Dense1x2>().build(alloc)
 }
 
-/// Bits made by hand, with the number of a character set before the bytes.
+/// Encodes bits written manually, with an ECI designator before the bytes.
 ///
-/// `OutOfMemory`: memory was refused.
+/// Errors: only `OutOfMemory`.
 pub fn greek(alloc: Global) -> QrResult<QrCode> {
     let mut bits = Bits::new(alloc, Version::Normal(1));
     bits.push_eci_designator(9)?;
@@ -50,9 +50,9 @@ pub fn greek(alloc: Global) -> QrResult<QrCode> {
     QrCode::with_bits(alloc, bits, EcLevel::L)
 }
 
-/// Pixels in colours, at least 200 across.
+/// Draws dark red on light yellow, at least 200 pixels wide.
 ///
-/// `OutOfMemory`: memory was refused.
+/// Errors: only `OutOfMemory`.
 pub fn colors(alloc: Global) -> QrResult<ImageBuffer<Rgb>> {
     let code = QrCode::new(alloc, b"01234567")?;
     code.render()
@@ -62,9 +62,9 @@ pub fn colors(alloc: Global) -> QrResult<ImageBuffer<Rgb>> {
         .build(alloc)
 }
 
-/// Modules of 4,096 pixels, without a quiet zone.
+/// Draws modules of 4,096 pixels a side, without a quiet zone.
 ///
-/// `OutOfMemory`: memory was refused.
+/// Errors: only `OutOfMemory`.
 pub fn wide(alloc: Global) -> QrResult<ImageBuffer<Luma>> {
     let code = QrCode::new(alloc, b"01234567")?;
     code.render::<Luma>()
@@ -73,9 +73,9 @@ pub fn wide(alloc: Global) -> QrResult<ImageBuffer<Luma>> {
         .build(alloc)
 }
 
-/// Within 300 pixels, and the colours set after that.
+/// Draws SVG of at most 300 by 300 pixels, setting the colours after the size.
 ///
-/// `OutOfMemory`: memory was refused.
+/// Errors: only `OutOfMemory`.
 pub fn within(alloc: Global) -> QrResult<String> {
     let code = QrCode::new(alloc, b"01234567")?;
     code.render()

@@ -1,5 +1,5 @@
-//! A text in several symbols, of one version or of the best of a range, as the pages on calls and
-//! on contents show it.
+//! Splits a text over several symbols: of one version, or of the version in a range that takes the
+//! fewest. docs/CALLING.md explains these calls.
 
 ghost use Rattle.std.specs.Prelude.{◌≤◌, pos, length, IfOk};
 ghost use Rattle.qrcode_types.specs.declared.types.Version.TheVariants.{Normal};
@@ -13,10 +13,10 @@ use qrcode::{EcLevel, QrCode, Version};
 use qrcode_append::{Versions, encode_text_several, encode_text_several_within};
 use std::alloc::Global;
 
-/// A long text in symbols of Normal 5, as few as hold its even parts, and 16 at most: the parts
-/// that readers find in them, in order, are the text.
+/// Splits `text` evenly over symbols of Normal 5 at level M, as few as hold it, at most 16. The
+/// texts that readers find in them, in order, make `text`.
 ///
-/// `DataTooLong`: 16 symbols do not hold the text. `OutOfMemory`: memory was refused.
+/// Errors: `DataTooLong` if 16 symbols do not hold `text`; `OutOfMemory` if memory runs out.
 pub fn pages(alloc: Global, text: &str) -> QrResult<Vec<QrCode>>
     ensures symbols { IfOk result (λ codes.
         AreSeveral Text (Normal (pos 5)) M text.now codes.items) }
@@ -25,10 +25,11 @@ pub fn pages(alloc: Global, text: &str) -> QrResult<Vec<QrCode>>
     encode_text_several(alloc, text, Version::Normal(5), EcLevel::M)
 }
 
-/// The same in the fewest symbols of any of Normal 5 to 10, and of the least of these versions that
-/// takes as few.
+/// Splits `text` as `pages` does, but in the version from Normal 5 to 10 that takes the fewest
+/// symbols: the smallest of these if several take as few.
 ///
-/// `DataTooLong`: 16 symbols of Normal 10 do not hold the text. `OutOfMemory`: memory was refused.
+/// Errors: `DataTooLong` if 16 symbols of Normal 10 do not hold `text`; `OutOfMemory` if memory
+/// runs out.
 pub fn leaflets(alloc: Global, text: &str) -> QrResult<Vec<QrCode>>
     ensures symbols { IfOk result (λ codes.
         AreFewest Text (record { least = 5; greatest = 10 }) M text.now codes.items) }

@@ -1,4 +1,4 @@
-//! Texts, as the page on texts shows them.
+//! The calls for texts, as docs/TEXTS.md shows them.
 
 ghost use Rattle.std.specs.Prelude.{chars, IfOk};
 ghost use Rattle.qrcode_types.specs.declared.types.EcLevel.TheVariants.{M};
@@ -11,64 +11,67 @@ use qrcode::types::QrResult;
 use qrcode::{Color, EcLevel, QrCode, Version};
 use std::alloc::Global;
 
-/// The symbol of a text: readers show it, where they take bytes for UTF-8.
+/// Encodes `text` at level M, in the smallest Normal version. Readers that decode bytes as UTF-8
+/// show it.
 ///
-/// `DataTooLong`: no Normal version holds the text. `OutOfMemory`: memory was refused.
+/// Errors: `DataTooLong` if no Normal version holds `text`; `OutOfMemory` if memory runs out.
 pub fn sign(alloc: Global, text: &str) -> QrResult<QrCode>
     ensures { IfOk result (λ code. IsShownAs code.version M (chars text.now) code.modules) }
 {
     QrCode::of_text(alloc, text, EcLevel::M)
 }
 
-/// The same for readers that guess, with the number of UTF-8 in front.
+/// Encodes `text` as `sign` does, but after ECI 26 (UTF-8), for readers that would guess the
+/// encoding.
 ///
-/// `DataTooLong`: no Normal version holds the text. `OutOfMemory`: memory was refused.
+/// Errors: `DataTooLong` if no Normal version holds `text`; `OutOfMemory` if memory runs out.
 pub fn marked_sign(alloc: Global, text: &str) -> QrResult<QrCode>
     ensures { IfOk result (λ code. IsShownAs code.version M (chars text.now) code.modules) }
 {
     QrCode::of_marked_text(alloc, text, EcLevel::M)
 }
 
-/// A text on a label that has room for Normal 2 alone.
+/// Encodes `text` for a label that has room only for Normal 2, at level M.
 ///
-/// `DataTooLong`: Normal 2 does not hold the text. `OutOfMemory`: memory was refused.
+/// Errors: `DataTooLong` if Normal 2 does not hold `text`; `OutOfMemory` if memory runs out.
 pub fn small_label(alloc: Global, text: &str) -> QrResult<QrCode> {
     QrCode::of_text_in(alloc, text, Version::Normal(2), EcLevel::M)
 }
 
-/// The same with the number of UTF-8 in front.
+/// Encodes `text` as `small_label` does, but after ECI 26 (UTF-8).
 ///
-/// `DataTooLong`: Normal 2 does not hold both. `OutOfMemory`: memory was refused.
+/// Errors: `DataTooLong` if Normal 2 does not hold both; `OutOfMemory` if memory runs out.
 pub fn small_marked_label(alloc: Global, text: &str) -> QrResult<QrCode> {
     QrCode::of_marked_text_in(alloc, text, Version::Normal(2), EcLevel::M)
 }
 
-/// The smallest symbol of a text, of all 44 versions.
+/// Encodes `text` at level L, in the smallest of all 44 versions that holds it.
 ///
-/// `DataTooLong`: no version holds the text. `OutOfMemory`: memory was refused.
+/// Errors: `DataTooLong` if no version holds `text`; `OutOfMemory` if memory runs out.
 pub fn smallest(alloc: Global, text: &str) -> QrResult<QrCode> {
     let bytes = text.as_bytes();
     QrCode::at_least(alloc, bytes, Manner::Text, Version::Micro(1), EcLevel::L)
 }
 
-/// The same with as much error correction as it has room for.
+/// Encodes `text` as `smallest` does, but at the highest level for which that version has room.
 ///
-/// `DataTooLong`: no version holds the text. `OutOfMemory`: memory was refused.
+/// Errors: `DataTooLong` if no version holds `text`; `OutOfMemory` if memory runs out.
 pub fn smallest_and_safest(alloc: Global, text: &str) -> QrResult<QrCode> {
     let bytes = text.as_bytes();
     QrCode::at_least_boosted(alloc, bytes, Manner::Text, Version::Micro(1), EcLevel::L)
 }
 
-/// Bytes that are no text, in Normal 5.
+/// Encodes `bytes`, which need not be text, in Normal 5 at level H.
 ///
-/// `DataTooLong`: Normal 5 does not hold the bytes. `OutOfMemory`: memory was refused.
+/// Errors: `DataTooLong` if Normal 5 does not hold `bytes`; `OutOfMemory` if memory runs out.
 pub fn bytes_in_normal_5(alloc: Global, bytes: &[u8]) -> QrResult<QrCode> {
     QrCode::in_version(alloc, bytes, Manner::Bytes, Version::Normal(5), EcLevel::H)
 }
 
-/// A text of two parts in a list of bits.
+/// Encodes two texts one after the other in a list of bits, the first after ECI 26 (UTF-8), in
+/// Normal 4 at level Q.
 ///
-/// `DataTooLong`: Normal 4 does not hold both. `OutOfMemory`: memory was refused.
+/// Errors: `DataTooLong` if Normal 4 does not hold both; `OutOfMemory` if memory runs out.
 pub fn in_two_parts(alloc: Global, first: &str, second: &str) -> QrResult<QrCode> {
     let mut bits = Bits::new(alloc, Version::Normal(4));
     bits.push_marked_text(first)?;
@@ -77,14 +80,14 @@ pub fn in_two_parts(alloc: Global, first: &str, second: &str) -> QrResult<QrCode
     QrCode::with_bits(alloc, bits, EcLevel::Q)
 }
 
-/// The mask of a symbol.
+/// Returns the mask of `code`.
 pub fn mask_of(code: &QrCode) -> MaskPattern
     ensures { IsMaskOf code.now.version code.now.level result code.now.modules }
 {
     code.mask()
 }
 
-/// How many modules are dark.
+/// Counts the dark modules of `code`.
 pub fn count_of_dark(code: &QrCode) -> usize {
     code.colors()
         .iter()

@@ -12,10 +12,10 @@ use qrcode::types::QrResult;
 use qrcode::{EcLevel, QrCode, Version};
 use std::alloc::Global;
 
-/// The number of a ticket as a Micro 2 symbol in half blocks: 9 lines of 17 characters, for light
-/// text on a dark ground. Each number fits.
+/// Draws `number` in decimal as a Micro 2 symbol in half blocks: 9 lines of 17 characters, for a
+/// terminal with light text on a dark background. Each number fits.
 ///
-/// `OutOfMemory`: memory was refused.
+/// Errors: only `OutOfMemory`.
 pub fn ticket_blocks(alloc: Global, number: u32) -> QrResult<String>
     ensures picture { IfOk result (λ text. IsTicket number (string_bytes text)) }
     ensures accepts { IsOkUnless result OutOfMemory }
@@ -25,7 +25,7 @@ pub fn ticket_blocks(alloc: Global, number: u32) -> QrResult<String>
     light_blocks(alloc, &code)
 }
 
-// A symbol in half blocks, light on dark.
+// Draws `code` in half blocks, for light text on a dark background.
 fn light_blocks(alloc: Global, code: &QrCode) -> QrResult<String>
     ensures drawing { IfOk result (λ text. string_bytes text
         ≡ dense_text false true (picture (layout_in 1 code.now.version) code.now.modules)) }

@@ -1,4 +1,4 @@
--- What the shortest recurrence of the syndromes says of the errors.
+-- The shortest recurrence of the syndromes gives the errors.
 use Rattle.std.proofs.Common.{◌≡◌, ◌≢◌, ℕ, zero, suc, ◌+◌, ◌-◌, ◌*◌, ◌<◌, ◌≤◌, inl, inr, sym, ap, ◌∙◌, arith, subst, List, length, get_or}
 use Rattle.std.proofs.lemmas.Bool.{cases_eq}
 use Rattle.std.specs.Int.Bits.{bit_xor, xor_self, xor_lt, xor_zero_r}
@@ -15,7 +15,7 @@ use Rattle.qrcode_reader.proofs.Sums.{combined_same, combined_none, combined_swa
 use Rattle.qrcode_reader.proofs.Locators.{zero_or_some, product_some, value_rest, other_zero, weight, locator, locator_ends, locator_leads, locator_zero, locator_some, without, without_here, without_other, weight_without}
 use Rattle.qrcode_reader.proofs.Moments.{moments, combined_moments, moments_none, moments_one, moments_errors, weight_errors}
 
--- f is the shortest recurrence of the moments of errors that are few
+-- f is the shortest recurrence of the moments, and there are few errors
 pub record Known (m n d : ℕ) (f : List ℕ) (errors : ℕ → ℕ) : Type 0 where
   pub short : m ≤ 255
   pub bytes : (l : ℕ) → errors l < 256
@@ -39,13 +39,13 @@ follows m n d f errors leads ends none = record {
       ∙ moments_none m (λ l. product (errors l) (value_at f l)) i (λ l below. product_none (errors l) (value_at f l) (none l below));
 }
 
--- so the shortest is no longer than there are errors
+-- so the degree of the shortest is at most the number of errors
 degree_at_most : (m n d : ℕ) (f : List ℕ) (errors : ℕ → ℕ) → Known m n d f errors → d ≤ weight m errors
 degree_at_most m n d f errors is =
     is.shortest.least (weight m errors) (locator m errors)
     (follows m n (weight m errors) (locator m errors) errors (locator_leads m errors) (locator_ends m errors) (locator_zero m errors))
 
--- it is zero at each error: with the polynomial that is zero at the others, it leaves this error alone
+-- it is zero at each error: combined with the polynomial that is zero at the others, it leaves just this error
 zero_at_error : (m n d : ℕ) (f : List ℕ) (errors : ℕ → ℕ) (p : ℕ) → Known m n d f errors → p < m → 0 < errors p → value_at f p ≡ 0
 zero_at_error m n d f errors p is below some =
     let others = without p errors in
@@ -70,7 +70,7 @@ zero_at_error m n d f errors p is below some =
     ∙ sym (combined_swap g f values 0) ∙ none)
 
 -- ---- at one place
--- where the value is not zero there is no error
+-- if its value at a place is not zero, there is no error
 pub no_error : (m n d : ℕ) (f q : List ℕ) (errors : ℕ → ℕ) (p value : ℕ) → Known m n d f errors → p < m → value < 256
     → IsDivision f (power p) q value → 0 < value → errors p ≡ 0
 no_error m n d f q errors p value is below byte divided some = elim (zero_or_some (errors p)) [
@@ -83,7 +83,7 @@ quotient_zero : (m n d : ℕ) (f q : List ℕ) (errors : ℕ → ℕ) (p l : ℕ
 quotient_zero m n d f q errors p l is below divided less other some =
     other_zero f q p l (omega (arith, is.short)) (omega (arith, is.short)) other divided (zero_at_error m n d f errors l is less some)
 
--- where the quotient is zero too there is none: it would be a shorter recurrence
+-- if the quotient is zero there too, there is no error: the quotient would be a shorter recurrence
 pub no_slope : (m n d : ℕ) (f q : List ℕ) (errors : ℕ → ℕ) (p : ℕ) → Known m n d f errors → p < m
     → IsDivision f (power p) q 0 → EndsAt q d → value_at q p ≡ 0 → errors p ≡ 0
 no_slope m n zero f q errors p is below divided ends none =
@@ -100,7 +100,7 @@ no_slope m n (suc d) f q errors p is below divided ends none = elim (zero_or_som
       absurd (omega arith)
 ]
 
--- otherwise it is the quotient of two values
+-- otherwise the error is the quotient of two values
 pub one_error : (m n d : ℕ) (f q : List ℕ) (errors : ℕ → ℕ) (p : ℕ) → Known m n d f errors → p < m
     → IsDivision f (power p) q 0 → combined q (moments m errors) 0 ≡ product (errors p) (value_at q p)
 one_error m n d f q errors p is below divided =
@@ -108,7 +108,7 @@ one_error m n d f q errors p is below divided =
     ∙ moments_one m p (λ l. product (errors l) (value_at q l)) below (product_lt (errors p) (value_at q p))
     (λ l less other. product_none (errors l) (value_at q l) (quotient_zero m n d f q errors p l is below divided less other))
 
--- equal products by what is not zero
+-- a factor that is not zero can be cancelled
 pub cancelled : (a b c : ℕ) → a < 256 → b < 256 → 0 < c → c < 256 → product a c ≡ product b c → a ≡ b
 cancelled a b c small less some byte same =
     same_from_xor a b (no_zero_divisor c (bit_xor a b) some byte (xor_lt 8 a b small less)

@@ -26,7 +26,7 @@ copied v s f bits l each =
     (λ k h. each k (omega (arith, h, l)) ∙ sym (get_or-map-range_with_len g 0 15 k k false (omega (arith, h, l)) (omega arith)))
     ∙ same
 
--- a format that the first and the last copy name is named by all
+-- a format near the first and the last copy is near all copies
 named_by_all : (v : Version) (s : List Color) (l : EcLevel) (k : MaskPattern)
     → NamesFormat v (bits_at v s (map (first_copy v) (range_with_len 0 15))) (bits_at v s (map (last_copy v) (range_with_len 0 15))) l k → HasFormat v s l k
 unfolding format_copies
@@ -50,12 +50,12 @@ pub names_format : (v : Version) (s : List Color) (l : EcLevel) (k : MaskPattern
 names_format v s l k first last e f h =
     subst (λ (b : List Bool). NamesFormat v first b l k) (sym f) (subst (λ (b : List Bool). NamesFormat v b (bits_at v s (map (last_copy v) (range_with_len 0 15))) l k) (sym e) (named_by_both v s l k h))
 
--- one bit more
+-- one more bit
 distance_more : (a b : Bool) (us ws : List Bool) → bit_distance (a ∷ us) (b ∷ ws) ≡ bit_distance (a ∷ []) (b ∷ []) + bit_distance us ws
 distance_more true b us ws = omega arith
 distance_more false b us ws = omega arith
 
--- the bits behind the first
+-- the bits after the first
 behind_is : (bit : Bool) (more : List Bool) → take (length (bit ∷ more) - 1) (drop 1 (bit ∷ more)) ≡ more
 behind_is bit more = take_all (length (bit ∷ more) - 1) more (omega arith)
 

@@ -1,4 +1,4 @@
--- Blocks corrected one after the other.
+-- Blocks are corrected one after the other.
 use Rattle.std.proofs.Common.{◌≡◌, ◌≢◌, ℕ, zero, suc, ◌+◌, ◌-◌, ◌<◌, cond, List, [], ◌∷◌, ◌++◌, length, get_or, slice_index, take, sym, ap, subst, ◌∙◌, arith, append-nil, append_assoc}
 use Rattle.std.specs.List.{range_with_len, flat_map, AllZip}
 use Rattle.std.proofs.lemmas.Bool.{eq-eqb, ne_eqb}
@@ -13,12 +13,12 @@ use Rattle.qrcode_ec.specs.Codes.{Corrects}
 use Rattle.qrcode_reader.specs.Corrected.{wrong_at, wrong_in, wrong_from, first_blocks, AreCorrected, AppendsBlock, IsFirstDamaged}
 use Rattle.qrcode_reader.specs.declared.correction.WrongCodeword.{WrongCodeword}
 
--- a range with one number more
+-- a range with one more number
 range_more : (n a : ℕ) → range_with_len a (suc n) ≡ range_with_len a n ++ (a + n) ∷ []
 range_more zero a = let e : a ≡ a + 0 = omega arith in ap (λ x. x ∷ []) e
 range_more (suc n) a = let e : a + 1 + n ≡ a + suc n = omega arith in ap (λ l. a ∷ l) (range_more n (a + 1) ∙ ap (λ x. range_with_len (a + 1) n ++ x ∷ []) e)
 
--- one place more
+-- one more place
 wrong_more : (b : ℕ) (r c : List ℕ) (i : ℕ) → flat_map (wrong_at b r c) (range_with_len 0 (i + 1)) ≡ flat_map (wrong_at b r c) (range_with_len 0 i) ++ wrong_at b r c i
 wrong_more b r c i =
     let e : i + 1 ≡ suc i = omega arith in
@@ -33,14 +33,14 @@ wrong_step b r c i old now new e f =
     let front = flat_map (wrong_at b r c) (range_with_len 0 i) in
     f ∙ ap (λ x. x ++ wrong_at b r c i) e ∙ append_assoc old front (wrong_at b r c i) ∙ ap (λ x. old ++ x) (sym (wrong_more b r c i))
 
--- a place where the correction has another codeword, and one where it has the same
+-- a place where the correction differs, and one where it does not
 pub wrong_here : (b : ℕ) (r c : List ℕ) (i : ℕ) → slice_index r i ≢ slice_index c i → record { block = b; place = i } ∷ [] ≡ wrong_at b r c i
 wrong_here b r c i differ = sym (ap (λ t. cond t [] (record { block = b; place = i } ∷ [])) (ne_eqb (slice_index r i) (slice_index c i) differ))
 
 pub right_here : (b : ℕ) (r c : List ℕ) (i : ℕ) → slice_index r i ≡ slice_index c i → [] ≡ wrong_at b r c i
 right_here b r c i same = sym (ap (λ t. cond t [] (record { block = b; place = i } ∷ [])) (eq-eqb (slice_index r i) (slice_index c i) same))
 
--- one block more
+-- one more block
 wrong_blocks_more : (b : ℕ) (rs cs : List (List ℕ)) (r c : List ℕ) → length rs ≡ length cs → wrong_from b (rs ++ r ∷ []) (cs ++ c ∷ []) ≡ wrong_from b rs cs ++ wrong_in (b + length rs) r c
 wrong_blocks_more b [] [] r c h = let z : b ≡ b + 0 = omega arith in append-nil (wrong_in b r c) ∙ ap (λ n. wrong_in n r c) z
 wrong_blocks_more b [] (y ∷ ys) r c h = absurd (omega (arith, h))

@@ -1,4 +1,4 @@
--- Squares behind a margin: where their modules stand in the pixels.
+-- Squares inside a margin: which pixels their modules have.
 use Rattle.std.proofs.Common.{◌≡◌, ℕ, ◌+◌, ◌-◌, ◌*◌, ◌/◌, ◌%◌, ◌<◌, ◌≤◌, ◌&&◌, zero, suc, inl, inr, Bool, true, false, List, length, get_or, nat_le, nat_lt, ap, ap₂, refl, sym, ◌∙◌, arith}
 use Rattle.std.proofs.Math.Nat.{mul-le-mul_right, div-mul-le_self}
 use Rattle.std.proofs.lemmas.Nat.{div-mul-add, mod-mul-add, div-add-mod', mod_below, div_below, mul-add-lt}
@@ -18,7 +18,7 @@ pub pixel_of : (at : Layout) (s : List Color) (k : ℕ) → k < pixels_across at
     → get_or (picture at s).marks k false ≡ is_dark_pixel at s (k % pixels_across at) (k / pixels_across at)
 pixel_of at s k inside = get_or-map-range_with_len _ 0 (pixels_across at * pixels_down at) k k false inside (omega arith)
 
--- a square that has a module has a side
+-- a square with a module has at least one module a side
 some_count : (count k : ℕ) → k < count * count → 0 < count
 some_count zero k inside = omega (arith, inside)
 some_count (suc n) k inside = omega arith
@@ -26,7 +26,7 @@ some_count (suc n) k inside = omega arith
 some_count_of : (column count : ℕ) → column < count → 0 < count
 some_count_of column count inside = omega arith
 
--- what is not before another number is at most as large
+-- if b is not below a, a is at most b
 not_before : (a b : ℕ) → (b < a → ⊥) → a ≤ b
 not_before a b h =
     elim (cases_lt b a) [
@@ -34,24 +34,24 @@ not_before a b h =
       | inr late ↦ late
     ]
 
--- the first pixel of a module that is counted with the zone
+-- the first pixel of a module, counting modules of the quiet zone too
 first_pixel : (zone column scale : ℕ) → 1 ≤ scale → (zone * scale + column * scale) / scale ≡ zone + column
 first_pixel zone column scale some =
     let e : zone * scale + column * scale ≡ (zone + column) * scale + 0 = omega arith in
     ap (λ n. n / scale) e ∙ div-mul-add (zone + column) scale 0 (omega arith)
 
--- a test that holds for numbers
+-- tests of numbers that hold
 at_most : (a b : ℕ) → a ≤ b → nat_le a b ≡ true
 at_most a b h = grind (arith, nat_tests)
 
 below : (a b : ℕ) → a < b → nat_lt a b ≡ true
 below a b h = grind (arith, nat_tests)
 
--- tests before another decide nothing where they hold
+-- tests that hold leave the decision to the next
 past_tests : (a b c d e : Bool) → a ≡ true → b ≡ true → c ≡ true → d ≡ true → (a && b && c && d && e) ≡ e
 past_tests a b c d e ha hb hc hd = rw (ha, hb, hc, hd) refl
 
--- the first of five tests, and the third
+-- if five tests hold, the third does
 third_test : (a b c d e : Bool) → (a && b && c && d && e) ≡ true → c ≡ true
 third_test true true true d e h = refl
 third_test false b c d e h = cc
@@ -71,7 +71,7 @@ module_pixel count zone scale s column row some left top =
     (at_most zone cy (omega (arith, y))) (below cy (zone + count) (omega (arith, y, top)))
     ∙ ap₂ (λ (i j : ℕ). is_dark (get_or s (i * count + j) Light)) (omega (arith, y)) (omega (arith, x))
 
--- a dark pixel stands behind the zone
+-- a dark pixel lies below the quiet zone at the top
 pub behind_zone : (count zone scale : ℕ) (s : List Color) (x y : ℕ) → is_dark_pixel (layout count zone scale scale) s x y ≡ true → zone * scale ≤ y
 behind_zone count zone scale s x y dark =
     let cx = x / scale in
@@ -97,7 +97,7 @@ row_shown b at s y is top =
     let across : b.across ≡ pixels_across at = ap (λ (p : Bitmap). p.across) is in
     λ x left. ap (λ w. get_or b.marks (y * w + x) false) (sym across) ∙ seen_pixel b at s x y is left top
 
--- a product of numbers that is not 0
+-- a factor of a product that is not 0
 some_width : (n w k : ℕ) → k < n * w → 0 < w
 some_width n zero k inside = omega (arith, inside)
 some_width n (suc w) k inside = omega arith
@@ -110,7 +110,7 @@ rows_shown marks at s n k rows inside =
     let some = some_width n w k inside in
     ap (λ i. get_or marks i false) (sym (div-add-mod' k w)) ∙ rows (k / w) (div_below k w n some (omega (arith, inside))) (k % w) (mod_below k w some)
 
--- dark where the test of a colour holds is that colour
+-- the colour made from whether a colour is dark is that colour
 color_of_is_dark : (c : Color) → color_of (is_dark c) ≡ c
 color_of_is_dark Dark = refl
 color_of_is_dark Light = refl
@@ -125,7 +125,7 @@ shown_module b count zone scale column row s q left top =
     seen_pixel b (layout count zone scale scale) s (zone * scale + column * scale) (zone * scale + row * scale) q.shown (omega (arith, l, some)) (omega (arith, t, some))
     ∙ module_pixel count zone scale s column row some left top
 
--- the modules that are sampled behind the margin of a square are its modules
+-- the modules sampled inside the margin of a square are its modules
 pub sampled_is : (b : Bitmap) (count zone scale margin : ℕ) (s : List Color) → IsSquareIn b count zone scale s → zone * scale ≡ margin → sampled b count margin scale ≡ s
 sampled_is b count zone scale margin s q is =
     let f : ℕ → Color = λ i. color_of (mark_at b (margin + i % count * scale) (margin + i / count * scale)) in
@@ -139,13 +139,13 @@ sampled_is b count zone scale margin s q is =
     ∙ ap (λ j. get_or s j Light) place
     )))
 
--- a square behind a margin fills what the margin leaves
+-- a square fills what the margin leaves
 pub fills : (b : Bitmap) (count zone scale margin : ℕ) (s : List Color) → IsSquareIn b count zone scale s → zone * scale ≡ margin → b.across ≡ scale * count + 2 * margin
 fills b count zone scale margin s q is =
     let across : b.across ≡ (count + 2 * zone) * scale = ap (λ (p : Bitmap). p.across) q.shown in
     omega (arith, across, is)
 
--- the dark module that the first row of a square has shows a dark pixel, inside
+-- a dark module in the first row of a square gives a dark pixel of the picture
 framed_pixel : (b : Bitmap) (count zone scale column : ℕ) (s : List Color) → IsFramedIn b count zone scale column s
     → (get_or b.marks ((zone * scale + 0 * scale) * b.across + (zone * scale + column * scale)) false ≡ true)
     × (zone * scale + column * scale < pixels_across (layout count zone scale scale))
@@ -157,7 +157,7 @@ framed_pixel b count zone scale column s q =
       omega (arith, right, q.square.at_least),
     )
 
--- the first dark pixel stands in the first row of a square that has a dark module there
+-- the first dark pixel lies in the first row of a square that has a dark module there
 pub first_row : (b : Bitmap) (count zone scale column first : ℕ) (s : List Color) → IsFramedIn b count zone scale column s → first < length b.marks
     → get_or b.marks first false ≡ true → ((k : ℕ) → k < first → get_or b.marks k false ≡ false) → zone * scale ≡ first / b.across
 first_row b count zone scale column first s q inside dark light =
@@ -180,7 +180,7 @@ first_row b count zone scale column first s q inside dark light =
     let same : first / b.across ≡ first / w = ap (λ n. first / n) across in
     omega (arith, low, up, same)
 
--- no pixels show a square with a dark module where none is dark
+-- if all pixels are light, they show no square with a dark module
 pub never_dark : (b : Bitmap) (count zone scale column : ℕ) (s : List Color) → IsFramedIn b count zone scale column s
     → ((k : ℕ) → k < length b.marks → get_or b.marks k false ≡ false) → ⊥
 never_dark b count zone scale column s q light =

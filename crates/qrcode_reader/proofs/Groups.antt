@@ -1,4 +1,4 @@
--- How the bits of characters begin with those of the first of them.
+-- The bits of characters begin with the bits of the first group.
 use Rattle.std.proofs.Common.{◌≡◌, ◌≤◌, ◌-◌, ◌+◌, ◌*◌, ℕ, ◌++◌, List, [], ◌∷◌, Bool, true, ◌&&◌, length, refl, sym, ap, ap₂, subst, ◌∙◌, arith, ◌⊎◌, inl, inr, min, append_assoc, append-nil, length-append, true≢false}
 use Rattle.std.specs.List.{list_all}
 use Rattle.std.specs.Prelude.{nat_lt, flat_map}
@@ -103,7 +103,7 @@ first_group Kanji (a ∷ b ∷ more) h =
       full = inl l;
     }
 
--- the parts of bytes whose bits are in two parts, the first of which is one group
+-- bytes split like their bits: into those of one group and the rest
 pub record Splits (m : Mode) (group behind : List Bool) (bytes : List ℕ) : Type 0 where
   pub front : List ℕ
   pub more : List ℕ
@@ -130,14 +130,14 @@ group_splits m group behind bytes l w =
       more_written = record { writable = f.behind_writable; written = r.1 };
     }
 
--- data bits tell how many characters they write
+-- the number of data bits determines the number of characters
 pub same_count : (m : Mode) (a b : ℕ) → data_bits_count m a ≡ data_bits_count m b → a ≡ b
 same_count Numeric a b e = omega (arith, e)
 same_count Alphanumeric a b e = omega (arith, e)
 same_count Byte a b e = omega (arith, e)
 same_count Kanji a b e = omega (arith, e)
 
--- one list of bytes is written as bits
+-- at most one list of bytes is written as these bits
 pub one_written : (m : Mode) (bits : List Bool) (a b : List ℕ) → AreWrittenAs m bits a → AreWrittenAs m bits b → a ≡ b
 one_written m bits a b p q =
     let counts = same_count m (character_count m (length a)) (character_count m (length b)) (sym (length_of_written m bits a p) ∙ length_of_written m bits b q) in
@@ -189,7 +189,7 @@ full_group Kanji group behind (a ∷ b ∷ []) more l w v = record {
 full_group Kanji group behind (a ∷ b ∷ c ∷ []) more l w v = absurd (true≢false (sym (and_parts (is_kanji a b) Rattle.std.proofs.Common.false w.writable).1))
 full_group Kanji group behind (a ∷ b ∷ c ∷ d ∷ u) more l w v = absurd (omega (arith, l, length_of_written Kanji group (a ∷ b ∷ c ∷ d ∷ u) w))
 
--- the bytes of a group and of what stands behind it, where it is full or the last
+-- a group and the rest are written as their bits in turn, if the group is full or the last
 group_joins : (m : Mode) (group behind : List Bool) (chunk more : List ℕ) → length group ≡ min (length (group ++ behind)) (group_bits m)
     → AreWrittenAs m group chunk → AreWrittenAs m behind more → AreWrittenAs m (group ++ behind) (chunk ++ more)
 group_joins m group [] chunk more l w v =
@@ -199,7 +199,7 @@ group_joins m group [] chunk more l w v =
 group_joins m group (b ∷ behind) chunk more l w v =
     full_group m group (b ∷ behind) chunk more (omega (arith, l, length-append group (b ∷ behind))) w v
 
--- what is written as all bits is what was read of them, and then what is written as the rest
+-- the bytes of all bits are what was read so far, and then the bytes of the rest
 pub record TakesFront (m : Mode) (bits : List Bool) (done : List ℕ) (rest : List Bool) : Type 0 where
   pub sound : (more : List ℕ) → AreWrittenAs m rest more → AreWrittenAs m bits (done ++ more)
   pub complete : (bytes : List ℕ) → AreWrittenAs m bits bytes → (more : List ℕ) × (bytes ≡ done ++ more) × AreWrittenAs m rest more
@@ -220,7 +220,7 @@ takes_more m bits done rest group behind chunk e l w f =
           (s.more, r.1 ∙ ap (λ x. done ++ x) (s.joined ∙ ap (λ x. x ++ s.more) one) ∙ sym (append_assoc done chunk s.more), s.more_written);
     }
 
--- where no bytes are written as a group, none are written as all bits
+-- if no bytes are written as the group, none are written as all bits
 pub refuses_group : (m : Mode) (bits : List Bool) (done : List ℕ) (rest group behind : List Bool) → rest ≡ group ++ behind
     → length group ≡ min (length rest) (group_bits m) → ((bytes : List ℕ) → ¬ AreWrittenAs m group bytes) → TakesFront m bits done rest
     → (bytes : List ℕ) → ¬ AreWrittenAs m bits bytes

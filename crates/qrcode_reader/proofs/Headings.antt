@@ -1,4 +1,4 @@
--- One header at most stands in front of bits.
+-- Bits begin with at most one header.
 use Rattle.std.proofs.Common.{◌≡◌, ◌<◌, ◌+◌, ◌*◌, ◌^◌, ℕ, ◌++◌, List, ◌∷◌, Bool, true, false, refl, sym, ap, ◌∙◌, arith, inl, inr, append_assoc}
 use Rattle.qrcode_types.specs.Bits.{number_bits}
 use Rattle.qrcode_types.specs.declared.types.Version.{Version}
@@ -29,7 +29,7 @@ two_three : (u v : List Bool) → number_bits 2 2 ++ u ≡ number_bits 3 6 ++ v 
 unfolding number_bits
 two_three u v e = let f : true ∷ (false ∷ u) ≡ true ∷ (true ∷ (false ∷ v)) = e in cc
 
--- the number of a character set is written in one way
+-- the bits of an ECI number determine it, and the rest
 same_designator : (n m : ℕ) (a b x y : List Bool) → IsDesignator n a → IsDesignator m b → a ++ x ≡ b ++ y → (n ≡ m) × (x ≡ y)
 same_designator n m a b x y p q e = elim p [
   | inl i ↦ elim q [
@@ -57,12 +57,12 @@ same_designator n m a b x y p q e = elim p [
   ]
 ]
 
--- the fields of one of several symbols, by their number
+-- the fields of Structured Append are determined by their number
 same_fields : (a b c d e f : ℕ) → a < 16 → b < 16 → c < 256 → d < 16 → e < 16 → f < 256 → 4096 * a + 256 * b + c ≡ 4096 * d + 256 * e + f → (a ≡ d) × (b ≡ e) × (c ≡ f)
 same_fields a b c d e f ha hb hc hd he hf h =
     (omega (arith, ha, hb, hc, hd, he, hf, h), omega (arith, ha, hb, hc, hd, he, hf, h), omega (arith, ha, hb, hc, hd, he, hf, h))
 
--- a header with a known indicator is known by what stands behind it
+-- the mode indicator and what follows determine the header
 same_argument : (p q : Header) (a b x y : List Bool) → header_indicator p ≡ header_indicator q → IsArgument p a → IsArgument q b → a ++ x ≡ b ++ y → (p ≡ q) × (x ≡ y)
 same_argument (Eci n) (Eci m) a b x y h i j e = let r = same_designator n m a b x y i j e in (ap Eci r.0, r.1)
 same_argument (Eci n) Fnc1First a b x y h i j e = absurd (omega (arith, h))
@@ -94,7 +94,7 @@ small Fnc1First = omega arith
 small (Fnc1Second n) = omega arith
 small (StructuredAppend m l k) = omega arith
 
--- one header at most stands in front of bits
+-- bits begin with at most one header
 pub one_header : (v : Version) (p q : Header) (bits x y : List Bool) → BeginsWithHeader v p bits x → BeginsWithHeader v q bits y → (p ≡ q) × (x ≡ y)
 one_header v p q bits x y a b =
     let r = same_number 4 (header_indicator p) (header_indicator q) a.behind b.behind (small p) (small q) (sym a.whole ∙ b.whole) in

@@ -1,4 +1,4 @@
--- Blocks by rows and columns are the blocks of the definition.
+-- The blocks by rows and columns are those of the definition.
 use Rattle.std.proofs.Common.{◌≡◌, ℕ, zero, suc, ◌+◌, ◌*◌, ◌-◌, ◌<◌, ◌≤◌, cond, Bool, true, false, leb, List, [], ◌∷◌, ◌++◌, length, length-append, map, get_or, replicate, slice_index, inl, inr, refl, sym, ap, ap₂, ◌∙◌, arith}
 use Rattle.std.specs.List.{range_with_len}
 use Rattle.std.proofs.lemmas.Bool.Decides.{leb_tells}
@@ -70,7 +70,7 @@ one_or_none : (t : Bool) (x : ℕ) → length (cond t (x ∷ []) []) ≤ 1
 one_or_none true x = omega arith
 one_or_none false x = omega arith
 
--- how long a block is at most
+-- the most bytes of a block
 pub length-parts : (b : Blocks) (words : List ℕ) (k : ℕ) → length (data_part b words k ++ ec_part b words k) ≤ b.short_length + 1 + b.ec_length
 length-parts b words k =
     let front = map (λ (i : ℕ). slice_index words (i * count_of b + k)) (range_with_len 0 b.short_length) in

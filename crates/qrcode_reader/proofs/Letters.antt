@@ -1,4 +1,4 @@
--- The characters of the alphabet, by their numbers.
+-- Alphanumeric characters by their numbers.
 use Rattle.std.proofs.Common.{◌≡◌, ℕ, ◌<◌, ◌&&◌, eqb, eqb-true, get_or, true, refl}
 use Rattle.std.proofs.lemmas.Bool.{agree_below, agree_below_at, and_parts}
 use Rattle.qrcode_types.specs.Characters.{alphabet, is_alphanumeric, alphanumeric_number}
@@ -10,7 +10,7 @@ all_stand : agree_below stands (λ n. true) 45 ≡ true
 unfolding stands is_alphanumeric alphanumeric_number alphabet
 all_stand = refl
 
--- the character with a number has that number
+-- the alphanumeric character that the table has at n has the number n
 pub letter_at : (n : ℕ) → n < 45 → (is_alphanumeric (get_or alphabet n 0) ≡ true) × (alphanumeric_number (get_or alphabet n 0) ≡ n)
 unfolding stands
 letter_at n h =

@@ -21,7 +21,7 @@ product_some a b p q r s = elim (zero_or_some (product a b)) [
 ]
 
 -- ---- values
--- of a polynomial times x
+-- the value of a polynomial times x
 value_raised : (f : List ℕ) (l : ℕ) → combined f (λ j. power (l * j)) 1 ≡ product (power l) (value_at f l)
 unfolding combined
 value_raised f l =
@@ -31,7 +31,7 @@ value_raised f l =
     ∙ product_swap (get_or f j 0) (power l) (power (l * (0 + j))))
     ∙ sym (product_sum (power l) n (λ j. product (get_or f j 0) (power (l * (0 + j)))))
 
--- of a polynomial times x, and its lowest coefficient
+-- the value of a polynomial times x, plus its lowest coefficient
 value_cons : (a : ℕ) (f : List ℕ) (l : ℕ) → a < 256 → value_at (a ∷ f) l ≡ bit_xor a (product (power l) (value_at f l))
 unfolding combined xor_sum
 value_cons a f l small =
@@ -40,7 +40,7 @@ value_cons a f l small =
     (λ j _. ap (λ k. product (get_or f j 0) (power k)) (let e : l * (0 + suc j) ≡ l * (1 + j) = omega arith in e))
     ∙ value_raised f l)
 
--- of a polynomial by its quotient
+-- the value of a polynomial by its quotient and rest
 pub value_divided : (f q : List ℕ) (p rest l : ℕ) → rest < 256 → IsDivision f (power p) q rest
     → value_at f l ≡ bit_xor rest (product (bit_xor (power l) (power p)) (value_at q l))
 value_divided f q p rest l small is =
@@ -49,7 +49,7 @@ value_divided f q p rest l small is =
     ∙ xor_assoc rest (product (power l) (value_at q l)) (product (power p) (value_at q l))
     ∙ ap (bit_xor rest) (sym (product_xor_l (power l) (power p) (value_at q l)))
 
--- at the point itself it is the rest
+-- its value at the point itself is the rest
 pub value_rest : (f q : List ℕ) (p rest : ℕ) → rest < 256 → IsDivision f (power p) q rest → value_at f p ≡ rest
 value_rest f q p rest small is =
     value_divided f q p rest p small is
@@ -64,14 +64,14 @@ difference_some l p small less other = elim (zero_or_some (bit_xor (power l) (po
 difference_lt : (l p : ℕ) → bit_xor (power l) (power p) < 256
 difference_lt l p = xor_lt 8 (power l) (power p) (power_lt l) (power_lt p)
 
--- another zero is one of the quotient
+-- another zero of the polynomial is a zero of the quotient
 pub other_zero : (f q : List ℕ) (p l : ℕ) → l < 255 → p < 255 → l ≢ p → IsDivision f (power p) q 0 → value_at f l ≡ 0 → value_at q l ≡ 0
 other_zero f q p l small less other is none =
     no_zero_divisor (bit_xor (power l) (power p)) (value_at q l) (difference_some l p small less other) (difference_lt l p) (combined_lt q (λ j. power (l * j)) 0)
     (sym (value_divided f q p 0 l (omega arith) is) ∙ none)
 
 -- ---- the polynomial with given zeros
--- f times (x + point), and a
+-- f times (x + point), plus a
 times : ℕ → ℕ → List ℕ → List ℕ
 times point a [] = a ∷ []
 times point a (b ∷ f) = bit_xor a (product point b) ∷ times point b f
@@ -86,7 +86,7 @@ times_at point a (b ∷ f) (suc j) = times_at point b f j
 times_divided : (point : ℕ) (f : List ℕ) → IsDivision (times point 0 f) point f 0
 times_divided point f = record { at = times_at point 0 f }
 
--- one zero more, where there is an error
+-- one more zero, if there is an error
 extended : ℕ → ℕ → List ℕ → List ℕ
 extended zero p f = f
 extended (suc e) p f = times (power p) 0 f
@@ -143,7 +143,7 @@ unfoldable pub weight : ℕ → (ℕ → ℕ) → ℕ
 weight zero errors = 0
 weight (suc m) errors = counted (errors m) + weight m errors
 
--- the polynomial with a leading one that is zero at these alone
+-- the polynomial with leading coefficient 1 that is zero just there
 pub locator : ℕ → (ℕ → ℕ) → List ℕ
 locator zero errors = 1 ∷ []
 locator (suc m) errors = extended (errors m) m (locator m errors)

@@ -18,7 +18,7 @@ use Rattle.qrcode_reader.proofs.Locators.{zero_or_some, counted, counted_one, co
 pub moments : ℕ → (ℕ → ℕ) → ℕ → ℕ
 moments m errors i = xor_sum m (λ l. product (errors l) (power (i * l)))
 
--- a combination of them is that of the errors times the polynomial's values
+-- a combination of moments is the sum of the errors times the polynomial's values at their places
 pub combined_moments : (f : List ℕ) (m : ℕ) (errors : ℕ → ℕ) (i : ℕ) → combined f (moments m errors) i ≡ moments m (λ l. product (errors l) (value_at f l)) i
 unfolding combined moments
 combined_moments f m errors i =
@@ -45,7 +45,7 @@ unfolding moments
 moments_none m errors i none =
     xor_sum_none m (λ l. product (errors l) (power (i * l))) (λ l below. ap (λ x. product x (power (i * l))) (none l below) ∙ product_zero_l (power (i * l)))
 
--- of one error alone
+-- the combination if there is just one error
 pub moments_one : (m p : ℕ) (errors : ℕ → ℕ) → p < m → errors p < 256 → ((l : ℕ) → l < m → l ≢ p → errors l ≡ 0) → moments m errors 0 ≡ errors p
 unfolding moments
 moments_one m p errors below byte none =
@@ -97,7 +97,7 @@ counted_differs r c = elim (test_cases (eqb r c)) [
       | inr some ↦ some
     ]
 
--- they are as many as the places in which the lists differ
+-- there are as many errors as places in which the lists differ
 pub weight_errors : (rs cs : List ℕ) → length rs ≡ length cs → weight (length rs) (error_at rs cs) ≡ distance rs cs
 unfolding weight
 weight_errors [] [] same = refl

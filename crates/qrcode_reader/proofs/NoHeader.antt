@@ -1,4 +1,4 @@
--- Bits in front of which no header stands.
+-- Bits that begin with no header.
 use Rattle.std.proofs.Common.{◌≡◌, ◌≢◌, ◌<◌, ◌≤◌, ◌+◌, ◌*◌, ◌^◌, ℕ, ◌++◌, List, Bool, length, sym, ap, subst, ◌∙◌, arith, inl, inr, length-append}
 use Rattle.qrcode_types.specs.Bits.{number_bits}
 use Rattle.qrcode_types.specs.declared.types.Version.{Version}
@@ -9,7 +9,7 @@ use Rattle.qrcode_reader.specs.declared.spell.headers.Header.TheVariants.{Eci, F
 use Rattle.qrcode_reader.specs.spell.Parts.{IsPrefixed, BeginsWithArgument, BeginsWithHeader, header_indicator}
 use Rattle.qrcode_reader.proofs.Headings.{flat, same_prefixed, small}
 
--- no number behind a prefix in front
+-- no prefix and number at the start
 abbrev pub NonePrefixed : ℕ → ℕ → ℕ → List Bool → Type 0
 NonePrefixed w p c bits = (n : ℕ) (front rest : List Bool) → IsPrefixed w p c n front → bits ≢ front ++ rest
 
@@ -28,7 +28,7 @@ pub no_number : (w p c : ℕ) (bits behind : List Bool) → p < 2 ^ w → Begins
 no_number w p c bits behind h b short n front rest is e =
     too_few c n behind rest short (same_number w p p behind (number_bits c n ++ rest) b.at_most h (sym b.whole ∙ e ∙ flat w p c n front rest is)).1
 
--- no number of a character set
+-- no ECI number
 pub no_eci : (bits : List Bool) → NonePrefixed 1 0 7 bits → NonePrefixed 2 2 14 bits → ((n : ℕ) (front rest : List Bool) → n < 1000000 → IsPrefixed 3 6 21 n front → bits ≢ front ++ rest)
     → (h : Header) (rest : List Bool) → header_indicator h ≡ 7 → ¬ BeginsWithArgument h bits rest
 no_eci bits one two three (Eci n) rest is b = elim b.is_argument [
@@ -42,7 +42,7 @@ no_eci bits one two three Fnc1First rest is b = absurd (omega (arith, is))
 no_eci bits one two three (Fnc1Second n) rest is b = absurd (omega (arith, is))
 no_eci bits one two three (StructuredAppend n l k) rest is b = absurd (omega (arith, is))
 
--- a number of 1,000,000 or more
+-- a number of 1,000,000 or more is no ECI number
 pub great_number : (bits found behind : List Bool) (m : ℕ) → IsPrefixed 3 6 21 m found → bits ≡ found ++ behind → 1000000 ≤ m
     → (n : ℕ) (front rest : List Bool) → n < 1000000 → IsPrefixed 3 6 21 n front → bits ≢ front ++ rest
 great_number bits found behind m is e great n front rest small also f =
@@ -61,11 +61,11 @@ no_append bits short (Fnc1Second n) rest is b = absurd (omega (arith, is))
 no_append bits short (StructuredAppend n l k) rest is b =
     too_few 16 (4096 * n + 256 * l + k) bits rest short (b.whole ∙ ap (λ r. r ++ rest) b.is_argument.3)
 
--- no indicator of a header
+-- too few bits for a mode indicator
 pub no_indicator : (v : Version) (bits : List Bool) → length bits < 4 → (h : Header) (rest : List Bool) → ¬ BeginsWithHeader v h bits rest
 no_indicator v bits short h rest b = too_few 4 (header_indicator h) bits b.behind short b.whole
 
--- no header behind an indicator
+-- no header after a mode indicator
 pub no_header : (v : Version) (bits behind : List Bool) (i : ℕ) → BeginsWithNumber 4 bits i behind → ((h : Header) (rest : List Bool) → header_indicator h ≡ i → ¬ BeginsWithArgument h behind rest)
     → (h : Header) (rest : List Bool) → ¬ BeginsWithHeader v h bits rest
 no_header v bits behind i n none h rest b =

@@ -3,11 +3,11 @@ use Rattle.std.proofs.Common.{◌≡◌, ◌≤◌, ◌<◌, ℕ, ◌+◌, ◌/�
 use Rattle.qrcode_types.specs.Characters.{is_kanji, kanji_number}
 use Rattle.qrcode_types.proofs.Pairs.{pair_at}
 
--- the first byte of the pair with a number, 31 rows of 192 being those from 0x81 on
+-- the first byte of the pair with a number: 31 rows of 192 begin with 0x81 and on, the others with 0xe0 and on
 abbrev pub IsFirst : ℕ → ℕ → Type 0
 IsFirst n first = ((n / 192 < 31) × (first ≡ n / 192 + 129)) ⊎ ((31 ≤ n / 192) × (first ≡ n / 192 + 193))
 
--- a pair that is computed from a number has it
+-- the pair computed from a number has that number
 pub number_of_pair : (n first : ℕ) → IsFirst n first → is_kanji first (n % 192 + 64) ≡ true → kanji_number first (n % 192 + 64) ≡ n
 number_of_pair n first is h =
     let p = pair_at first (n % 192 + 64) h in
@@ -17,7 +17,7 @@ number_of_pair n first is h =
     ] in
     omega (arith, p.number, row)
 
--- the pair that has a number is the one that is computed from it
+-- any pair with a number is the one computed from it
 pub pair_of_number : (n first b c : ℕ) → IsFirst n first → is_kanji b c ≡ true → kanji_number b c ≡ n → (first ≡ b) × (n % 192 + 64 ≡ c)
 pair_of_number n first b c is h e =
     let p = pair_at b c h in

@@ -49,7 +49,7 @@ no_mode (StructuredAppend n l k) m e = of_three m e where
   of_three Byte e = omega arith
   of_three Kanji e = omega arith
 
--- no bits begin with a header and with a segment
+-- no bits begin both with a header and with a segment
 pub header_or_piece : (v : Version) (h : Header) (p : Piece) (bits x y : List Bool) → BeginsWithHeader v h bits x → BeginsWithPiece v bits p y → ⊥
 header_or_piece (Micro n) h p bits x y b d = absurd (true≢false b.exists)
 header_or_piece (Normal n) h p bits x y b d =
@@ -57,7 +57,7 @@ header_or_piece (Normal n) h p bits x y b d =
     let e = sym b.whole ∙ d.whole ∙ append_assoc i _ y in
     no_mode h p.mode (same_number 4 (header_indicator h) (2 ^ mode_number p.mode) b.behind _ (small h) (normal_small p.mode) e).0
 
--- one part at most stands in front of bits
+-- bits begin with at most one part
 pub one_part : (v : Version) (p q : Part) (bits : List Bool) (a b : List ℕ) (x y : List Bool) → BeginsWithPart v p bits a x → BeginsWithPart v q bits b y → (p ≡ q) × (a ≡ b) × (x ≡ y)
 one_part v (Front h) (Front k) bits a b x y s t =
     let r = one_header v h k bits x y s.0 t.0 in
@@ -68,13 +68,13 @@ one_part v (Bytes m n) (Bytes k c) bits a b x y s t =
     let r = same_piece v m k a b x y s.0.readable t.0.readable (sym s.0.whole ∙ t.0.whole) in
     (ap₂ Bytes r.0 (s.1 ∙ ap length r.1 ∙ sym t.1), r.1, r.2)
 
--- no header and no piece, no part
+-- without a header and a piece there is no part
 pub no_part : (v : Version) (bits : List Bool) → ((h : Header) (rest : List Bool) → ¬ BeginsWithHeader v h bits rest) → ((p : Piece) (rest : List Bool) → ¬ BeginsWithPiece v bits p rest)
     → (p : Part) (chunk : List ℕ) (rest : List Bool) → ¬ BeginsWithPart v p bits chunk rest
 no_part v bits header piece (Front h) chunk rest s = header h rest s.0
 no_part v bits header piece (Bytes m n) chunk rest s = piece (record { mode = m; chunk = chunk }) rest s.0
 
--- a part has bits
+-- a part takes at least one bit
 pub part_shortens : (v : Version) (p : Part) (bits : List Bool) (a : List ℕ) (x : List Bool) → BeginsWithPart v p bits a x → length x < length bits
 part_shortens v (Front h) bits a x s =
     let i = number_bits 4 (header_indicator h) in
@@ -88,14 +88,14 @@ part_shortens v (Front h) bits a x s =
     )
 part_shortens v (Bytes m n) bits a x s = piece_shortens v bits (record { mode = m; chunk = a }) x s.0
 
--- a part stands in front of the rest
+-- the bits are a part and the rest
 part_front : (v : Version) (p : Part) (bits : List Bool) (a : List ℕ) (x : List Bool) → BeginsWithPart v p bits a x → (front : List Bool) × (bits ≡ front ++ x)
 part_front v (Front h) bits a x s =
     let i = number_bits 4 (header_indicator h) in
     (i ++ s.0.argued.argument, s.0.whole ∙ ap (λ (b : List Bool). i ++ b) s.0.argued.whole ∙ sym (append_assoc i s.0.argued.argument x))
 part_front v (Bytes m n) bits a x s = (_, s.0.whole)
 
--- the parts of all bits are those that were read of them, and then those of the rest
+-- the parts of all bits are those read so far, and then those of the rest
 pub record PartsFront (v : Version) (bits : List Bool) (done : List ℕ) (before : List Part) (rest : List Bool) : Type 0 where
   pub sound : (more : List ℕ) (others : List Part) → AreParts v rest more others → AreParts v bits (done ++ more) (before ++ others)
   pub complete : (bytes : List ℕ) (parts : List Part) → AreParts v bits bytes parts
@@ -111,7 +111,7 @@ nothing_read v bits = record {
   behind = λ others last s. s;
 }
 
--- the first part of bits that do not end
+-- the first part of bits that do not end here
 record FirstPart (v : Version) (bits : List Bool) (bytes : List ℕ) (parts : List Part) : Type 0 where
   part : Part
   others : List Part
@@ -140,7 +140,7 @@ first_part v bits bytes (p ∷ ps) goes r =
       behind = u.1.1.1;
     }
 
--- one part more
+-- one more part
 pub parts_on : (v : Version) (bits : List Bool) (done : List ℕ) (before : List Part) (rest : List Bool) (p : Part) (chunk : List ℕ) (behind : List Bool) → is_end v rest ≡ false
     → BeginsWithPart v p rest chunk behind → PartsFront v bits done before rest → PartsFront v bits (done ++ chunk) (before ++ p ∷ []) behind
 parts_on v bits done before rest p chunk behind goes b f = record {
@@ -172,7 +172,7 @@ parts_on v bits done before rest p chunk behind goes b f = record {
   behind = λ others last s. subst (λ x. IsBehindParts v bits x last) (sym (append_assoc before (p ∷ []) others)) (f.behind (p ∷ others) last (behind, (chunk, (goes, (b, s)))));
 }
 
--- where no part can be read, and the bits do not end, there are no parts
+-- if the bits neither end here nor begin with a part, they have no parts
 pub refuses_part : (v : Version) (bits : List Bool) (done : List ℕ) (before : List Part) (rest : List Bool) → is_end v rest ≡ false
     → ((p : Part) (chunk : List ℕ) (behind : List Bool) → ¬ BeginsWithPart v p rest chunk behind) → PartsFront v bits done before rest → HaveNoParts v bits
 refuses_part v bits done before rest goes none f bytes parts s =
@@ -180,7 +180,7 @@ refuses_part v bits done before rest goes none f bytes parts s =
     let first = first_part v rest r.0 r.1.0 goes r.1.1.1.1 in
     none first.part first.chunk first.rest first.begins
 
--- at an end all parts were read
+-- where the bits end, all parts were read
 pub parts_end : (v : Version) (bits : List Bool) (done : List ℕ) (before : List Part) (rest : List Bool) → is_end v rest ≡ true → PartsFront v bits done before rest → AreParts v bits done before
 parts_end v bits done before rest end f =
     let r = f.sound [] [] (end, refl) in
@@ -198,7 +198,7 @@ parts_only v bits done before rest end f bytes parts s =
       ended more [] t = (t.1, refl)
       ended more (p ∷ others) t = absurd (true≢false (sym end ∙ t.1.2.1.0))
 
--- and behind them the end begins
+-- and after them the terminator begins
 pub parts_behind : (v : Version) (bits : List Bool) (done : List ℕ) (before : List Part) (rest : List Bool) (end : ℕ) → is_end v rest ≡ true → end ≡ length bits - length rest
     → PartsFront v bits done before rest → IsBehindParts v bits before (drop end bits)
 parts_behind v bits done before rest end at e f =
@@ -210,7 +210,7 @@ parts_behind v bits done before rest end at e f =
 abbrev pub part_of : Piece → Part
 part_of p = Bytes p.mode (length p.chunk)
 
--- what is spelled has segments alone
+-- bits that decode to pieces have just these as parts
 pub spelled_parts : (v : Version) (bits : List Bool) (ps : List Piece) → IsReadAs v bits ps → AreParts v bits (flat_map (λ p. p.chunk) ps) (map part_of ps)
 spelled_parts v bits [] r = (r, refl)
 spelled_parts v bits (p ∷ ps) r =
@@ -220,7 +220,7 @@ pub all_segments : (ps : List Piece) → AllByRecursion IsSegment (map part_of p
 all_segments [] = tt
 all_segments (p ∷ ps) = (tt, all_segments ps)
 
--- where the bits spell bytes, their parts are segments of these bytes
+-- if the bits decode to bytes, their parts are segments of these bytes
 pub spelled_only : (v : Version) (bits : List Bool) (done : List ℕ) (before : List Part) → ((bytes : List ℕ) (parts : List Part) → AreParts v bits bytes parts → (bytes ≡ done) × (parts ≡ before))
     → (bytes : List ℕ) → Spells v bits bytes → (done ≡ bytes) × AllByRecursion IsSegment before
 spelled_only v bits done before only bytes s =

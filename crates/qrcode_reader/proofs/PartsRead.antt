@@ -1,4 +1,4 @@
--- What headers and segments are read, and that what is refused has none.
+-- What headers and segments squares decode to, and that each error has its cause.
 use Rattle.std.proofs.Common.{◌≡◌, ℕ, Bool, List, refl, sym, subst, ◌⊎◌, inl, inr}
 use Rattle.qrcode_types.specs.declared.types.Version.{Version}
 use Rattle.qrcode_types.specs.declared.types.EcLevel.{EcLevel}
@@ -15,13 +15,13 @@ use Rattle.qrcode_reader.specs.declared.refusals.Unread.{Unread}
 use Rattle.qrcode_reader.specs.declared.refusals.Unread.TheVariants.{NoSuchSide, NoFormat, Damaged, NotSpelled, OutOfMemory}
 use Rattle.qrcode_reader.proofs.Refused.{only_memory}
 
--- what the only bits of a square hold, and why they hold nothing, by those bits
+-- what a square decodes to, and why to nothing, by its only bits
 parts_of_bits : (s : List Color) (v : Version) (l : EcLevel) (bits : List Bool) (bytes : List ℕ) (parts : List Part) → ReadsBitsOnly s v l bits → (q : ReadsParts s bytes parts) → AreParts v bits bytes parts
 parts_of_bits s v l bits bytes parts only q =
     let e = only.only q.version q.level q.bits q.read in
     subst (λ b. AreParts v b bytes parts) e.2 (subst (λ u. AreParts u q.bits bytes parts) e.0 q.parted)
 
--- a square with a cause of refusal is read as no headers and segments
+-- a square with a cause other than memory does not decode to headers and segments
 pub parts_only_memory : (s : List Color) (e : Unread) → IsPartsCause s e → (bytes : List ℕ) (parts : List Part) → ReadsParts s bytes parts → e ≡ OutOfMemory
 parts_only_memory s NoSuchSide cause bytes parts q = only_memory s NoSuchSide cause q.version q.level q.bits q.read
 parts_only_memory s NoFormat cause bytes parts q = only_memory s NoFormat cause q.version q.level q.bits q.read
@@ -29,7 +29,7 @@ parts_only_memory s (Damaged b) cause bytes parts q = only_memory s (Damaged b) 
 parts_only_memory s NotSpelled cause bytes parts q = absurd (cause.none bytes parts (parts_of_bits s cause.version cause.level cause.bits bytes parts cause.only q))
 parts_only_memory s OutOfMemory cause bytes parts q = refl
 
--- bits that are read and hold headers and segments are a reading of them
+-- if the bits decode to headers and segments, the square does
 pub parts_reading : (s : List Color) (v : Version) (l : EcLevel) (k : MaskPattern) (bits given : List Bool) (bytes : List ℕ) (parts : List Part) (wrong : List WrongCodeword) → IsBitReading s v l k bits wrong → given ≡ bits
     → AreParts v given bytes parts → ((others : List ℕ) (more : List Part) → AreParts v given others more → (others ≡ bytes) × (more ≡ parts)) → IsPartsReading s v l k bytes parts wrong
 parts_reading s v l k bits given bytes parts wrong read e holds alone = record {
@@ -39,7 +39,7 @@ parts_reading s v l k bits given bytes parts wrong read e holds alone = record {
   parted = subst (λ b. AreParts v b bytes parts) e holds;
 }
 
--- bits that are read and hold none are the cause
+-- if the bits decode to none, that is the cause
 pub unparted : (s : List Color) (v : Version) (l : EcLevel) (bits given : List Bool) (e : spelling.Unspelled) → ReadsBitsOnly s v l bits → given ≡ bits
     → (e ≡ spelling.TheVariants.OutOfMemory) ⊎ ((e ≡ spelling.TheVariants.NotSpelled) × HaveNoParts v given) → IsPartsCause s (unread_of e)
 unparted s v l bits given e only same why = elim why [

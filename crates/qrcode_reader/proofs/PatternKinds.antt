@@ -11,7 +11,7 @@ use Rattle.qrcode_layout.specs.declared.figures.Figure.{Figure}
 use Rattle.qrcode_layout.proofs.Agreements.{normal_fit, micro_fit}
 use Rattle.qrcode_reader.specs.Figures.{finder_figures, timing_figures, dark_figures}
 
--- what all of a list pass, all of a part of it pass
+-- a test that all of a list pass, all of a part of it pass
 part_passes : (test : Figure → Bool) (a b c : List Figure) → list_all test ((a ++ b) ++ c) ≡ true → list_all test b ≡ true
 part_passes test a b c all =
     let front = and_parts _ _ (sym (list_all-append test (a ++ b) c) ∙ all) in
@@ -36,7 +36,7 @@ kinds_fit (Micro n) valid =
       refl,
     )
 
--- which figures of the list that is drawn are those of each kind
+-- which figures of the list of all are those of each kind
 pub normal_kinds : (v : Version) (w : ℕ) (xs : List Figure) → is_micro v ≡ false → w ≡ side v → xs ≡ normal_format_figures w ++ normal_figures w
     → (slice_range xs 6 15 ≡ finder_figures v) × (slice_range xs 15 17 ≡ timing_figures v) × (slice_range xs 17 18 ≡ dark_figures v)
 normal_kinds (Micro n) w xs normal e x = absurd (cc)

@@ -23,17 +23,17 @@ pub length-seen : (w : ℕ) (p : Position) (is_inverted : Bool) (s : List Color)
 unfolding seen
 length-seen w p is_inverted s = length-map-range_with_len (seen_at w p is_inverted s) 0 (w * w)
 
--- what is read in a square in another position is of the version of that side
+-- in any position a square decodes only in the version with its side
 pub version_seen : (u v : Version) (l : EcLevel) (bits : List Bool) (p : Position) (is_inverted : Bool) (s : List Color) → IsTrue (is_valid u) → ReadsBits (seen (side u) p is_inverted s) v l bits → v ≡ u
 version_seen u v l bits p is_inverted s valid q =
     same_version v u (valid_of v l q.exists) valid (same_root (side v) (side u) (sym q.square ∙ length-seen (side u) p is_inverted s))
 
--- a turn names its position
+-- each turn belongs to one position
 turn_number : (has : Bool) (n at : ℕ) → n < 16 → (if has then n else n + 16) ≡ at → at % 16 ≡ n
 turn_number true n at below e = omega (arith, below, e)
 turn_number false n at below e = omega (arith, below, e)
 
--- the positions whose turns come before one more turn: those before, and the one whose turn it is
+-- the positions before turn t + 1 are those before turn t and the one whose turn t is
 pub turns_more : (v : Version) (w : ℕ) (s : List Color) (P : ℕ → Type 0) (at : ℕ) → ((n : ℕ) → n < 16 → turn v w s n < at → P n)
     → (turn v w s (at % 16) ≡ at → P (at % 16)) → (n : ℕ) → n < 16 → turn v w s n < at + 1 → P n
 turns_more v w s P at before here n below less = elim (cases_order (turn v w s n) at) [
@@ -41,7 +41,7 @@ turns_more v w s P at before here n below less = elim (cases_order (turn v w s n
   | inr o ↦ elim o [ inl l ↦ before n below l | inr g ↦ absurd (omega (arith, less, g)) ]
 ]
 
--- what the first of the positions gives, once its turn has come
+-- what follows once position 0, the square as given, has been tried
 pub first_turn_more : (v : Version) (w : ℕ) (s : List Color) (P : Type 0) (at : ℕ) → (turn v w s 0 < at → P) → (turn v w s (at % 16) ≡ at → at % 16 ≡ 0 → P) → turn v w s 0 < at + 1 → P
 first_turn_more v w s P at before here less =
     turns_more v w s (λ n. n ≡ 0 → P) at (λ n below sooner zero. before (subst (λ k. turn v w s k < at) zero sooner)) here 0 (omega arith) less refl
@@ -50,13 +50,13 @@ first_turn_more v w s P at before here less =
 pub turn_below : (v : Version) (w : ℕ) (s : List Color) (n most : ℕ) → n < 16 → 32 ≤ most → turn v w s n < most
 turn_below v w s n most below enough = cond_both (has_finders v (seen w (tried n).0 (tried n).1 s)) n (n + 16) (λ k. k < most) (λ e. omega (arith, below, enough)) (λ e. omega (arith, below, enough))
 
--- modules of no version are read in no position
+-- modules of no version decode in no position
 pub unread_of_no_version : (s : List Color) → ((v : Version) → IsTrue (is_valid v) → length s ≢ side v * side v) → (w : ℕ) → w * w ≡ length s → (p : Position) (is_inverted : Bool) (bytes : List ℕ)
     → ¬ Reads (seen w p is_inverted s) bytes
 unread_of_no_version s none w square p is_inverted bytes reads =
     none reads.version (valid_of reads.version reads.level reads.read.exists) (sym square ∙ sym (length-seen w p is_inverted s) ∙ reads.read.square)
 
--- nor do they hold headers and segments in one
+-- nor do they decode to headers and segments
 pub partless_of_no_version : (s : List Color) → ((v : Version) → IsTrue (is_valid v) → length s ≢ side v * side v) → (w : ℕ) → w * w ≡ length s → (p : Position) (is_inverted : Bool)
     (bytes : List ℕ) (parts : List Part) → ¬ ReadsParts (seen w p is_inverted s) bytes parts
 partless_of_no_version s none w square p is_inverted bytes parts reads =
@@ -66,7 +66,7 @@ same_color : (c : Color) → seen_color false c ≡ c
 same_color Light = refl
 same_color Dark = refl
 
--- upright a square is seen as it stands
+-- upright and not inverted, a square is as it is
 pub seen_upright : (w : ℕ) (s : List Color) → w * w ≡ length s → seen w Upright false s ≡ s
 unfolding seen
 seen_upright w s square = sym (fill_by_all (seen_at w Upright false s) s (w * w) Light (sym square) (λ k inside.

@@ -1,4 +1,4 @@
--- What is read, and that what is refused cannot be read.
+-- What squares decode to, and that each error has its cause.
 use Rattle.std.proofs.Common.{◌≡◌, ◌*◌, ◌<◌, ℕ, Bool, List, [], length, get_or, take, refl, sym, ap, subst, ◌∙◌, IsTrue, ◌⊎◌, inl, inr}
 use Rattle.std.specs.List.{AllZip}
 use Rattle.qrcode_types.specs.Bits.{bits_of}
@@ -26,7 +26,7 @@ use Rattle.qrcode_reader.specs.declared.refusals.Unread.{Unread}
 use Rattle.qrcode_reader.specs.declared.refusals.Unread.TheVariants.{NoSuchSide, NoFormat, Damaged, NotSpelled, OutOfMemory}
 use Rattle.qrcode_reader.proofs.Corrections.{corrects_at}
 
--- corrected blocks of a square are a reading of it
+-- the corrected blocks of a square are what it decodes to
 reads_bits : (s : List Color) (v : Version) (l : EcLevel) (k : MaskPattern) (bytes : List ℕ) (wrong : List WrongCodeword) (bits : List Bool) → length s ≡ side v * side v → HasFormat v s l k
     → (a : AreCorrected v l (codewords v l (stream v k s)) (length (block_lengths v l)) bytes wrong) → bits ≡ take (capacity v l) (bits_of bytes) → ReadsBits s v l bits
 unfolding blocks data_bits
@@ -52,7 +52,7 @@ bit_reading s v l k bytes wrong bits square format a holds =
       places = a.places;
     }
 
--- the version of a reading is that of the side
+-- a square decodes to bits only of the version with its side
 on_side : (s : List Color) (u v : Version) (l : EcLevel) (bits : List Bool) → IsTrue (Rattle.qrcode_types.specs.Versions.is_valid u) → length s ≡ side u * side u → ReadsBits s v l bits → ReadsBits s u l bits
 on_side s u v l bits valid square q =
     subst (λ w. ReadsBits s w l bits) (sym (same_version u v valid (valid_of v l q.exists) (same_root (side u) (side v) (sym square ∙ q.square)))) q
@@ -62,7 +62,7 @@ block_corrects : (s : List Color) (v : Version) (l : EcLevel) (k : MaskPattern) 
 unfolding blocks
 block_corrects s v l k cs b all less = corrects_at v l (codewords v l (stream v k s)) (length (block_lengths v l)) cs b all less
 
--- a square with a cause of refusal cannot be read
+-- a square with a cause other than memory does not decode
 pub only_memory : (s : List Color) (e : Unread) → IsBitCause s e → (v : Version) (l : EcLevel) (bits : List Bool) → ReadsBits s v l bits → e ≡ OutOfMemory
 only_memory s NoSuchSide cause v l bits q = absurd (cause v (valid_of v l q.exists) q.square)
 only_memory s NoFormat cause v l bits q =
@@ -80,7 +80,7 @@ only_memory s (Damaged b) cause v l bits q =
 only_memory s NotSpelled cause v l bits q = absurd cause
 only_memory s OutOfMemory cause v l bits q = refl
 
--- blocks that are refused are the cause
+-- if the blocks cannot be corrected, that is the cause
 pub blocked : (s : List Color) (v : Version) (l : EcLevel) (k : MaskPattern) (words : List ℕ) (e : Unread) → length s ≡ side v * side v → HasFormat v s l k → words ≡ codewords v l (stream v k s)
     → (e ≡ OutOfMemory) ⊎ ((b : ℕ) × (e ≡ Damaged b) × IsFirstDamaged v l words b) → IsBitCause s e
 blocked s v l k words e square format same refused = elim refused [
@@ -99,7 +99,7 @@ bytes_only_memory s NotSpelled cause bytes q =
     absurd (cause.none bytes (subst (λ b. Spells cause.version b bytes) e.2 (subst (λ v. Spells v q.bits bytes) e.0 q.spelled)))
 bytes_only_memory s OutOfMemory cause bytes q = refl
 
--- bits that are read and spell bytes are a reading
+-- if the bits decode to bytes, the square does
 pub reading : (s : List Color) (v : Version) (l : EcLevel) (k : MaskPattern) (bits given : List Bool) (bytes : List ℕ) (wrong : List WrongCodeword) → IsBitReading s v l k bits wrong → given ≡ bits
     → SpellsOnly v given bytes → IsReading s v l k bytes wrong
 reading s v l k bits given bytes wrong read e spells =
@@ -111,7 +111,7 @@ reading s v l k bits given bytes wrong read e spells =
       spelled = spelled;
     }
 
--- bits that are read and are refused as bytes are the cause
+-- if the bits decode to no bytes, that is the cause
 pub unspelled : (s : List Color) (v : Version) (l : EcLevel) (bits given : List Bool) (e : spelling.Unspelled) → ReadsBitsOnly s v l bits → given ≡ bits
     → (e ≡ spelling.TheVariants.OutOfMemory) ⊎ ((e ≡ spelling.TheVariants.NotSpelled) × ((bytes : List ℕ) → ¬ Spells v given bytes)) → IsCause s (unread_of e)
 unspelled s v l bits given e only same why = elim why [
@@ -121,7 +121,7 @@ unspelled s v l bits given e only same why = elim why [
       subst (λ e. IsCause s (unread_of e)) (sym none.0) nothing
 ]
 
--- the reading of a damaged symbol is what the symbol encodes
+-- a damaged symbol decodes to the bytes that the symbol encodes
 pub given_back : (s : List Color) (v : Version) (l : EcLevel) (k : MaskPattern) (bytes : List ℕ) (wrong : List WrongCodeword) → IsReading s v l k bytes wrong
     → (u : Version) (m : EcLevel) (bits : List Bool) (others : List ℕ) (symbol : List Color) → (encodes : EncodesBytes u m bits others symbol) → IsDamaged u m encodes.encodes.mask symbol s
     → (v ≡ u) × (l ≡ m) × (bytes ≡ others)
@@ -129,13 +129,13 @@ given_back s v l k bytes wrong is u m bits others symbol encodes damaged =
     let same = (encodes.encodes.read s damaged).only v l is.bits is.read.only.found in
     (same.0, same.1, (encodes.read s damaged).only bytes is.only.found)
 
--- the reading of a damaged symbol of bits is what the symbol encodes
+-- a damaged symbol decodes to the bits that the symbol encodes
 pub bits_given_back : (s : List Color) (v : Version) (l : EcLevel) (k : MaskPattern) (bits : List Bool) (wrong : List WrongCodeword) → IsBitReading s v l k bits wrong
     → (u : Version) (m : EcLevel) (others : List Bool) (symbol : List Color) → (encodes : EncodesBits u m others symbol) → IsDamaged u m encodes.mask symbol s
     → (v ≡ u) × (l ≡ m) × (bits ≡ others)
 bits_given_back s v l k bits wrong is u m others symbol encodes damaged = (encodes.read s damaged).only v l bits is.only.found
 
--- a damaged symbol of bits has no cause of refusal
+-- a damaged symbol of bits has no cause other than memory
 pub bits_only_memory : (s : List Color) (e : Unread) → IsBitCause s e → (u : Version) (m : EcLevel) (others : List Bool) (symbol : List Color) → (encodes : EncodesBits u m others symbol)
     → IsDamaged u m encodes.mask symbol s → e ≡ OutOfMemory
 bits_only_memory s e cause u m others symbol encodes damaged = only_memory s e cause u m others (encodes.read s damaged).found

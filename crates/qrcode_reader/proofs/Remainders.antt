@@ -1,4 +1,4 @@
--- What the sum of a remainder and the end of a block keeps.
+-- The remainder of the front of a block plus its end keeps the syndromes.
 use Rattle.std.proofs.Common.{◌≡◌, ℕ, suc, ◌+◌, ◌-◌, ◌*◌, ◌<◌, ◌≤◌, ◌⊎◌, inl, inr, refl, sym, ap, ap₂, ◌∙◌, arith, subst, cond, List, [], ◌∷◌, ◌++◌, length, get_or, take, replicate, length-append}
 use Rattle.std.proofs.lemmas.Bool.{cases_lt, eq-eqb}
 use Rattle.std.proofs.lemmas.List.{get_or-append_right, get_or_append_left, get_or-take, get_or_past, length-take-le, length-replicate}
@@ -12,14 +12,14 @@ use Rattle.qrcode_ec.proofs.Xor.{same_from_xor}
 use Rattle.qrcode_ec.proofs.Products.{product_one_l, product_zero_l}
 use Rattle.qrcode_ec.proofs.Syndromes.{syndrome_append, syndrome_combine, syndrome_lt, syndrome_nil, zeros_vanish, zeros_at}
 
--- zeros in front change nothing
+-- leading zeros change nothing
 zeros_front : (i gap : ℕ) (xs : List ℕ) → syndrome i (replicate gap 0 ++ xs) ≡ syndrome i xs
 zeros_front i gap xs =
     syndrome_append i (replicate gap 0) xs
     ∙ ap (λ s. bit_xor (product s (power (i * length xs))) (syndrome i xs)) (zeros_vanish (suc i) (replicate gap 0) (λ j _. zeros_at gap j) i (omega arith))
     ∙ ap (λ s. bit_xor s (syndrome i xs)) (product_zero_l (power (i * length xs)))
 
--- the item at a place of a list with zeros in front
+-- the item at a place of a list with leading zeros
 front_zero : (gap k : ℕ) (xs : List ℕ) → k < gap → get_or (replicate gap 0 ++ xs) k 0 ≡ 0
 front_zero gap k xs less = get_or_append_left (replicate gap 0) xs 0 k (omega (arith, length-replicate {A = ℕ} gap 0)) ∙ zeros_at gap k
 
@@ -69,7 +69,7 @@ residue_syndrome n gap front end old new whole room same bytes either vanishes b
         ap (λ f. product (syndrome i f) (power (i * n))) none ∙ ap (λ x. product x (power (i * n))) (syndrome_nil i) ∙ product_zero_l (power (i * n))
         ∙ sym (ap (λ f. product (syndrome i f) (power (i * length end))) none ∙ ap (λ x. product x (power (i * length end))) (syndrome_nil i) ∙ product_zero_l (power (i * length end)))
 
--- they are bytes
+-- the items of that list are bytes
 pub residue_bytes : (n gap : ℕ) (end old new : List ℕ) → gap + length end ≡ n → n ≤ length new → AreBytes end → AreBytes old
     → ((k : ℕ) → k < gap → get_or new k 0 ≡ get_or old k 0)
     → ((k : ℕ) → k < length end → get_or new (gap + k) 0 ≡ bit_xor (get_or old (gap + k) 0) (get_or end k 0))
@@ -86,7 +86,7 @@ residue_bytes n gap end old new whole room small bytes before below = bytes_from
 ])
 
 -- ---- a block that vanishes
--- where a list has the syndromes of a block, it is zero just where the block vanishes
+-- a list as long as the degree with the syndromes of a block is zero exactly if the block vanishes
 pub vanishes_from_zero : (n : ℕ) (xs block : List ℕ) → ((i : ℕ) → i < n → syndrome i xs ≡ syndrome i block)
     → ((j : ℕ) → j < length xs → get_or xs j 0 ≡ 0) → Vanishes block n
 vanishes_from_zero n xs block same none i less = sym (same i less) ∙ zeros_vanish (suc i) xs none i (omega arith)

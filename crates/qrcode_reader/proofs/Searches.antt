@@ -9,7 +9,7 @@ use Rattle.qrcode_reader.specs.correct.Polynomials.{combined}
 use Rattle.qrcode_reader.specs.correct.Recurrences.{FollowShortest, IsSearch}
 use Rattle.qrcode_reader.proofs.Sums.{combined_sum, combined_raised, combined_swap, combined_leads, combined_none, combined_lt}
 
--- before the first value
+-- the start, before the first value
 pub search_first : (values : ℕ → ℕ) → IsSearch values 0 0 (1 ∷ replicate 71 0) (replicate 72 0) 1
 search_first values = record {
   at_most = omega arith;
@@ -26,7 +26,7 @@ search_first values = record {
     behind_one zero l = absurd (omega arith)
     behind_one (suc j) l = zeros_at 71 j
 
--- the next value follows
+-- if the next value follows the polynomial, nothing changes
 pub search_kept : (values : ℕ → ℕ) (n d : ℕ) (f b : List ℕ) (scale : ℕ) → IsSearch values n d f b scale → combined f values (n - d) ≡ 0
     → IsSearch values (n + 1) d f b scale
 search_kept values n d f b scale is none = record {
@@ -47,14 +47,14 @@ search_kept values n d f b scale is none = record {
   some = is.some;
 }
 
--- zero and a multiple of zero, and what is corrected
+-- zero plus a multiple of zero, and an error plus its correction
 both_zero : (q x y : ℕ) → x ≡ 0 → y ≡ 0 → bit_xor x (product q y) ≡ 0
 both_zero q x y a b = ap₂ bit_xor a (ap (product q) b ∙ product_zero_r q)
 
 both_same : (q x y e s : ℕ) → x ≡ e → y ≡ s → product q s ≡ e → bit_xor x (product q y) ≡ 0
 both_same q x y e s a b c = ap₂ bit_xor a (ap (product q) b ∙ c) ∙ xor_self e
 
--- the next value does not, and the degree is great enough to correct the polynomial by the earlier one
+-- if it does not, and the degree is large enough, the polynomial is corrected by the earlier one
 pub search_corrected : (values : ℕ → ℕ) (n d : ℕ) (f b raised new : List ℕ) (scale error q : ℕ) → IsSearch values n d f b scale
     → n < d + d → combined f values (n - d) ≡ error → product q scale ≡ error
     → ((j : ℕ) → j < d + d - n - 1 → get_or raised j 0 ≡ 0) → ((j : ℕ) → get_or raised (d + d - n - 1 + j) 0 ≡ get_or b j 0)
@@ -89,7 +89,7 @@ search_corrected values n d f b raised new scale error q is great is_error is_qu
       some = is.some;
     }
 
--- the next value does not, and the degree grows
+-- if it does not, and the degree is too small, the degree grows
 pub search_grown : (values : ℕ → ℕ) (n d : ℕ) (f b raised new : List ℕ) (scale error q : ℕ) → IsSearch values n d f b scale
     → d + d ≤ n → combined f values (n - d) ≡ error → 0 < error → product q scale ≡ error
     → ((j : ℕ) → j < n + 1 - d - d → get_or raised j 0 ≡ 0) → ((j : ℕ) → get_or raised (n + 1 - d - d + j) 0 ≡ get_or f j 0)
@@ -128,7 +128,7 @@ search_grown values n d f b raised new scale error q is few is_error some is_quo
       some = some;
     }
 
--- what a search has found is the shortest: a shorter one, combined with the earlier polynomial, would give zero and the scale
+-- the result is the shortest: a shorter one, combined with the earlier polynomial, would give both zero and the scale
 pub search_shortest : (values : ℕ → ℕ) (n d : ℕ) (f b : List ℕ) (scale : ℕ) → IsSearch values n d f b scale → FollowShortest values n d f
 search_shortest values n d f b scale is = record {
   follow = is.follow;

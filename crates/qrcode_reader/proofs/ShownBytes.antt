@@ -1,4 +1,4 @@
--- What is shown of bits begins with what is shown of their first piece.
+-- The text of bits begins with the text of their first piece.
 use Rattle.std.proofs.Common.{◌≡◌, ◌≢◌, ℕ, ◌++◌, List, [], ◌∷◌, Bool, true, false, refl, sym, ap, subst, ◌∙◌, arith, IsTrue, inl, inr, append_assoc, append-nil, true≢false}
 use Rattle.std.specs.Prelude.{flat_map, chars, IsUtf8}
 use Rattle.std.proofs.lemmas.List.{append_cancel_left}
@@ -22,13 +22,13 @@ use Rattle.qrcode_reader.specs.spell.Parts.{IsPrefixed, BeginsWithHeader}
 use Rattle.qrcode_reader.specs.spell.Texts.{ShowsSegments, IsBehindFront}
 use Rattle.qrcode_reader.proofs.Parted.{header_or_piece}
 
--- The front.
+-- ECI 26 (UTF-8) at the start.
 
 mark : front MarkedText ≡ number_bits 4 7 ++ number_bits 8 26
 unfolding eci_bits
 mark = refl
 
--- the mark as a header
+-- ECI 26 as a header
 mark_header : (v : Version) (rest : List Bool) → is_micro v ≡ false → BeginsWithHeader v (Eci 26) (front MarkedText ++ rest) rest
 unfolding eci_bits number_bits
 mark_header v rest normal = record {
@@ -43,7 +43,7 @@ unfolding number_bits
 mark_no_end (Normal n) rest normal e = true≢false (sym e)
 mark_no_end (Micro n) rest normal e = true≢false normal
 
--- no segments begin like the mark
+-- no segments begin like ECI 26
 no_mark : (v : Version) (rest : List Bool) (ps : List Piece) → is_micro v ≡ false → IsReadAs v (front MarkedText ++ rest) ps → ⊥
 no_mark v rest [] normal r = mark_no_end v rest normal r
 no_mark v rest (p ∷ ps) normal r =
@@ -57,7 +57,7 @@ has_mark : (v : Version) → is_micro v ≡ false → IsTrue (has_front v Marked
 has_mark (Normal n) h = refl
 has_mark (Micro n) h = absurd (true≢false h)
 
--- behind the mark
+-- after ECI 26
 pub behind_mark : (v : Version) (bits front_bits rest : List Bool) → is_micro v ≡ false → IsPrefixed 4 7 8 26 front_bits → bits ≡ front_bits ++ rest → IsBehindFront v bits rest
 behind_mark v bits front_bits rest normal is e =
     let f : bits ≡ front MarkedText ++ rest = e ∙ ap (λ x. x ++ rest) (is.whole ∙ sym mark) in
@@ -75,7 +75,7 @@ behind_mark v bits front_bits rest normal is e =
       ];
     }
 
--- no mark in front
+-- no ECI 26 at the start
 pub without_mark : (v : Version) (bits : List Bool) → ((rest : List Bool) → is_micro v ≡ false → bits ≢ front MarkedText ++ rest) → IsBehindFront v bits bits
 without_mark v bits none = record {
   before = [];
@@ -89,13 +89,13 @@ without_mark v bits none = record {
   ];
 }
 
--- the mark is a number behind a prefix
+-- ECI 26 is a prefix and a number
 pub mark_prefixed : IsPrefixed 4 7 8 26 (front MarkedText)
 mark_prefixed = record { at_most = omega arith; whole = mark }
 
 -- The segments.
 
--- what all bits show is what was read of them, and then what the rest shows
+-- what all bits show is what was read so far, and then what the rest shows
 pub record ShowsFront (v : Version) (bits : List Bool) (done : List ℕ) (rest : List Bool) : Type 0 where
   pub sound : (more : List ℕ) → ShowsSegments v rest more → ShowsSegments v bits (done ++ more)
   pub complete : (bytes : List ℕ) → ShowsSegments v bits bytes → (more : List ℕ) × (bytes ≡ done ++ more) × ShowsSegments v rest more
@@ -128,7 +128,7 @@ first_shown v bits bytes (p ∷ ps) text goes r s e = record {
   shows = record { pieces = ps; read = r.1.1.1.1; text = s.1; shown = s.2.1.1; joined = refl };
 }
 
--- where no piece that is shown stands in front, and the bits do not end, nothing is shown
+-- if the bits neither end here nor begin with a piece that is shown, nothing is shown
 pub refuses_shown : (v : Version) (bits : List Bool) (done : List ℕ) (rest : List Bool) → is_end v rest ≡ false
     → ((p : Piece) (behind : List Bool) (text : List ℕ) → BeginsWithPiece v rest p behind → ¬ IsPieceShown p text) → ShowsFront v bits done rest → (bytes : List ℕ) → ¬ ShowsSegments v bits bytes
 refuses_shown v bits done rest goes none f bytes s =
@@ -158,7 +158,7 @@ shows_on v bits done rest p text behind goes b is f = record {
       (first.more, r.1 ∙ ap (λ x. done ++ x) (first.joined ∙ ap (λ x. x ++ first.more) same.1) ∙ sym (append_assoc done p.chunk first.more), subst (λ x. ShowsSegments v x first.more) same.2 first.shows);
 }
 
--- a piece that is Kanji or no UTF-8 is not shown, and no other piece stands in front
+-- a piece that is Kanji or not UTF-8 is not shown, and the bits begin with no other piece
 pub kanji_hidden : (v : Version) (bits : List Bool) (m : Mode) (chunk : List ℕ) (rest : List Bool) → m ≡ Kanji → BeginsWithPiece v bits (record { mode = m; chunk = chunk }) rest
     → (p : Piece) (behind : List Bool) (text : List ℕ) → BeginsWithPiece v bits p behind → ¬ IsPieceShown p text
 kanji_hidden v bits m chunk rest e b p behind text d is =
@@ -172,7 +172,7 @@ no_utf8_hidden v bits m chunk rest none b p behind text d is =
     let same = same_piece v p.mode m p.chunk chunk behind rest d.readable b.readable (sym d.whole ∙ b.whole) in
     none (text, (is.characters, is.utf8 ∙ same.1))
 
--- at an end all was read
+-- where the bits end, all was read
 shown_end : (v : Version) (bits : List Bool) (done : List ℕ) (rest : List Bool) → is_end v rest ≡ true → ShowsFront v bits done rest → ShowsSegments v bits done
 shown_end v bits done rest end f =
     subst (ShowsSegments v bits) (append-nil done) (f.sound [] (record { pieces = []; read = end; text = []; shown = refl; joined = refl }))
@@ -193,6 +193,6 @@ shows_text v bits behind done rest b end f =
     } in
     record { found = found; only = λ others t. one_shown v bits (chars done) others found t }
 
--- what is not shown behind the front is not shown at all
+-- if nothing is shown after ECI 26, nothing is shown at all
 pub hides_text : (v : Version) (bits behind : List Bool) → IsBehindFront v bits behind → ((bytes : List ℕ) → ¬ ShowsSegments v behind bytes) → (text : List ℕ) → ¬ Shows v bits text
 hides_text v bits behind b none text s = let r = b.complete text s in none r.0 r.1

@@ -1,4 +1,4 @@
--- Pictures that are seen pixel by pixel.
+-- Pixels that are those of a picture, one by one, are that picture.
 use Rattle.std.proofs.Common.{◌≡◌, ℕ, ◌+◌, ◌-◌, ◌*◌, ◌/◌, ◌%◌, ◌<◌, ◌≤◌, ◌&&◌, Bool, false, List, length, get_or, drop, map, ap, ap₂, nat_le, nat_lt, sym, ◌∙◌, arith}
 use Rattle.std.specs.Prelude.{slice_range}
 use Rattle.std.specs.List.{range_with_len}
@@ -15,7 +15,7 @@ use Rattle.qrcode_render.specs.Picture.{picture, is_dark_pixel}
 use Rattle.qrcode_reader.specs.scan.Files.{packed_marks}
 use Rattle.qrcode_reader.specs.scan.Squares.{IsRowOf}
 
--- pixels of the sides of a picture that are its pixels one by one are the picture
+-- pixels with the sides of a picture that are its pixels one by one are the picture
 pub shown_by_all : (b : Bitmap) (at : Layout) (s : List Color) → b.across ≡ pixels_across at → b.down ≡ pixels_down at → length b.marks ≡ b.across * b.down
     → ((k : ℕ) → k < length b.marks → get_or b.marks k false ≡ is_dark_pixel at s (k % pixels_across at) (k / pixels_across at)) → b ≡ picture at s
 shown_by_all b at s across down count each =
@@ -27,42 +27,42 @@ shown_by_all b at s across down count each =
     ap (λ (m : List Bool). record b { marks = m }) marks
     ∙ ap₂ (λ (x y : ℕ). record { across = x; down = y; marks = map pixel (range_with_len 0 (w * h)) }) across down
 
--- whether a pixel is dark, by the module that it is of
+-- a pixel is dark if its module is
 abbrev dark_by : Layout → List Color → ℕ → ℕ → Bool
 dark_by at s column row =
     nat_le at.zone column && nat_lt column (at.zone + at.count) && nat_le at.zone row && nat_lt row (at.zone + at.count)
     && is_dark (get_or s ((row - at.zone) * at.count + (column - at.zone)) Light)
 
--- a row of pixels that begins no row of modules is of the same modules as the one above
+-- a row of pixels that does not begin a row of modules shows the same modules as the row above
 same_modules : (y d : ℕ) → 1 ≤ d → 1 ≤ y % d → (y - 1) / d ≡ y / d
 same_modules y d some inside =
     let e : y - 1 ≡ y / d * d + (y % d - 1) = omega (arith, div-add-mod' y d, inside) in
     ap (λ n. n / d) e ∙ div-mul-add (y / d) d (y % d - 1) (omega (arith, mod_below y d some, inside))
 
--- a pixel of such a row is dark where the one above is
+-- a pixel of such a row is dark if the one above is
 same_pixel : (at : Layout) (s : List Color) (x y : ℕ) → 1 ≤ at.down → 1 ≤ y % at.down → is_dark_pixel at s x (y - 1) ≡ is_dark_pixel at s x y
 same_pixel at s x y some inside = ap (dark_by at s (x / at.across)) (same_modules y at.down some inside)
 
--- a pixel of a part of the marks
+-- a pixel in a slice of the pixels
 part_at : (marks : List Bool) (a b x : ℕ) → x < b - a → get_or (slice_range marks a b) x false ≡ get_or marks (a + x) false
 part_at marks a b x inside = get_or-take (b - a) (drop a marks) x false inside ∙ get_or-drop a marks x false
 
--- how many marks a part has
+-- the length of a slice
 part_length : (marks : List Bool) (a b : ℕ) → b ≤ length marks → length (slice_range marks a b) ≡ b - a
 part_length marks a b inside = length-take-le (b - a) (drop a marks) (omega (arith, length-drop a marks, inside))
 
--- the place of a row that does not begin a row of modules, behind that of the one above
+-- such a row begins one width after the row above
 place_above : (y w : ℕ) → 1 ≤ y → (y - 1) * w + w ≡ y * w
 place_above y w some =
     let e : y - 1 + 1 ≡ y = omega (arith, some) in
     let m : (y - 1) * w + w ≡ (y - 1 + 1) * w = omega arith in
     m ∙ ap (λ n. n * w) e
 
--- a row that begins no row of modules is not the first
+-- such a row is not the first
 pub some_row : (y d : ℕ) → 1 ≤ y % d → 1 ≤ y
 some_row y d inside = omega (arith, mod-le y d, inside)
 
--- a row that is as the one above
+-- if the row above is right, so is an equal row
 pub row_again : (marks : List Bool) (at : Layout) (s : List Color) (y : ℕ) → 1 ≤ at.down → 1 ≤ y % at.down → 1 ≤ y
     → let w = pixels_across at in slice_range marks (y * w) (y * w + w) ≡ slice_range marks (y * w - w) (y * w)
     → IsRowOf marks at s (y - 1) → IsRowOf marks at s y
@@ -75,7 +75,7 @@ row_again marks at s y some inside below same above =
     let up : y * w - w + x ≡ (y - 1) * w + x = omega (arith, place) in
     sym here ∙ ap (λ (l : List Bool). get_or l x false) same ∙ there ∙ ap (λ k. get_or marks k false) up ∙ above x left ∙ same_pixel at s x y some inside
 
--- two rows of the same modules are the same marks
+-- two right rows of the same modules have equal pixels
 pub rows_same : (marks : List Bool) (at : Layout) (s : List Color) (y : ℕ) → 1 ≤ at.down → 1 ≤ y % at.down → 1 ≤ y
     → let w = pixels_across at in y * w + w ≤ length marks
     → IsRowOf marks at s (y - 1) → IsRowOf marks at s y → slice_range marks (y * w) (y * w + w) ≡ slice_range marks (y * w - w) (y * w)
@@ -93,6 +93,6 @@ rows_same marks at s y some inside below room above row =
     ∙ ap (λ k. get_or marks k false) (sym up) ∙ sym (part_at marks (y * w - w) (y * w) x (omega (arith, left, place)))
     )
 
--- the marks of packed rows are as many as their pixels
+-- packed rows unpack to as many pixels as they have
 pub bits_length : (marks : List Bool) (bytes : List ℕ) (across down : ℕ) → marks ≡ packed_marks bytes across down → length marks ≡ across * down
 bits_length marks bytes across down is = ap length is ∙ length-map-range_with_len _ 0 (across * down)

@@ -1,4 +1,4 @@
--- What text is shown, and that what is refused is shown as none.
+-- What text a reader shows, and that each error has its cause.
 use Rattle.std.proofs.Common.{◌≡◌, ℕ, Bool, List, sym, ap, subst, ◌⊎◌, inl, inr}
 use Rattle.qrcode_types.specs.declared.types.Version.{Version}
 use Rattle.qrcode_types.specs.declared.types.EcLevel.{EcLevel}
@@ -16,18 +16,18 @@ use Rattle.qrcode_reader.specs.declared.refusals.UnreadText.TheVariants.{NoBits,
 use Rattle.qrcode_reader.specs.declared.refusals.Unread.TheVariants.{OutOfMemory}
 use Rattle.qrcode_reader.proofs.Refused.{only_memory}
 
--- what is shown of the only bits of a square, and why nothing is, by those bits
+-- what a reader shows for a square, and why nothing, by its only bits
 shown_of_bits : (s : List Color) (v : Version) (l : EcLevel) (bits : List Bool) (text : List ℕ) → ReadsBitsOnly s v l bits → (q : ShowsText s text) → Shows v bits text
 shown_of_bits s v l bits text only q =
     let e = only.only q.version q.level q.bits q.read in
     subst (λ b. Shows v b text) e.2 (subst (λ u. Shows u q.bits text) e.0 q.shown)
 
--- a square with a cause of refusal shows no text
+-- a square with a cause other than memory shows no text
 pub text_only_memory : (s : List Color) (e : UnreadText) → IsTextCause s e → (text : List ℕ) → ShowsText s text → e ≡ NoBits OutOfMemory
 text_only_memory s (NoBits e) cause text q = ap NoBits (only_memory s e cause q.version q.level q.bits q.read)
 text_only_memory s NotShown cause text q = absurd (cause.none text (shown_of_bits s cause.version cause.level cause.bits text cause.only q))
 
--- bits that are read and shown as a text are a reading of it
+-- if the bits show a text, the square does
 pub text_reading : (s : List Color) (v : Version) (l : EcLevel) (k : MaskPattern) (bits given : List Bool) (text : List ℕ) (wrong : List WrongCodeword) → IsBitReading s v l k bits wrong → given ≡ bits
     → ShowsOnly v given text → IsTextReading s v l k text wrong
 text_reading s v l k bits given text wrong read e shows =
@@ -42,7 +42,7 @@ text_reading s v l k bits given text wrong read e shows =
       shown = here.found;
     }
 
--- bits that are read and shown as no text are the cause
+-- if the bits show no text, that is the cause
 pub unshown : (s : List Color) (v : Version) (l : EcLevel) (bits given : List Bool) (e : showing.Unshown) → ReadsBitsOnly s v l bits → given ≡ bits
     → (e ≡ showing.TheVariants.OutOfMemory) ⊎ ((e ≡ showing.TheVariants.NotShown) × ((text : List ℕ) → ¬ Shows v given text)) → IsTextCause s (unread_text_of e)
 unshown s v l bits given e only same why = elim why [

@@ -8,13 +8,13 @@ use Rattle.qrcode_ec.proofs.Xor.{xor_sum_same, xor_sum_none, xor_sum_xor, xor_su
 use Rattle.qrcode_ec.proofs.Products.{product_lt, product_assoc, product_swap, product_zero_l, product_zero_r, product_one_l, product_xor_r, product_xor_l}
 use Rattle.qrcode_reader.specs.correct.Polynomials.{combined, EndsAt}
 
--- the last term
+-- a sum of n + 1 terms ends with the last one
 pub xor_sum_last : (n : ℕ) (f : ℕ → ℕ) → xor_sum (suc n) f ≡ bit_xor (xor_sum n f) (f n)
 unfolding xor_sum
 xor_sum_last zero f = xor_comm (f 0) 0
 xor_sum_last (suc n) f = ap (bit_xor (f 0)) (xor_sum_last n (λ i. f (suc i))) ∙ sym (xor_assoc (f 0) (xor_sum n (λ i. f (suc i))) (f (suc n)))
 
--- a sum with one term
+-- a sum with a single term that is not zero
 pub xor_sum_one : (n k : ℕ) (f : ℕ → ℕ) → k < n → ((i : ℕ) → i < n → i ≢ k → f i ≡ 0) → xor_sum n f ≡ f k
 unfolding xor_sum
 xor_sum_one zero k f l h = absurd (omega arith)
@@ -38,7 +38,7 @@ xor_sum_swap zero n f = sym (xor_sum_none n (λ j. 0) (λ j _. refl))
 xor_sum_swap (suc m) n f =
     ap (bit_xor (xor_sum n (f 0))) (xor_sum_swap m n (λ i. f (suc i))) ∙ sym (xor_sum_xor n (f 0) (λ j. xor_sum m (λ i. f (suc i) j)))
 
--- a factor of each term
+-- a common factor of the terms
 pub product_sum : (a n : ℕ) (f : ℕ → ℕ) → product a (xor_sum n f) ≡ xor_sum n (λ i. product a (f i))
 product_sum a n f = sym (xor_sum_map (product a) (product_zero_r a) (product_xor_r a) n f)
 
@@ -57,14 +57,14 @@ combined_few n f values i ends =
     ∙ xor_sum_more n (n + length f) (λ j. product (get_or f j 0) (values (i + j))) (omega arith)
     (λ j l. ap (λ a. product a (values (i + j))) (ends j l) ∙ product_zero_l (values (i + j)))
 
--- of values that agree
+-- combinations of values that agree are equal
 pub combined_same : (n : ℕ) (f : List ℕ) (xs ys : ℕ → ℕ) (i : ℕ) → EndsAt f n → ((j : ℕ) → j < n → xs (i + j) ≡ ys (i + j)) → combined f xs i ≡ combined f ys i
 combined_same n f xs ys i ends same =
     combined_few n f xs i ends
     ∙ xor_sum_same n (λ j. product (get_or f j 0) (xs (i + j))) (λ j. product (get_or f j 0) (ys (i + j))) (λ j l. ap (product (get_or f j 0)) (same j l))
     ∙ sym (combined_few n f ys i ends)
 
--- of the sum of a polynomial and a multiple of another
+-- the combination by f plus a multiple of g
 pub combined_sum : (q : ℕ) (f g sum : List ℕ) (values : ℕ → ℕ) (i : ℕ)
     → ((j : ℕ) → get_or sum j 0 ≡ bit_xor (get_or f j 0) (product q (get_or g j 0)))
     → combined sum values i ≡ bit_xor (combined f values i) (product q (combined g values i))
@@ -79,7 +79,7 @@ combined_sum q f g sum values i at =
     ∙ xor_sum_xor n a (λ j. product q (b j))
     ∙ ap₂ bit_xor (sym (combined_more n f values i (omega arith))) (sym (product_sum q n b) ∙ ap (product q) (sym (combined_more n g values i (omega arith))))
 
--- of a polynomial times a power of x
+-- the combination by a polynomial times a power of x
 pub combined_raised : (s : ℕ) (f raised : List ℕ) (values : ℕ → ℕ) (i : ℕ)
     → ((j : ℕ) → j < s → get_or raised j 0 ≡ 0) → ((j : ℕ) → get_or raised (s + j) 0 ≡ get_or f j 0)
     → combined raised values i ≡ combined f values (i + s)
@@ -107,7 +107,7 @@ combined_swap f g values i =
     ∙ ap (λ x. product (get_or g k 0) (product (get_or f j 0) (values x))) (let e : i + j + k ≡ i + k + j = omega arith in e))
     ∙ sym (product_sum (get_or g k 0) m (λ j. product (get_or f j 0) (values (i + k + j)))))
 
--- where all values that meet a coefficient are zero but the one at the leading one
+-- if all values that meet a coefficient are zero except the one at the leading coefficient, that value is left
 pub combined_leads : (d : ℕ) (f : List ℕ) (values : ℕ → ℕ) (i : ℕ) → get_or f d 0 ≡ 1 → EndsAt f (d + 1) → ((j : ℕ) → values j < 256)
     → ((j : ℕ) → j < d → values (i + j) ≡ 0) → combined f values i ≡ values (i + d)
 combined_leads d f values i leads ends bytes zeros =
@@ -116,7 +116,7 @@ combined_leads d f values i leads ends bytes zeros =
     (λ j l other. ap (product (get_or f j 0)) (zeros j (omega arith)) ∙ product_zero_r (get_or f j 0))
     ∙ ap (λ a. product a (values (i + d))) leads ∙ product_one_l (values (i + d)) (bytes (i + d))
 
--- where a value is zero wherever it meets a coefficient
+-- if all values that meet a coefficient are zero, so is the combination
 pub combined_none : (f : List ℕ) (values : ℕ → ℕ) (i : ℕ) (n : ℕ) → EndsAt f n → ((j : ℕ) → j < n → values (i + j) ≡ 0) → combined f values i ≡ 0
 combined_none f values i n ends zeros =
     combined_few n f values i ends

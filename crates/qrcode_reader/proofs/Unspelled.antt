@@ -1,4 +1,4 @@
--- Bits that are not those of one group of characters.
+-- Bits that no group of characters is written as.
 use Rattle.std.proofs.Common.{◌≡◌, ◌≢◌, ◌≤◌, ◌<◌, ◌^◌, ℕ, ◌+◌, ◌-◌, ◌*◌, ◌/◌, List, [], ◌∷◌, ◌++◌, Bool, true, false, length, sym, ap, subst, ◌∙◌, arith, append-nil, true≢false}
 use Rattle.std.proofs.lemmas.Bool.{and_parts}
 use Rattle.std.specs.List.{list_all}
@@ -18,18 +18,18 @@ pub record AreOfNumber (bits : List Bool) (n : ℕ) : Type 0 where
   pub value : number_bits (length bits) n ≡ bits
   pub at_most : n < 2 ^ length bits
 
--- the bits of two numbers are those of one
+-- bits are those of only one number
 one_number : (bits : List Bool) (n count m : ℕ) → AreOfNumber bits n → m < 2 ^ count → number_bits count m ≡ bits → (length bits ≡ count) × (n ≡ m)
 one_number bits n count m are h e =
     let l : length bits ≡ count = sym (ap length e) ∙ length-number_bits count m in
     let f : number_bits count n ≡ number_bits count m = subst (λ k. number_bits k n ≡ bits) l are.value ∙ sym e in
     (l, (same_number count n m [] [] (subst (λ k. n < 2 ^ k) l are.at_most) h (ap (λ r. r ++ []) f)).0)
 
--- how long bytes are that are written in so many bits
+-- how many bits bytes are written in
 pub length_of_written : (m : Mode) (bits : List Bool) (bytes : List ℕ) → AreWrittenAs m bits bytes → length bits ≡ data_bits_count m (character_count m (length bytes))
 length_of_written m bits bytes w = sym (ap length w.written) ∙ length-data m bytes
 
--- a digit less 48
+-- a digit minus 48
 digit : (b : ℕ) (t : Bool) → Rattle.std.proofs.Common.◌&&◌ (is_digit b) t ≡ true → b - 48 < 10
 digit b t h = omega (arith, (in_range 48 57 b (and_parts (is_digit b) t h).0).1)
 

@@ -1,4 +1,4 @@
--- The blocks of codewords, and what corrects them.
+-- Blocks of codewords, and their corrections.
 use Rattle.std.specs.Prelude.{◌≡◌, ◌+◌, ◌-◌, ◌<◌, ◌++◌, ◌==◌, ℕ, List, [], ◌∷◌, length, map, flat_map, take, slice_index, if◌then◌else◌}
 use Rattle.std.specs.List.{range_with_len, AllZip}
 use Rattle.qrcode_types.specs.Versions.{block_lengths, ec_length}
@@ -8,30 +8,30 @@ use Rattle.qrcode_ec.specs.Blocks.{block, data_bytes}
 use Rattle.qrcode_ec.specs.Codes.{Corrects}
 use Rattle.qrcode_reader.specs.declared.correction.WrongCodeword.{WrongCodeword}
 
--- the codeword at a place of block b, where it is another in the correction
+-- place i of block b, as a wrong codeword, if r and its correction c differ there
 abbrev pub wrong_at : ℕ → List ℕ → List ℕ → ℕ → List WrongCodeword
 wrong_at b r c i = if slice_index r i == slice_index c i then [] else record { block = b; place = i } ∷ []
 
-unfoldable pub wrong_in : ℕ → List ℕ → List ℕ → List WrongCodeword  -- all of the block
+unfoldable pub wrong_in : ℕ → List ℕ → List ℕ → List WrongCodeword  -- all wrong codewords of block b
 wrong_in b r c = flat_map (wrong_at b r c) (range_with_len 0 (length r))
 
--- the same of all blocks from block b on
+-- all wrong codewords of the blocks, which are numbered from b on
 abbrev pub wrong_from : ℕ → List (List ℕ) → List (List ℕ) → List WrongCodeword
 wrong_from b [] cs = []
 wrong_from b (r ∷ rs) [] = []
 wrong_from b (r ∷ rs) (c ∷ cs) = wrong_in b r c ++ wrong_from (b + 1) rs cs
 
-abbrev pub first_blocks : Version → EcLevel → List ℕ → ℕ → List (List ℕ)  -- the first blocks, so many
+abbrev pub first_blocks : Version → EcLevel → List ℕ → ℕ → List (List ℕ)  -- the first count blocks
 first_blocks v l words count = map (block v l words) (range_with_len 0 count)
 
--- the data bytes of the first blocks once they are corrected, and which of their codewords were wrong
+-- the data bytes of the first count blocks after correction, and which of their codewords were wrong
 pub record AreCorrected (v : Version) (l : EcLevel) (words : List ℕ) (count : ℕ) (bytes : List ℕ) (wrong : List WrongCodeword) : Type 0 where
   pub corrected : List (List ℕ)
   pub corrects : AllZip (λ r c. Corrects r (ec_length v l) c) (first_blocks v l words count) corrected
   pub holds : bytes ≡ data_bytes v l corrected
   pub places : wrong ≡ wrong_from 0 (first_blocks v l words count) corrected
 
--- The block's data bytes and wrong codewords are appended.
+-- the corrected data bytes of the block and its wrong codewords are appended
 pub record AppendsBlock (n number : ℕ) (block old_bytes new_bytes : List ℕ) (old_wrong new_wrong : List WrongCodeword) : Type 0 where
   pub corrected : List ℕ
   pub corrects : Corrects block n corrected

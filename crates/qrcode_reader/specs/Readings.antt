@@ -1,4 +1,4 @@
--- What a reading of a square is, and why there is none.
+-- What a square decodes to, and why it does not.
 use Rattle.std.specs.Prelude.{◌≡◌, ◌≢◌, ◌*◌, ℕ, Bool, List, length, IsTrue}
 use Rattle.qrcode_types.specs.Versions.{is_valid, side}
 use Rattle.qrcode_types.specs.declared.types.Version.{Version}
@@ -23,27 +23,27 @@ use Rattle.qrcode_reader.specs.declared.refusals.UnreadText.{UnreadText}
 use Rattle.qrcode_reader.specs.declared.refusals.UnreadText.TheVariants.{NoBits, NotShown}
 use Rattle.qrcode_reader.specs.declared.refusals.Unread.TheVariants.{NoSuchSide, NoFormat, Damaged, NotSpelled, OutOfMemory}
 
--- the square is read as these bits and as no others; this is its mask, and these codewords were wrong
+-- the square decodes to these bits and no others; k is its mask, and these codewords were wrong
 pub record IsBitReading (s : List Color) (v : Version) (l : EcLevel) (k : MaskPattern) (bits : List Bool) (wrong : List WrongCodeword) : Type 0 where
   pub only : ReadsBitsOnly s v l bits
   pub mask : only.found.mask ≡ k
   pub places : wrong ≡ wrong_from 0 (blocks_in v l k s) only.found.corrected
 
--- the square is read as these bytes and as no others, by bits of which the same is true
+-- the square decodes to these bytes and no others; version, level, mask and wrong codewords are those of its bits
 pub record IsReading (s : List Color) (v : Version) (l : EcLevel) (k : MaskPattern) (bytes : List ℕ) (wrong : List WrongCodeword) : Type 0 where
   pub only : ReadsOnly s bytes
   pub bits : List Bool
   pub read : IsBitReading s v l k bits wrong
   pub spelled : Spells v bits bytes
 
--- the square is shown as these characters and as no others, by bits of which the same is true
+-- a reader shows these characters and no others for the square; version, level, mask and wrong codewords are those of its bits
 pub record IsTextReading (s : List Color) (v : Version) (l : EcLevel) (k : MaskPattern) (text : List ℕ) (wrong : List WrongCodeword) : Type 0 where
   pub only : ShowsTextOnly s text
   pub bits : List Bool
   pub read : IsBitReading s v l k bits wrong
   pub shown : Shows v bits text
 
--- a reader finds these headers and segments, and the bytes of the segments
+-- the square decodes to these headers and segments, the segments having these bytes
 pub record ReadsParts (s : List Color) (bytes : List ℕ) (parts : List Part) : Type 0 where
   pub version : Version
   pub level : EcLevel
@@ -51,24 +51,24 @@ pub record ReadsParts (s : List Color) (bytes : List ℕ) (parts : List Part) : 
   pub read : ReadsBits s version level bits
   pub parted : AreParts version bits bytes parts
 
--- the square is read as these headers and segments and as no others, by bits of which the same is true
+-- the square decodes to these headers and segments and no others; version, level, mask and wrong codewords are those of its bits
 pub record IsPartsReading (s : List Color) (v : Version) (l : EcLevel) (k : MaskPattern) (bytes : List ℕ) (parts : List Part) (wrong : List WrongCodeword) : Type 0 where
   pub only : (others : List ℕ) (more : List Part) → ReadsParts s others more → (others ≡ bytes) × (more ≡ parts)
   pub bits : List Bool
   pub read : IsBitReading s v l k bits wrong
   pub parted : AreParts v bits bytes parts
 
-abbrev pub HasNoVersion : List Color → Type 0  -- no version has a square of so many modules
+abbrev pub HasNoVersion : List Color → Type 0  -- no version has that many modules
 HasNoVersion s = (v : Version) → IsTrue (is_valid v) → length s ≢ side v * side v
 
--- a version has, and there are no level and mask whose format word is near each of its copies
+-- a version has that many modules, but no level and mask have a format word near each copy
 pub record HasNoFormat (s : List Color) : Type 0 where
   pub version : Version
   pub valid : IsTrue (is_valid version)
   pub square : length s ≡ side version * side version
   pub none : (l : EcLevel) (k : MaskPattern) → ¬ HasFormat version s l k
 
--- there are, and block b is the first that cannot be corrected
+-- version, level and mask are known, and block b is the first that cannot be corrected
 pub record HasDamagedBlock (s : List Color) (b : ℕ) : Type 0 where
   pub version : Version
   pub level : EcLevel
@@ -77,14 +77,14 @@ pub record HasDamagedBlock (s : List Color) (b : ℕ) : Type 0 where
   pub format : HasFormat version s level mask
   pub first : IsFirstDamaged version level (codewords version level (stream version mask s)) b
 
-pub record SpellsNothing (s : List Color) : Type 0 where  -- all blocks can be corrected, and the bits spell no bytes
+pub record SpellsNothing (s : List Color) : Type 0 where  -- all blocks can be corrected, but the bits decode to no bytes
   pub version : Version
   pub level : EcLevel
   pub bits : List Bool
   pub only : ReadsBitsOnly s version level bits
   pub none : (bytes : List ℕ) → ¬ Spells version bits bytes
 
--- all blocks can be corrected, and the bits are shown as no text
+-- all blocks can be corrected, but a reader shows no text for the bits
 pub record ShowsNothing (s : List Color) : Type 0 where
   pub version : Version
   pub level : EcLevel
@@ -92,34 +92,34 @@ pub record ShowsNothing (s : List Color) : Type 0 where
   pub only : ReadsBitsOnly s version level bits
   pub none : (text : List ℕ) → ¬ Shows version bits text
 
-pub record HoldsNoParts (s : List Color) : Type 0 where  -- all blocks can be corrected, and the bits are no headers and segments
+pub record HoldsNoParts (s : List Color) : Type 0 where  -- all blocks can be corrected, but the bits decode to no headers and segments
   pub version : Version
   pub level : EcLevel
   pub bits : List Bool
   pub only : ReadsBitsOnly s version level bits
   pub none : HaveNoParts version bits
 
-abbrev pub IsBitCause : List Color → Unread → Type 0  -- why a square is not read as bits
+abbrev pub IsBitCause : List Color → Unread → Type 0  -- why a square does not decode to bits
 IsBitCause s NoSuchSide = HasNoVersion s
 IsBitCause s NoFormat = HasNoFormat s
 IsBitCause s (Damaged b) = HasDamagedBlock s b
 IsBitCause s NotSpelled = ⊥
 IsBitCause s OutOfMemory = Unit
 
-abbrev pub IsCause : List Color → Unread → Type 0  -- why a square is not read as bytes
+abbrev pub IsCause : List Color → Unread → Type 0  -- why a square does not decode to bytes
 IsCause s NoSuchSide = HasNoVersion s
 IsCause s NoFormat = HasNoFormat s
 IsCause s (Damaged b) = HasDamagedBlock s b
 IsCause s NotSpelled = SpellsNothing s
 IsCause s OutOfMemory = Unit
 
-abbrev pub IsPartsCause : List Color → Unread → Type 0  -- why a square is not read as headers and segments
+abbrev pub IsPartsCause : List Color → Unread → Type 0  -- why a square does not decode to headers and segments
 IsPartsCause s NoSuchSide = HasNoVersion s
 IsPartsCause s NoFormat = HasNoFormat s
 IsPartsCause s (Damaged b) = HasDamagedBlock s b
 IsPartsCause s NotSpelled = HoldsNoParts s
 IsPartsCause s OutOfMemory = Unit
 
-abbrev pub IsTextCause : List Color → UnreadText → Type 0  -- why a square is shown as no text
+abbrev pub IsTextCause : List Color → UnreadText → Type 0  -- why a reader shows no text for a square
 IsTextCause s (NoBits e) = IsBitCause s e
 IsTextCause s NotShown = ShowsNothing s

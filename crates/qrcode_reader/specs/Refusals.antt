@@ -1,4 +1,4 @@
--- The texts of refusals.
+-- The messages of errors.
 use Rattle.std.specs.Prelude.{ℕ, List, ◌++◌, codes, decimal}
 use Rattle.qrcode_reader.specs.declared.spell.refusals.Unspelled as spelling
 use Rattle.qrcode_reader.specs.declared.spell.refusals.Unshown as showing
@@ -14,7 +14,7 @@ refusal_text (Damaged block) = codes "too many errors in block " ++ decimal bloc
 refusal_text NotSpelled = codes "the bits spell no bytes"
 refusal_text OutOfMemory = codes "out of memory"
 
-abbrev pub unread_of : spelling.Unspelled → Unread  -- the refusal of a square whose bits are refused
+abbrev pub unread_of : spelling.Unspelled → Unread  -- the error for a square whose bits decode to no bytes
 unread_of spelling.TheVariants.NotSpelled = NotSpelled
 unread_of spelling.TheVariants.OutOfMemory = OutOfMemory
 
@@ -22,6 +22,6 @@ abbrev pub text_refusal : UnreadText → List ℕ
 text_refusal (NoBits e) = refusal_text e
 text_refusal NotShown = codes "the bits are no text in UTF-8"
 
-abbrev pub unread_text_of : showing.Unshown → UnreadText  -- the refusal of a square whose bits are shown as no text
+abbrev pub unread_text_of : showing.Unshown → UnreadText  -- the error for a square whose bits show no text
 unread_text_of showing.TheVariants.NotShown = NotShown
 unread_text_of showing.TheVariants.OutOfMemory = NoBits OutOfMemory

@@ -1,4 +1,4 @@
-//! The data bits of data bytes.
+//! Splits data bytes into data bits.
 
 ghost use Rattle.std.specs.Prelude.{◌≡◌, ◌++◌, length, take, IsTrue, OnOk, IfOk};
 ghost use Rattle.qrcode_types.specs.Bits as numbers;
@@ -9,12 +9,12 @@ use qrcode_types::tables::capacity;
 use qrcode_types::types::{EcLevel, Version};
 use std::alloc::{AllocError, Global};
 
-// A one and a zero, their names short so that four bits can be seen.
+// A one and a zero, with short names so that four bits fit in a row of the table.
 const I: bool = true;
 
 const O: bool = false;
 
-// The bits of the numbers below 16, the highest first.
+// The bits of the numbers below 16, highest first.
 #[rattlefmt::skip]
 static HALVES: [[bool; 4]; 16] = [
     [O, O, O, O], [O, O, O, I], [O, O, I, O], [O, O, I, I],
@@ -23,7 +23,7 @@ static HALVES: [[bool; 4]; 16] = [
     [I, I, O, O], [I, I, O, I], [I, I, I, O], [I, I, I, I],
 ];
 
-// Appends the bits of a byte, the highest first, four at a time.
+// Appends the bits of `byte`, highest first, four at a time.
 #[inline(always)]
 fn push_byte(bits: &mut Vec<bool>, byte: u8) -> Result<(), AllocError>
     ensures { OnOk result (bits.new.items ≡ bits.old.items ++ numbers.number_bits 8 byte) }
@@ -33,7 +33,7 @@ fn push_byte(bits: &mut Vec<bool>, byte: u8) -> Result<(), AllocError>
     Ok(())
 }
 
-// The first bits of bytes, so many.
+// Returns the first `count` bits of `bytes`.
 fn bits_of(alloc: Global, bytes: &[u8], count: usize) -> Result<Vec<bool>, AllocError>
     ensures { IfOk result (λ bits. bits.items ≡ take count (numbers.bits_of bytes.now)) }
 {
@@ -45,8 +45,8 @@ fn bits_of(alloc: Global, bytes: &[u8], count: usize) -> Result<Vec<bool>, Alloc
     Ok(bits)
 }
 
-/// The data bits of the data bytes of all blocks, block by block: their bits, without the last four
-/// where the last data codeword has four (ISO/IEC 18004:2006, 6.4.10).
+/// Returns the data bits of the data bytes of all blocks, block by block: all their bits, without
+/// the last four if the last data codeword has only four (ISO/IEC 18004:2006, 6.4.10).
 pub(crate) fn data_bits(
     alloc: Global,
     bytes: &[u8],

@@ -1,4 +1,4 @@
-//! Blocks among codewords in which they stand interleaved.
+//! Takes single blocks out of interleaved codewords.
 
 ghost use Rattle.std.specs.Prelude.{◌≡◌, ◌<◌, ◌≤◌, ◌++◌, length, slice_index, vec_len, IsTrue, OnOk, IfOk};
 ghost use Rattle.qrcode_types.specs.Blocks.{count_of};
@@ -10,15 +10,15 @@ use qrcode_types::tables::Blocks;
 use qrcode_types::types::{EcLevel, Version};
 use std::alloc::{AllocError, Global};
 
-// The codeword at a place, or zero behind the last one.
+// Returns the codeword at `place`, or zero after the last one.
 fn word(words: &[u8], place: usize) -> u8
     ensures { result ≡ slice_index words.now place }
 {
     if place < words.len() { words[place] } else { 0 }
 }
 
-// Appends the data bytes of block b: the first bytes of all blocks stand in front, then the second
-// ones, and behind all rows the last bytes of the long blocks.
+// Appends the data bytes of block `b`. In `words` the first bytes of all blocks come first, then
+// all second bytes and so on, and after these rows the last bytes of the long blocks.
 fn push_data(bytes: &mut Vec<u8>, words: &[u8], blocks: Blocks, b: usize) -> Result<(), AllocError>
     requires { b < count_of blocks }
     ensures { OnOk result (bytes.new.items ≡ bytes.old.items ++ data_part blocks words.now b) }
@@ -34,7 +34,7 @@ fn push_data(bytes: &mut Vec<u8>, words: &[u8], blocks: Blocks, b: usize) -> Res
     Ok(())
 }
 
-// Appends the error correction bytes of block b, which stand behind all data bytes.
+// Appends the error correction bytes of block `b`, which come after all data bytes.
 fn push_ec(bytes: &mut Vec<u8>, words: &[u8], blocks: Blocks, b: usize) -> Result<(), AllocError>
     requires { b < count_of blocks }
     ensures { OnOk result (bytes.new.items ≡ bytes.old.items ++ ec_part blocks words.now b) }
@@ -47,8 +47,11 @@ fn push_ec(bytes: &mut Vec<u8>, words: &[u8], blocks: Blocks, b: usize) -> Resul
     Ok(())
 }
 
-/// Block b of the codewords, of which there are as many as the version has at the level: its data
-/// bytes, and then its error correction bytes (ISO/IEC 18004:2006, 6.6).
+/// Returns block `b` of the codewords `words`: its data bytes, then its error correction bytes
+/// (ISO/IEC 18004:2006, 6.6). The version must have more than `b` blocks at `ec_level`. Codewords
+/// that are missing count as zero.
+///
+/// Errors: only `AllocError`, if memory runs out.
 pub fn block(
     alloc: Global,
     words: &[u8],

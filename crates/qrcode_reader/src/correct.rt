@@ -1,4 +1,4 @@
-//! Correction of blocks of Reed-Solomon codes, as QR codes use them (ISO/IEC 18004:2006, Annex B).
+//! Corrects blocks of Reed-Solomon codes, as QR codes use them (ISO/IEC 18004:2006, Annex B).
 
 mod errors;
 pub mod laws;
@@ -16,15 +16,15 @@ use residues::{is_zero, residue, syndromes};
 use std::error::Error;
 use std::fmt;
 
-/// The refusal of a block: it differs in more than half as many bytes as it has error correction
-/// bytes from each list of bytes that they would allow.
+/// The error of a block that cannot be corrected: each valid block differs from it in more bytes
+/// than half the number of its error correction bytes.
 #[derive(Debug, PartialEq, Eq, Copy, Clone)]
 pub struct Damaged;
 
 impl fmt::Display for Damaged {
     ghost output = { λ _. Some (codes "too many errors in a block") };
 
-    // A width, a fill and a precision change nothing.
+    // Width, fill and precision change nothing.
     ghost styled_output = { λ _ _. Some (codes "too many errors in a block") };
 
     fn fmt<W: fmt::Write>(&self, f: &mut fmt::Formatter<W>) -> fmt::Result {
@@ -34,8 +34,8 @@ impl fmt::Display for Damaged {
 
 impl Error for Damaged {}
 
-/// Corrects blocks with a given number of error correction bytes. What it knows of that number is
-/// computed once, and a block without errors is then read through in one pass.
+/// Corrects blocks with a given number of error correction bytes. What depends on that number is
+/// computed once; a block without errors is then read in a single pass.
 #[derive(Drop)]
 pub struct Corrector {
     /// Divides by the generator, whose degree is the number of error correction bytes.
@@ -43,7 +43,7 @@ pub struct Corrector {
 }
 
 impl Corrector {
-    /// Corrects blocks with this number of error correction bytes, which is to be at most 69.
+    /// Returns a corrector for blocks with `ec_length` error correction bytes, at most 69.
     pub fn new(ec_length: usize) -> Corrector
         requires { ec_length ≤ 69 }
         ensures value { result.divider.degree ≡ ec_length }
@@ -53,15 +53,15 @@ impl Corrector {
         }
     }
 
-    /// Whether a block of at most 255 bytes is without errors, as it is where all its syndromes are
-    /// zero.
+    /// Returns whether `block` has no errors: whether all its syndromes are zero.
     pub fn vanishes(&self, block: &[u8]) -> bool
         ensures value { IsTrue result ↔ Vanishes block.now self.now.divider.degree }
     {
         is_zero(&residue(&self.divider, block)[..self.divider.degree])
     }
 
-    // The block without its errors, if it can be corrected, by bytes that have its syndromes.
+    // Returns `block` without its errors, if it can be corrected. `residue` has the same syndromes
+    // as `block`, but is short.
     fn candidate(&self, block: &[u8], residue: &[u8]) -> [u8; LONGEST]
         requires length { length block.now ≤ 255 }
         requires residue { (i : ℕ) → i < self.now.divider.degree
@@ -76,11 +76,10 @@ impl Corrector {
         corrected(block, &locator, &syndromes)
     }
 
-    /// Corrects a block of at most 255 bytes, of which at most half as many may be wrong as are
-    /// error correction bytes, wherever they stand. The answer is how many were wrong. A block that
-    /// is refused is left as it was.
+    /// Corrects `block`, of at most 255 bytes, and returns how many were wrong: at most half the
+    /// number of error correction bytes, anywhere in the block. On an error `block` is unchanged.
     ///
-    /// `Damaged`: no list of bytes corrects the block.
+    /// Errors: `Damaged` if no list of bytes corrects `block`.
     pub fn correct(&self, block: &mut [u8]) -> Result<usize, Damaged>
         requires { length block.old ≤ 255 }
         ensures value { IfOk result (λ _. Corrects block.old self.now.divider.degree block.new) }
@@ -108,10 +107,10 @@ impl Corrector {
     }
 }
 
-/// Corrects a block of at most 255 bytes, of which the last `ec_length`, at most 69, are error
-/// correction bytes: what [`Corrector::correct`] does, for one block.
+/// Corrects a single block of at most 255 bytes, the last `ec_length` of which, at most 69, are for
+/// error correction: [`Corrector::correct`] for one block.
 ///
-/// `Damaged`: no list of bytes corrects the block.
+/// Errors: `Damaged` if no list of bytes corrects `block`.
 pub fn correct(block: &mut [u8], ec_length: usize) -> Result<usize, Damaged>
     requires at_most { ec_length ≤ 69 }
     requires length { length block.old ≤ 255 }

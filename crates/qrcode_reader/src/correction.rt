@@ -1,4 +1,4 @@
-//! The blocks of codewords, corrected.
+//! Corrects all blocks of the codewords.
 
 ghost use Rattle.std.specs.Prelude.{◌≡◌, ◌⊎◌, ℕ, ◌≤◌, ◌++◌, List, length, IsTrue, OnOk, IfOk, IfErr};
 ghost use Rattle.qrcode_types.specs.Versions.{has_level, block_lengths};
@@ -13,8 +13,8 @@ use qrcode_types::tables::Blocks;
 use qrcode_types::types::{EcLevel, Version};
 use std::alloc::{AllocError, Global};
 
-/// A codeword that was wrong, by its block and its place in it, both counted from zero. The data
-/// codewords of a block stand before those of error correction.
+/// A codeword that was wrong, by its block and its place in it, both counted from zero. In a block
+/// the data codewords come before those of error correction.
 #[derive(Debug, PartialEq, Eq, Copy, Clone)]
 pub struct WrongCodeword {
     /// The block.
@@ -23,7 +23,7 @@ pub struct WrongCodeword {
     pub place: usize,
 }
 
-// Appends the codewords of a block that its correction changed.
+// Appends the codewords in which block `block` differs from its correction.
 fn push_wrong(
     wrong: &mut Vec<WrongCodeword>,
     block: usize,
@@ -42,7 +42,7 @@ fn push_wrong(
     Ok(())
 }
 
-/// What blocks hold once they are corrected.
+/// The contents of corrected blocks.
 #[derive(Drop)]
 pub(crate) struct Corrected {
     /// Their data bytes, block by block.
@@ -52,7 +52,8 @@ pub(crate) struct Corrected {
 }
 
 impl Corrected {
-    // Appends the data bytes and the wrong codewords of a block, if it can be corrected.
+    // Appends the data bytes and the wrong codewords of block `number`; `Damaged` if it cannot be
+    // corrected.
     fn push(
         &mut self,
         alloc: Global,
@@ -77,9 +78,10 @@ impl Corrected {
     }
 }
 
-/// All blocks of the codewords, corrected.
+/// Corrects all blocks of the codewords.
 ///
-/// `Damaged`: this block is the first that cannot be corrected. `OutOfMemory`: memory was refused.
+/// Errors: `Damaged` with the first block that cannot be corrected; `OutOfMemory` if memory runs
+/// out.
 pub(crate) fn correct_blocks(
     alloc: Global,
     words: &[u8],

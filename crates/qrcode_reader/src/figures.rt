@@ -1,4 +1,5 @@
-//! How many modules of the functional patterns are wrong, and whether a square has finder patterns.
+//! Counts wrong modules of the functional patterns; tells whether a square has finder patterns. A
+//! figure is a rectangle of modules: a pattern or a part of one.
 
 ghost use Rattle.std.specs.Prelude.{◌≡◌, ◌*◌, ◌<◌, ◌≤◌, length, IsTrue};
 ghost use Rattle.std.specs.List.{list_all};
@@ -10,7 +11,7 @@ use crate::walk::side;
 use qrcode_layout::figures::{Figure, micro_figures, normal_figures};
 use qrcode_types::types::{Color, Version};
 
-// One where two colours differ.
+// Returns 1 if two colours differ, else 0.
 fn difference(a: Color, b: Color) -> usize
     ensures value { result ≡ difference a b }
     ensures at_most { result ≤ 1 }
@@ -21,7 +22,7 @@ fn difference(a: Color, b: Color) -> usize
     }
 }
 
-// One where a module of a figure has another colour.
+// Returns 1 if the module of the figure in this row and column has the wrong colour, else 0.
 fn wrong_at(
     version: Version,
     modules: &[Color],
@@ -44,7 +45,7 @@ fn wrong_at(
     )
 }
 
-// How many modules of a row of a figure are wrong.
+// Counts the wrong modules in a row of a figure.
 #[tactic(auto, using(qrcode_penalty::proofs::Sums::sum_step), unfolding(qrcode_penalty::specs::Penalty::sum_below))]
 fn wrong_in_row(version: Version, modules: &[Color], figure: &Figure, row: usize) -> usize
     requires valid { IsTrue (is_valid version) }
@@ -61,7 +62,7 @@ fn wrong_in_row(version: Version, modules: &[Color], figure: &Figure, row: usize
     count
 }
 
-/// How many modules of a figure are wrong.
+/// Counts the wrong modules of a figure.
 #[tactic(auto, using(qrcode_penalty::proofs::Sums::sum_step), unfolding(qrcode_penalty::specs::Penalty::sum_below))]
 pub fn wrong_in(version: Version, modules: &[Color], figure: &Figure) -> usize
     requires valid { IsTrue (is_valid version) }
@@ -77,7 +78,7 @@ pub fn wrong_in(version: Version, modules: &[Color], figure: &Figure) -> usize
     count
 }
 
-/// How many modules of figures are wrong.
+/// Counts the wrong modules of all `figures`.
 pub fn wrong_of(version: Version, modules: &[Color], figures: &[Figure]) -> usize
     requires valid { IsTrue (is_valid version) }
     requires fits { IsTrue (list_all (fits version) figures.now) }
@@ -93,8 +94,8 @@ pub fn wrong_of(version: Version, modules: &[Color], figures: &[Figure]) -> usiz
     count
 }
 
-/// How many modules are wrong of the finder patterns and their separators, of the timing patterns,
-/// and of what is always dark.
+/// Counts the wrong modules of the finder patterns with their separators, of the timing patterns,
+/// and of the module that is always dark (Micro has none).
 pub fn wrong_figures(version: Version, modules: &[Color]) -> (usize, usize, usize)
     requires valid { IsTrue (is_valid version) }
     requires square { length modules.now ≡ side version * side version }
@@ -119,12 +120,12 @@ pub fn wrong_figures(version: Version, modules: &[Color]) -> (usize, usize, usiz
     )
 }
 
-// The most modules of the finder patterns and their separators that may be wrong where a symbol is
-// looked for first: a quarter of one pattern. Where another part of a symbol, or nothing, lies in
-// the place of one, about half of its 64 modules are wrong.
+// The most wrong modules in finder patterns, with separators, that count as in place: a quarter of
+// one pattern. Where there is none, about half of its 64 modules are wrong.
 const MOST_WRONG: usize = 16;
 
-/// Whether the finder patterns of a symbol are where it has them, but for sixteen modules.
+/// Returns whether the finder patterns are in place: at most 16 modules of them and their
+/// separators are wrong.
 pub(crate) fn has_finders(version: Version, modules: &[Color]) -> bool
     requires valid { IsTrue (is_valid version) }
     requires square { length modules.now ≡ side version * side version }

@@ -1,4 +1,4 @@
-//! Level and mask of a square, from the copies of its format word.
+//! Finds level and mask of a square from the copies of its format word.
 
 ghost use Rattle.std.specs.Prelude.{◌≡◌, ◌<◌, ◌≤◌, ◌∷◌, [], length, IsTrue, IfSome, IfNone, map};
 ghost use Rattle.std.specs.List.{range_with_len};
@@ -16,16 +16,16 @@ use qrcode_layout::masks::{MaskPattern, mask_count, nth_mask};
 use qrcode_layout::words::format_word;
 use qrcode_types::types::{Color, EcLevel, Version};
 
-/// A copy of the format word; in Micro the two are one.
+/// A copy of the format word. In Micro there is one copy, and both variants name it.
 #[derive(Copy, Clone)]
 pub enum FormatCopy {
-    /// Around the upper left finder pattern.
+    /// Around the top left finder pattern.
     First,
     /// Next to the other two finder patterns.
     Last,
 }
 
-// One where a bit is another than that of a word, and else zero; bit 0 is the lowest.
+// Returns 1 if `bit` differs from bit `place` of `word`, else 0; bit 0 is the lowest.
 fn difference(bit: bool, word: u16, place: usize) -> usize
     requires { place < 15 }
     ensures value { result ≡ bit_distance (bit ∷ []) (has_bit word place ∷ []) }
@@ -38,7 +38,8 @@ fn difference(bit: bool, word: u16, place: usize) -> usize
     }
 }
 
-/// In how many places bits differ from those of a word, as many of its lowest bits.
+/// Counts the places in which `bits` differ from the lowest bits of `word`, as many as there are
+/// `bits`.
 pub fn distance(bits: &[bool], word: u16) -> usize
     requires { length bits.now ≤ 15 }
     ensures { result ≡ bit_distance bits.now (number_bits (length bits.now) word) }
@@ -52,7 +53,7 @@ pub fn distance(bits: &[bool], word: u16) -> usize
     count
 }
 
-// The place of a bit of the first copy of the format word, the highest bit being 0.
+// Returns the place of bit `i` of the first copy: column and row. Bit 0 is the highest.
 fn first_place(version: Version, i: usize) -> (usize, usize)
     requires { i < 15 }
     ensures { result ≡ first_copy version i }
@@ -70,7 +71,7 @@ fn first_place(version: Version, i: usize) -> (usize, usize)
     }
 }
 
-/// The place of a bit of a copy.
+/// Returns the place of bit `i` of a copy: column and row. Bit 0 is the highest.
 pub fn copy_place(copy: FormatCopy, version: Version, i: usize) -> (usize, usize)
     requires valid { IsTrue (is_valid version) }
     requires at_most { i < 15 }
@@ -83,7 +84,7 @@ pub fn copy_place(copy: FormatCopy, version: Version, i: usize) -> (usize, usize
     }
 }
 
-// Whether the module at a place is dark.
+// Whether the module at a place is dark; there is none outside.
 fn is_dark_at(version: Version, modules: &[Color], place: (usize, usize)) -> bool
     requires valid { IsTrue (is_valid version) }
     requires column { place.0 < 1000 }
@@ -96,7 +97,8 @@ fn is_dark_at(version: Version, modules: &[Color], place: (usize, usize)) -> boo
     }
 }
 
-/// The bits of a copy of the format word; modules that the square lacks count as light.
+/// Returns the bits of a copy of the format word, highest first. Modules that are missing count as
+/// light.
 pub fn copy_bits(copy: FormatCopy, version: Version, modules: &[Color]) -> [bool; 15]
     requires { IsTrue (is_valid version) }
     ensures { result
@@ -109,7 +111,8 @@ pub fn copy_bits(copy: FormatCopy, version: Version, modules: &[Color]) -> [bool
     bits
 }
 
-// The mask with which the format word of a level is near two copies, if there is one.
+// Returns the mask whose format word at this level is within three bits of both copies, if there is
+// one.
 fn mask_near(
     version: Version,
     ec_level: EcLevel,
@@ -134,10 +137,9 @@ fn mask_near(
     None
 }
 
-/// The level and the mask whose format word is within three bits of each of its copies (ISO/IEC
-/// 18004:2006, 6.9), if there are any.
-///
-/// The version is one that exists; modules that the square lacks count as light.
+/// Returns the level and mask whose format word is within three bits of each copy (ISO/IEC
+/// 18004:2006, 6.9), or `None` if there are none. `version` must exist; modules that are missing
+/// count as light.
 pub fn read_format(version: Version, modules: &[Color]) -> Option<(EcLevel, MaskPattern)>
     requires { IsTrue (is_valid version) }
     ensures some { IfSome result (λ format. HasFormat version modules.now format.0 format.1) }

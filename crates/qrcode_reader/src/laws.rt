@@ -1,4 +1,4 @@
-//! Laws of the types that no call stands for, on the contract of a function that does nothing.
+//! Theorems about the types of this crate, as contracts of a function that does nothing.
 
 ghost use Rattle.std.specs.Prelude.{◌≡◌, ◌↔◌, IsTrue};
 ghost use Rattle.qrcode_reader.specs.declared.refusals.Unread.{Unread};
@@ -10,7 +10,7 @@ use crate::correction::WrongCodeword;
 use crate::positions::Position;
 use crate::refusals::{Unread, UnreadText};
 
-/// A theorem: two values are equal by `==` exactly when they are the same.
+/// Theorem: two values are equal by `==` exactly when they are the same.
 pub fn equality()
     ensures refusals { (a b : Unread) → IsTrue (⟦<Unread as PartialEq>⟧.eq a b) ↔ (a ≡ b) }
     ensures texts { (a b : UnreadText)

@@ -1,4 +1,4 @@
-//! Squares of modules read: version, level and mask, data bits, bytes or a text, and which
+//! Decodes squares of modules: version, level and mask, data bits, bytes or text, and which
 //! codewords were wrong.
 #![tactic(auto)]
 

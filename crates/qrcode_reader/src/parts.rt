@@ -1,4 +1,4 @@
-//! Squares read as headers and segments.
+//! Decodes squares to headers and segments.
 
 ghost use Rattle.std.specs.Prelude.{IfOk, IfErr};
 ghost use Rattle.qrcode_reader.specs.Readings.{IsPartsReading, IsPartsCause};
@@ -11,26 +11,26 @@ use qrcode_layout::masks::MaskPattern;
 use qrcode_types::types::{Color, EcLevel, Version};
 use std::alloc::Global;
 
-/// A square read as headers and segments.
+/// A square decoded to headers and segments.
 #[derive(Drop)]
 pub struct PartsReading {
-    /// Its version, by its side.
+    /// The version, known from the side.
     pub version: Version,
-    /// The level that its format word names.
+    /// The level that the format word names.
     pub ec_level: EcLevel,
-    /// The mask that it names.
+    /// The mask that the format word names.
     pub mask: MaskPattern,
-    /// Its headers and segments, and the bytes of these.
+    /// The headers and segments, and the bytes of the segments.
     pub parts: Parts,
     /// The codewords that were wrong, block by block.
     pub wrong: Vec<WrongCodeword>,
 }
 
-/// The headers and segments of a square of modules, row by row from the top left corner, dark ones
-/// dark, as `spell::pieces` finds them in its data bits. As much may be wrong as for `read`.
+/// Decodes a square of modules, given row by row from the top left corner, to headers and segments,
+/// as `spell::pieces` does its data bits. As much may be wrong as for `read`.
 ///
-/// `NoSuchSide`, `NoFormat`, `Damaged` and `NotSpelled`: the square is read as no headers and
-/// segments, for the first of these causes that applies. `OutOfMemory` is the only other error.
+/// Errors: the first of `NoSuchSide`, `NoFormat`, `Damaged` and `NotSpelled` that applies, if the
+/// square decodes to no headers and segments; `OutOfMemory` if memory runs out.
 pub fn read_parts(alloc: Global, modules: &[Color]) -> Result<PartsReading, Unread>
     ensures value { IfOk result (λ read. IsPartsReading modules.now
         read.version read.ec_level read.mask read.parts.bytes.items read.parts.parts.items

@@ -1,4 +1,4 @@
-//! Squares that stand in another position, or with the colours exchanged.
+//! Decodes squares that may be rotated, mirrored or inverted.
 
 ghost use Rattle.std.specs.Prelude.{◌≡◌, ◌≢◌, ◌*◌, ◌%◌, ◌<◌, ◌≤◌, ◌⊎◌, ℕ, Bool, List, length, IsTrue, IfOk, IfErr, IfSome, IfNone};
 ghost use Rattle.qrcode_types.specs.Versions.{is_valid, side};
@@ -18,50 +18,50 @@ use crate::walk::side;
 use qrcode_types::types::{Color, Version};
 use std::alloc::{AllocError, Global};
 
-/// How a symbol stands in a square of modules.
+/// How a symbol lies in a square of modules.
 #[derive(Debug, PartialEq, Eq, Copy, Clone)]
 pub enum Position {
     /// As it was made.
     Upright,
-    /// Turned by a quarter against the clock.
+    /// Rotated a quarter turn counterclockwise.
     TurnedLeft,
-    /// Turned by half.
+    /// Rotated a half turn.
     UpsideDown,
-    /// Turned by a quarter with the clock.
+    /// Rotated a quarter turn clockwise.
     TurnedRight,
-    /// Left and right exchanged.
+    /// Left and right swapped.
     Mirrored,
-    /// Top and bottom exchanged.
+    /// Top and bottom swapped.
     Flipped,
-    /// Columns and rows exchanged.
+    /// Columns and rows swapped: mirrored along the diagonal from the top left corner.
     Transposed,
-    /// Columns and rows exchanged, from the other corner.
+    /// Mirrored along the diagonal from the top right corner.
     Antitransposed,
 }
 
-/// A square read in the first position in which it can be.
+/// A square decoded to bytes, in the first position in which it does.
 #[derive(Drop)]
 pub struct AnyReading {
-    /// How the symbol stands.
+    /// How the symbol lies in the square.
     pub position: Position,
-    /// Whether its dark modules are light, and its light ones dark.
+    /// Whether dark and light are swapped.
     pub is_inverted: bool,
-    /// What was read.
+    /// What the square decodes to.
     pub reading: Reading,
 }
 
-/// A square read as headers and segments in the first position in which it can be.
+/// A square decoded to headers and segments, in the first position in which it does.
 #[derive(Drop)]
 pub struct AnyPartsReading {
-    /// How the symbol stands.
+    /// How the symbol lies in the square.
     pub position: Position,
-    /// Whether its dark modules are light, and its light ones dark.
+    /// Whether dark and light are swapped.
     pub is_inverted: bool,
-    /// What was read.
+    /// What the square decodes to.
     pub reading: PartsReading,
 }
 
-// Where the module at a column and row of the symbol stands, by column and row.
+// Maps a module of the symbol to its place in the square: column and row.
 fn standing(position: Position, side: usize, x: usize, y: usize) -> (usize, usize)
     requires column { x < side }
     requires row { y < side }
@@ -81,7 +81,7 @@ fn standing(position: Position, side: usize, x: usize, y: usize) -> (usize, usiz
     }
 }
 
-// A colour, or the other one.
+// Returns `color`, or the other colour if dark and light are swapped.
 fn seen_color(is_inverted: bool, color: Color) -> Color
     ensures { result ≡ seen_color is_inverted color }
 {
@@ -91,7 +91,10 @@ fn seen_color(is_inverted: bool, color: Color) -> Color
     }
 }
 
-/// The symbol that stands so in the modules of a square of that side.
+/// Returns the upright symbol that lies in `position` in `modules`, a square of `side` by `side`;
+/// with dark and light swapped if `is_inverted`.
+///
+/// Errors: only `AllocError`, if memory runs out.
 pub fn seen(
     alloc: Global,
     side: usize,
@@ -112,7 +115,7 @@ pub fn seen(
     Ok(colors)
 }
 
-// The positions in the order of their names, first with the colours as they are and then exchanged.
+// Numbers the positions: 0 to 7 in the order of `Position`, 8 to 15 the same inverted.
 fn tried(number: usize) -> (Position, bool)
     requires { number < 16 }
     ensures { result ≡ tried number }
@@ -130,7 +133,7 @@ fn tried(number: usize) -> (Position, bool)
     (positions[number % 8], 8 <= number)
 }
 
-// A square as it stands in a position.
+// A square seen in one position.
 #[derive(Drop)]
 struct View {
     position: Position,
@@ -138,8 +141,9 @@ struct View {
     modules: Vec<Color>,
 }
 
-// The square in the position whose turn it is: first come those in which it has finder patterns,
-// and then the others. `None` where none has this turn.
+// Returns the square in the position whose turn it is. Turns 0 to 15 are for positions in which the
+// finder patterns are in place, 16 to 31 for the others, so one of the turns `n` and `n + 16` gives
+// `None`.
 fn view_at(
     alloc: Global,
     version: Version,
@@ -170,20 +174,21 @@ fn view_at(
     }))
 }
 
-// Whether memory was refused.
+// Whether memory ran out.
 fn is_memory(error: Unread) -> bool
     ensures { error ≡ OutOfMemory → IsTrue result }
 {
     matches!(error, Unread::OutOfMemory)
 }
 
-/// Reads a square whose symbol may be turned or mirrored, and its colours exchanged: in the first
-/// of the positions in which there is something to read. First come those in which the finder
-/// patterns and their separators are where the symbol has them, but for sixteen modules, and then
-/// the others; of both, first those with the colours as they are and then those with the colours
-/// exchanged, in the order in which `Position` names them. `None`: it is read in none of them.
+/// Decodes a square whose symbol may be rotated, mirrored or inverted, in the first position in
+/// which it decodes to bytes. First come the positions with the finder patterns in place, at most
+/// 16 modules of them and their separators being wrong; then the others. Within both, those with
+/// the colours as they are come before inverted ones, in the order of `Position`.
 ///
-/// It fails only where memory runs out.
+/// Returns `None` if it decodes in no position.
+///
+/// Errors: only `AllocError`, if memory runs out.
 pub fn read_any(alloc: Global, modules: &[Color]) -> Result<Option<AnyReading>, AllocError>
     ensures square { IfOk result (λ found. IfSome found (λ any. (side : ℕ)
         × (side * side ≡ length modules.now))) }
@@ -220,11 +225,11 @@ pub fn read_any(alloc: Global, modules: &[Color]) -> Result<Option<AnyReading>, 
     Ok(None)
 }
 
-/// Reads the headers and segments of a square in any of the positions of `read_any`: in the first
-/// one in which there are some.
+/// Decodes a square to headers and segments, in the first of the positions of `read_any` in which
+/// it decodes to some.
 ///
-/// An error is why the square as it stands is read as none (`read_parts`), where there is no such
-/// position, or `OutOfMemory`.
+/// Errors: that of `read_parts` for the square as given if there is no such position; `OutOfMemory`
+/// if memory runs out.
 pub fn read_any_parts(alloc: Global, modules: &[Color]) -> Result<AnyPartsReading, Unread>
     ensures value { IfOk result (λ any. (side : ℕ)
         → side * side ≡ length modules.now → IsFirstPartsReading side modules.now

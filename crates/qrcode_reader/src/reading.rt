@@ -1,4 +1,4 @@
-//! Squares read as bits, and as bytes.
+//! Decodes squares to bits and to bytes.
 
 ghost use Rattle.std.specs.Prelude.{◌≡◌, ℕ, ◌*◌, Bool, List, length, IsTrue, IfOk, IfErr, IsOkUnless};
 ghost use Rattle.qrcode_types.specs.Versions.{has_level, side};
@@ -25,14 +25,14 @@ use qrcode_layout::masks::MaskPattern;
 use qrcode_types::types::{Color, EcLevel, Version};
 use std::alloc::{AllocError, Global};
 
-/// A square read as bits.
+/// A square decoded to bits.
 #[derive(Drop)]
 pub struct BitReading {
-    /// Its version, by its side.
+    /// The version, known from the side.
     pub version: Version,
-    /// The level that its format word names.
+    /// The level that the format word names.
     pub ec_level: EcLevel,
-    /// The mask that it names.
+    /// The mask that the format word names.
     pub mask: MaskPattern,
     /// The data bits: segments, terminator and padding.
     pub bits: Vec<bool>,
@@ -40,22 +40,22 @@ pub struct BitReading {
     pub wrong: Vec<WrongCodeword>,
 }
 
-/// A square read as bytes.
+/// A square decoded to bytes.
 #[derive(Drop)]
 pub struct Reading {
-    /// Its version, by its side.
+    /// The version, known from the side.
     pub version: Version,
-    /// The level that its format word names.
+    /// The level that the format word names.
     pub ec_level: EcLevel,
-    /// The mask that it names.
+    /// The mask that the format word names.
     pub mask: MaskPattern,
-    /// The bytes of its segments.
+    /// The bytes of the segments.
     pub data: Vec<u8>,
     /// The codewords that were wrong, block by block.
     pub wrong: Vec<WrongCodeword>,
 }
 
-// The codewords of a square.
+// Returns the codewords of a square, not yet corrected.
 fn words_of(
     alloc: Global,
     version: Version,
@@ -72,20 +72,20 @@ fn words_of(
     codewords(alloc, &bits, version, ec_level)
 }
 
-/// The data bits of a square of modules, row by row from the top left corner, dark ones dark
-/// (ISO/IEC 18004:2006, 6.9 and Annex B). Each copy of the format word may have three wrong bits,
-/// and each block half as many wrong codewords as it has error correction codewords. What the
-/// bits mean is not looked at.
+/// Decodes a square of modules, given row by row from the top left corner, to its data bits
+/// (ISO/IEC 18004:2006, 6.9 and Annex B). There is no quiet zone. Each copy of the format word may
+/// have three wrong bits, and each block half as many wrong codewords as it has error correction
+/// codewords. What the bits mean is not checked.
 ///
-/// `NoSuchSide`, `NoFormat` and `Damaged`: the square is read as no bits, for the first of these
-/// causes that applies. `OutOfMemory` is the only other error.
+/// Errors: the first of `NoSuchSide`, `NoFormat` and `Damaged` that applies, if the square has no
+/// data bits; `OutOfMemory` if memory runs out.
 pub fn read_bits(alloc: Global, modules: &[Color]) -> Result<BitReading, Unread>
     ensures value { IfOk result (λ read. IsBitReading modules.now
         read.version read.ec_level read.mask read.bits.items read.wrong.items) }
     ensures accepts { (version : Version) (level : EcLevel) (bits : List Bool)
         → ReadsBits modules.now version level bits → IsOkUnless result OutOfMemory }
     ensures causes { IfErr result (IsBitCause modules.now) }
-    // The symbol of bits is read as these bits, with the promised damage too.
+    // The symbol of some bits decodes to these bits, also within the promised damage.
     ensures gives_back { (version : Version) (level : EcLevel) (bits : List Bool)
         (symbol : List Color) → (encodes : EncodesBits version level bits symbol)
         → IsDamaged version level encodes.mask symbol modules.now
@@ -110,19 +110,20 @@ pub fn read_bits(alloc: Global, modules: &[Color]) -> Result<BitReading, Unread>
     })
 }
 
-/// The bytes of a square of modules, row by row from the top left corner, dark ones dark (ISO/IEC
-/// 18004:2006, 6.4, 6.9 and Annex B). Each copy of the format word may have three wrong bits, and
-/// each block half as many wrong codewords as it has error correction codewords.
+/// Decodes a square of modules, given row by row from the top left corner, to bytes (ISO/IEC
+/// 18004:2006, 6.4, 6.9 and Annex B). There is no quiet zone. Each copy of the format word may have
+/// three wrong bits, and each block half as many wrong codewords as it has error correction
+/// codewords.
 ///
-/// `NoSuchSide`, `NoFormat`, `Damaged` and `NotSpelled`: the square is read as no bytes, for the
-/// first of these causes that applies. `OutOfMemory` is the only other error.
+/// Errors: the first of `NoSuchSide`, `NoFormat`, `Damaged` and `NotSpelled` that applies, if the
+/// square decodes to no bytes; `OutOfMemory` if memory runs out.
 pub fn read(alloc: Global, modules: &[Color]) -> Result<Reading, Unread>
     ensures value { IfOk result (λ read. IsReading modules.now
         read.version read.ec_level read.mask read.data.items read.wrong.items) }
     ensures accepts { (bytes : List ℕ)
         → Reads modules.now bytes → IsOkUnless result OutOfMemory }
     ensures causes { IfErr result (IsCause modules.now) }
-    // What a constructor made is read as what it was made of, with the promised damage too.
+    // A symbol decodes to the bytes that it was made from, also within the promised damage.
     ensures gives_back { (version : Version) (level : EcLevel) (bits : List Bool)
         (bytes : List ℕ) (symbol : List Color)
         → (encodes : EncodesBytes version level bits bytes symbol)

@@ -1,4 +1,4 @@
-//! Why a square is not read, or shown as no text.
+//! Why a square does not decode, or shows no text.
 
 ghost use Rattle.std.specs.Prelude.{◌≡◌, Some};
 ghost use Rattle.qrcode_reader.specs.Refusals.{refusal_text, text_refusal, unread_of, unread_text_of};
@@ -10,19 +10,19 @@ use std::alloc::{AllocError, AllocFailed};
 use std::error::Error;
 use std::fmt;
 
-/// Why a square is not read.
+/// Why a square does not decode.
 #[derive(Debug, PartialEq, Eq, Copy, Clone)]
 pub enum Unread {
-    /// No version has so many modules.
+    /// No version has that many modules.
     NoSuchSide,
-    /// No level and mask are within three bits of each copy of the format word.
+    /// No level and mask have a format word within three bits of each copy.
     NoFormat,
     /// This block, counted from zero, is the first that cannot be corrected.
     Damaged(usize),
-    /// The data bits are not segments and an end, as where a header stands in front of them or a
+    /// The data bits are not just segments and a terminator: there is a header, for example, or a
     /// segment has a number that stands for no character.
     NotSpelled,
-    /// Memory was refused.
+    /// Memory ran out.
     OutOfMemory,
 }
 
@@ -69,13 +69,13 @@ impl From<Unspelled> for Unread {
     }
 }
 
-/// Why a square is shown as no text.
+/// Why a square shows no text.
 #[derive(Debug, PartialEq, Eq, Copy, Clone)]
 pub enum UnreadText {
-    /// No bits are read, for this reason.
+    /// The square has no data bits, for this reason; or memory ran out, then or later.
     NoBits(Unread),
-    /// The data bits are shown as no text: a segment is Kanji or no UTF-8, or there is another
-    /// header than the number 26 of UTF-8, or they are not segments and an end.
+    /// The data bits are not a text: a segment is Kanji or not UTF-8, there is a header other than
+    /// ECI 26 (UTF-8), or they are not just segments and a terminator.
     NotShown,
 }
 

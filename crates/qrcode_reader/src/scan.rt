@@ -1,4 +1,4 @@
-//! Pictures of symbols, read as their modules: PBM and PGM files, and half blocks.
+//! Finds symbols in pictures: PBM and PGM files, half blocks, and colours.
 
 mod files;
 mod finders;

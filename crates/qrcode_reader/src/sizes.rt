@@ -1,4 +1,4 @@
-//! The version of a square.
+//! The version of a square, known from its size.
 
 ghost use Rattle.std.specs.Prelude.{◌≡◌, ◌≢◌, ◌*◌, IsTrue, IfSome, IfNone};
 ghost use Rattle.qrcode_types.specs.Versions.{is_valid, side};
@@ -6,7 +6,7 @@ ghost use Rattle.qrcode_types.specs.declared.types.Version.{Version};
 
 use qrcode_types::types::Version;
 
-/// The version whose square has so many modules, if there is one.
+/// Returns the version whose square has `count` modules in all, or `None` if no version has.
 pub fn version_of(count: usize) -> Option<Version>
     ensures some { IfSome result (λ version.
         IsTrue (is_valid version) × (count ≡ side version * side version)) }

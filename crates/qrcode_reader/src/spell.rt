@@ -1,4 +1,4 @@
-//! Bits read as bytes: the pieces of a symbol's data, and what they spell.
+//! Decodes data bits to bytes, to headers and segments, or to text.
 
 mod characters;
 mod fields;
@@ -22,13 +22,13 @@ use segments::{is_end, push_piece};
 use std::alloc::Global;
 pub use texts::text_of;
 
-/// The bytes that the data bits of a symbol spell (ISO/IEC 18004:2006, 6.4): those of all pieces up
-/// to the terminator, or to the end where that is cut off. What stands behind the terminator is not
-/// looked at.
+/// Decodes the data bits of a symbol to bytes (ISO/IEC 18004:2006, 6.4): those of all segments up
+/// to the terminator, or to the end of `bits` if that cuts the terminator off. What follows the
+/// terminator is ignored.
 ///
-/// `NotSpelled`: the bits are not segments and an end, as where a header stands in front, such as
-/// the number of a character set, or a segment has a number that stands for no character.
-/// `OutOfMemory` is the only other error.
+/// Errors: `NotSpelled` if `bits` are not just segments and a terminator: there is a header, for
+/// example an ECI, or a segment has a number that stands for no character; `OutOfMemory` if memory
+/// runs out.
 pub fn spell(alloc: Global, bits: &[bool], version: Version) -> Result<Vec<u8>, Unspelled>
     requires { IsTrue (is_valid version) }
     ensures value { IfOk result (λ bytes. SpellsOnly version bits.now bytes.items) }

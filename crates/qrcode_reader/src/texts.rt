@@ -1,4 +1,4 @@
-//! Squares read as texts.
+//! Decodes squares to text.
 
 ghost use Rattle.std.specs.Prelude.{◌≡◌, ℕ, List, chars, string_bytes, IfOk, IfErr, IsOkUnless};
 ghost use Rattle.qrcode_types.specs.declared.types.Version.{Version};
@@ -18,35 +18,36 @@ use qrcode_layout::masks::MaskPattern;
 use qrcode_types::types::{Color, EcLevel, Version};
 use std::alloc::Global;
 
-/// A square read as a text.
+/// A square decoded to text.
 #[derive(Drop)]
 pub struct TextReading {
-    /// Its version, by its side.
+    /// The version, known from the side.
     pub version: Version,
-    /// The level that its format word names.
+    /// The level that the format word names.
     pub ec_level: EcLevel,
-    /// The mask that it names.
+    /// The mask that the format word names.
     pub mask: MaskPattern,
-    /// The text of its segments.
+    /// The text of the segments.
     pub text: String,
     /// The codewords that were wrong, block by block.
     pub wrong: Vec<WrongCodeword>,
 }
 
-/// The text of a square of modules, as a reader shows it that takes the bytes of each segment by
-/// themselves as UTF-8, behind nothing or the number 26 of UTF-8 (ISO/IEC 18004:2006, 6.4.2 to
-/// 6.4.5): modules row by row from the top left corner, dark ones dark. As much may be wrong as for
-/// `read`.
+/// Decodes a square of modules, given row by row from the top left corner, to the text that a
+/// reader shows (ISO/IEC 18004:2006, 6.4.2 to 6.4.5). The bits begin with ECI 26 (UTF-8) or with
+/// the first segment, and the bytes of each segment are taken separately as UTF-8. As much may be
+/// wrong as for `read`.
 ///
-/// `NoBits` has the cause for which `read_bits` reads no bits, and `OutOfMemory` where memory was
-/// refused later too. `NotShown`: the bits that are read are shown as no text.
+/// Errors: `NoBits` with the error of `read_bits` if the square has no data bits; `NotShown` if
+/// these are not such a text; `NoBits(OutOfMemory)` if memory runs out, also after the bits were
+/// read.
 pub fn read_text(alloc: Global, modules: &[Color]) -> Result<TextReading, UnreadText>
     ensures value { IfOk result (λ read. IsTextReading modules.now
         read.version read.ec_level read.mask (chars (string_bytes read.text)) read.wrong.items) }
     ensures accepts { (text : List ℕ)
         → ShowsText modules.now text → IsOkUnless result (NoBits OutOfMemory) }
     ensures causes { IfErr result (IsTextCause modules.now) }
-    // What a constructor made of a text is read as this text, with the promised damage too.
+    // A symbol made from a text decodes to this text, also within the promised damage.
     ensures gives_back { (version : Version) (level : EcLevel) (text : List ℕ)
         (symbol : List Color) → (shown : IsShownAs version level text symbol)
         → IsDamaged version level shown.mask symbol modules.now

@@ -1,14 +1,14 @@
-//! Which modules a mask turns.
+//! Which modules a mask flips, by columns.
 
 ghost use Rattle.std.specs.Prelude.{◌≡◌, ℕ, ◌%◌, ◌<◌, ◌≤◌, [], false, slice_index_or, pos};
 ghost use Rattle.qrcode_layout.specs.Masks.{turns};
 
 use qrcode_layout::masks::MaskPattern;
 
-// The modules along the side of the largest square.
+// The modules along a side of the largest square.
 const LONGEST: usize = 177;
 
-/// A column or a row as a signed number.
+/// Returns a column or row as a signed number.
 #[inline(always)]
 pub(crate) fn coordinate(x: usize) -> i16
     requires { x < 1000 }
@@ -17,7 +17,7 @@ pub(crate) fn coordinate(x: usize) -> i16
     x as i16
 }
 
-// The rows of a column that a mask turns, from the first one on, so many.
+// Returns which of the first `height` modules of column `x` the mask flips.
 fn column(mask: MaskPattern, x: usize, height: usize) -> [bool; LONGEST]
     requires column { x < 1000 }
     requires at_most { height ≤ 177 }
@@ -30,12 +30,12 @@ fn column(mask: MaskPattern, x: usize, height: usize) -> [bool; LONGEST]
     rows
 }
 
-/// The modules that a mask turns, by six columns: it goes on so every six columns.
+/// The modules that a mask flips, in its first six columns; every mask repeats after six.
 #[derive(Drop)]
 pub(crate) struct Turned {
     /// The mask.
     pub(crate) mask: MaskPattern,
-    /// The rows.
+    /// The number of rows.
     pub(crate) height: usize,
     columns: [[bool; LONGEST]; 6],
     pub(crate) ghost at_most: { height ≤ 177 },
@@ -44,7 +44,7 @@ pub(crate) struct Turned {
 }
 
 impl Turned {
-    /// Those of a mask, of so many rows.
+    /// Computes the columns of `mask`, with `height` rows.
     pub(crate) fn new(mask: MaskPattern, height: usize) -> Turned
         requires { height ≤ 177 }
         ensures mask { result.mask ≡ mask }
@@ -64,7 +64,7 @@ impl Turned {
         }
     }
 
-    /// The rows of a column that the mask turns.
+    /// Returns which modules of column `x` the mask flips, by row.
     #[inline(always)]
     pub(crate) fn column(&self, x: usize) -> &[bool; LONGEST]
         ensures { (y : ℕ) → y < self.now.height

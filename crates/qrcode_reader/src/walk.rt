@@ -1,4 +1,4 @@
-//! The bits at the free places, along the walk, with the mask taken off.
+//! Reads the bits of the free places along the zigzag, with the mask taken off.
 
 ghost use Rattle.std.specs.Prelude.{◌≡◌, ℕ, ◌+◌, ◌*◌, ◌%◌, ◌<◌, ◌≤◌, ◌++◌, false, length, take, slice_index_or, IsTrue, OnOk, IfOk, pos};
 ghost use Rattle.qrcode_types.specs.Colors.{is_dark};
@@ -15,7 +15,7 @@ use qrcode_symbol::canvas::{Canvas, Module};
 use qrcode_types::types::{Color, EcLevel, Version};
 use std::alloc::{AllocError, Global};
 
-/// The modules along a side.
+/// Returns the number of modules along a side.
 pub fn side(version: Version) -> usize
     requires { IsTrue (is_valid version) }
     ensures value { result ≡ side version }
@@ -26,7 +26,7 @@ pub fn side(version: Version) -> usize
     version.width() as usize
 }
 
-// A new canvas with the functional patterns: the places that it leaves empty are the free ones.
+// Returns a canvas with just the functional patterns: what it leaves empty are the free places.
 fn patterned(alloc: Global, version: Version) -> Result<Canvas, AllocError>
     requires { IsTrue (is_valid version) }
     ensures { IfOk result (λ canvas. canvas ≡ patterned_canvas version) }
@@ -40,7 +40,7 @@ fn patterned(alloc: Global, version: Version) -> Result<Canvas, AllocError>
     }
 }
 
-// The bit of a module that a mask turned, or did not turn.
+// Returns the bit of a module, which the mask has flipped or not.
 #[inline(always)]
 fn bit_of(color: Color, is_turned: bool) -> bool
     ensures { result ≡ turned_if is_turned (is_dark color) }
@@ -51,12 +51,11 @@ fn bit_of(color: Color, is_turned: bool) -> bool
     }
 }
 
-// Room for the bits of a pair of columns, so that a bit is written without a look at the room that
-// is left.
+// The most bits of a pair of columns. A buffer of this size needs no capacity check for each bit.
 const ROOM: usize = 354;
 
-// Writes the bit at column `x` and row `y` behind the first bits, where the canvas of the patterns
-// is empty there, and answers how many bits there are then.
+// Writes the bit of the module in column `x` and row `y` after the first `count` bits, if the place
+// is free, and returns the new number of bits.
 #[inline(always)]
 fn put_module(
     bits: &mut [bool; ROOM],
@@ -88,7 +87,7 @@ fn put_module(
     count + 1
 }
 
-// The row at a step through a pair of columns: the walk goes upwards and downwards by turns.
+// Returns the row at a step through a pair of columns: pairs go upwards and downwards in turn.
 #[inline(always)]
 fn row_of_step(width: usize, pair: usize, step: usize) -> usize
     requires { step < width }
@@ -102,7 +101,7 @@ fn row_of_step(width: usize, pair: usize, step: usize) -> usize
     }
 }
 
-// Appends the bits of a pair of columns of the walk, the right module of each row first.
+// Appends the bits of a pair of columns, the right module of each row first.
 fn push_pair(
     bits: &mut Vec<bool>,
     canvas: &Canvas,
@@ -143,10 +142,10 @@ fn push_pair(
     Ok(())
 }
 
-/// The bits at the free places, in the order of the walk, with the mask taken off (ISO/IEC
-/// 18004:2006, 6.7.3 and 6.8).
+/// Returns the bits of the free places, in the order of the zigzag, with `mask` taken off (ISO/IEC
+/// 18004:2006, 6.7.3 and 6.8). `version` must exist, and `modules` must have its side.
 ///
-/// The version is one that exists, and the square has its side.
+/// Errors: only `AllocError`, if memory runs out.
 pub fn stream(
     alloc: Global,
     version: Version,

@@ -1,4 +1,4 @@
-//! The codewords in the bits of the free places.
+//! Joins the bits of the free places to codewords.
 
 ghost use Rattle.std.specs.Prelude.{◌≡◌, ◌+◌, ◌*◌, ◌<◌, ◌≤◌, ◌++◌, false, length, take, drop, slice_index_or, IsTrue, OnOk, IfOk, if◌then◌else◌};
 ghost use Rattle.qrcode_types.specs.Bits.{byte_at, bytes_of};
@@ -9,7 +9,7 @@ use qrcode_types::tables::{Blocks, capacity};
 use qrcode_types::types::{EcLevel, Version};
 use std::alloc::{AllocError, Global};
 
-// The first bits, so many, or all.
+// Returns the first `count` bits, or all if there are fewer.
 fn front(bits: &[bool], count: usize) -> &[bool]
     ensures value { result.now ≡ take count bits.now }
     ensures at_most { length result.now ≤ count }
@@ -21,7 +21,7 @@ fn front(bits: &[bool], count: usize) -> &[bool]
     }
 }
 
-/// The bits behind the first ones, so many.
+/// Returns the bits after the first `count`; none if there are fewer.
 pub fn behind(bits: &[bool], count: usize) -> &[bool]
     ensures { result.now ≡ drop count bits.now }
 {
@@ -32,7 +32,7 @@ pub fn behind(bits: &[bool], count: usize) -> &[bool]
     }
 }
 
-// The bit at a place as a number.
+// Returns the bit at `place` as a number.
 #[inline(always)]
 fn digit(bits: &[bool], place: usize) -> u8
     requires { place < length bits.now }
@@ -42,7 +42,7 @@ fn digit(bits: &[bool], place: usize) -> u8
     if bits[place] { 1 } else { 0 }
 }
 
-// The i-th byte, where all its bits are there: no look at the end for each of them.
+// Returns byte `i`, all of whose bits exist, so that none needs a bounds check.
 #[inline(always)]
 fn whole_byte(bits: &[bool], i: usize) -> u8
     requires { 8 * i + 8 ≤ length bits.now }
@@ -60,7 +60,7 @@ fn whole_byte(bits: &[bool], i: usize) -> u8
     16 * high + low
 }
 
-// The bit at a place as a number, or zero behind the end.
+// Returns the bit at `place` as a number; zero after the end.
 fn bit(bits: &[bool], place: usize) -> u8
     ensures value { result ≡ (if slice_index_or bits.now place false then 1 else 0) }
     ensures at_most { result ≤ 1 }
@@ -72,7 +72,7 @@ fn bit(bits: &[bool], place: usize) -> u8
     }
 }
 
-// The i-th byte, with zeros behind the end.
+// Returns byte `i`, with zeros after the end.
 fn filled_byte(bits: &[bool], i: usize) -> u8
     requires { i ≤ 30000 }
     ensures { result ≡ byte_at bits.now i }
@@ -89,7 +89,7 @@ fn filled_byte(bits: &[bool], i: usize) -> u8
     16 * high + low
 }
 
-// The i-th byte, with zeros behind the end.
+// Returns byte `i`, with zeros after the end; faster if all its bits exist.
 #[inline(always)]
 fn byte_at(bits: &[bool], i: usize) -> u8
     requires { i ≤ 30000 }
@@ -102,7 +102,7 @@ fn byte_at(bits: &[bool], i: usize) -> u8
     }
 }
 
-// Appends the bytes of bits, the last one filled with zeros.
+// Appends `bits` as bytes, the last one filled up with zeros.
 fn push_bytes(bytes: &mut Vec<u8>, bits: &[bool]) -> Result<(), AllocError>
     requires { length bits.now ≤ 30000 }
     ensures { OnOk result (bytes.new.items ≡ bytes.old.items ++ bytes_of bits.now) }
@@ -113,9 +113,11 @@ fn push_bytes(bytes: &mut Vec<u8>, bits: &[bool]) -> Result<(), AllocError>
     Ok(())
 }
 
-/// The codewords of a stream, which is the bits of the free places with the mask taken off: the
-/// data codewords, the last one filled with zeros where it has four bits, and then the error
-/// correction codewords (ISO/IEC 18004:2006, 6.7.3).
+/// Returns the codewords of `bits`, the bits of the free places with the mask taken off: the data
+/// codewords, the last one filled up with zeros if it has four bits, and then the error correction
+/// codewords (ISO/IEC 18004:2006, 6.7.3).
+///
+/// Errors: only `AllocError`, if memory runs out.
 pub fn codewords(
     alloc: Global,
     bits: &[bool],

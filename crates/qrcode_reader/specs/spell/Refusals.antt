@@ -1,4 +1,4 @@
--- The texts of refusals.
+-- The messages of errors.
 use Rattle.std.specs.Prelude.{ℕ, List, codes}
 use Rattle.qrcode_reader.specs.declared.spell.refusals.Unspelled.{Unspelled}
 use Rattle.qrcode_reader.specs.declared.spell.refusals.Unspelled.TheVariants.{NotSpelled, OutOfMemory}
@@ -9,7 +9,7 @@ abbrev pub refusal_text : Unspelled → List ℕ
 refusal_text NotSpelled = codes "the bits spell no bytes"
 refusal_text OutOfMemory = codes "out of memory"
 
-abbrev pub unshown_of : Unspelled → Unshown  -- bits that spell nothing show nothing
+abbrev pub unshown_of : Unspelled → Unshown  -- bits that do not decode show nothing
 unshown_of NotSpelled = NotShown
 unshown_of OutOfMemory = NoMemory
 

@@ -1,4 +1,4 @@
-//! Where a block is wrong, and by what.
+//! Finds the errors of a block: where and by what it is wrong.
 
 ghost use Rattle.std.specs.Prelude.{◌≡◌, ℕ, ◌+◌, ◌<◌, ◌≤◌, List, length, slice_index, take};
 ghost use Rattle.qrcode_types.specs.Bits.{AreBytes};
@@ -9,10 +9,10 @@ ghost use Rattle.qrcode_reader.specs.correct.Errors.{error_at, IsLocator};
 use crate::correct::recurrences::{Search, combine};
 use qrcode_ec::{ROOM, power, product, quotient};
 
-/// The bytes of the longest block: there are as many powers of 2.
+/// The bytes of the longest block: one for each power of 2 in the field.
 pub(crate) const LONGEST: usize = 255;
 
-// The quotient of a polynomial by x - point, and the rest, which is its value at the point.
+// Divides a polynomial by x - `point`; returns the quotient and the rest, its value at `point`.
 fn divide(coefficients: &[u8; ROOM], degree: usize, point: u8) -> ([u8; ROOM], u8)
     requires at_most { degree < 72 }
     requires ends { EndsAt coefficients.now (degree + 1) }
@@ -29,8 +29,8 @@ fn divide(coefficients: &[u8; ROOM], degree: usize, point: u8) -> ([u8; ROOM], u
     (quotient, rest)
 }
 
-// By what the byte at a place is wrong, where the block can be corrected. Places are counted from
-// the last byte on.
+// Returns the error of the byte at `place`, counted from the last byte, if the block can be
+// corrected: what to add to it. Zero if it is right.
 fn error_at(locator: &Search, syndromes: &[u8; ROOM], place: usize) -> u8
     requires at_most { locator.now.degree ≤ 69 }
     requires ends { EndsAt locator.now.current (locator.now.degree + 1) }
@@ -52,7 +52,7 @@ fn error_at(locator: &Search, syndromes: &[u8; ROOM], place: usize) -> u8
     quotient(height, slope)
 }
 
-/// The block without its errors, if it can be corrected.
+/// Returns `block` without its errors, if it can be corrected.
 pub(crate) fn corrected(block: &[u8], locator: &Search, syndromes: &[u8; ROOM]) -> [u8; LONGEST]
     requires length { length block.now ≤ 255 }
     requires at_most { locator.now.degree ≤ 69 }
@@ -69,7 +69,7 @@ pub(crate) fn corrected(block: &[u8], locator: &Search, syndromes: &[u8; ROOM]) 
     bytes
 }
 
-/// In how many places two lists of bytes differ.
+/// Counts the places in which two lists of bytes of one length differ.
 pub(crate) fn distance(first: &[u8], second: &[u8]) -> usize
     requires { length first.now ≡ length second.now }
     ensures { result ≡ distance first.now second.now }

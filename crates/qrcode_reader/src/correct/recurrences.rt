@@ -1,5 +1,5 @@
-//! The shortest linear recurrence that a sequence of bytes follows, by the algorithm of Berlekamp
-//! and Massey.
+//! Finds the shortest linear recurrence that a sequence of bytes follows, with the Berlekamp-Massey
+//! algorithm.
 
 ghost use Rattle.std.specs.Prelude.{◌≡◌, ℕ, ◌+◌, ◌<◌, ◌≤◌, slice_index, bit_xor};
 ghost use Rattle.qrcode_ec.specs.Field.{product};
@@ -8,7 +8,7 @@ ghost use Rattle.qrcode_reader.specs.correct.Recurrences.{FollowShortest, IsSear
 
 use qrcode_ec::{ROOM, product, quotient};
 
-/// The first coefficients times as many values from a place on, summed up.
+/// Sums up the products of the first `count` coefficients and the values from `place` on.
 pub(crate) fn combine(
     coefficients: &[u8; ROOM],
     count: usize,
@@ -26,7 +26,7 @@ pub(crate) fn combine(
     sum
 }
 
-// Adds a multiple of another polynomial with so many coefficients.
+// Adds `factor` times `other`, which has `count` coefficients.
 fn add_multiple(coefficients: &mut [u8; ROOM], factor: u8, other: &[u8; ROOM], count: usize)
     requires at_most { count ≤ 72 }
     requires ends { EndsAt other.now count }
@@ -38,7 +38,7 @@ fn add_multiple(coefficients: &mut [u8; ROOM], factor: u8, other: &[u8; ROOM], c
     }
 }
 
-// The product of a polynomial and a power of x.
+// Returns the polynomial times x to the power `exponent`.
 fn raised(coefficients: &[u8; ROOM], count: usize, exponent: usize) -> [u8; ROOM]
     requires inside { count + exponent ≤ 72 }
     requires ends { EndsAt coefficients.now count }
@@ -52,20 +52,20 @@ fn raised(coefficients: &[u8; ROOM], count: usize, exponent: usize) -> [u8; ROOM
     row
 }
 
-/// A polynomial that the first values of a sequence follow, on the way to the shortest.
+/// The state of the search: the shortest polynomial that the values so far follow.
 #[derive(Drop)]
 pub(crate) struct Search {
     /// The degree of the polynomial.
     pub(crate) degree: usize,
-    /// Its coefficients, the lowest first.
+    /// Its coefficients, lowest first.
     pub(crate) current: [u8; ROOM],
-    // The polynomial before the degree last changed, and to what it combined the values there.
+    // The polynomial before the last change of the degree, and what it gave instead of zero there.
     earlier: [u8; ROOM],
     scale: u8,
 }
 
 impl Search {
-    // Nothing is known of the values.
+    // Starts with no values, and the polynomial 1.
     fn new(values: &[u8; ROOM]) -> Search
         ensures { IsSearch (slice_index values.now) 0
             result.degree result.current result.earlier result.scale }
@@ -80,7 +80,7 @@ impl Search {
         }
     }
 
-    // Takes account of value n.
+    // Takes value `n` into account.
     fn advance(&mut self, values: &[u8; ROOM], n: usize)
         requires at_most { n < 69 }
         requires search { IsSearch (slice_index values.now) n
@@ -107,7 +107,7 @@ impl Search {
         }
     }
 
-    /// The polynomial of the lowest degree that the first n values follow.
+    /// Returns a polynomial of the lowest degree that the first `n` values follow.
     pub(crate) fn shortest(values: &[u8; ROOM], n: usize) -> Search
         requires { n ≤ 69 }
         ensures at_most { result.degree ≤ n }

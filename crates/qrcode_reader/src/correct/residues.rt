@@ -1,4 +1,4 @@
-//! What division by a generator leaves of a block, and its syndromes.
+//! Syndromes of a block, and a short list of bytes that has the same.
 
 ghost use Rattle.std.specs.Prelude.{◌≡◌, ◌↔◌, ℕ, ◌+◌, ◌<◌, ◌≤◌, IsTrue, length, slice_index, take, bit_xor};
 ghost use Rattle.qrcode_types.specs.Bits.{AreBytes};
@@ -7,7 +7,7 @@ ghost use Rattle.qrcode_reader.specs.correct.Errors.{AreSyndromes};
 
 use qrcode_ec::{Divider, ROOM, power, product};
 
-// Adds bytes to a row from a place on.
+// Adds `bytes` to `row` from `place` on.
 fn add_from(row: &mut [u8; ROOM], place: usize, bytes: &[u8])
     requires inside { place + length bytes.now ≤ 72 }
     ensures before { (k : ℕ) → k < place → slice_index row.new k ≡ slice_index row.old k }
@@ -19,8 +19,8 @@ fn add_from(row: &mut [u8; ROOM], place: usize, bytes: &[u8])
     }
 }
 
-/// As many bytes as the generator's degree, with the syndromes of the block: the remainder of the
-/// bytes before the last ones, and these.
+/// Returns as many bytes as the generator's degree, with the same syndromes as `block`: its last
+/// bytes, that many, plus the remainder of those before.
 pub(crate) fn residue(divider: &Divider, block: &[u8]) -> [u8; ROOM]
     ensures of_bytes { AreBytes block.now }
     ensures bytes { AreBytes (take divider.now.degree result) }
@@ -33,7 +33,7 @@ pub(crate) fn residue(divider: &Divider, block: &[u8]) -> [u8; ROOM]
     residue
 }
 
-/// Whether all bytes are zero.
+/// Returns whether all bytes are zero.
 pub(crate) fn is_zero(bytes: &[u8]) -> bool
     ensures { IsTrue result
         ↔ ((j : ℕ) → j < length bytes.now → slice_index bytes.now j ≡ 0) }
@@ -46,7 +46,7 @@ pub(crate) fn is_zero(bytes: &[u8]) -> bool
     true
 }
 
-// The value of a block at the i-th power of 2.
+// Returns the value of `block`, as a polynomial, at the `i`-th power of 2.
 fn syndrome(block: &[u8], i: usize) -> u8
     ensures { result ≡ syndrome i block.now }
 {
@@ -58,7 +58,7 @@ fn syndrome(block: &[u8], i: usize) -> u8
     sum
 }
 
-/// The first syndromes of a block.
+/// Returns the first `count` syndromes of `block`.
 pub(crate) fn syndromes(block: &[u8], count: usize) -> [u8; ROOM]
     requires { count ≤ 72 }
     ensures { AreSyndromes (slice_index result) count block.now }

@@ -1,4 +1,4 @@
-//! PBM and PGM files, as netpbm's pages pbm(5) and pgm(5) have them.
+//! Reads PBM and PGM files, as pbm(5) and pgm(5) of netpbm define them.
 
 ghost use Rattle.std.specs.Prelude.{◌≡◌, ◌==◌, ◌||◌, ◌*◌, ◌<◌, ◌≤◌, nat_lt, true, false, map, drop, length, IfOk, IfErr, IfSome, IfNone};
 ghost use Rattle.std.specs.List.{prefix_len};
@@ -10,14 +10,14 @@ use crate::scan::heads::{is_white, number};
 use crate::scan::pixels::{Pixels, Unscanned};
 use std::alloc::{AllocError, Global};
 
-/// The pixels of a picture: of a PBM file (P1 or P4) or a PGM file (P5) by its first two bytes, and
-/// otherwise of a text of half blocks. Of greys those below half of the greatest are dark. What
-/// follows the last pixel is not looked at.
+/// Reads the pixels of a picture: of a PBM file (P1 or P4) or a raw PGM file (P5), known by its
+/// first two bytes, and otherwise of a text of half blocks. A grey is dark below half of the
+/// maximum. What follows the last pixel is ignored.
 ///
-/// `NotPicture`: it is none of these. `NoSide`: it has no pixel, or more than 65,535 along a side.
-/// `NoGrey`: the greatest grey is not one of 1 to 255. `NotPixel`: before its last pixel stands
-/// something that is neither a pixel nor white space. `TooShort`: it ends before its last pixel.
-/// `OutOfMemory`: memory was refused.
+/// Errors: `NotPicture` if `bytes` are none of these; `NoSide` if there is no pixel, or more than
+/// 65,535 along a side (in half blocks 4,096); `NoGrey` if the maximum grey is not from 1 to 255;
+/// `NotPixel` if something that is neither a pixel nor white space comes before the last pixel;
+/// `TooShort` if `bytes` end before the last pixel; `OutOfMemory` if memory runs out.
 pub fn pixels_of(alloc: Global, bytes: &[u8]) -> Result<Pixels, Unscanned>
     ensures value { IfOk result (IsSeenIn bytes.now) }
     ensures causes { IfErr result (IsUnscanned bytes.now) }
@@ -30,8 +30,8 @@ pub fn pixels_of(alloc: Global, bytes: &[u8]) -> Result<Pixels, Unscanned>
     }
 }
 
-// The sides that a head names, and what follows them. `None`: there is no pixel along one, or more
-// than 65,535.
+// Reads the width and height in a header; returns what follows too. `None` if one of them is 0 or
+// above 65,535.
 fn sides(file: &[u8]) -> Option<(usize, usize, &[u8])>
     requires { 2 ≤ length file.now }
     ensures value { IfSome result (λ head. (head.0, head.1, head.2.now) ≡ sides_of file.now) }
@@ -47,7 +47,7 @@ fn sides(file: &[u8]) -> Option<(usize, usize, &[u8])>
     Some((across, down, rest))
 }
 
-// What follows the byte of white space at the end of a head. `None`: another byte stands there.
+// Skips the white space at the end of a header; `None` if another byte is there.
 fn raster(rest: &[u8]) -> Option<&[u8]>
     ensures value { IfSome result (λ bytes. bytes.now ≡ drop 1 rest.now) }
     ensures ended { IfSome result (λ _. is_ended rest.now ≡ true) }
@@ -60,7 +60,7 @@ fn raster(rest: &[u8]) -> Option<&[u8]>
     }
 }
 
-// The pixels of a PBM file of bits.
+// Reads a raw PBM file (P4).
 #[tactic(auto, using(crate::proofs::ShownSquares::bits_length))]
 fn bits(alloc: Global, file: &[u8]) -> Result<Pixels, Unscanned>
     requires { 2 ≤ length file.now }
@@ -80,7 +80,7 @@ fn bits(alloc: Global, file: &[u8]) -> Result<Pixels, Unscanned>
     Ok(Pixels::new(across, down, marks))
 }
 
-// The marks of so many rows of pixels, eight in a byte.
+// Unpacks `down` rows of `across` pixels, eight in a byte; each row begins a new byte.
 fn packed_marks(
     alloc: Global,
     bytes: &[u8],
@@ -105,7 +105,7 @@ fn packed_marks(
     Ok(marks)
 }
 
-// The pixel in a column and row of rows of so many bytes.
+// Whether the pixel in column `x` and row `y` is black, in rows of `stride` bytes.
 fn is_black_bit(bytes: &[u8], stride: usize, x: usize, y: usize) -> bool
     requires column { x < 65536 }
     requires row { y < 65536 }
@@ -118,7 +118,7 @@ fn is_black_bit(bytes: &[u8], stride: usize, x: usize, y: usize) -> bool
     }
 }
 
-// The pixels of a PBM file of figures.
+// Reads a plain PBM file (P1).
 fn figures(alloc: Global, file: &[u8]) -> Result<Pixels, Unscanned>
     requires { 2 ≤ length file.now }
     ensures value { IfOk result (λ pixels.
@@ -141,7 +141,7 @@ fn figures(alloc: Global, file: &[u8]) -> Result<Pixels, Unscanned>
     Ok(Pixels::new(across, down, marks))
 }
 
-// How many bytes stand before anything but figures and white space.
+// Counts the bytes before anything but 0, 1 and white space.
 fn plain_length(bytes: &[u8]) -> usize
     ensures value { result ≡ prefix_len is_plain bytes.now }
     ensures at_most { result ≤ length bytes.now }
@@ -154,21 +154,21 @@ fn plain_length(bytes: &[u8]) -> usize
     bytes.len()
 }
 
-// Whether a byte is a figure or white space.
+// Whether a byte is 0, 1 or white space.
 fn is_plain(byte: u8) -> bool
     ensures { result ≡ is_plain byte }
 {
     is_figure(byte) || is_white(byte)
 }
 
-// Whether a byte is a figure.
+// Whether a byte is 0 or 1.
 fn is_figure(byte: u8) -> bool
     ensures { result ≡ (byte == 48 || byte == 49) }
 {
     matches!(byte, b'0' | b'1')
 }
 
-// The marks of figures.
+// Returns whether each 0 or 1 is a 1, skipping other bytes.
 #[tactic(auto, using(crate::proofs::Pieces::flat_map_more))]
 fn plain_marks(alloc: Global, bytes: &[u8]) -> Result<Vec<bool>, AllocError>
     ensures { IfOk result (λ marks. marks.items ≡ plain_marks bytes.now) }
@@ -182,7 +182,7 @@ fn plain_marks(alloc: Global, bytes: &[u8]) -> Result<Vec<bool>, AllocError>
     Ok(marks)
 }
 
-// The pixels of a PGM file of bytes.
+// Reads a raw PGM file (P5).
 fn greys(alloc: Global, file: &[u8]) -> Result<Pixels, Unscanned>
     requires { 2 ≤ length file.now }
     ensures value { IfOk result (λ pixels. IsGreysFile file.now × (pixels ≡ greys_file file.now)) }
@@ -204,8 +204,8 @@ fn greys(alloc: Global, file: &[u8]) -> Result<Pixels, Unscanned>
     Ok(Pixels::new(across, down, marks))
 }
 
-// The greatest grey behind the sides of a head, and what follows it. `None`: it is not one of 1 to
-// 255.
+// Reads the maximum grey, after width and height; returns what follows too. `None` if it is not
+// from 1 to 255.
 fn greatest_grey(rest: &[u8]) -> Option<(usize, &[u8])>
     ensures value { IfSome result (λ found.
         (found.0, found.1.now) ≡ digits_from 0 (after_space false rest.now)) }
@@ -220,7 +220,7 @@ fn greatest_grey(rest: &[u8]) -> Option<(usize, &[u8])>
     Some((greatest, rest))
 }
 
-// The marks of greys, of which those below half of the greatest are dark.
+// Returns which greys are dark: those below half of `greatest`.
 fn grey_marks(alloc: Global, greatest: usize, bytes: &[u8]) -> Result<Vec<bool>, AllocError>
     ensures { IfOk result (λ marks. marks.items
         ≡ map (λ grey. nat_lt (2 * grey) greatest) bytes.now) }

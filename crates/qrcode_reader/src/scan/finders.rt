@@ -1,15 +1,15 @@
-//! Finder patterns in pixels: dark, light, dark, light and dark of 1, 1, 3, 1 and 1 modules, across
-//! and down.
+//! Finds finder patterns in pixels: dark, light, dark, light and dark runs of 1, 1, 3, 1 and 1
+//! modules, across and down.
 
 ghost use Rattle.std.specs.Prelude.{◌≡◌, ◌^◌, ◌<◌, ◌≤◌, length, IfOk, IfSome, OnOk};
 
 use crate::scan::pixels::Pixels;
 use std::alloc::{AllocError, Global};
 
-// The most finder patterns that are kept of a picture. It bounds memory and time.
+// The most finder patterns to keep of a picture. Bounds memory and time.
 const MOST_FINDERS: usize = 1024;
 
-// A finder pattern: twice its centre, and the pixels of its seven modules across and down.
+// A finder pattern: twice its centre, and its width and height in pixels, seven modules each.
 #[derive(Clone, Copy)]
 pub(crate) struct Finder {
     pub(crate) x: usize,
@@ -20,8 +20,8 @@ pub(crate) struct Finder {
     ghost sides: { (width ≤ 65535) × (height ≤ 65535) },
 }
 
-// A row or a column of pixels: where it starts among the marks, how far its pixels stand apart, and
-// how many they are.
+// A row or column of pixels: the index of its first pixel, the step from one pixel to the next, and
+// how many there are.
 #[derive(Clone, Copy)]
 pub(crate) struct Line {
     first: usize,
@@ -30,7 +30,7 @@ pub(crate) struct Line {
     ghost fits: { (first < 2 ^ 33) × (step ≤ 65535) × (length ≤ 65535) },
 }
 
-// A row of pixels.
+// Returns row `y` of the pixels.
 pub(crate) fn row_of(pixels: &Pixels, y: usize) -> Line
     requires { y ≤ 65535 }
     ensures { (result.length ≡ pixels.now.across) × (result.first < 2 ^ 32) }
@@ -43,7 +43,7 @@ pub(crate) fn row_of(pixels: &Pixels, y: usize) -> Line
     }
 }
 
-// A column of pixels.
+// Returns column `x` of the pixels.
 pub(crate) fn column_of(pixels: &Pixels, x: usize) -> Line
     requires { x ≤ 65535 }
     ensures { (result.length ≡ pixels.now.down) × (result.first < 2 ^ 32) }
@@ -56,9 +56,9 @@ pub(crate) fn column_of(pixels: &Pixels, x: usize) -> Line
     }
 }
 
-/// The finder patterns of pixels in the order of their rows, at most 1,024.
+/// Finds finder patterns, in the order of their rows, at most 1,024.
 ///
-/// It fails only where memory runs out.
+/// Errors: only `AllocError`, if memory runs out.
 pub(crate) fn finders(alloc: Global, pixels: &Pixels) -> Result<Vec<Finder>, AllocError>
     ensures { IfOk result (λ found. length found.items ≤ 1024) }
 {
@@ -69,7 +69,7 @@ pub(crate) fn finders(alloc: Global, pixels: &Pixels) -> Result<Vec<Finder>, All
     Ok(found)
 }
 
-// Appends the finder patterns through a row, but for those that are there.
+// Appends the finder patterns that cross row `y`, except known ones.
 fn push_finders(found: &mut Vec<Finder>, pixels: &Pixels, y: usize) -> Result<(), AllocError>
     requires row { (y < pixels.now.down) × (y ≤ 65535) }
     requires at_most { length found.old.items ≤ 1024 }
@@ -90,7 +90,7 @@ fn push_finders(found: &mut Vec<Finder>, pixels: &Pixels, y: usize) -> Result<()
     Ok(())
 }
 
-// Appends a finder pattern, unless it is there or there are too many.
+// Appends a finder pattern, unless it is known or there are too many.
 fn push_new(found: &mut Vec<Finder>, finder: Option<Finder>) -> Result<(), AllocError>
     requires { length found.old.items ≤ 1024 }
     ensures { OnOk result (length found.new.items ≤ 1024) }
@@ -104,19 +104,20 @@ fn push_new(found: &mut Vec<Finder>, finder: Option<Finder>) -> Result<(), Alloc
     Ok(())
 }
 
-// Whether a finder pattern is there already.
+// Whether a finder pattern has been found before.
 fn is_known(found: &[Finder], finder: Finder) -> bool {
     found.iter().any(|other| is_same(finder, *other))
 }
 
-// Whether the centres of finder patterns are less than a module and half a pixel apart.
+// Whether the centres of two finder patterns are at most a module (of the smaller one) and half a
+// pixel apart, across and down.
 fn is_same(finder: Finder, other: Finder) -> bool {
     7 * finder.x.abs_diff(other.x) <= 2 * finder.width.min(other.width) + 7
         && 7 * finder.y.abs_diff(other.y) <= 2 * finder.height.min(other.height) + 7
 }
 
-// The finder pattern around a pixel, about so many pixels wide: neither side is more than twice as
-// long as the other.
+// Returns the finder pattern around a pixel, about `width` pixels wide. Neither side may be more
+// than twice as long as the other.
 fn finder_at(pixels: &Pixels, x: usize, y: usize, width: usize) -> Option<Finder>
     requires inside { (x ≤ pixels.now.across) × (y ≤ pixels.now.down) × (x ≤ 65535) }
     requires width { width ≤ 65535 }
@@ -136,8 +137,8 @@ fn finder_at(pixels: &Pixels, x: usize, y: usize, width: usize) -> Option<Finder
     })
 }
 
-// Where the finder pattern whose middle holds a place of a line starts and ends. Only so many
-// pixels before and behind it are looked at, so that time is linear.
+// Returns the start and end of the finder pattern whose middle contains `place`. Looks at no more
+// than `reach` pixels before and after it, so that time is linear.
 fn finder_through(pixels: &Pixels, line: Line, place: usize, reach: usize) -> Option<(usize, usize)>
     requires inside { (place ≤ line.length) × (line.first < 2 ^ 32) }
     requires reach { reach ≤ 131070 }
@@ -157,7 +158,7 @@ fn finder_through(pixels: &Pixels, line: Line, place: usize, reach: usize) -> Op
     Some((from + start, from + end))
 }
 
-// Where the finder pattern starts that ends before a place of a line.
+// Returns the start of the finder pattern that ends before `end`, if one does.
 fn finder_before(pixels: &Pixels, line: Line, end: usize) -> Option<usize>
     requires { end ≤ line.length }
     ensures { IfSome result (λ start. start ≤ end) }
@@ -180,14 +181,15 @@ fn finder_before(pixels: &Pixels, line: Line, end: usize) -> Option<usize>
     }
 }
 
-// Whether a run is so many sevenths of a total, but for less than half of that and half a pixel.
+// Whether a run is `sevenths` sevenths of `total`, with an error of less than half of that plus
+// half a pixel.
 pub(crate) fn is_near(run: usize, sevenths: usize, total: usize) -> bool
     requires { (run ≤ 65535) × (total ≤ 65535) × (sevenths ≤ 3) }
 {
     2 * (7 * run).abs_diff(sevenths * total) < sevenths * total + 7
 }
 
-// Where the pixels of one kind end that begin at a place of a line.
+// Returns the end of the run of dark (or light) pixels that begins at `start`.
 pub(crate) fn run_end(pixels: &Pixels, line: Line, start: usize, dark: bool) -> usize
     ensures { result ≤ line.length }
 {
@@ -199,7 +201,7 @@ pub(crate) fn run_end(pixels: &Pixels, line: Line, start: usize, dark: bool) -> 
     line.length
 }
 
-// Where the pixels of one kind start that end before a place of a line.
+// Returns the start of the run of dark (or light) pixels that ends before `end`.
 pub(crate) fn run_start(pixels: &Pixels, line: Line, end: usize, dark: bool) -> usize
     requires { end ≤ line.length }
     ensures { result ≤ end }

@@ -1,4 +1,4 @@
-//! Squares of modules between finder patterns, also in pictures that show more than them.
+//! Finds squares of modules by their finder patterns, also in pictures that show other things.
 
 ghost use Rattle.std.specs.Prelude.{◌≡◌, ◌^◌, ◌<◌, ◌≤◌, IfSome};
 
@@ -8,34 +8,34 @@ use crate::scan::pixels::Pixels;
 use crate::scan::samples::mark_in;
 use std::alloc::{AllocError, Global};
 
-// The most grids of a picture. It bounds memory and time.
+// The most grids of a picture. Bounds memory and time.
 const MOST_GRIDS: usize = 1024;
 
-// The most finder patterns on each side of another that are tried with it, the nearest ones:
-// between those of a square there is only the square. It bounds time.
+// How many finder patterns on each side of another are paired with it, nearest first: between those
+// of one symbol there is nothing but the symbol. Bounds time.
 const MOST_NEAR: usize = 4;
 
-/// Where the modules of a square stand in pixels: the centre of the first one, and how far the
-/// columns and the rows stand apart, in parts of a pixel.
+/// Where the modules of a square are in pixels: the centre of the first module, and the distances
+/// of columns and of rows, in fractions of a pixel.
 #[derive(Clone, Copy)]
 pub struct Grid {
-    /// The modules along a side.
+    /// Modules along a side.
     pub count: usize,
-    /// The column of the first module's centre.
+    /// The column of the first module's centre, in fractions of a pixel.
     pub left: usize,
-    /// The row of the first module's centre.
+    /// The row of the first module's centre, likewise.
     pub top: usize,
-    /// From one column of modules to the next.
+    /// From one column of modules to the next, likewise.
     pub across: usize,
-    /// From one row of modules to the next.
+    /// From one row of modules to the next, likewise.
     pub down: usize,
-    /// The parts of a pixel in which these are counted.
+    /// How many such fractions make a pixel.
     pub parts: usize,
     pub ghost fits: { (count ≤ 177) × (left < 2 ^ 28) × (top < 2 ^ 28) × (across < 2 ^ 18)
         × (down < 2 ^ 18) },
 }
 
-// Three finder patterns: one in the corner, one beside it, and one above or below it.
+// Three finder patterns: one in the corner, one left or right of it, one above or below it.
 #[derive(Clone, Copy)]
 struct Corner {
     corner: Finder,
@@ -43,11 +43,11 @@ struct Corner {
     below: Finder,
 }
 
-/// Where squares of modules may stand in a picture, by the finder patterns in three of their
-/// corners, or in the one of Micro: first of dark modules on light, then of light ones on dark; at
-/// most 1,024.
+/// Guesses where squares of modules are in a picture, by the finder patterns in three of their
+/// corners, or by the single one of Micro: first dark modules on light, then light on dark; at most
+/// 1,024.
 ///
-/// It fails only where memory runs out.
+/// Errors: only `AllocError`, if memory runs out.
 pub fn grids_of(alloc: Global, pixels: &Pixels) -> Result<Vec<Grid>, AllocError> {
     let mut grids = Vec::new(alloc);
     push_grids(alloc, &mut grids, pixels)?;
@@ -55,7 +55,7 @@ pub fn grids_of(alloc: Global, pixels: &Pixels) -> Result<Vec<Grid>, AllocError>
     Ok(grids)
 }
 
-// Appends the grids of dark modules: those between three finder patterns, then those of Micro.
+// Appends the grids of dark modules: first those of three finder patterns, then those of Micro.
 fn push_grids(alloc: Global, grids: &mut Vec<Grid>, pixels: &Pixels) -> Result<(), AllocError> {
     let found = finders(alloc, pixels)?;
     for corner in &found {
@@ -67,7 +67,7 @@ fn push_grids(alloc: Global, grids: &mut Vec<Grid>, pixels: &Pixels) -> Result<(
     Ok(())
 }
 
-// Appends those of a finder pattern in the corner.
+// Appends the grids with this finder pattern in the corner.
 fn push_corners(
     alloc: Global,
     grids: &mut Vec<Grid>,
@@ -92,7 +92,7 @@ fn push_corners(
     Ok(())
 }
 
-// Of finder patterns in a line with another, the nearest on both sides.
+// Returns the finder patterns of a line that are nearest to `corner`, on both sides.
 fn nearest(alloc: Global, line: &[Finder], corner: Finder) -> Result<Vec<Finder>, AllocError> {
     let (mut before, mut behind) = (Vec::new(alloc), Vec::new(alloc));
     for other in line {
@@ -120,12 +120,12 @@ fn push_near(near: &mut Vec<Finder>, corner: Finder, other: Finder) -> Result<()
     Ok(())
 }
 
-// Where a finder pattern stands in a line across or down.
+// Returns a number that orders finder patterns of one line, across or down.
 fn place(finder: Finder) -> usize {
     finder.x + finder.y
 }
 
-// Appends those of a finder pattern in the corner, one beside it and others above or below it.
+// Appends the grids of two finder patterns and each third one above or below the corner.
 fn push_below(
     grids: &mut Vec<Grid>,
     pixels: &Pixels,
@@ -153,28 +153,30 @@ pub(crate) fn push_grid(grids: &mut Vec<Grid>, grid: Option<Grid>) -> Result<(),
     Ok(())
 }
 
-// Whether a finder pattern of the same size stands to the left or right of another.
+// Whether `other` is left or right of `corner`, of about the same size: within a module and a pixel
+// of the same row, and more than one and a half widths away.
 fn is_beside(corner: Finder, other: Finder) -> bool {
     7 * corner.y.abs_diff(other.y) <= 2 * corner.height + 14
         && corner.x.abs_diff(other.x) > 3 * corner.width
         && is_same_size(corner, other)
 }
 
-// Whether a finder pattern of the same size stands above or below another.
+// Whether `other` is above or below `corner`, of about the same size: within a module and a pixel
+// of the same column, and more than one and a half heights away.
 fn is_below(corner: Finder, other: Finder) -> bool {
     7 * corner.x.abs_diff(other.x) <= 2 * corner.width + 14
         && corner.y.abs_diff(other.y) > 3 * corner.height
         && is_same_size(corner, other)
 }
 
-// Whether finder patterns are as large, but for a third.
+// Whether the sides of two finder patterns differ by at most a third.
 fn is_same_size(finder: Finder, other: Finder) -> bool {
     3 * finder.width.abs_diff(other.width) <= finder.width
         && 3 * finder.height.abs_diff(other.height) <= finder.height
 }
 
-// The grid between three finder patterns whose timing patterns fit best: at most a quarter of their
-// modules is wrong.
+// Returns the grid between three finder patterns whose timing patterns fit best; at most a quarter
+// of their modules may be wrong.
 fn grid_of(pixels: &Pixels, corner: &Corner) -> Option<Grid> {
     let (mut best, mut least) = (None, 251);
     for version in 1..41 {
@@ -191,8 +193,8 @@ fn grid_of(pixels: &Pixels, corner: &Corner) -> Option<Grid> {
     best
 }
 
-// The grid of so many modules a side between three finder patterns, if their modules are as large,
-// but for a fifth.
+// Returns the grid of `count` modules a side between three finder patterns, if their distances fit
+// their sizes, within a fifth.
 fn likely_grid(corner: &Corner, count: usize) -> Option<Grid>
     requires { (21 ≤ count) × (count ≤ 177) }
     ensures { IfSome result (λ grid. (grid.count ≡ count) × (1 ≤ grid.parts)) }
@@ -216,8 +218,8 @@ fn likely_grid(corner: &Corner, count: usize) -> Option<Grid>
     })
 }
 
-// Whether so many modules a side, of which seven have so many pixels, set two finder patterns apart
-// by so many halves of a pixel, but for a fifth.
+// Whether two finder patterns in a square of `count` modules a side, seven modules having `seven`
+// pixels, are `apart` half pixels apart, within a fifth.
 fn is_size(apart: usize, seven: usize, count: usize) -> bool
     requires modules { (21 ≤ count) × (count ≤ 177) }
     requires pixels { (apart ≤ 131070) × (seven ≤ 65535) }
@@ -226,7 +228,7 @@ fn is_size(apart: usize, seven: usize, count: usize) -> bool
     5 * (7 * apart).abs_diff(wanted) <= wanted
 }
 
-// How many modules of the two timing patterns are wrong.
+// Counts the wrong modules of the two timing patterns.
 fn wrong_timing(pixels: &Pixels, corner: &Corner, grid: &Grid) -> usize
     requires { (21 ≤ grid.now.count) × (1 ≤ grid.now.parts) }
     ensures { result ≤ 354 }
@@ -241,7 +243,7 @@ fn wrong_timing(pixels: &Pixels, corner: &Corner, grid: &Grid) -> usize
     wrong
 }
 
-// The row or column of a timing pattern.
+// Returns the row or column of a timing pattern.
 fn timing_line(is_first: bool, count: usize) -> usize
     requires { (21 ≤ count) × (count ≤ 177) }
     ensures { result ≤ 177 }

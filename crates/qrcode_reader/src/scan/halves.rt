@@ -1,4 +1,4 @@
-//! Texts of half blocks.
+//! Reads texts of half blocks.
 
 ghost use Rattle.std.specs.Prelude.{◌≡◌, ◌⊎◌, ℕ, ◌*◌, ◌<◌, List, ◌≤◌, ◌++◌, [], Some, false, not, length, slice_index_or, IfOk, IfErr, OnOk, None};
 ghost use Rattle.std.specs.List.{list_all};
@@ -10,28 +10,28 @@ use crate::scan::pixels::{Pixels, Unscanned};
 use std::alloc::{AllocError, Global};
 
 // The most pixels along a side of a text of half blocks: 22 for each module of the largest symbol
-// in its quiet zone. It bounds the memory that is taken for lines that end early.
+// with its quiet zone. Bounds the memory that short lines can take.
 const GREATEST_HALVES: usize = 4096;
 
 // What a text of half blocks consists of.
 #[derive(Clone, Copy)]
 pub(crate) enum Half {
-    // Two pixels, one above the other, each dark or not.
+    // Two pixels, the upper one first, `true` for dark.
     Pair(bool, bool),
     // The end of a line.
     End,
     // A carriage return, which shows nothing.
     Return,
-    // The control sequence of colours, which shows nothing.
+    // A control sequence that sets colours, which shows nothing.
     Colours,
 }
 
-/// The pixels of a text of half blocks: a line for two rows of pixels. Control sequences of a
-/// terminal that set colours show nothing, and lines that end early go on with light pixels. Where
-/// there is a row more than columns, and it is light or dark throughout, it is left out.
+/// Reads the pixels of a text of half blocks: each line is two rows of pixels. Terminal control
+/// sequences that set colours are skipped, and short lines are filled up with light pixels. If
+/// there is one row more than columns, and the last row is all light or all dark, it is left out.
 ///
-/// `NoSide`: there is no pixel, or there are more than 4,096 along a side. `NotPicture`: it is no
-/// such text. `OutOfMemory` is the only other error.
+/// Errors: `NotPicture` if `text` is not such a text; `NoSide` if there is no pixel, or more than
+/// 4,096 along a side; `OutOfMemory` if memory runs out.
 pub(crate) fn half_block_pixels(alloc: Global, text: &[u8]) -> Result<Pixels, Unscanned>
     ensures value { IfOk result (IsHalfBlocks text.now) }
     ensures causes { IfErr result (IsHalvesRefusal text.now) }
@@ -49,7 +49,7 @@ pub(crate) fn half_block_pixels(alloc: Global, text: &[u8]) -> Result<Pixels, Un
     Ok(Pixels::new(across, down, marks))
 }
 
-// What a text consists of.
+// Splits a text into what it consists of.
 fn halves_of(alloc: Global, text: &[u8]) -> Result<Vec<Half>, Unscanned>
     ensures value { IfOk result (λ halves. AreHalves halves.items text.now) }
     ensures causes { IfErr result (λ e. (e ≡ OutOfMemory) ⊎ ((e ≡ NotPicture)
@@ -65,7 +65,7 @@ fn halves_of(alloc: Global, text: &[u8]) -> Result<Vec<Half>, Unscanned>
     Ok(halves)
 }
 
-// What a text begins with, and what follows it.
+// Splits off the first item of a text.
 #[tactic(auto, using(crate::proofs::HalfBlocks::no_half))]
 fn next_half(text: &[u8]) -> Result<(Half, &[u8]), Unscanned>
     requires { 1 ≤ length text.now }
@@ -87,7 +87,7 @@ fn next_half(text: &[u8]) -> Result<(Half, &[u8]), Unscanned>
     }
 }
 
-// What follows the m that ends a control sequence of digits and semicolons.
+// Returns what follows the `m` that ends a control sequence of digits and semicolons.
 #[tactic(auto, unfolding(crate::specs::scan::Halves::behind_colour))]
 fn behind_colour(text: &[u8]) -> Result<&[u8], Unscanned>
     ensures value { IfOk result (λ rest. behind_colour text.now ≡ Some rest.now) }
@@ -105,7 +105,7 @@ fn behind_colour(text: &[u8]) -> Result<&[u8], Unscanned>
     Err(Unscanned::NotPicture)
 }
 
-// The columns of the longest line.
+// Returns the number of columns of the longest line.
 #[tactic(auto, unfolding(crate::specs::scan::Halves::longest))]
 fn width(halves: &[Half]) -> usize
     ensures { result ≡ longest 0 0 halves.now }
@@ -125,7 +125,7 @@ fn width(halves: &[Half]) -> usize
     most.max(columns)
 }
 
-// The pixels of lines that are so many columns wide.
+// Returns the pixels of the lines, each `across` columns wide.
 #[tactic(auto, unfolding(crate::specs::scan::Halves::rows_from))]
 fn rows(alloc: Global, halves: &[Half], across: usize) -> Result<Vec<bool>, Unscanned>
     requires { across ≤ 4096 }
@@ -160,7 +160,7 @@ fn rows(alloc: Global, halves: &[Half], across: usize) -> Result<Vec<bool>, Unsc
     Ok(marks)
 }
 
-// Appends a row, which goes on with light pixels where it ends early.
+// Appends a row, filled up with light pixels.
 fn push_row(marks: &mut Vec<bool>, row: &[bool], across: usize) -> Result<(), AllocError>
     ensures { OnOk result (marks.new.items ≡ marks.old.items ++ padded across row.now) }
 {
@@ -170,7 +170,7 @@ fn push_row(marks: &mut Vec<bool>, row: &[bool], across: usize) -> Result<(), Al
     Ok(())
 }
 
-// Whether the pixel in a column of a row is dark; there is none behind its end.
+// Whether pixel `x` of a row is dark; there is none after its end.
 fn mark_of(row: &[bool], x: usize) -> bool
     ensures { result ≡ slice_index_or row.now x false }
 {
@@ -180,8 +180,8 @@ fn mark_of(row: &[bool], x: usize) -> bool
     }
 }
 
-// Rows without the last one, where there is one more than columns and its pixels are all light or
-// all dark.
+// Leaves out the last row if there is one row more than columns and the pixels of the last one are
+// all light or all dark.
 fn square_rows(marks: Vec<bool>, across: usize) -> Vec<bool>
     requires { across ≤ 4096 }
     ensures { result.items ≡ without_last across marks.items }
@@ -193,21 +193,19 @@ fn square_rows(marks: Vec<bool>, across: usize) -> Vec<bool>
     marks
 }
 
-// Whether pixels are all light, or all dark.
+// Whether all pixels are light, or all are dark.
 fn are_same(marks: &[bool]) -> bool
     ensures { result ≡ are_same marks.now }
 {
     are_light(marks) || are_dark(marks)
 }
 
-// Whether no pixel is dark.
 fn are_light(marks: &[bool]) -> bool
     ensures { result ≡ list_all not marks.now }
 {
     marks.iter().all(|mark| !*mark)
 }
 
-// Whether all pixels are dark.
 fn are_dark(marks: &[bool]) -> bool
     ensures { result ≡ list_all (λ mark. mark) marks.now }
 {

@@ -1,4 +1,4 @@
-//! Heads of files: numbers behind white space and comments.
+//! Reads numbers in file headers, after white space and comments.
 
 ghost use Rattle.std.specs.Prelude.{◌≡◌, ◌≤◌, ◌<◌, false, IfSome, IfNone};
 ghost use Rattle.qrcode_reader.specs.scan.Heads.{is_white, after_space, digits_from};
@@ -12,7 +12,7 @@ pub(crate) fn is_white(byte: u8) -> bool
     matches!(byte, b' ' | b'\t'..=b'\r')
 }
 
-// What follows white space and comments.
+// Skips white space and comments.
 #[tactic(auto, unfolding(crate::specs::scan::Heads::after_space))]
 fn after_space(bytes: &[u8]) -> &[u8]
     ensures { result.now ≡ after_space false bytes.now }
@@ -32,9 +32,8 @@ fn after_space(bytes: &[u8]) -> &[u8]
     rest
 }
 
-/// The number behind white space and comments, 0 where there is none, and what follows it.
-///
-/// `None`: it is above 65,535.
+/// Reads a number after white space and comments, 0 if there is none; returns what follows too.
+/// `None` if it is above 65,535.
 #[tactic(auto, using(crate::proofs::Digits::grows), unfolding(crate::specs::scan::Heads::digits_from))]
 pub(crate) fn number(bytes: &[u8]) -> Option<(usize, &[u8])>
     ensures value { IfSome result (λ found.

@@ -1,4 +1,4 @@
-//! Micro squares, by the one finder pattern in a corner and the timing patterns beside it.
+//! Finds Micro symbols by the single finder pattern in a corner and the timing patterns next to it.
 
 ghost use Rattle.std.specs.Prelude.{◌≡◌, ◌*◌, ◌+◌, ◌≤◌, IfSome};
 
@@ -7,7 +7,8 @@ use crate::scan::grids::{Grid, push_grid};
 use crate::scan::pixels::{GREATEST_SIDE, Pixels};
 use std::alloc::AllocError;
 
-// Where the modules along a side start, how many pixels they have, and how many they are.
+// The modules along one side: where they start in pixels, how many pixels they take, and how many
+// there are.
 #[derive(Clone, Copy)]
 struct Span {
     start: usize,
@@ -16,7 +17,7 @@ struct Span {
     ghost fits: { (start ≤ 131070) × (extent ≤ 131070) × (count ≤ 17) },
 }
 
-/// Appends the grids of Micro squares that have a finder pattern in a corner.
+/// Appends the grids of Micro symbols that have this finder pattern in one of their corners.
 pub(crate) fn push_micro(
     grids: &mut Vec<Grid>,
     pixels: &Pixels,
@@ -31,7 +32,8 @@ pub(crate) fn push_micro(
     Ok(())
 }
 
-// The grid of a Micro square with a finder pattern in its left or right, and upper or lower corner.
+// Returns the grid of a Micro symbol that has this finder pattern in its left or right, upper or
+// lower corner.
 fn micro_grid(pixels: &Pixels, finder: Finder, is_right: bool, is_lower: bool) -> Option<Grid> {
     let row = row_of(pixels, outer_line(finder.y, finder.height, is_lower));
     let column = column_of(pixels, outer_line(finder.x, finder.width, is_right));
@@ -51,7 +53,8 @@ fn micro_grid(pixels: &Pixels, finder: Finder, is_right: bool, is_lower: bool) -
     })
 }
 
-// The line through the first or the last of seven modules, of which twice the centre is given.
+// Returns the pixel row or column through the middle of the first or last of seven modules;
+// `centre` is twice their centre, `seven` their pixels.
 fn outer_line(centre: usize, seven: usize, is_last: bool) -> usize
     requires { (centre ≤ 131070) × (seven ≤ 65535) }
     ensures { result ≤ 65535 }
@@ -64,8 +67,8 @@ fn outer_line(centre: usize, seven: usize, is_last: bool) -> usize
     (place / 14).min(GREATEST_SIDE)
 }
 
-// The modules along the outer line of a finder pattern, of which twice the centre and the pixels
-// are given: its seven, and those of the timing pattern before or behind it.
+// Measures the modules along an outer line of a finder pattern: its seven, and the timing pattern
+// before or after them. `centre` is twice its centre, `seven` its pixels.
 fn span_of(pixels: &Pixels, line: Line, centre: usize, seven: usize, is_before: bool) -> Span
     requires { (centre ≤ 131070) × (seven ≤ 65535) × (line.length ≤ 65535) }
 {
@@ -88,8 +91,8 @@ fn span_of(pixels: &Pixels, line: Line, centre: usize, seven: usize, is_before: 
     }
 }
 
-// Where the timing pattern ends that begins behind the dark pixels at a place of a line, or starts
-// before them, and its modules with those of the finder pattern.
+// Follows the timing pattern from the dark pixels at `place`, forwards or backwards; returns where
+// it ends, and the number of its modules and the seven of the finder pattern.
 fn timing_end(
     pixels: &Pixels,
     line: Line,
@@ -112,7 +115,7 @@ fn timing_end(
     (far, 17)
 }
 
-// Where the pixels of one kind end that begin at a place of a line, or start that end before it.
+// Returns the end, or going backwards the start, of the run of dark (or light) pixels at `place`.
 fn edge_of(pixels: &Pixels, line: Line, place: usize, dark: bool, is_before: bool) -> usize
     requires { place ≤ line.length }
     ensures { result ≤ line.length }

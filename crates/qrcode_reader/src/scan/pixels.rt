@@ -11,20 +11,20 @@ use std::marker::Model;
 /// The most pixels along a side.
 pub(crate) const GREATEST_SIDE: usize = 65535;
 
-/// Why there are no pixels.
+/// Why a picture has no pixels.
 #[derive(Debug, PartialEq, Eq, Copy, Clone)]
 pub enum Unscanned {
-    /// It is neither a PBM or PGM file nor a text of half blocks.
+    /// It is neither a PBM file, a raw PGM file (P5) nor a text of half blocks.
     NotPicture,
-    /// The picture has no pixel, or more than 65,535 along a side.
+    /// The picture has no pixel, or more than 65,535 along a side (in half blocks 4,096).
     NoSide,
-    /// The greatest grey of a PGM file is not one of 1 to 255.
+    /// The maximum grey of a PGM file is not from 1 to 255.
     NoGrey,
-    /// Something that is neither a pixel nor white space stands before the last pixel.
+    /// Something that is neither a pixel nor white space comes before the last pixel.
     NotPixel,
     /// The file ends before its last pixel.
     TooShort,
-    /// Memory was refused.
+    /// Memory ran out.
     OutOfMemory,
 }
 
@@ -44,7 +44,7 @@ impl<T: Drop> From<AllocFailed<T>> for Unscanned {
     }
 }
 
-/// Pixels in row order, at most 65,535 along a side.
+/// Pixels row by row, dark or light, at most 65,535 along a side.
 #[derive(Drop)]
 pub struct Pixels {
     across: usize,
@@ -65,7 +65,7 @@ impl Model for Pixels {
 }
 
 impl Pixels {
-    /// So many pixels across and down, of which the marked ones are dark.
+    /// Returns `across` by `down` pixels, row by row, `true` for dark.
     pub(crate) fn new(across: usize, down: usize, marks: Vec<bool>) -> Pixels
         requires across { across ≤ 65535 }
         requires down { down ≤ 65535 }
@@ -79,7 +79,7 @@ impl Pixels {
         }
     }
 
-    /// The pixels across and down.
+    /// Returns the width and the height in pixels.
     pub fn sides(&self) -> (usize, usize)
         ensures across { result.0 ≡ self.now.across }
         ensures down { result.1 ≡ self.now.down }
@@ -88,7 +88,7 @@ impl Pixels {
         (self.across, self.down)
     }
 
-    /// The pixels, row by row, dark ones true.
+    /// Returns the pixels, row by row, `true` for dark.
     pub fn marks(&self) -> &[bool]
         ensures value { result.now ≡ self.now.marks }
         ensures length { length result.now ≡ self.now.across * self.now.down }
@@ -96,16 +96,16 @@ impl Pixels {
         &self.marks
     }
 
-    /// Whether the first row is dark, as where dark and light are exchanged.
+    /// Returns whether the first row is all dark: then dark and light may be swapped.
     pub fn has_dark_edge(&self) -> bool
         ensures { result ≡ has_dark_edge self.now }
     {
         self.marks.iter().take(self.across).all(|mark| *mark)
     }
 
-    /// The pixels with dark and light exchanged.
+    /// Returns the pixels with dark and light swapped.
     ///
-    /// It fails only where memory runs out.
+    /// Errors: only `AllocError`, if memory runs out.
     pub fn inverted(&self, alloc: Global) -> Result<Pixels, AllocError>
         ensures { IfOk result (λ pixels. pixels ≡ inverted self.now) }
     {
@@ -114,7 +114,7 @@ impl Pixels {
     }
 }
 
-// Marks with dark and light exchanged.
+// Swaps dark and light.
 fn exchanged(alloc: Global, marks: &[bool]) -> Result<Vec<bool>, AllocError>
     ensures value { IfOk result (λ turned. turned.items ≡ map not marks.now) }
     ensures length { IfOk result (λ turned. length turned.items ≡ length marks.now) }

@@ -1,4 +1,4 @@
-//! Modules that stand in a grid.
+//! Samples the modules of a grid.
 
 ghost use Rattle.std.specs.Prelude.{◌≡◌, ◌-◌, ◌<◌, ◌≤◌, IsTrue, IfOk, IfSome};
 ghost use Rattle.qrcode_reader.specs.scan.Grids.{IsSampled, column_at, row_at, colours_at};
@@ -10,10 +10,10 @@ use crate::scan::squares::{color_of, mark_at};
 use qrcode_types::types::Color;
 use std::alloc::{AllocError, Global};
 
-/// The modules of a square that stand in a grid, row by row: each is dark where the pixel at its
-/// centre is. `None`: a centre is not in the picture.
+/// Returns the modules of a grid, row by row: each has the colour of the pixel at its centre.
+/// `None` if the grid is empty or a centre is not in the picture.
 ///
-/// It fails only where memory runs out.
+/// Errors: only `AllocError`, if memory runs out.
 pub fn sampled_at(
     alloc: Global,
     pixels: &Pixels,
@@ -38,7 +38,7 @@ fn is_inside(pixels: &Pixels, grid: &Grid) -> bool
     column_at(grid, grid.count - 1) < across && row_at(grid, grid.count - 1) < down
 }
 
-// The colours of the pixels at the centres of modules.
+// Returns the colours of the pixels at the centres of modules.
 fn colours_at(alloc: Global, pixels: &Pixels, grid: &Grid) -> Result<Vec<Color>, AllocError>
     requires { (1 ≤ grid.now.count) × (1 ≤ grid.now.parts) }
     ensures { IfOk result (λ modules. modules.items ≡ colours_at pixels.now grid.now) }
@@ -51,7 +51,7 @@ fn colours_at(alloc: Global, pixels: &Pixels, grid: &Grid) -> Result<Vec<Color>,
     Ok(modules)
 }
 
-// Whether the pixel at the centre of the module in a column and row is dark.
+// Whether the pixel at the centre of a module is dark.
 pub(crate) fn mark_in(pixels: &Pixels, grid: &Grid, column: usize, row: usize) -> bool
     requires { (column ≤ 177) × (row ≤ 177) × (1 ≤ grid.now.parts) }
     ensures { result ≡ mark_at pixels.now (column_at grid.now column) (row_at grid.now row) }
@@ -59,7 +59,7 @@ pub(crate) fn mark_in(pixels: &Pixels, grid: &Grid, column: usize, row: usize) -
     mark_at(pixels, column_at(grid, column), row_at(grid, row))
 }
 
-// The column of pixels in which the centres of a column of modules stand.
+// Returns the column of pixels with the centres of a column of modules.
 fn column_at(grid: &Grid, column: usize) -> usize
     requires { (column ≤ 177) × (1 ≤ grid.now.parts) }
     ensures value { result ≡ column_at grid.now column }
@@ -68,7 +68,7 @@ fn column_at(grid: &Grid, column: usize) -> usize
     (grid.left + column * grid.across) / grid.parts
 }
 
-// The row of pixels in which those of a row of modules stand.
+// Returns the row of pixels with the centres of a row of modules.
 fn row_at(grid: &Grid, row: usize) -> usize
     requires { (row ≤ 177) × (1 ≤ grid.now.parts) }
     ensures value { result ≡ row_at grid.now row }

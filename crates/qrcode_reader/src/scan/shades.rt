@@ -1,4 +1,4 @@
-//! Colours that count as dark or light.
+//! Decides which colours count as dark.
 
 ghost use Rattle.std.specs.Prelude.{◌≡◌, ◌+◌, ◌*◌, ◌≤◌, length, map, nat_lt, IfOk, IfErr};
 ghost use Rattle.qrcode_reader.specs.scan.Shades.{over_white, lightness_of, least_of, greatest_of, dark_of_shades, IsColoursRefusal};
@@ -6,14 +6,15 @@ ghost use Rattle.qrcode_reader.specs.scan.Shades.{over_white, lightness_of, leas
 use crate::scan::pixels::{GREATEST_SIDE, Pixels, Unscanned};
 use std::alloc::{AllocError, Global};
 
-// How light white is.
+// The lightness of white.
 const WHITE: usize = 65_025_000;
 
-/// The pixels of a picture of so many colours across and down, row by row, each of red, green, blue
-/// and opacity. Over white, those darker than the middle of the darkest and the lightest are dark.
+/// Returns the pixels of a picture of `across` by `down` colours, row by row, each of red, green,
+/// blue and opacity. A colour, laid over white, is dark if it is darker than the middle between the
+/// darkest and the lightest one.
 ///
-/// `NoSide`: there are more than 65,535 along a side. `TooShort`: they are not as many.
-/// `OutOfMemory` is the only other error.
+/// Errors: `NoSide` if there are more than 65,535 along a side; `TooShort` if `colours` are not
+/// `across * down`; `OutOfMemory` if memory runs out.
 pub fn pixels_of_colours(
     alloc: Global,
     across: usize,
@@ -38,7 +39,7 @@ pub fn pixels_of_colours(
     Ok(Pixels::new(across, down, marks))
 }
 
-// Whether each of colours is darker than half of a lightness.
+// Returns which colours have less than half of the lightness `limit`.
 fn darker(alloc: Global, colours: &[[u8; 4]], limit: usize) -> Result<Vec<bool>, AllocError>
     ensures value { IfOk result (λ marks. marks.items
         ≡ map (λ colour. nat_lt (2 * lightness_of colour) limit) colours.now) }
@@ -50,7 +51,7 @@ fn darker(alloc: Global, colours: &[[u8; 4]], limit: usize) -> Result<Vec<bool>,
         .collect(alloc)
 }
 
-// How light the darkest and the lightest colour are together; none is lighter than white.
+// Returns the sum of the lightness of the darkest and of the lightest colour: twice the middle.
 #[tactic(auto, unfolding(crate::specs::scan::Shades::least_of, crate::specs::scan::Shades::greatest_of))]
 fn middle_of(colours: &[[u8; 4]]) -> usize
     ensures { let shades = map lightness_of colours.now in
@@ -65,7 +66,7 @@ fn middle_of(colours: &[[u8; 4]]) -> usize
     least + greatest
 }
 
-// How light a colour over white is.
+// Returns the lightness of a colour over white.
 fn lightness_of(colour: &[u8; 4]) -> usize
     ensures value { result ≡ lightness_of colour.now }
     ensures at_most { result ≤ 65025000 }
@@ -76,7 +77,7 @@ fn lightness_of(colour: &[u8; 4]) -> usize
         + 114 * over_white(blue, opacity)
 }
 
-// A channel of a colour of some opacity over white.
+// Lays a channel of a colour over white, by its opacity.
 fn over_white(channel: u8, opacity: u8) -> usize
     ensures value { result ≡ over_white channel opacity }
     ensures at_most { result ≤ 65025 }

@@ -1,4 +1,4 @@
-//! Squares of modules in pixels.
+//! Finds a square of modules inside a plain margin.
 
 ghost use Rattle.std.specs.Prelude.{◌≡◌, ◌+◌, ◌*◌, ◌<◌, ◌≤◌, ℕ, List, false, true, length, slice_index_or, IsTrue, IsFalse, IfOk, IfSome, IfNone};
 ghost use Rattle.qrcode_render.specs.Layout.{layout};
@@ -17,21 +17,21 @@ pub const GREATEST_COUNT: usize = 177;
 /// A square of modules in a picture.
 #[derive(Drop)]
 pub struct Square {
-    /// The modules along a side.
+    /// Modules along a side.
     pub count: usize,
-    /// The light modules around at each side.
+    /// Light modules on each side.
     pub zone: usize,
-    /// The pixels of a module across and down.
+    /// Pixels per module, across and down.
     pub scale: usize,
     /// The modules, row by row from the top left corner.
     pub modules: Vec<Color>,
 }
 
-/// The square of modules that a picture shows inside a margin of light, as wide at each side: of
-/// the least number of modules along a side, where it shows several. `None`: it shows no square of
-/// at most `GREATEST_COUNT` modules a side whose first row has a dark one.
+/// Returns the square of modules that a picture shows inside a light margin, equally wide on each
+/// side. If it shows several, this is the one with the fewest modules along a side. `None` if it
+/// shows no square of at most `GREATEST_COUNT` modules a side whose first row has a dark one.
 ///
-/// It fails only where memory runs out.
+/// Errors: only `AllocError`, if memory runs out.
 pub fn square_of(alloc: Global, pixels: &Pixels) -> Result<Option<Square>, AllocError>
     ensures value { IfOk result (λ found. IfSome found (λ square.
         IsSquareIn pixels.now square.count square.zone square.scale square.modules.items)) }
@@ -54,8 +54,8 @@ pub fn square_of(alloc: Global, pixels: &Pixels) -> Result<Option<Square>, Alloc
     Ok(None)
 }
 
-// The pixels of the margin at each side: the rows above the first dark pixel. `None`: there is no
-// dark pixel, or it leaves no room for a square.
+// Returns the pixels of the margin on each side: the number of rows above the first dark pixel.
+// `None` if there is no dark pixel, or no room for a square.
 fn margin_of(pixels: &Pixels) -> Option<usize>
     ensures room { IfSome result (λ margin. 2 * margin < pixels.now.across) }
     ensures value { IfSome result (λ margin. (count zone scale column : ℕ) (modules : List Color)
@@ -76,7 +76,7 @@ fn margin_of(pixels: &Pixels) -> Option<usize>
     }
 }
 
-// The place of the first dark pixel.
+// Returns the index of the first dark pixel.
 fn first_dark(marks: &[bool]) -> Option<usize>
     ensures inside { IfSome result (λ first. first < length marks.now) }
     ensures dark { IfSome result (λ first. slice_index_or marks.now first false ≡ true) }
@@ -93,7 +93,8 @@ fn first_dark(marks: &[bool]) -> Option<usize>
     None
 }
 
-// The square of so many modules a side behind a margin of so many pixels, where it is shown.
+// Returns the square of `count` modules a side inside a margin of `margin` pixels, if the picture
+// shows it.
 fn tried(
     alloc: Global,
     pixels: &Pixels,
@@ -126,7 +127,7 @@ fn tried(
     }
 }
 
-// Whether the pixel in a column and row is dark; there is none outside.
+// Whether the pixel in column `x` and row `y` is dark; there is none outside.
 pub(crate) fn mark_at(pixels: &Pixels, x: usize, y: usize) -> bool
     requires column { x < 1000000000 }
     requires row { y < 1000000000 }
@@ -138,7 +139,8 @@ pub(crate) fn mark_at(pixels: &Pixels, x: usize, y: usize) -> bool
     }
 }
 
-// The modules of so many a side whose first pixels stand behind a margin, one every so many pixels.
+// Returns the colours of the first pixels of `count` by `count` modules, `scale` pixels apart,
+// after a margin.
 fn sampled(
     alloc: Global,
     pixels: &Pixels,
@@ -162,14 +164,14 @@ fn sampled(
     Ok(modules)
 }
 
-// Dark where the test holds.
+// Returns `Dark` if `is_dark`, else `Light`.
 pub(crate) fn color_of(is_dark: bool) -> Color
     ensures { result ≡ color_of is_dark }
 {
     if is_dark { Color::Dark } else { Color::Light }
 }
 
-// Whether the pixels are the picture of a square.
+// Whether the pixels are exactly the picture of a square.
 fn is_shown(pixels: &Pixels, square: &Square) -> bool
     requires scale { (1 ≤ square.now.scale) × (square.now.scale ≤ 65535) }
     requires at_most { (square.now.count ≤ 177) × (square.now.zone ≤ 65535) }
@@ -193,8 +195,8 @@ fn is_shown(pixels: &Pixels, square: &Square) -> bool
     true
 }
 
-// Whether a row of pixels is that of the picture of a square, where those above it are: the one
-// above, but where a row of modules begins.
+// Whether a row of pixels is that of the picture of a square, if those above are: it equals the row
+// above, unless it begins a row of modules.
 fn is_row_shown(marks: &[bool], square: &Square, side: usize, y: usize) -> bool
     requires scale { 1 ≤ square.now.scale }
     requires at_most { (square.now.count ≤ 177) × (square.now.zone ≤ 65535) }
@@ -218,7 +220,7 @@ fn is_row_shown(marks: &[bool], square: &Square, side: usize, y: usize) -> bool
     }
 }
 
-// Whether marks are a row of the picture of a square.
+// Whether `row` is row `y` of the picture of a square, pixel by pixel.
 fn is_line_shown(row: &[bool], square: &Square, y: usize) -> bool
     requires scale { 1 ≤ square.now.scale }
     requires at_most { (square.now.count ≤ 177) × (square.now.zone ≤ 65535) }
@@ -237,7 +239,7 @@ fn is_line_shown(row: &[bool], square: &Square, y: usize) -> bool
     true
 }
 
-// Whether the pixel in a column and row of the picture of a square is dark.
+// Whether a pixel of the picture of a square is dark.
 fn is_dark_pixel(square: &Square, x: usize, y: usize) -> bool
     requires scale { 1 ≤ square.now.scale }
     requires at_most { (square.now.count ≤ 177) × (square.now.zone ≤ 65535) }

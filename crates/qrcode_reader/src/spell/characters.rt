@@ -1,4 +1,4 @@
-//! Characters in a list of bits, by modes.
+//! Decodes the characters of a segment, mode by mode.
 
 ghost use Rattle.std.specs.Prelude.{◌≡◌, ◌<◌, ◌≤◌, length, IsTrue};
 ghost use Rattle.qrcode_types.specs.Characters.{is_alphanumeric, alphanumeric_number};
@@ -10,8 +10,7 @@ use crate::spell::refusals::Unspelled;
 use qrcode_types::characters::is_kanji;
 use qrcode_types::types::Mode;
 
-// The characters of the mode Alphanumeric, in the order of their numbers (ISO/IEC 18004:2006, table
-// 5).
+// The characters of mode Alphanumeric, by their numbers (ISO/IEC 18004:2006, table 5).
 const ALPHABET: [u8; 45] = *b"0123456789ABCDEFGHIJKLMNOPQRSTUVWXYZ $%*+-./:";
 
 // Appends one to three digits that are written together.
@@ -50,7 +49,7 @@ fn push_digits(bytes: &mut Vec<u8>, group: &[bool]) -> Result<(), Unspelled>
     Ok(())
 }
 
-// The character with a number.
+// Returns the alphanumeric character with this number.
 fn letter(number: u32) -> u8
     requires { number < 45 }
     ensures exists { IsTrue (is_alphanumeric result) }
@@ -59,7 +58,7 @@ fn letter(number: u32) -> u8
     ALPHABET[number as usize]
 }
 
-// Appends one or two characters of the alphabet that are written together.
+// Appends one or two alphanumeric characters that are written together.
 fn push_letters(bytes: &mut Vec<u8>, group: &[bool]) -> Result<(), Unspelled>
     requires at_least { 0 < length group.now }
     requires at_most { length group.now ≤ 11 }
@@ -98,8 +97,8 @@ fn push_byte(bytes: &mut Vec<u8>, group: &[bool]) -> Result<(), Unspelled>
     Ok(())
 }
 
-// Appends a pair of bytes: those that begin with 0x81 to 0x9f are numbered in 31 rows of 192, and
-// behind them those from 0xe0 on.
+// Appends a pair of bytes (Kanji). Numbers are in rows of 192, one for each first byte: 31 rows for
+// 0x81 to 0x9f, then those from 0xe0 on.
 fn push_pair(bytes: &mut Vec<u8>, group: &[bool]) -> Result<(), Unspelled>
     requires at_least { 0 < length group.now }
     requires at_most { length group.now ≤ 13 }
@@ -119,8 +118,8 @@ fn push_pair(bytes: &mut Vec<u8>, group: &[bool]) -> Result<(), Unspelled>
     Ok(())
 }
 
-// The most bits in which characters are written together: three digits, two characters of the
-// alphabet, a byte or a pair.
+// Returns the most bits that are written together: three digits, two alphanumeric characters, a
+// byte or a pair.
 #[inline(always)]
 fn group_bits(mode: Mode) -> usize
     ensures { result ≡ group_bits mode }
@@ -133,7 +132,7 @@ fn group_bits(mode: Mode) -> usize
     }
 }
 
-// Appends the characters that are written together.
+// Appends the characters of one group, those that are written together.
 #[inline(always)]
 fn push_group(bytes: &mut Vec<u8>, mode: Mode, group: &[bool]) -> Result<(), Unspelled>
     requires at_least { 0 < length group.now }
@@ -148,8 +147,8 @@ fn push_group(bytes: &mut Vec<u8>, mode: Mode, group: &[bool]) -> Result<(), Uns
     }
 }
 
-// Appends the characters that the mode writes as these bits, group by group. Inlined, it is made
-// anew for a mode that is known where it is called.
+// Appends the characters that `mode` writes as `bits`, group by group. Inlined, so that a call with
+// a constant mode is compiled separately.
 #[inline(always)]
 fn push_groups(bytes: &mut Vec<u8>, mode: Mode, bits: &[bool]) -> Result<(), Unspelled>
     ensures { AppendsCharacters mode bits.now bytes.old.items bytes.new.items result }
@@ -163,8 +162,8 @@ fn push_groups(bytes: &mut Vec<u8>, mode: Mode, bits: &[bool]) -> Result<(), Uns
     Ok(())
 }
 
-// Appends the characters that the mode writes as these bits: bytes, of which there are most, by a
-// loop of their own.
+// Appends the characters that `mode` writes as `bits`. Bytes, the most frequent, get a loop of
+// their own.
 pub(crate) fn push_characters(
     bytes: &mut Vec<u8>,
     mode: Mode,

@@ -4,8 +4,8 @@ ghost use Rattle.std.specs.Prelude.{◌≡◌, ℕ, ◌<◌, ◌≤◌, ◌^◌,
 ghost use Rattle.qrcode_types.specs.Bits.{number_bits};
 ghost use Rattle.qrcode_reader.specs.spell.Steps.{BeginsWithNumber};
 
-// The number with these bits, the highest first. Inlined, so that a known number of bits needs no
-// loop.
+// Returns the number with these bits, highest first. Inlined, so that a constant number of bits
+// needs no loop.
 #[inline(always)]
 pub(crate) fn number_of(bits: &[bool]) -> u32
     requires { length bits.now ≤ 32 }
@@ -19,7 +19,7 @@ pub(crate) fn number_of(bits: &[bool]) -> u32
     number
 }
 
-// The first bits, so many, and the rest, where there are as many.
+// Splits off the first `count` bits; `None` if there are fewer.
 pub(crate) fn front(bits: &[bool], count: usize) -> Option<(&[bool], &[bool])>
     ensures parts { IfSome result (λ parts. (length parts.0.now ≡ count)
         × (bits.now ≡ parts.0.now ++ parts.1.now)) }
@@ -32,7 +32,7 @@ pub(crate) fn front(bits: &[bool], count: usize) -> Option<(&[bool], &[bool])>
     }
 }
 
-// The number in the first bits, so many, and the rest, where there are as many.
+// Splits off the first `count` bits, as a number; `None` if there are fewer.
 pub(crate) fn number_field(bits: &[bool], count: usize) -> Option<(u32, &[bool])>
     requires { count ≤ 32 }
     ensures value { IfSome result (λ field. BeginsWithNumber count bits.now field.0 field.1.now) }

@@ -1,4 +1,4 @@
-//! Headers in a list of bits: what may stand in front of segments.
+//! Headers in a list of bits: ECI, FNC1 and Structured Append.
 
 ghost use Rattle.std.specs.Prelude.{◌≡◌, ◌≢◌, ◌<◌, ◌≤◌, ◌^◌, ◌++◌, ℕ, List, Bool, IsTrue, IfSome, IfNone};
 ghost use Rattle.qrcode_types.specs.Versions.{is_valid};
@@ -8,23 +8,25 @@ ghost use Rattle.qrcode_reader.specs.spell.Parts.{IsPrefixed, BeginsWithArgument
 use crate::spell::fields::number_field;
 use qrcode_types::types::Version;
 
-/// What may stand in front of segments (ISO/IEC 18004:2006, 6.4.2, 6.4.8 and 8). Micro has no
-/// headers.
+/// A header, which may come before segments (ISO/IEC 18004:2006, 6.4.2, 6.4.8 and 8). Micro QR has
+/// none.
 #[derive(Debug, PartialEq, Eq, Copy, Clone)]
 pub enum Header {
-    /// The number of the character set of the bytes behind it, below 1,000,000 (ECI).
+    /// ECI: the number, below 1,000,000, of the character set of the bytes after it.
     Eci(u32),
     /// FNC1 in the first position: the data are element strings of GS1.
     Fnc1First,
-    /// FNC1 in the second position, with the application indicator as it is written: two digits as
-    /// their number, a letter as its code and 100.
+    /// FNC1 in the second position, with the application indicator as the symbol encodes it: two
+    /// digits as their number, a letter as its ASCII code plus 100.
     Fnc1Second(u8),
-    /// The symbol is one of several (Structured Append): its place from 0 on, the place of the last
-    /// one, both at most 15, and the exclusive or of all bytes of the message.
+    /// Structured Append: the symbol is one of several. `place` is its place from 0 on, `last` that
+    /// of the last symbol, both at most 15, and `parity` the exclusive or of all bytes of the
+    /// message.
     StructuredAppend { place: u8, last: u8, parity: u8 },
 }
 
-// A number in so many bits behind a prefix, and the rest.
+// Splits off `prefix`, in `width` bits, and a number in `count` bits; `None` if the bits begin
+// otherwise.
 pub(crate) fn prefixed(
     bits: &[bool],
     width: usize,
@@ -51,7 +53,7 @@ pub(crate) fn prefixed(
     Some((number, rest))
 }
 
-// The number of a character set, in one, two or three bytes.
+// Splits off the number of an ECI, in one, two or three bytes.
 fn eci(bits: &[bool]) -> Option<(Header, &[bool])>
     ensures some { IfSome result (λ found. BeginsWithArgument found.0 bits.now found.1.now
         × (header_indicator found.0 ≡ 7)) }
@@ -73,7 +75,7 @@ fn eci(bits: &[bool]) -> Option<(Header, &[bool])>
     Some((Header::Eci(number), rest))
 }
 
-// The application indicator of FNC1 in the second position.
+// Splits off the application indicator of FNC1 in the second position.
 fn fnc1_second(bits: &[bool]) -> Option<(Header, &[bool])>
     ensures some { IfSome result (λ found. BeginsWithArgument found.0 bits.now found.1.now
         × (header_indicator found.0 ≡ 9)) }
@@ -86,7 +88,7 @@ fn fnc1_second(bits: &[bool]) -> Option<(Header, &[bool])>
     Some((Header::Fnc1Second(number as u8), rest))
 }
 
-// The places and the parity of one of several symbols.
+// Splits off the places and the parity of Structured Append.
 fn structured_append(bits: &[bool]) -> Option<(Header, &[bool])>
     ensures some { IfSome result (λ found. BeginsWithArgument found.0 bits.now found.1.now
         × (header_indicator found.0 ≡ 3)) }
@@ -104,7 +106,7 @@ fn structured_append(bits: &[bool]) -> Option<(Header, &[bool])>
     Some((header, rest))
 }
 
-// The header that an indicator announces, by the bits behind it.
+// Splits off what follows the mode indicator `indicator` of a header.
 fn argument(indicator: u32, bits: &[bool]) -> Option<(Header, &[bool])>
     ensures some { IfSome result (λ found. BeginsWithArgument found.0 bits.now found.1.now
         × (header_indicator found.0 ≡ indicator)) }
@@ -120,7 +122,7 @@ fn argument(indicator: u32, bits: &[bool]) -> Option<(Header, &[bool])>
     }
 }
 
-// The header that stands in front of the bits, and the rest.
+// Splits off a header; `None` if the bits do not begin with one.
 pub(crate) fn take_header(bits: &[bool], version: Version) -> Option<(Header, &[bool])>
     requires { IsTrue (is_valid version) }
     ensures some { IfSome result (λ found.

@@ -1,4 +1,4 @@
-//! Laws of the types that no call stands for, on the contract of a function that does nothing.
+//! Theorems about the types of `spell`, as contracts of a function that does nothing.
 
 ghost use Rattle.std.specs.Prelude.{◌≡◌, ◌↔◌, IsTrue};
 ghost use Rattle.qrcode_reader.specs.declared.spell.headers.Header.{Header};
@@ -10,7 +10,7 @@ use crate::spell::headers::Header;
 use crate::spell::parts::Part;
 use crate::spell::refusals::{Unshown, Unspelled};
 
-/// A theorem: two values are equal by `==` exactly when they are the same.
+/// Theorem: two values are equal by `==` exactly when they are the same.
 pub fn equality()
     ensures headers { (a b : Header) → IsTrue (⟦<Header as PartialEq>⟧.eq a b) ↔ (a ≡ b) }
     ensures parts { (a b : Part) → IsTrue (⟦<Part as PartialEq>⟧.eq a b) ↔ (a ≡ b) }

@@ -1,4 +1,4 @@
-//! The parts of a symbol's data: headers, and segments.
+//! Decodes data bits to headers and segments.
 
 ghost use Rattle.std.specs.Prelude.{◌≡◌, ◌≤◌, ◌⊎◌, ℕ, List, drop, length, IsTrue, IfOk, IfErr, IsOkUnless};
 ghost use Rattle.std.specs.List.{AllByRecursion};
@@ -14,28 +14,27 @@ use crate::spell::segments::{is_end, push_piece};
 use qrcode_types::types::{Mode, Version};
 use std::alloc::Global;
 
-/// A part of a symbol's data.
+/// A header or a segment.
 #[derive(Debug, PartialEq, Eq, Copy, Clone)]
 pub enum Part {
-    /// A header, which says something of the segments behind it.
+    /// A header, which says something about the segments after it.
     Front(Header),
-    /// A segment of a mode, and how many bytes it has.
+    /// A segment: its mode and how many bytes it has.
     Bytes(Mode, usize),
 }
 
-/// The parts of a symbol's data.
+/// The headers and segments of a symbol.
 #[derive(Debug, Drop)]
 pub struct Parts {
     /// The bytes of all segments, one after the other.
     pub bytes: Vec<u8>,
     /// The headers and segments in order.
     pub parts: Vec<Part>,
-    /// How many bits they take: there the terminator begins, if there is one.
+    /// How many bits they take; the terminator, if there is one, begins there.
     pub end: usize,
 }
 
-// Appends the bytes of the part that stands in front of the bits, and answers the part and the
-// rest.
+// Appends the bytes of the header or segment at the start of `bits`; returns it and the rest.
 fn push_part<'a>(
     bytes: &mut Vec<u8>,
     bits: &'a [bool],
@@ -52,12 +51,12 @@ fn push_part<'a>(
     Ok((Part::Bytes(mode, bytes.len() - begin), rest))
 }
 
-/// The headers and segments of a symbol's data bits in order (ISO/IEC 18004:2006, 6.4 and 8), up to
-/// the terminator, or to the end where that is cut off: what `spell` reads, and headers too. Which
-/// header may stand where is not looked at.
+/// Decodes the data bits of a symbol to headers and segments (ISO/IEC 18004:2006, 6.4 and 8), up to
+/// the terminator, or to the end of `bits` if that cuts the terminator off. This is `spell` with
+/// headers allowed; which header may come where is not checked.
 ///
-/// `NotSpelled`: the bits are not headers, segments and an end. `OutOfMemory` is the only other
-/// error.
+/// Errors: `NotSpelled` if `bits` are not headers, segments and a terminator; `OutOfMemory` if
+/// memory runs out.
 pub fn pieces(alloc: Global, bits: &[bool], version: Version) -> Result<Parts, Unspelled>
     requires { IsTrue (is_valid version) }
     ensures value { IfOk result (λ found.
@@ -70,12 +69,12 @@ pub fn pieces(alloc: Global, bits: &[bool], version: Version) -> Result<Parts, U
     ensures causes { IfErr result (λ e. (e ≡ OutOfMemory)
         ⊎ ((e ≡ NotSpelled) × HaveNoParts version bits.now)) }
 
-    // Behind these bits the end begins.
+    // After these bits the terminator begins, or the bits end.
     ensures end { IfOk result (λ found.
         IsBehindParts version bits.now found.parts.items (drop found.end bits.now)) }
     ensures inside { IfOk result (λ found. found.end ≤ length bits.now) }
 
-    // Bits that spell bytes have segments of these bytes and no header.
+    // Bits that decode to bytes (`spell`) hold only segments, with these bytes.
     ensures segments { (bytes : List ℕ) → Spells version bits.now bytes → IfOk result (λ found.
         (found.bytes.items ≡ bytes) × AllByRecursion IsSegment found.parts.items) }
 {

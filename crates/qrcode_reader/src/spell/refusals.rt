@@ -1,4 +1,4 @@
-//! Why bits are not read.
+//! Why data bits do not decode.
 
 ghost use Rattle.std.specs.Prelude.{◌≡◌, Some};
 ghost use Rattle.qrcode_reader.specs.spell.Refusals.{refusal_text, unshown_text, unshown_of};
@@ -9,20 +9,20 @@ use std::alloc::{AllocError, AllocFailed};
 use std::error::Error;
 use std::fmt;
 
-/// Why bits are not read as bytes.
+/// Why bits do not decode to bytes.
 #[derive(Debug, PartialEq, Eq, Copy, Clone)]
 pub enum Unspelled {
-    /// The bits are not segments and an end, as where a header stands in front of them or a segment
-    /// has a number that stands for no character.
+    /// The bits are not just segments and a terminator: there is a header, for example, or a
+    /// segment has a number that stands for no character.
     NotSpelled,
-    /// Memory was refused.
+    /// Memory ran out.
     OutOfMemory,
 }
 
 impl fmt::Display for Unspelled {
     ghost output = { λ e. Some (refusal_text e) };
 
-    // A width, a fill and a precision change nothing.
+    // Width, fill and precision change nothing.
     ghost styled_output = { λ e _. Some (refusal_text e) };
 
     fn fmt<W: fmt::Write>(&self, f: &mut fmt::Formatter<W>) -> fmt::Result {
@@ -51,20 +51,20 @@ impl<T: Drop> From<AllocFailed<T>> for Unspelled {
     }
 }
 
-/// Why bits are shown as no text.
+/// Why bits show no text.
 #[derive(Debug, PartialEq, Eq, Copy, Clone)]
 pub enum Unshown {
-    /// A segment is Kanji or no UTF-8, or there is another header than the number 26 of UTF-8, or
-    /// the bits are not segments and an end.
+    /// A segment is Kanji or not UTF-8, there is a header other than ECI 26 (UTF-8), or the bits
+    /// are not just segments and a terminator.
     NotShown,
-    /// Memory was refused.
+    /// Memory ran out.
     OutOfMemory,
 }
 
 impl fmt::Display for Unshown {
     ghost output = { λ e. Some (unshown_text e) };
 
-    // A width, a fill and a precision change nothing.
+    // Width, fill and precision change nothing.
     ghost styled_output = { λ e _. Some (unshown_text e) };
 
     fn fmt<W: fmt::Write>(&self, f: &mut fmt::Formatter<W>) -> fmt::Result {

@@ -1,4 +1,4 @@
-//! Pieces in a list of bits: bytes with the mode in which they are written.
+//! Segments in a list of bits. A piece is bytes and the mode in which they are written.
 
 ghost use Rattle.std.specs.Prelude.{◌≡◌, ◌≢◌, ◌⊎◌, ℕ, ◌<◌, ◌^◌, ◌++◌, List, IsTrue, IfSome, IfNone, IfOk, IfErr};
 ghost use Rattle.qrcode_types.specs.Versions.{is_valid};
@@ -15,7 +15,7 @@ use qrcode_types::characters::bytes_each;
 use qrcode_types::modes::{has_mode, indicator};
 use qrcode_types::types::{Mode, Version};
 
-// The zeros that end the pieces, where there is room.
+// Returns how many zeros the terminator has, if there is room for all.
 fn terminator_length(version: Version) -> usize
     requires { IsTrue (is_valid version) }
     ensures { result ≡ written.terminator_length version }
@@ -26,7 +26,7 @@ fn terminator_length(version: Version) -> usize
     }
 }
 
-// Whether the pieces end here: the terminator follows, or as much of it as is left.
+// Whether the segments end here: with the terminator, or as much of it as is left.
 pub(crate) fn is_end(bits: &[bool], version: Version) -> bool
     requires { IsTrue (is_valid version) }
     ensures { result ≡ spelling.is_end version bits.now }
@@ -36,7 +36,7 @@ pub(crate) fn is_end(bits: &[bool], version: Version) -> bool
         .all(|bit| !*bit)
 }
 
-// The mode that a number announces.
+// Returns the mode of `version` whose mode indicator is `number`.
 fn mode_of(version: Version, number: u32) -> Option<Mode>
     requires { IsTrue (is_valid version) }
     ensures some { IfSome result (λ mode. IsTrue (modes.has_mode version mode)
@@ -52,7 +52,8 @@ fn mode_of(version: Version, number: u32) -> Option<Mode>
     None
 }
 
-// Appends what stands behind the indicator of a mode: a length field, and as many characters.
+// Appends the bytes of what follows a mode indicator, a length field and that many characters;
+// returns the rest.
 pub(crate) fn push_data<'a>(
     bytes: &mut Vec<u8>,
     bits: &'a [bool],
@@ -74,7 +75,7 @@ pub(crate) fn push_data<'a>(
     Ok(rest)
 }
 
-// Appends the piece that stands in front of the bits, and answers its mode and the rest.
+// Appends the bytes of the segment at the start of `bits`; returns its mode and the rest.
 pub(crate) fn push_piece<'a>(
     bytes: &mut Vec<u8>,
     bits: &'a [bool],

@@ -1,4 +1,4 @@
-//! The text that a reader shows of bits.
+//! Decodes data bits to the text that a reader shows.
 
 ghost use Rattle.std.specs.Prelude.{◌≡◌, ◌⊎◌, ℕ, List, chars, string_bytes, IsTrue, IfOk, IfErr, IsOkUnless};
 ghost use Rattle.qrcode_types.specs.Versions.{is_valid};
@@ -13,7 +13,7 @@ use qrcode_types::types::{Mode, Version};
 use std::alloc::Global;
 use std::str;
 
-// The bits behind the number 26 of UTF-8, or all of them where it does not stand in front.
+// Returns the bits after ECI 26 (UTF-8), or all bits if they do not begin with it.
 fn behind_mark(bits: &[bool], version: Version) -> &[bool]
     requires { IsTrue (is_valid version) }
     ensures { IsBehindFront version bits.now result.now }
@@ -30,7 +30,7 @@ fn behind_mark(bits: &[bool], version: Version) -> &[bool]
     rest
 }
 
-// Appends what is shown of the piece that stands in front of the bits, and answers the rest.
+// Appends the text of the segment at the start of `bits`; returns the rest.
 fn push_shown<'a>(
     alloc: Global,
     text: &mut String,
@@ -52,12 +52,13 @@ fn push_shown<'a>(
     Ok(rest)
 }
 
-/// The text that a reader shows of the data bits of a symbol, which takes the bytes of each segment
-/// by themselves as UTF-8, behind nothing or the number 26 of UTF-8 (ISO/IEC 18004:2006, 6.4.2 to
-/// 6.4.5).
+/// Decodes the data bits of a symbol to the text that a reader shows (ISO/IEC 18004:2006, 6.4.2 to
+/// 6.4.5). The bits begin with ECI 26 (UTF-8) or with the first segment, and the bytes of each
+/// segment are taken separately as UTF-8.
 ///
-/// `NotShown`: a segment is Kanji, of which nothing is said, or no UTF-8; or there is another
-/// header; or the bits are not segments and an end. `OutOfMemory` is the only other error.
+/// Errors: `NotShown` if a segment is Kanji, whose text is left open, or not UTF-8, if there is
+/// another header, or if `bits` are not just segments and a terminator; `OutOfMemory` if memory
+/// runs out.
 pub fn text_of(alloc: Global, bits: &[bool], version: Version) -> Result<String, Unshown>
     requires { IsTrue (is_valid version) }
     ensures value { IfOk result (λ text. ShowsOnly version bits.now (chars (string_bytes text))) }

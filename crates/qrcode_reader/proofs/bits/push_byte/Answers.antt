@@ -4,7 +4,7 @@ use Rattle.qrcode_bits.proofs.Packing.{number_bits-cat}
 use Rattle.qrcode_reader.specs.declared.bits.TheConstants.{HALVES}
 use Rattle.qrcode_reader.proofs.bits.push_byte.Goals as goal
 
--- the table of the code
+-- the table `HALVES`
 half : (n : ℕ) → n < 16 → slice_index_or HALVES n [] ≡ number_bits 4 n
 unfolding number_bits
 half zero h = refl
@@ -25,7 +25,7 @@ half (suc (suc (suc (suc (suc (suc (suc (suc (suc (suc (suc (suc (suc (suc zero)
 half (suc (suc (suc (suc (suc (suc (suc (suc (suc (suc (suc (suc (suc (suc (suc zero))))))))))))))) h = refl
 half (suc (suc (suc (suc (suc (suc (suc (suc (suc (suc (suc (suc (suc (suc (suc (suc n)))))))))))))))) h = absurd (omega (arith, h))
 
--- the bits of a byte by its halves
+-- the bits of a byte are those of its two halves
 halves : (byte high low : ℕ) → byte < 256 → high ≡ byte / 16 → low ≡ byte % 16 → slice_index_or HALVES high [] ++ slice_index_or HALVES low [] ≡ number_bits 8 byte
 halves byte high low fits h l =
     let small : low < 16 = omega (arith, l) in

@@ -18,7 +18,7 @@ returns-in_err-read-clause-gives_back c =
     let q = (encodes.read c.args.modules.now damaged).found in
     rw (p.1, p.2) (c.in_err-read.ensures.accepts q.version q.level q.bits q.read, tt)
 
--- ---- bits that are refused
+-- ---- bits that decode to no bytes
 cause : (c : In_err-data) → IsCause c.args.modules.now (unread_of c.in_err-data.field-0.0)
 cause c =
     let r = c.in_ok-read.read in

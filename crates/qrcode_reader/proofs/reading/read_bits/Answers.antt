@@ -25,7 +25,7 @@ returns-in_default-read_format-clause-gives_back c =
     let k = (goal.at.returns-in_default-read_format-clause-gives_back c).In_default-read_format in
     λ v l bits symbol encodes damaged. (bits_only_memory c.args.modules.now NoFormat (no_format k) v l bits symbol encodes damaged, tt)
 
--- ---- blocks that are refused
+-- ---- blocks that cannot be corrected
 cause : (c : In_err-blocks) → IsBitCause c.args.modules.now c.in_err-blocks.field-0.0
 cause c =
     blocked c.args.modules.now c.in-Some.version c.in-Some-read_format.ec_level c.in-Some-read_format.mask c.deref.result.now _ c.in-Some.ensures.some.1 c.in-Some-read_format.ensures.some

@@ -26,7 +26,7 @@ returns-in_err-read-clause-gives_back c =
     let q = (shown.shown c.args.modules.now damaged).found in
     rw (p.1, p.2) (ap NoBits (c.in_err-read.ensures.accepts q.version q.level q.bits q.read), tt)
 
--- ---- bits that are refused
+-- ---- bits that show no text
 cause : (c : In_err-text) → IsTextCause c.args.modules.now (unread_text_of c.in_err-text.field-0.0)
 cause c =
     let r = c.in_ok-read.read in

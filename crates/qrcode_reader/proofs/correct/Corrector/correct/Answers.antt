@@ -5,7 +5,7 @@ use Rattle.qrcode_reader.proofs.Remainders.{vanishes_from_zero, distance_self, c
 use Rattle.qrcode_reader.proofs.correct.Corrector.correct.Goals as goal
 use Rattle.qrcode_reader.proofs.correct.Corrector.correct.Goals.{then-wrong-n-via-then-wrong-n, then-wrong-n-via-else-wrong-n+then-not-vanishes}
 
--- ---- a block that vanishes
+-- ---- a block without errors
 block_vanishes : (c : goal.Then-is_zero) → Vanishes c.args.block.now c.args.self.now.divider.degree
 block_vanishes c =
     let n = c.args.self.now.divider.degree in
@@ -21,8 +21,8 @@ pub returns-then-is_zero-clause-only : goal.returns-then-is_zero-clause-only
 returns-then-is_zero-clause-only c = λ corrected corrects.
     only_itself c.args.self.now.divider.degree c.args.block.now corrected c.residue-residue.ensures.of_bytes c.requires (block_vanishes c) corrects
 
--- ---- another
--- a block that can be corrected is not refused
+-- ---- a block with errors
+-- a block that can be corrected is corrected
 not_refused : (c : goal.Joined-then-wrong-n) (corrected : List ℕ) → Corrects c.args.block.now c.args.self.now.divider.degree corrected → ⊥
 not_refused c corrected corrects =
     let n = c.args.self.now.divider.degree in

@@ -6,7 +6,7 @@ use Rattle.qrcode_ec.specs.Codes.{distance}
 use Rattle.qrcode_reader.proofs.correct.errors.distance.Goals as goal
 use Rattle.qrcode_reader.proofs.correct.errors.distance.Goals.{then-byte-second, else-byte-second}
 
--- one place more
+-- one more place
 step : (xs ys : List ℕ) (i : ℕ) → i < length xs → i < length ys
     → distance (drop i xs) (drop i ys) ≡ cond (eqb (get_or xs i 0) (get_or ys i 0)) 0 1 + distance (drop (i + 1) xs) (drop (i + 1) ys)
 step xs ys i a b = ap₂ distance (from xs a) (from ys b)

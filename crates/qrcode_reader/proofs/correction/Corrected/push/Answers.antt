@@ -6,7 +6,7 @@ use Rattle.qrcode_reader.specs.Corrected.{wrong_in}
 use Rattle.qrcode_reader.proofs.correction.Corrected.push.Goals as goal
 use Rattle.qrcode_reader.proofs.correction.Corrected.push.Goals.{After-is_err}
 
--- what is corrected is the block
+-- the copy that is corrected is the block
 given : (c : After-is_err) → c.deref_mut.result.now ≡ c.args.block.now
 given c = c.deref_mut.ensures.value ∙ c.in_ok-corrected.ensures.items
 
@@ -19,7 +19,7 @@ returns-then-is_err-clause-refused c = inr (
       cc (c.if-is_err.ensures.negation),
 )
 
--- what a result says where it is no error
+-- what a result promises if it is no error
 when_ok : {T E P : Type 0} (r : Result T E) → is_err r ≡ false → IfOk r (λ _. P) → P
 when_ok (Ok x) e h = h
 when_ok (Err x) e h = absurd (true≢false e)

@@ -3,7 +3,7 @@ use Rattle.std.specs.List.{range_with_len}
 use Rattle.qrcode_reader.specs.scan.Files.{is_black_bit}
 use Rattle.qrcode_reader.proofs.scan.files.packed_marks.Given as goal
 
--- so many pixels are marked, and the next one stands in this column and row
+-- i pixels are unpacked, and the next one is in column x and row y
 abbrev pub invariant-loop-i : goal.invariant-loop-i
 invariant-loop-i l =
     (l.marks.items ≡ map (λ i. is_black_bit l.bytes ((l.across + 7) / 8) (i % l.across) (i / l.across)) (range_with_len 0 l._i))

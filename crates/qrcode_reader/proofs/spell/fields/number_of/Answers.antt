@@ -9,7 +9,7 @@ pub loop-bit-init : goal.loop-bit-init
 unfolding number_bits
 loop-bit-init c = record { value = refl; at_most = omega arith }
 
--- one more bit behind those of a number
+-- one more bit after those of a number
 more : (bits : List Bool) (i n : ℕ) (b : Bool) → number_bits i n ≡ take i bits → i < Rattle.std.proofs.Common.length bits → get_or bits i false ≡ b
     → number_bits (i + 1) (2 * n + mir.Val.bool_byte b) ≡ take (i + 1) bits
 unfolding number_bits
