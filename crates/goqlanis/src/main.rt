@@ -1,4 +1,4 @@
-//! Draws QR and Micro QR symbols: `goqlanis --help` says how.
+//! The program `goqlanis`: makes and reads QR and Micro QR codes. `goqlanis --help` says how.
 #![tactic(auto)]
 
 use goqlanis_run::run;

@@ -14,7 +14,7 @@ zip_more R [] (z ∷ ys) x y all r = absurd all
 zip_more R (w ∷ xs) [] x y all r = absurd all
 zip_more R (w ∷ xs) (z ∷ ys) x y all r = (all.0, zip_more R xs ys x y all.1 r)
 
--- a code that is read has the modules of its square
+-- the square of a decoded code has as many modules as its side says
 has_square : (bytes : List ℕ) (scan : Scan) → IsScanOf bytes scan → HasSquare scan
 has_square bytes scan is = elim is.square.found [
   | inl clean ↦ sym clean.1.square.square

@@ -18,10 +18,10 @@ use Rattle.goqlanis_core.specs.declared.request.Choice.{Choice}
 use Rattle.goqlanis_core.specs.declared.request.Choice.TheVariants.{From, Boosted, At}
 use Rattle.goqlanis_core.specs.declared.segments.Segment.{Segment}
 
-abbrev version_of : ℕ → Version  -- the version at a place
+abbrev version_of : ℕ → Version  -- the version with this rank
 version_of n = if nat_le n 4 then Micro (pos n) else Normal (pos (n - 4))
 
--- a version stands at its place, which is at most 44
+-- a version is the one with its rank, which is at most 44
 at_place : (v : Version) → IsTrue (is_valid v) → (v ≡ version_of (rank v)) × (rank v ≤ 44)
 at_place (Micro (pos n)) valid =
     let most = leb-true n 4 (and_parts (nat_le 1 n) (nat_le n 4) valid).1 in
@@ -37,11 +37,11 @@ at_place (Normal (pos n)) valid =
 at_place (Micro (negsuc n)) valid = cc
 at_place (Normal (negsuc n)) valid = cc
 
--- one version stands at a place
+-- only one version has a rank
 same_place : (u v : Version) → IsTrue (is_valid u) → IsTrue (is_valid v) → rank u ≡ rank v → u ≡ v
 same_place u v first second same = (at_place u first).0 ∙ ap version_of same ∙ sym (at_place v second).0
 
--- what two refusals leave out
+-- if neither of two causes applies, the second does not
 or_none : {A : Type 0} (a b : Option A) → option_or a b ≡ None → b ≡ None
 or_none None b h = h
 or_none (Some x) b h = absurd cc
@@ -50,23 +50,23 @@ level_of : (has : Bool) (r : Option QrError) → (if not has then Some InvalidVe
 level_of true r h = refl
 level_of false r h = absurd cc
 
--- what is ended has its level
+-- a terminator without a cause to fail needs the level
 pub ended_level : (v : Version) (l : EcLevel) (used : ℕ) → terminator_refusal v l used ≡ None → IsTrue (has_level v l)
 ended_level v l used h = level_of (has_level v l) _ h
 
--- a version that a choice may take stands behind its first
+-- an allowed version has at least the rank of the first
 behind_first : (choice : Choice) (v : Version) → MayTake choice v → rank (first_of choice) ≤ rank v
 behind_first (From from) v may = may
 behind_first (Boosted from) v may = may
 behind_first (At version) v may = omega (arith, ap rank may)
 
--- a version before the last may be taken
+-- a version before the last is allowed
 pub may_before : (choice : Choice) (v : Version) → rank (first_of choice) ≤ rank v → rank v < rank (last_of choice) → MayTake choice v
 may_before (From from) v low high = low
 may_before (Boosted from) v low high = low
 may_before (At version) v low high = absurd (omega (arith, low, high))
 
--- and so may the last
+-- and so is the last
 pub may_last : (choice : Choice) → IsTrue (is_valid (first_of choice)) → MayTake choice (last_of choice)
 may_last (From from) valid = (at_place from valid).1
 may_last (Boosted from) valid = (at_place from valid).1
@@ -78,10 +78,10 @@ module _ (l : EcLevel) (segments : List Segment) where
       let used = length (written_segments v segments) in
       valid_of v l (ended_level v l used (or_none (segments_refusal v 0 segments) (terminator_refusal v l used) holds))
 
-  abbrev pub NoneHolds : ℕ → ℕ → Type 0  -- no version from one place up to another, without the last, holds the segments
+  abbrev pub NoneHolds : ℕ → ℕ → Type 0  -- no version with a rank from `from` to before `to` holds the segments
   NoneHolds from to = (v : Version) → from ≤ rank v → rank v < to → ¬ Holds v l segments
 
-  -- nor does one more
+  -- and one more version does not
   pub none_more : (from to : ℕ) (v : Version) (e : QrError) → IsTrue (is_valid v) → rank v ≡ to → refusal_in v l segments ≡ Some e → NoneHolds from to → NoneHolds from (to + 1)
   none_more from to v e valid at some none u low high holds = elim (cases_lt (rank u) to) [
     | inl less ↦ none u low less holds
@@ -91,7 +91,7 @@ module _ (l : EcLevel) (segments : List Segment) where
         absurd cc
   ]
 
-  -- a version that holds the segments where none before it does is the least
+  -- a version that holds the segments is the smallest if none before it does
   pub least_held : (choice : Choice) (v : Version) → MayTake choice v → Holds v l segments → NoneHolds (rank (first_of choice)) (rank v) → IsLeastHeld choice l segments v
   least_held choice v may holds none = record {
     may = may;
@@ -102,7 +102,7 @@ module _ (l : EcLevel) (segments : List Segment) where
     ];
   }
 
-  -- where neither the last version holds the segments nor one before it, none does
+  -- no allowed version holds the segments if neither the last does nor one before it
   pub unheld : (choice : Choice) (e : QrError) → NoneHolds (rank (first_of choice)) (rank (last_of choice)) → refusal_in (last_of choice) l segments ≡ Some e
       → AreUnheld choice l segments e
   unheld choice e none some = record { none = of choice none some; cause = some } where
@@ -117,7 +117,7 @@ module _ (l : EcLevel) (segments : List Segment) where
     of (Boosted from) none some v may holds = from_on from v none some may holds
     of (At version) none some v may holds = let held = subst (λ w. Holds w l segments) may holds in absurd cc
 
-  -- the last version holds the segments, and none before it does
+  -- if the last version holds the segments and none before it does, it is the smallest
   pub last_held : (choice : Choice) (last : Version) (result : Result Code QrError) → last ≡ last_of choice → IsTrue (is_valid (first_of choice)) → NoneHolds (rank (first_of choice)) (rank last)
       → IfOk result (λ code. code.version ≡ last) → OnOk result (Holds last l segments) → IfOk result (λ code. IsLeastHeld choice l segments code.version)
   last_held choice last (Ok code) same valid none version holds =
@@ -125,7 +125,7 @@ module _ (l : EcLevel) (segments : List Segment) where
       subst (IsLeastHeld choice l segments) (sym version) (least_held choice last may holds none)
   last_held choice last (Err e) same valid none version holds = tt
 
-  -- nor does the last
+  -- if the last version fails too, the error is the cause
   pub last_refused : (choice : Choice) (last : Version) (result : Result Code QrError) → last ≡ last_of choice → IsTrue (is_valid (first_of choice)) → NoneHolds (rank (first_of choice)) (rank last)
       → IfErr result (λ e. (e ≡ OutOfMemory) ⊎ (refusal_in last l segments ≡ Some e)) → IfErr result (AreRefused choice l segments)
   last_refused choice last (Ok code) same valid none causes = tt

@@ -1,4 +1,4 @@
--- A picture in the middle of a drawing.
+-- A picture in the middle of a symbol.
 use Rattle.std.proofs.Common.{◌≡◌, ℕ, ◌+◌, ◌*◌, Bool, true, false, List, [], ◌∷◌, length, map, if◌then◌else◌, refl, sym, ap, ◌∙◌}
 use Rattle.std.specs.List.{range_with_len}
 use Rattle.std.proofs.lemmas.List.{length-map}
@@ -13,7 +13,7 @@ use Rattle.goqlanis_core.specs.Formats.{View, dark_of, light_of}
 use Rattle.goqlanis_core.specs.Pasted.{byte_shade, inset_shade, mark_shade, pasted_image, png_shade}
 use Rattle.goqlanis_core.specs.declared.pasting.Inset.{Inset}
 
--- the shades of bytes that stand for dark and light pixels
+-- the bytes of dark and light pixels have their colours
 pub byte_marks : (i : Bool) (dark light : Shade) (marks : List Bool)
     → map (byte_shade dark light) (marks_text (if i then 255 ∷ [] else 0 ∷ []) (if i then 0 ∷ [] else 255 ∷ []) marks) ≡ map (λ m. if m then (if i then light else dark) else (if i then dark else light)) marks
 byte_marks i dark light [] = refl
@@ -22,7 +22,7 @@ byte_marks true dark light (false ∷ marks) = ap (λ l. dark ∷ l) (byte_marks
 byte_marks false dark light (true ∷ marks) = ap (λ l. dark ∷ l) (byte_marks false dark light marks)
 byte_marks false dark light (false ∷ marks) = ap (λ l. light ∷ l) (byte_marks false dark light marks)
 
--- the bytes of a drawing without its picture, and the colours that they stand for
+-- the bytes of a drawing without the picture, and the colours they stand for
 pub record AreMarks (v : View) (at : Layout) (s : List Color) (marks : List ℕ) (dark light : Shade) : Type 0 where
   pub bytes : marks ≡ raw_bytes (dark_of v (0 ∷ []) (255 ∷ [])) (light_of v (0 ∷ []) (255 ∷ [])) (picture at s)
   pub dark_is : dark ≡ png_shade v.dark
@@ -38,7 +38,7 @@ pub marks_count : (v : View) (at : Layout) (s : List Color) (marks : List ℕ) (
 marks_count v at s marks dark light h =
     sym (length-map marks (byte_shade dark light)) ∙ ap length (shades_of v at s marks dark light h) ∙ length-map (picture at s).marks (mark_shade v) ∙ length-map-range_with_len _ 0 (pixels_across at * pixels_down at)
 
--- pixels that are made of them are those of the picture that is to be shown
+-- the pixels made from these bytes are those of the image to be shown
 pub pixels_shown : (v : View) (at : Layout) (area : Rectangle) (n : Inset) (s : List Color) (marks : List ℕ) (dark light : Shade) (zone scale side : ℕ) (pixels : List (List ℕ)) → AreMarks v at s marks dark light
     → zone ≡ at.zone → scale ≡ at.across → side ≡ pixels_across at
     → map rgba pixels ≡ map (inset_shade zone scale side area n (map (byte_shade dark light) marks)) (range_with_len 0 (length marks)) → map rgba pixels ≡ (pasted_image v at area n s).pixels

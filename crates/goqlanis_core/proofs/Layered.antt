@@ -1,4 +1,4 @@
--- Colours of parts, one over the other.
+-- Colours of parts, layer upon layer.
 use Rattle.std.proofs.Common.{◌≡◌, ℕ, ◌+◌, ◌-◌, ◌*◌, ◌/◌, ◌<◌, nat_le, nat_lt, ◌&&◌, Bool, true, false, cond, List, [], ◌∷◌, ◌++◌, length, map, take, get_or, ap, sym, subst, refl, ◌∙◌, append-nil, append_assoc, arith}
 use Rattle.std.specs.List.{range_with_len}
 use Rattle.std.proofs.lemmas.Bool.Decides.{nat_tests}
@@ -55,7 +55,7 @@ pub length_pixels : (w : View) (at : Layout) (v : Version) (inks : List PartInk)
 unfolding pixel_bytes
 length_pixels w at v inks s n = length-map-range_with_len (λ i. shade_bytes (pixel_shade w at v inks s i)) 0 n
 
--- the place of a module among the modules
+-- the index of a pixel's module is one of a module
 inside : (at : Layout) (column row : ℕ) → (nat_le at.zone column && nat_lt column (at.zone + at.count) && nat_le at.zone row && nat_lt row (at.zone + at.count)) ≡ true
     → (row - at.zone) * at.count + (column - at.zone) < at.count * at.count
 inside at column row is =
@@ -63,7 +63,7 @@ inside at column row is =
     let across : column - at.zone < at.count = grind (arith, nat_tests) in
     mul-add-lt (row - at.zone) at.count (column - at.zone) at.count down across
 
--- a pixel shows its module
+-- a pixel has the colour of its module
 pub pixel_is : (w : View) (at : Layout) (v : Version) (inks : List PartInk) (s : List Color) (x y : ℕ) → length s ≡ at.count * at.count
     → pixel_in at (λ i. get_or (module_bytes w v inks s) i []) (shade_bytes (light_of w w.dark w.light)) x y ≡ shade_bytes (pixel_in at (module_shade w v inks s) (light_of w w.dark w.light) x y)
 unfolding module_bytes

@@ -1,4 +1,4 @@
--- Squares with FNC1 in front of their segments.
+-- Squares whose segments come after FNC1, which is the only header.
 use Rattle.std.proofs.Common.{◌≡◌, ℕ, Bool, true, false, List, ◌∷◌, [], ◌++◌, refl, sym, ap, subst, ◌∙◌, append_assoc}
 use Rattle.qrcode_types.specs.Bits.{number_bits}
 use Rattle.qrcode_types.specs.declared.types.Color.{Color}
@@ -25,12 +25,12 @@ behind_mark v First bits rest b = b.whole ∙ ap (λ x. number_bits 4 5 ++ x) (b
 behind_mark v (Second n) bits rest b =
     b.whole ∙ ap (λ x. number_bits 4 9 ++ x) (b.argued.whole ∙ ap (λ a. a ++ rest) b.argued.is_argument.1) ∙ sym (append_assoc (number_bits 4 9) (number_bits 8 n) rest)
 
--- what is handed on behind it
+-- the bytes passed on after FNC1
 behind_fnc1 : (p : Position) (segments : List Part) (bytes : List ℕ) → handed_on false (Front (fnc1 p) ∷ segments) bytes ≡ handed_on true segments bytes
 behind_fnc1 First segments bytes = refl
 behind_fnc1 (Second n) segments bytes = refl
 
--- a reader finds that behind the mark
+-- a reader finds these bytes after FNC1
 marked_spelled : (v : Version) (bits : List Bool) (bytes : List ℕ) (p : Position) (segments : List Part) → headers_in segments ≡ []
     → AreParts v bits bytes (Front (fnc1 p) ∷ segments) → SpellsMarked v bits p (handed_on false (Front (fnc1 p) ∷ segments) bytes)
 marked_spelled v bits bytes p segments none r =
@@ -47,7 +47,7 @@ marked_spelled v bits bytes p segments none r =
       joined = s.marked ∙ sym (behind_fnc1 p segments bytes ∙ ap (handed_on true segments) same);
     }
 
--- and it finds no others in the square
+-- and finds no others in the square
 pub read_marked : (s : List Color) (v : Version) (l : EcLevel) (k : MaskPattern) (bytes : List ℕ) (parts : List Part) (wrong : List WrongCodeword) (p : Position) (segments : List Part)
     → parts ≡ Front (fnc1 p) ∷ segments → headers_in segments ≡ [] → IsPartsReading s v l k bytes parts wrong → ReadsMarkedOnly s p (handed_on false parts bytes)
 read_marked s v l k bytes parts wrong p segments are none r =

@@ -1,4 +1,4 @@
--- Areas and what stands in them.
+-- Logo areas, and the tails of files before which overlays are inserted.
 use Rattle.std.proofs.Common.{◌≡◌, ℕ, zero, suc, refl, List, ◌++◌, Bool, arith, sym, subst, ap, ◌∙◌}
 use Rattle.std.specs.Prelude.{codes, Option, None, Some}
 use Rattle.std.specs.Option.{option_or}
@@ -19,7 +19,7 @@ use Rattle.goqlanis_core.specs.declared.areas.LogoWish.{LogoWish}
 use Rattle.goqlanis_core.specs.declared.formats.Format.{Format}
 use Rattle.goqlanis_core.specs.declared.formats.Format.TheVariants.{Svg, SvgPath, Eps, HalfBlocks, LightHalfBlocks, Terminal, Chars, Png, Pic, Pbm, Pgm, Grey, Pdf, Zpl, Tspl, EscPos, Xbm, Ppm, Ascii}
 
--- an area that may show anything and leaves the patterns alone fits without a reserve
+-- an area whose content can be corrected and which leaves the patterns alone fits the wish without a reserve
 pub fits_plainly : (v : Version) (l : EcLevel) (w : LogoWish) (area : ℕ → ℕ → Bool) → MayShowAnything v l area → LeavesPatterns w.kept v area → Fits v l (wish_for w 0) area
 fits_plainly v l w area may patterns = record {
   leaves = record { blocks = λ b below. omega (arith, may.blocks b below); format = may.format };
@@ -29,11 +29,11 @@ fits_plainly v l w area may patterns = record {
 tail_behind : (front tail bytes : List ℕ) → bytes ≡ front ++ tail → HasTail tail bytes
 tail_behind front tail bytes e = (front, e)
 
--- an SVG text ends with its root element, and EPS with its page
+-- SVG ends with its root element, and EPS with its page
 pub svg_end : (t : Sheet) (w : View) (at : Layout) (s : List Color) (bytes : List ℕ) → IsDrawnOn Svg t w at s bytes → HasTail (codes "</svg>") bytes
 svg_end t w at s bytes drawn = tail_behind _ (codes "</svg>") bytes (drawn ∙ sym (append_assoc _ (codes "\"/>") (codes "</svg>")))
 
--- a text before one with a tail
+-- a text in front keeps the tail
 behind : (tail front text : List ℕ) → HasTail tail text → HasTail tail (front ++ text)
 behind tail front text h = (front ++ h.0, ap (λ t. front ++ t) h.1 ∙ sym (append_assoc front h.0 tail))
 
@@ -62,7 +62,7 @@ path_end t w at s bytes drawn =
     let side = modules_across at in
     subst (HasTail tail) (sym drawn.written) (behind tail xml_head _ (path_ends t.frame b.across b.down side side dark light drawn.runs))
 
--- an EPS text ends so, in points and in dots
+-- EPS ends with its page, with and without pixels per inch
 eps_ends : (dpi : Option ℕ) (at : Layout) (s : List Color) (dark light : eps.Color) → HasTail (codes "showpage\n%%EOF\n") (eps_in dpi at s dark light)
 eps_ends None at s dark light = (_, refl)
 eps_ends (Some zero) at s dark light = (_, refl)
@@ -74,7 +74,7 @@ eps_end t w at s bytes drawn = subst (HasTail (codes "showpage\n%%EOF\n")) (sym 
 untailed : (end bytes : List ℕ) → None ≡ Some end → HasTail end bytes
 untailed end bytes is = absurd (cc)
 
--- a drawing of a format with a tail ends with it
+-- a file of a format with a tail ends with it
 pub tail_end : (f : Format) (t : Sheet) (w : View) (at : Layout) (s : List Color) (bytes end : List ℕ) → tail f ≡ Some end → IsDrawnOn f t w at s bytes → HasTail end bytes
 tail_end Svg t w at s bytes end is drawn = let e : codes "</svg>" ≡ end = cc in subst (λ end. HasTail end bytes) e (svg_end t w at s bytes drawn)
 tail_end SvgPath t w at s bytes end is drawn = let e : codes "</svg>" ≡ end = cc in subst (λ end. HasTail end bytes) e (path_end t w at s bytes drawn)

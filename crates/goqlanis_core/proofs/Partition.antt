@@ -52,7 +52,7 @@ figure_is f Dark e = rw e (λ h. cc)
 figure_is f WordAcross e = rw e (λ h. cc)
 figure_is f WordDown e = rw e (λ h. cc)
 
--- a place is data exactly where no figure has it
+-- a place is data if and only if no figure has it
 over_is : (x y : ℕ) (fs : List Figure) (below : Part) (b : Bool) → (below ≡ Data ↔ b ≡ false) → (fold (part_over x y) below fs ≡ Data) ↔ ((any_has x y fs || b) ≡ false)
 over_is x y [] below b h = h
 over_is x y (f ∷ fs) below b h = subst (λ (t : Bool). (fold (part_over x y) (part_over x y below f) fs ≡ Data) ↔ (t ≡ false)) (turned (any_has x y fs) (has f x y) b) (over_is x y fs (part_over x y below f) (has f x y || b) (go (has f x y))) where

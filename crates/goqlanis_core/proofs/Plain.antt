@@ -1,4 +1,4 @@
--- Squares whose parts are segments alone, and what is handed on of these.
+-- Squares without headers, and the bytes passed on for their segments.
 use Rattle.std.proofs.Common.{◌≡◌, ℕ, ◌+◌, ◌<◌, Bool, true, false, ◌||◌, min, get_or, List, [], ◌∷◌, ◌++◌, refl, sym, ap, ap₂, subst, ◌∙◌, arith, length, append_assoc, take, drop, flat_map}
 use Rattle.std.proofs.lemmas.List.{take_at, drop_at, take_min, drop_min, drop_more}
 use Rattle.std.specs.Prelude.{map}
@@ -21,7 +21,7 @@ use Rattle.qrcode_reader.proofs.Parted.{part_of, spelled_parts}
 use Rattle.goqlanis_core.specs.HandedOn.{byte_count, is_fnc1, part_on, handed_on}
 use Rattle.goqlanis_core.specs.Scans.{headers_in}
 
--- one part more is handed on
+-- one more part is passed on
 pub handed_more : (is_marked is_next : Bool) (parts : List Part) (i : ℕ) (d : Part) (count : ℕ) (made more chunk rest behind whole : List ℕ) → i < length parts
     → count ≡ byte_count (get_or parts i d) → is_next ≡ is_fnc1 (get_or parts i d)
     → chunk ≡ take (min count (length rest)) rest → behind ≡ drop (min count (length rest)) rest
@@ -37,20 +37,20 @@ handed_more is_marked is_next parts i d count made more chunk rest behind whole 
     ∙ ap₂ (λ (b : Bool) (x : List ℕ). made ++ (part_on is_marked p (take (byte_count p) rest) ++ handed_on b (drop (i + 1) parts) x)) marks right
     ∙ ap (λ ps. made ++ handed_on is_marked ps rest) (sym (drop_more parts i d inside)) ∙ held
 
--- what is handed on of a segment and the parts behind it
+-- the bytes passed on for a segment and the parts after it
 handed_segment : (is_marked : Bool) (m : Mode) (n : ℕ) (bytes chunk more : List ℕ) (parts : List Part) → bytes ≡ chunk ++ more → n ≡ length chunk
     → handed_on is_marked (Bytes m n ∷ parts) bytes ≡ part_on is_marked (Bytes m n) chunk ++ handed_on is_marked parts more
 handed_segment is_marked m n bytes chunk more parts whole count =
     ap₂ (λ (x y : List ℕ). part_on is_marked (Bytes m n) x ++ handed_on is_marked parts y)
     (ap (take n) whole ∙ take_at chunk more n (sym count)) (ap (drop n) whole ∙ drop_at chunk more n (sym count))
 
--- the pieces of segments, and what is handed on of them
+-- the bits are pieces with these bytes, which are passed on as they are, and after FNC1 as a reader shows the pieces
 pub record HavePieces (v : Version) (bits : List Bool) (bytes : List ℕ) (parts : List Part) : Type 0 where
   pub spelled : Spells v bits bytes
   pub plain : handed_on false parts bytes ≡ bytes
   pub marked : flat_map shown spelled.pieces ≡ handed_on true parts bytes
 
--- parts without headers are such segments
+-- the bits of parts without headers are such pieces
 pub segments_pieces : (v : Version) (bits : List Bool) (bytes : List ℕ) (parts : List Part) → headers_in parts ≡ [] → AreParts v bits bytes parts → HavePieces v bits bytes parts
 segments_pieces v bits bytes [] none r = record { spelled = record { pieces = []; read = r.0; joined = sym r.1 }; plain = sym r.1; marked = refl }
 segments_pieces v bits bytes (Front h ∷ parts) none r = absurd (omega (arith, ap length none))
@@ -69,7 +69,7 @@ segments_pieces v bits bytes (Bytes m n ∷ parts) none r =
       marked = ap (λ x. shown_in m chunk ++ x) s.marked ∙ sym (handed_segment true m n bytes chunk more parts u.0 u.1.1.0.1);
     }
 
--- what is read as bytes has parts
+-- a square that decodes to bytes has parts
 parts_of_bytes : (s : List Color) (bytes : List ℕ) (r : Reads s bytes) → ReadsParts s bytes (map part_of r.spelled.pieces)
 parts_of_bytes s bytes r = record {
   version = r.version;
@@ -79,7 +79,7 @@ parts_of_bytes s bytes r = record {
   parted = subst (λ b. AreParts r.version r.bits b (map part_of r.spelled.pieces)) r.spelled.joined (spelled_parts r.version r.bits r.spelled.pieces r.spelled.read);
 }
 
--- the only parts of a square, without headers, are its only reading
+-- if the only parts of a square have no headers, their bytes are its only reading
 plain_reading : (s : List Color) (v : Version) (l : EcLevel) (k : MaskPattern) (bytes : List ℕ) (parts : List Part) (wrong : List WrongCodeword) → headers_in parts ≡ []
     → IsPartsReading s v l k bytes parts wrong → IsReading s v l k bytes wrong
 plain_reading s v l k bytes parts wrong none p =
@@ -94,7 +94,7 @@ plain_reading s v l k bytes parts wrong none p =
       spelled = spelled;
     }
 
--- the first position in which a square has parts is the first in which it is read, where these have no headers
+-- without headers, the first position in which a square has parts is also the first in which it decodes to bytes
 pub first_plain : (w : ℕ) (s : List Color) (p : Position) (i : Bool) (v : Version) (l : EcLevel) (k : MaskPattern) (bytes : List ℕ) (parts : List Part) (wrong : List WrongCodeword)
     → headers_in parts ≡ [] → IsFirstPartsReading w s p i v l k bytes parts wrong → IsFirstReading w s p i v l k bytes wrong
 first_plain w s p i v l k bytes parts wrong none f = record {
@@ -104,7 +104,7 @@ first_plain w s p i v l k bytes parts wrong none f = record {
   first = λ n tried_n below others r. f.first n tried_n below others (map part_of r.spelled.pieces) (parts_of_bytes (seen w (tried n).0 (tried n).1 s) others r);
 }
 
--- where there is no header, the bytes are handed on as they are
+-- without headers, the bytes are passed on as they are
 pub plain_on : (s : List Color) (v : Version) (l : EcLevel) (k : MaskPattern) (bytes : List ℕ) (parts : List Part) (wrong : List WrongCodeword) → headers_in parts ≡ []
     → IsPartsReading s v l k bytes parts wrong → handed_on false parts bytes ≡ bytes
 plain_on s v l k bytes parts wrong none p = (segments_pieces v p.bits bytes parts none p.parted).plain

@@ -1,4 +1,4 @@
--- The codes that are read of a picture.
+-- The codes in a picture.
 use Rattle.std.proofs.Common.{◌≡◌, ◌*◌, ◌⊎◌, ◌++◌, ◌∷◌, [], ℕ, Bool, List, None, All, length, take, drop, sym, subst, inl, inr}
 use Rattle.std.proofs.lemmas.List.Elements.{All-append, All-cons, All-drop, All-nil, All-push, All-take, All-weaker}
 use Rattle.std.specs.Prelude.{insert}
@@ -21,7 +21,7 @@ pub no_code : (b : Bitmap) (i : Bool) (codes : Codes) → codes.scans.items ≡ 
 no_code b i codes none no_missed =
     record { scans = subst (All (IsCodeIn b i)) (sym none) (All-nil (IsCodeIn b i)); missed = subst (All (IsMissedIn b)) (sym no_missed) (All-nil (IsMissedIn b)) }
 
--- the one in a margin
+-- only the code in a plain margin
 pub only_code : (b : Bitmap) (i : Bool) (codes : Codes) (scan : Scan) → codes.scans.items ≡ scan ∷ [] → codes.missed.items ≡ [] → IsSquareOf scan b → scan.grid ≡ None
     → scan.is_inverted ≡ i → IsReadAs scan → AreCodesIn b i codes
 only_code b i codes scan same no_missed square clean inverted read = record {
@@ -30,7 +30,7 @@ only_code b i codes scan same no_missed square clean inverted read = record {
   missed = subst (All (IsMissedIn b)) (sym no_missed) (All-nil (IsMissedIn b));
 }
 
--- one more, or one more that is not read
+-- one more code, decoded or not
 pub code_added : (b : Bitmap) (i : Bool) (old new : Codes) (x : Scan) → ((n : ℕ) × (new.scans.items ≡ insert old.scans.items n x)) → new.missed.items ≡ old.missed.items → IsCodeIn b i x
     → AreCodesIn b i old → AreCodesIn b i new
 code_added b i old new x same as_before code are =
@@ -53,7 +53,7 @@ missed_added b i old new x same as_before missed are = record {
   ];
 }
 
--- what stands in a grid and is not read
+-- a square in a grid that does not decode
 pub missed_code : (b : Bitmap) (g : Grid) (modules : List Color) (e : reading.Unread) → IsSampled b g modules → ¬ (e ≡ reading.TheVariants.OutOfMemory)
     → (e ≡ reading.TheVariants.OutOfMemory) ⊎ (IsPartsCause modules e × ((side : ℕ) → side * side ≡ length modules → HasNone side modules)) → IsMissedIn b (record { grid = g; cause = e })
 missed_code b g modules e sampled other why = elim why [
@@ -61,7 +61,7 @@ missed_code b g modules e sampled other why = elim why [
   | inr both ↦ record { modules = modules; sampled = sampled; cause = both.0; none = both.1 g.count (sampled_length b g modules sampled) }
 ]
 
--- codes in the pixels of a picture are codes of it
+-- the codes of a picture's pixels are those of the picture
 pub scans_of : (bytes : List ℕ) (b : Bitmap) (i : Bool) (codes : Codes) → IsSeenAs bytes b i → AreCodesIn b i codes → All (IsScanOf bytes) codes.scans.items
 scans_of bytes b i codes seen are =
     All-weaker (IsCodeIn b i) (IsScanOf bytes)

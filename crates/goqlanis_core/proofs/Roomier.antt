@@ -1,4 +1,4 @@
--- Areas that versions and levels near others have.
+-- Logo areas at other levels and in other versions.
 use Rattle.std.proofs.Common.{◌≡◌, ℕ, ◌+◌, refl, arith, pos, subst, inl, inr}
 use Rattle.std.specs.Prelude.{Option, None, Some}
 use Rattle.std.proofs.lemmas.Bool.{cases_lt}
@@ -16,7 +16,7 @@ use Rattle.goqlanis_core.specs.declared.areas.LogoError.{LogoError}
 use Rattle.goqlanis_core.specs.declared.areas.LogoError.TheVariants.{Outside, Patterns, Excess, NoRoom, OutOfMemory}
 use Rattle.goqlanis_core.specs.declared.areas.LogoWish.{LogoWish}
 
--- where one of so many modules is refused, there is none
+-- if the requested size is refused, there is no area of that size
 none_sized : (v : Version) (l : EcLevel) (w : LogoWish) (size : ℕ) (e : LogoError) (r : Rectangle) → IsRefusedAt v l w size e → ¬ IsSized v l w size r
 none_sized v l w size Outside r why is = absurd (omega (arith, why, is.at_least, is.inside))
 none_sized v l w size Patterns r why is = why (subst (λ (r : Rectangle). LeavesPatterns w.kept v (only r)) is.middle is.fits.patterns)
@@ -25,13 +25,13 @@ none_sized v l w size (Excess e) r why is =
 none_sized v l w size NoRoom r why is = why
 none_sized v l w size OutOfMemory r why is = why
 
--- where an area is refused, there is none
+-- if an area is refused, there is none
 pub no_area : (v : Version) (l : EcLevel) (w : LogoWish) (size : Option ℕ) (e : LogoError) (r : Rectangle) → IsRefusedOf v l w size e → ¬ IsAreaOf v l w size r
 no_area v l w None e r why is =
     why.1 is.size (omega (arith, is.odd)) is.inside is.odd (subst (λ (r : Rectangle). Fits v l (half_wish v l w) (only r)) is.centred is.fits)
 no_area v l w (Some size) e r why is = none_sized v l w size e r why is
 
--- levels with one number are the same
+-- levels with the same number are the same
 same_level : (l m : EcLevel) → level_number l ≡ level_number m → l ≡ m
 same_level L L e = refl
 same_level M M e = refl
@@ -50,14 +50,14 @@ same_level H L e = absurd (omega (arith, e))
 same_level H M e = absurd (omega (arith, e))
 same_level H Q e = absurd (omega (arith, e))
 
--- one level more has no such area
+-- one more level has no such area
 pub none_higher : (v : Version) (l m : EcLevel) (w : LogoWish) (n : ℕ) → level_number m ≡ n → NoHigher v l w n → ¬ HasArea v m w → NoHigher v l w (n + 1)
 none_higher v l m w n is none not_here h above below = elim (cases_lt (level_number h) n) [
   | inl lower ↦ none h above lower
   | inr same ↦ subst (λ (k : EcLevel). ¬ HasArea v k w) (same_level m h (let e : level_number m ≡ level_number h = omega (arith, is, same, below) in e)) not_here
 ]
 
--- one version more has none
+-- one more version has no such area
 pub none_larger : (v u : Version) (l : EcLevel) (w : LogoWish) (n : ℕ) → u ≡ Normal (pos n) → NoLarger v l w n → ¬ HasArea u l w → NoLarger v l w (n + 1)
 none_larger v u l w n is none not_here k above below = elim (cases_lt k n) [
   | inl smaller ↦ none k above smaller

@@ -1,4 +1,4 @@
--- Squares of modules that stand in a grid.
+-- Squares of modules in a grid.
 use Rattle.std.proofs.Common.{◌≡◌, ◌∙◌, ◌*◌, ◌/◌, ◌%◌, ℕ, List, length, sym, ap}
 use Rattle.std.proofs.lemmas.List.FromFn.{length-map-range_with_len}
 use Rattle.qrcode_types.specs.Colors.{color_of}

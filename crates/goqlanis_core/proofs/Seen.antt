@@ -1,4 +1,4 @@
--- What pixels the bytes of a picture show.
+-- The pixels of a picture.
 use Rattle.std.proofs.Common.{◌≡◌, ℕ, Bool, true, false, List, Option, Some, map, length, sym, subst, ap, ◌∙◌, inr}
 use Rattle.std.proofs.lemmas.List.{length-map}
 use Rattle.std.proofs.lemmas.Simd.{map-map}
@@ -10,7 +10,7 @@ use Rattle.qrcode_reader.specs.declared.scan.pixels.Unscanned as unscanned
 use Rattle.goqlanis_core.specs.Scans.{is_png, shade_lightness, IsShownBy, IsPictureOf, IsUnseen}
 use Rattle.goqlanis_core.specs.declared.scanning.Unread.TheVariants.{Unscanned}
 
--- a file that begins as a PNG file does shows the pixels of its image, and any other its own
+-- a picture shows the pixels of its PNG image if it begins like a PNG file, else those of its own format
 pub png_picture : (bytes : List ℕ) (b : Bitmap) → is_png bytes ≡ true → IsShownBy bytes b → IsPictureOf bytes b
 png_picture bytes b png shown = record { png = λ _. shown; other = λ other. let never : true ≡ false = sym png ∙ other in cc }
 
@@ -20,14 +20,14 @@ other_picture bytes b other seen = record { png = λ png. let never : true ≡ f
 abbrev pub bitmap : ℕ → ℕ → List ℕ → Bitmap
 bitmap across down shades = record { across = across; down = down; marks = dark_of_shades shades }
 
--- the colours are those of the pixels of the image of a file
+-- the colours are those of the pixels of a PNG image
 pub record AreOf (bytes : List ℕ) (i : Image) (across down : ℕ) (colours : List (List ℕ)) : Type 0 where
   pub shown : image_of bytes ≡ Some i
   pub width : across ≡ i.across
   pub height : down ≡ i.down
   pub same : map rgba colours ≡ i.pixels
 
--- the pixels of colours are those of their image
+-- b shows the pixels of the PNG image that has these colours
 pub shown_by : (bytes : List ℕ) (i : Image) (across down : ℕ) (colours : List (List ℕ)) (b : Bitmap)
     → AreOf bytes i across down colours → b ≡ bitmap across down (map lightness_of colours) → IsShownBy bytes b
 shown_by bytes i across down colours b of same = record {
@@ -37,7 +37,7 @@ shown_by bytes i across down colours b of same = record {
       ∙ ap (bitmap i.across i.down) (sym (map-map shade_lightness rgba colours) ∙ ap (map shade_lightness) of.same);
 }
 
--- and too many colours are too many of their image
+-- if there are too many colours, the image has too many pixels
 pub large_image : (bytes : List ℕ) (i : Image) (across down : ℕ) (colours : List (List ℕ)) (e : unscanned.Unscanned)
     → AreOf bytes i across down colours → IsColoursRefusal (length colours) across down e → IsUnseen bytes (Unscanned e)
 large_image bytes i across down colours e of refusal =

@@ -1,4 +1,4 @@
--- Segments one after the other: what refuses them, and the symbol of their bits.
+-- Segments in order: why they cannot be appended, and the symbol of their bits.
 use Rattle.std.specs.Prelude.{◌≡◌, Bool, List, Result, Ok, Err, IfOk, IfErr, IsErr, IsErrAnd, flat_map}
 use Rattle.std.specs.List.{AllByRecursion}
 use Rattle.std.specs.Option.{option_or}
@@ -19,12 +19,12 @@ use Rattle.goqlanis_core.specs.Segments.{refusal_in, segment_bits, segment_refus
 use Rattle.goqlanis_core.specs.declared.segments.Segment.{Segment}
 use Rattle.goqlanis_core.proofs.Pieces.{flat_map_more}
 
--- nothing refuses what a push took
+-- a successful push had no cause to fail
 pub taken_by : (r : Option QrError) (old after new : BitList) (u : Unit {0}) → Changes r old after new (Ok u) → r ≡ None
 taken_by None old after new u c = refl
 taken_by (Some e) old after new u c = let no = c.refused e refl in absurd cc
 
--- what refuses what a push did not take
+-- a push fails for its cause, or because memory runs out
 pub refused_by : (r : Option QrError) (old after new : BitList) (e : QrError) → Changes r old after new (Err e) → (e ≡ OutOfMemory) ⊎ (r ≡ Some e)
 refused_by None old after new e c = inl (c.accepted refl)
 refused_by (Some x) old after new e c = let same = c.refused x refl in inr cc
@@ -33,7 +33,7 @@ or_assoc : {A : Type 0} (a b c : Option A) → option_or a (option_or b c) ≡ o
 or_assoc None b c = refl
 or_assoc (Some x) b c = refl
 
--- the refusal of segments is that of the first of them, and then that of the others behind these
+-- two lists in order fail for the cause of the first, or else for that of the second after it
 refusal-append : (v : Version) (used : ℕ) (xs ys : List Segment)
     → segments_refusal v used (xs ++ ys) ≡ option_or (segments_refusal v used xs) (segments_refusal v (used + length (written_segments v xs)) ys)
 refusal-append v used [] ys = let same : used ≡ used + 0 = omega arith in ap (λ n. segments_refusal v n ys) same
@@ -46,16 +46,16 @@ refusal-append v used (x ∷ xs) ys =
 
 module _ (v u : Version) (segments : List Segment) (i : ℕ) (d : Segment) (old : List Bool) (inside : i < length segments)
     (same : u ≡ v) (bits : old ≡ written_segments v (take i segments)) (before : segments_refusal v 0 (take i segments) ≡ None) where
-  -- what refuses the next segment, by the list before it
+  -- the cause for the next segment, by the list of bits before it
   behind : (r : Option QrError) → segment_refusal u (length old) (get_or segments i d) ≡ r → segment_refusal v (0 + length (written_segments v (take i segments))) (get_or segments i d) ≡ r
   behind r h = ap₂ (λ w n. segment_refusal w n (get_or segments i d)) (sym same) (zero-add (length (written_segments v (take i segments))) ∙ ap length (sym bits)) ∙ h
 
-  -- and the bits of one segment more
+  -- one more segment is written
   pub written_more : (new : List Bool) → new ≡ old ++ segment_bits u (get_or segments i d) → new ≡ written_segments v (take (i + 1) segments)
   written_more new is =
       is ∙ ap₂ (λ bits w. bits ++ segment_bits w (get_or segments i d)) bits same ∙ sym (flat_map_more (segment_bits v) segments i d inside)
 
-  -- one segment more is taken
+  -- one more segment has no cause to fail
   pub taken_more : segment_refusal u (length old) (get_or segments i d) ≡ None → segments_refusal v 0 (take (i + 1) segments) ≡ None
   taken_more h =
       let none = behind None h in
@@ -63,7 +63,7 @@ module _ (v u : Version) (segments : List Segment) (i : ℕ) (d : Segment) (old 
       ∙ refusal-append v 0 (take i segments) (get_or segments i d ∷ [])
       ∙ rw (before, none) refl
 
-  -- the next segment is the first that is refused
+  -- the next segment is the first that fails
   pub refused_next : (e : QrError) → segment_refusal u (length old) (get_or segments i d) ≡ Some e → segments_refusal v 0 segments ≡ Some e
   refused_next e h =
       let some = behind (Some e) h in
@@ -71,7 +71,7 @@ module _ (v u : Version) (segments : List Segment) (i : ℕ) (d : Segment) (old 
       ∙ refusal-append v 0 (take i segments) (get_or segments i d ∷ drop (suc i) segments)
       ∙ rw (before, some) refl
 
--- what refuses segments that are taken is what refuses their end
+-- if no segment fails, the cause for the terminator is the cause
 pub at_end : (v u : Version) (l : EcLevel) (segments : List Segment) (old : List Bool) (r : Option QrError) → u ≡ v → old ≡ written_segments v segments
     → segments_refusal v 0 segments ≡ None → terminator_refusal u l (length old) ≡ r → refusal_in v l segments ≡ r
 at_end v u l segments old r same bits taken ended =
@@ -79,12 +79,12 @@ at_end v u l segments old r same bits taken ended =
     ∙ ap₂ (λ w n. terminator_refusal w l n) (sym same) (ap length (sym bits))
     ∙ ended
 
--- an error that a `?` hands on
+-- an error that a `?` passes on
 pub handed_on : {T : Type 0} (result : Result T QrError) (e : QrError) (P : QrError → Type 0) → IsErr result × IsErrAnd result (λ x. x ≡ e) → P e → IfErr result P
 handed_on (Ok x) e P h p = tt
 handed_on (Err x) e P h p = subst P (sym h.1) p
 
--- what carries these bits is the symbol of the segments
+-- a symbol of these bits is the symbol of the segments
 pub symbol_of_segments : (l : EcLevel) (segments : List Segment) (v : Version) (b : BitList) (result : Result Code QrError)
     → b ≡ record { version = v; bits = terminated v l (written_segments v segments) }
     → IfOk result (λ code. code.version ≡ b.version) → IfOk result (λ code. code.level ≡ l) → IfOk result (λ code. EncodesBits b.version l b.bits code.modules)

@@ -1,4 +1,4 @@
--- Why pictures are not read.
+-- Why pictures do not decode.
 use Rattle.std.proofs.Common.{◌≡◌, ◌*◌, ℕ, Bool, List, length, sym, subst, ◌⊎◌, inl, inr, refl}
 use Rattle.qrcode_types.specs.declared.types.Color.{Color}
 use Rattle.qrcode_render.specs.Bitmap.{Bitmap}
@@ -14,7 +14,7 @@ use Rattle.goqlanis_core.specs.declared.scanning.Unread.TheVariants.{Unscanned, 
 abbrev pub HasNone : ℕ → List Color → Type 0
 HasNone side modules = (p : Position) (is_inverted : Bool) (bytes : List ℕ) (parts : List Part) → ¬ ReadsParts (seen side p is_inverted modules) bytes parts
 
--- the square that pixels show is not read
+-- the square in a plain margin does not decode
 pub unread_square : (b : Bitmap) (count zone scale : ℕ) (modules : List Color) (e : reading.Unread) → IsLeastSquareIn b count zone scale modules
     → (e ≡ reading.TheVariants.OutOfMemory) ⊎ (IsPartsCause modules e × ((side : ℕ) → side * side ≡ length modules → HasNone side modules)) → IsUnreadIn b (unread_as count e)
 unread_square b count zone scale modules e square why = elim why [
@@ -28,7 +28,7 @@ unread_square b count zone scale modules e square why = elim why [
   caused reading.TheVariants.NotSpelled cause none = record { zone = zone; scale = scale; modules = modules; square = square; cause = cause; none = none }
   caused reading.TheVariants.OutOfMemory cause none = tt
 
--- the pixels that a picture shows are not read
+-- the pixels of a picture do not decode
 pub unread_picture : (bytes : List ℕ) (b : Bitmap) (i : Bool) (e : Unread) → IsSeenAs bytes b i → IsUnreadIn b e → IsUnreadPicture bytes e
 unread_picture bytes b i (Unscanned e) seen unread = absurd unread
 unread_picture bytes b i (Png e) seen unread = absurd unread
@@ -37,7 +37,7 @@ unread_picture bytes b i NoSquare seen unread = record { pixels = b; is_inverted
 unread_picture bytes b i (NoSymbol count e) seen unread = record { pixels = b; is_inverted = i; seen = seen; unread = unread }
 unread_picture bytes b i OutOfMemory seen unread = tt
 
--- no square in a margin is read, for another cause than memory
+-- no square in a plain margin decodes, unless memory ran out
 pub not_clean : (b : Bitmap) (e : Unread) → IsUnreadIn b e → ¬ (e ≡ OutOfMemory) → IsNotClean b
 not_clean b (Unscanned e) unread other = absurd unread
 not_clean b (Png e) unread other = absurd unread
@@ -46,7 +46,7 @@ not_clean b NoSquare unread other = inl unread
 not_clean b (NoSymbol count e) unread other = inr (count, (e, unread))
 not_clean b OutOfMemory unread other = absurd (other refl)
 
--- bytes that show no pixels are not read
+-- a picture without pixels does not decode
 pub unseen_picture : (bytes : List ℕ) (e : Unread) → IsUnseen bytes e → IsUnreadPicture bytes e
 unseen_picture bytes (Unscanned e) unseen = unseen
 unseen_picture bytes (Png e) unseen = unseen

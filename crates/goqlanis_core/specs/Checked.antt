@@ -1,4 +1,4 @@
--- What checks of a picture's codes say.
+-- What is reported of a picture's codes when they are checked against the standard.
 use Rattle.std.specs.Prelude.{◌≡◌, ◌≢◌, ◌⊎◌, ◌*◌, ℕ, Bool, List, [], ◌∷◌, All, length}
 use Rattle.std.specs.List.{AllZip}
 use Rattle.qrcode_types.specs.declared.types.Color.{Color}
@@ -12,17 +12,17 @@ use Rattle.goqlanis_core.specs.declared.scanning.Scan.{Scan}
 use Rattle.goqlanis_core.specs.declared.scanning.Unread.{Unread}
 use Rattle.goqlanis_core.specs.declared.scanning.Unread.TheVariants.{NoSymbol}
 
-abbrev pub HasSquare : Scan → Type 0  -- a code has the modules of its square
+abbrev pub HasSquare : Scan → Type 0  -- the square of a code has as many modules as its side says
 HasSquare scan = scan.square.count * scan.square.count ≡ length scan.square.modules.items
 
-abbrev pub unspelled : ℕ → Unread  -- the bits of a square of so many modules a side are no headers and segments
+abbrev pub unspelled : ℕ → Unread  -- why a square with `count` modules a side does not decode: its bits are no headers and segments
 unspelled count = NoSymbol count reading.TheVariants.NotSpelled
 
--- what is said of a code that is read: of its modules, in the position in which they are read
+-- check is the check of a decoded code: of its modules, in the position in which they decode
 abbrev pub IsCheckOfScan : Scan → Check → Type 0
 IsCheckOfScan scan check = IsCheck (seen scan.square.count scan.any.position scan.any.is_inverted scan.square.modules.items) check
 
--- what is said of the square in a margin of pixels, as it stands
+-- check is the check of the square in a plain margin of these pixels, as it is
 pub record IsSquareCheck (b : Bitmap) (check : Check) : Type 0 where
   pub count : ℕ
   pub zone : ℕ
@@ -31,19 +31,19 @@ pub record IsSquareCheck (b : Bitmap) (check : Check) : Type 0 where
   pub square : IsLeastSquareIn b count zone scale modules
   pub said : IsCheck modules check
 
--- the same of the pixels of a picture
+-- check is the check of the square in a plain margin of a picture
 pub record IsSquareCheckOf (bytes : List ℕ) (check : Check) : Type 0 where
   pub pixels : Bitmap
   pub is_inverted : Bool
   pub seen : IsSeenAs bytes pixels is_inverted
   pub said : IsSquareCheck pixels check
 
--- what is said of the codes of a picture: of each of those that are read, in their order
+-- the checks are those of the decoded codes of a picture, in the same order
 pub record AreScanChecks (bytes : List ℕ) (scans : List Scan) (checks : List Check) : Type 0 where
   pub read : All (IsScanOf bytes) scans
   pub said : AllZip IsCheckOfScan scans checks
 
--- or none is read, since the bits of the square in a margin are no headers and segments; and what is said of that square
+-- no code decodes, since the bits of the square in a plain margin are no headers and segments; the only check is that of this square
 pub record IsOnlyCheck (bytes : List ℕ) (scans : List Scan) (checks : List Check) : Type 0 where
   pub count : ℕ
   pub unread : IsUnreadPicture bytes (unspelled count)
@@ -55,6 +55,6 @@ pub record IsOnlyCheck (bytes : List ℕ) (scans : List Scan) (checks : List Che
 abbrev pub AreChecksOf : List ℕ → List Scan → List Check → Type 0
 AreChecksOf bytes scans checks = AreScanChecks bytes scans checks ⊎ IsOnlyCheck bytes scans checks
 
--- why nothing is said of a picture: it is not read, for another cause than this one
+-- why a picture has no checks: it does not decode, for another cause than that its bits are no headers and segments
 abbrev pub IsUncheckedPicture : List ℕ → Unread → Type 0
 IsUncheckedPicture bytes e = IsUnreadPicture bytes e × ((count : ℕ) → e ≢ unspelled count)

@@ -1,11 +1,11 @@
--- Colours as people write them: names of CSS, and digits to the base 16.
+-- Colours as people write them: CSS names and hexadecimal digits.
 use Rattle.std.specs.Prelude.{ℕ, ◌+◌, ◌*◌, ◌/◌, ◌%◌, ◌<◌, ◌||◌, ◌==◌, nat_lt, Bool, List, [], ◌∷◌, codes, Option, Some, None, map, unwrap_or, if◌then◌else◌}
 use Rattle.std.specs.Borrow.{Bor}
 use Rattle.std.specs.Char.{digit_value}
 use Rattle.std.specs.Str.{str_eq_ignore_ascii_case}
 use Rattle.goqlanis_core.specs.declared.colours.Colour.{Colour}
 
--- the named colours of CSS Color Module Level 4, each as red, green and blue in the bytes of a number
+-- the named colours of CSS Color Module Level 4, each as 0xrrggbb
 unfoldable pub names : List (List ℕ × ℕ)
 names =
     (codes "aliceblue", 0xf0f8ff) ∷ (codes "antiquewhite", 0xfaebd7) ∷ (codes "aqua", 0x00ffff) ∷
@@ -71,10 +71,10 @@ names =
     (codes "whitesmoke", 0xf5f5f5) ∷ (codes "yellow", 0xffff00) ∷
     (codes "yellowgreen", 0x9acd32) ∷ []
 
-abbrev pub is_name : List ℕ → List ℕ → Bool  -- a text is a name, in capitals or not
+abbrev pub is_name : List ℕ → List ℕ → Bool  -- text is this name, ignoring case
 is_name name text = str_eq_ignore_ascii_case name text
 
--- the number of the first of some names that a text is
+-- the number of the first of some names that equals text, ignoring case
 abbrev pub number_among : List (List ℕ × ℕ) → List ℕ → Option ℕ
 number_among [] text = None
 number_among (row ∷ rows) text = if is_name row.0 text then Some row.1 else number_among rows text
@@ -82,16 +82,16 @@ number_among (row ∷ rows) text = if is_name row.0 text then Some row.1 else nu
 abbrev pub row_of : (Bor (List ℕ) × ℕ) → (List ℕ × ℕ)  -- a row of the code's table
 row_of row = (row.0.now, row.1)
 
-abbrev pub opaque : ℕ → Colour  -- red, green and blue of a number
+abbrev pub opaque : ℕ → Colour  -- the opaque colour of a number 0xrrggbb
 opaque n = record { red = n / 65536 % 256; green = n / 256 % 256; blue = n % 256; opacity = 255 }
 
-abbrev pub clear : Colour  -- no colour
+abbrev pub clear : Colour  -- the transparent colour
 clear = record { red = 255; green = 255; blue = 255; opacity = 0 }
 
-abbrev pub digit_of : ℕ → Option ℕ  -- a digit to the base 16, in capitals or not
+abbrev pub digit_of : ℕ → Option ℕ  -- the value of a hexadecimal digit, ignoring case
 digit_of byte = if nat_lt (digit_value byte) 16 then Some (digit_value byte) else None
 
-abbrev pub part_of : Option ℕ → Option ℕ → Option ℕ  -- the number of two such digits
+abbrev pub part_of : Option ℕ → Option ℕ → Option ℕ  -- the number that two digits make
 part_of (Some high) (Some low) = Some (16 * high + low)
 part_of (Some high) None = None
 part_of None low = None
@@ -99,7 +99,7 @@ part_of None low = None
 abbrev pub pair : ℕ → ℕ → Option ℕ
 pair high low = part_of (digit_of high) (digit_of low)
 
--- a colour of its parts, where each is a number
+-- the colour of these parts, if none is missing
 abbrev pub colour_of_parts : Option ℕ → Option ℕ → Option ℕ → Option ℕ → Option Colour
 colour_of_parts (Some red) (Some green) (Some blue) (Some opacity) =
     Some (record { red = red; green = green; blue = blue; opacity = opacity })
@@ -108,7 +108,7 @@ colour_of_parts (Some red) None blue opacity = None
 colour_of_parts (Some red) (Some green) None opacity = None
 colour_of_parts (Some red) (Some green) (Some blue) None = None
 
--- the colour of digits: one or two for red, for green, for blue, and perhaps for how opaque it is
+-- the colour of digits: one or two each for red, green, blue and, optionally, opacity
 abbrev pub colour_of_digits : List ℕ → Option Colour
 colour_of_digits (r ∷ g ∷ b ∷ []) = colour_of_parts (pair r r) (pair g g) (pair b b) (Some 255)
 colour_of_digits (r ∷ g ∷ b ∷ a ∷ []) = colour_of_parts (pair r r) (pair g g) (pair b b) (pair a a)
@@ -116,18 +116,18 @@ colour_of_digits (r ∷ s ∷ g ∷ h ∷ b ∷ c ∷ []) = colour_of_parts (pai
 colour_of_digits (r ∷ s ∷ g ∷ h ∷ b ∷ c ∷ a ∷ d ∷ []) = colour_of_parts (pair r s) (pair g h) (pair b c) (pair a d)
 colour_of_digits digits = None
 
-abbrev pub without_hash : List ℕ → List ℕ  -- a text without # at its beginning
+abbrev pub without_hash : List ℕ → List ℕ  -- text without one # at its start
 without_hash [] = []
 without_hash (byte ∷ text) = if byte == 35 then text else byte ∷ text
 
-abbrev pub colour_or : Option ℕ → Option Colour → Option Colour  -- the colour of a number, where there is one
+abbrev pub colour_or : Option ℕ → Option Colour → Option Colour  -- the opaque colour of the number if there is one, else the other colour
 colour_or None other = other
 colour_or (Some number) other = Some (opaque number)
 
-abbrev pub is_clear : List ℕ → Bool  -- a text that names no colour, in capitals or not
+abbrev pub is_clear : List ℕ → Bool  -- text is `transparent` or `none`, ignoring case
 is_clear text = str_eq_ignore_ascii_case text (codes "transparent") || str_eq_ignore_ascii_case text (codes "none")
 
--- the colour that a text names
+-- the colour that text names
 abbrev pub colour_named : List ℕ → Option Colour
 colour_named text =
     if is_clear text then Some clear

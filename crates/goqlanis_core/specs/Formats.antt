@@ -1,4 +1,4 @@
--- What the formats are called, what is known of each, and what it draws of a square of modules.
+-- The output formats: their names, what is known of each, and what it draws for a square of modules.
 use Rattle.std.specs.Prelude.{◌≡◌, ℕ, zero, suc, ◌+◌, ◌*◌, ◌/◌, Bool, true, false, List, [], ◌∷◌, ◌++◌, Option, Some, None, codes, encode_utf8, slice_get, max, unwrap_or, if◌then◌else◌}
 use Rattle.std.specs.Option.{option_map, option_or}
 use Rattle.std.specs.Str.{str_eq_ignore_ascii_case}
@@ -53,25 +53,25 @@ formats =
 abbrev pub row_of : code.Row → Row  -- a row of the code's table
 row_of row = (row.format, row.name.now, option_map (λ text. text.now) row.ending)
 
-abbrev pub is_known : Option (List ℕ) → List ℕ → Bool  -- a name is the known one, in capitals or not
+abbrev pub is_known : Option (List ℕ) → List ℕ → Bool  -- name is the known one, ignoring case
 is_known None name = false
 is_known (Some known) name = str_eq_ignore_ascii_case known name
 
-abbrev pub named_among : List Row → List ℕ → Option Format  -- the first with a name
+abbrev pub named_among : List Row → List ℕ → Option Format  -- the first format with this name
 named_among [] name = None
 named_among (row ∷ rows) name = if is_known (Some row.1) name then Some row.0 else named_among rows name
 
-abbrev pub ending_among : List Row → List ℕ → Option Format  -- the first with a file extension
+abbrev pub ending_among : List Row → List ℕ → Option Format  -- the first format with this file extension
 ending_among [] ending = None
 ending_among (row ∷ rows) ending = if is_known row.2 ending then Some row.0 else ending_among rows ending
 
-abbrev pub format_named : List ℕ → Option Format  -- the format that a name says
+abbrev pub format_named : List ℕ → Option Format  -- the format with this name
 format_named name = named_among formats name
 
-abbrev pub format_of_ending : List ℕ → Option Format  -- the format that a file extension says
+abbrev pub format_of_ending : List ℕ → Option Format  -- the format with this file extension
 format_of_ending ending = ending_among formats ending
 
-abbrev pub is_text : Format → Bool  -- it is a text, and no bytes for a file
+abbrev pub is_text : Format → Bool  -- it is text, not a binary file
 is_text Png = false
 is_text Pbm = false
 is_text Pgm = false
@@ -82,7 +82,7 @@ is_text EscPos = false
 is_text Ppm = false
 is_text f = true
 
-abbrev pub has_colours : Format → Bool  -- its caller chooses the colours of dark and light modules
+abbrev pub has_colours : Format → Bool  -- one can choose the colours of dark and light modules
 has_colours Png = true
 has_colours Svg = true
 has_colours SvgPath = true
@@ -91,7 +91,7 @@ has_colours Pdf = true
 has_colours Ppm = true
 has_colours f = false
 
-abbrev pub pixels : Format → ℕ  -- the pixels of a module where nothing else is asked for: texts that are read as they stand have one
+abbrev pub pixels : Format → ℕ  -- the default for the pixels of a module: 1 in formats that are read as text
 pixels HalfBlocks = 1
 pixels LightHalfBlocks = 1
 pixels Terminal = 1
@@ -100,21 +100,21 @@ pixels Pic = 1
 pixels Ascii = 1
 pixels f = 8
 
-abbrev pub units : Format → ℕ → ℕ  -- the units of a module of so many pixels: in SVG of one path and in PDF a module is the unit
+abbrev pub units : Format → ℕ → ℕ  -- the size of a module of n pixels, in the units that overlays are placed in: in SvgPath and Pdf a module is the unit
 units SvgPath n = 1
 units Pdf n = 1
 units f n = n
 
-abbrev pub tail : Format → Option (List ℕ)  -- what ends a drawing, behind all that it draws, where that may stand before it
+abbrev pub tail : Format → Option (List ℕ)  -- the end of the file, before which overlays can be inserted; None if there is no such place
 tail Svg = Some (codes "</svg>")
 tail SvgPath = Some (codes "</svg>")
 tail Eps = Some (codes "showpage\n%%EOF\n")
 tail f = None
 
-abbrev pub format_numbered : ℕ → Option Format  -- the format of a number in C, in this order from 0 on
+abbrev pub format_numbered : ℕ → Option Format  -- the format with this number in the C library, counted from 0
 format_numbered n = slice_get (HalfBlocks ∷ LightHalfBlocks ∷ Svg ∷ Pic ∷ Grey ∷ Png ∷ Eps ∷ Pbm ∷ SvgPath ∷ Pgm ∷ Pdf ∷ Zpl ∷ Tspl ∷ EscPos ∷ Xbm ∷ Ppm ∷ Ascii ∷ []) n
 
--- the most pixels along a side: of PNG and ESC/POS what their numbers hold, and of characters more than a terminal or a page shows
+-- the maximum pixels along a side: what the numbers in PNG and ESC/POS hold; for text, more than a terminal or a page shows
 abbrev pub greatest_side : Format → ℕ
 greatest_side Png = 65535
 greatest_side EscPos = 65535
@@ -125,7 +125,7 @@ greatest_side Chars = 4096
 greatest_side Ascii = 4096
 greatest_side f = 0xffffffff
 
--- a colour: what SVG writes; red, green and blue; and how opaque it is in PNG
+-- a colour: its name in SVG; red, green and blue; and its opacity in PNG
 pub record Shade : Type 0 where
   pub name : List ℕ
   pub red : ℕ
@@ -133,7 +133,7 @@ pub record Shade : Type 0 where
   pub blue : ℕ
   pub opacity : ℕ
 
--- how a drawing looks: its colours, whether they are exchanged, the dots per inch that it names, and whether its lines end with a newline
+-- how a picture looks: its colours, whether they are exchanged, the dots per inch, and whether text ends with a newline
 pub record View : Type 0 where
   pub dark : Shade
   pub light : Shade
@@ -141,7 +141,8 @@ pub record View : Type 0 where
   pub dpi : Option ℕ
   pub ends_lines : Bool
 
--- where a picture stands: the pixels of an inch in EPS and PDF, where they are given; the dots from the left and the top of a label; and what stands at the element of SVG of one path
+-- where a picture is and how large: the pixels per inch in EPS and PDF, if given; the position on a label; and the size, title and the like of an SVG
+-- file with one path
 pub record Sheet : Type 0 where
   pub dots : Option ℕ
   pub place : ℕ × ℕ
@@ -156,17 +157,17 @@ shade_of c = record { name = c.name.now; red = c.red; green = c.green; blue = c.
 abbrev pub view_of : Picture → View
 view_of p = record { dark = shade_of p.dark; light = shade_of p.light; is_inverted = p.is_inverted; dpi = p.dpi; ends_lines = p.ends_lines }
 
-abbrev pub layout_of : Picture → Layout  -- where its modules stand
+abbrev pub layout_of : Picture → Layout  -- where the modules of a picture are
 layout_of p = layout p.width p.zone p.scale p.scale
 
--- what stands for dark modules, of what does for dark and for light ones unless these are exchanged
+-- the value for dark modules: one of these two, which are exchanged if the view is inverted
 abbrev pub dark_of : {A : Type 0} → View → A → A → A
 dark_of v dark light = if v.is_inverted then light else dark
 
-abbrev pub light_of : {A : Type 0} → View → A → A → A  -- what stands for light modules
+abbrev pub light_of : {A : Type 0} → View → A → A → A  -- the value for light modules, likewise
 light_of v dark light = if v.is_inverted then dark else light
 
--- what the renderer of a picture is set to, of what stands for dark and for light unless these are exchanged
+-- the setting of a picture's renderer, with these values for dark and light modules, exchanged if the picture is inverted
 abbrev pub setting_of : {P : Type 0} → Picture → P → P → Setting P
 setting_of p dark light = record {
   content = p.modules.now;
@@ -179,13 +180,13 @@ setting_of p dark light = record {
   whole_zone = p.zone;
 }
 
-abbrev pub eps_ink : Shade → eps.Color  -- a colour of EPS
+abbrev pub eps_ink : Shade → eps.Color  -- the colour for EPS
 eps_ink c = record { red = c.red; green = c.green; blue = c.blue }
 
-abbrev pub png_ink : Shade → png.Color  -- a colour of PNG
+abbrev pub png_ink : Shade → png.Color  -- the colour for PNG
 png_ink c = record { 0 = c.red ∷ c.green ∷ c.blue ∷ c.opacity ∷ [] }
 
--- the text of EPS, in points, or of so many dots to an inch
+-- the text of an EPS file, with a pixel as a point, or with these pixels per inch
 abbrev pub eps_in : Option ℕ → Layout → List Color → eps.Color → eps.Color → List ℕ
 eps_in None at s dark light = eps_text at s dark light
 eps_in (Some zero) at s dark light = eps_text at s dark light
@@ -194,42 +195,42 @@ eps_in (Some (suc n)) at s dark light = eps_sized_text (suc n) at s dark light
 abbrev pub rgb : Shade → List ℕ  -- red, green and blue
 rgb c = c.red ∷ c.green ∷ c.blue ∷ []
 
--- the same in the colours of a view, where pixels of an inch are given or not
+-- the text of an EPS file in the colours of a view, with these pixels per inch, or else those of the view
 abbrev pub eps_on : Option ℕ → View → Layout → List Color → List ℕ
 eps_on dots v at s = eps_in (option_or dots v.dpi) at s (dark_of v (eps_ink v.dark) (eps_ink v.light)) (light_of v (eps_ink v.dark) (eps_ink v.light))
 
-abbrev pub pdf_dots : Option ℕ → ℕ  -- the pixels of an inch in PDF: those that are given, or points
+abbrev pub pdf_dots : Option ℕ → ℕ  -- the pixels per inch of a PDF file: the given ones, or 72
 pdf_dots dpi = max (unwrap_or dpi 72) 1
 
--- bytes are a PDF file in the colours of a view, where pixels of an inch are given or not, with a title and operators over the modules
+-- bytes are a PDF file in the colours of a view, with these pixels per inch, or else those of the view, and with a title and operators over the modules
 abbrev pub IsPdfOn : Option ℕ → List ℕ → View → Layout → List Color → List ℕ → List ℕ → Type 0
 IsPdfOn dots title v at s over bytes =
     IsPdfOf (pdf_dots (option_or dots v.dpi)) (dark_of v (rgb v.dark) (rgb v.light)) (light_of v (rgb v.dark) (rgb v.light)) (picture at s) over title bytes
 
--- bytes are an SVG text of one path in the colours of a view, in a frame, where a module is a unit of the box
+-- bytes are an SVG file with one path, in the colours of a view and with the size and title of a frame; a module is the unit of its viewBox
 abbrev pub IsFramed : Frame → View → Layout → List Color → List ℕ → Type 0
 IsFramed frame v at s bytes =
     IsPathIn (modules_across at) (modules_across at) xml_head frame (dark_of v v.dark.name v.light.name) (light_of v v.dark.name v.light.name) (picture at s) bytes
 
--- bytes are what a label printer takes that speaks ZPL II, of black and white pixels at a place
+-- bytes are ZPL II that prints black and white pixels at a place on the label
 abbrev pub IsZplAt : ℕ × ℕ → View → Layout → List Color → List ℕ → Type 0
 IsZplAt place v at s bytes = IsZplOf place (dark_of v true false) (light_of v true false) (picture at s) bytes
 
-abbrev pub per_metre : ℕ → ℕ  -- dots per inch as dots per metre, to the nearest: an inch is 0.0254 metres
+abbrev pub per_metre : ℕ → ℕ  -- dots per inch as dots per metre, rounded to the nearest: an inch is 0.0254 metres
 per_metre dpi = (10000 * dpi + 127) / 254
 
-abbrev pub ended : View → List ℕ → List ℕ  -- lines of characters, with a newline at the end where there is to be one
+abbrev pub ended : View → List ℕ → List ℕ  -- text, with a newline at the end if the view asks for one
 ended v lines = if v.ends_lines then lines ++ codes "\n" else lines
 
--- half blocks, by whether those of dark and of light pixels are drawn
+-- half blocks; `dark` and `light` say whether they are drawn for dark and for light pixels
 abbrev pub half_block_text : View → Bool → Bool → Layout → List Color → List ℕ
 half_block_text v dark light at s = dense_text (dark_of v dark light) (light_of v dark light) (picture at s)
 
--- a text for each pixel
+-- lines with these characters for dark and light pixels
 abbrev pub char_text : View → List ℕ → List ℕ → Layout → List Color → List ℕ
 char_text v dark light at s = text_of (dark_of v dark light) (light_of v dark light) (picture at s)
 
--- what each format draws: bytes are the text of modules, or their pixels, or a file that shows these
+-- bytes are the file of these modules in the format
 abbrev pub IsDrawnIn : Format → View → Layout → List Color → List ℕ → Type 0
 IsDrawnIn HalfBlocks v at s bytes = bytes ≡ ended v (half_block_text v true false at s)
 IsDrawnIn LightHalfBlocks v at s bytes = bytes ≡ ended v (half_block_text v false true at s)
@@ -252,7 +253,7 @@ IsDrawnIn Xbm v at s bytes = bytes ≡ xbm_file (dark_of v true false) (light_of
 IsDrawnIn Ascii v at s bytes = bytes ≡ ended v (char_text v (codes "##") (codes "  ") at s)
 IsDrawnIn Ppm v at s bytes = bytes ≡ ppm_file (dark_of v (rgb v.dark) (rgb v.light)) (light_of v (rgb v.dark) (rgb v.light)) (picture at s)
 
--- what each format draws on a sheet
+-- bytes are the file of these modules in the format, with the position, size and title of a sheet
 abbrev pub IsDrawnOn : Format → Sheet → View → Layout → List Color → List ℕ → Type 0
 IsDrawnOn SvgPath t v at s bytes = IsFramed t.frame v at s bytes
 IsDrawnOn Eps t v at s bytes = bytes ≡ eps_on t.dots v at s

@@ -1,5 +1,5 @@
--- The bytes that are read of headers and segments (ISO/IEC 18004:2006, 6.4.8): those of the segments, except that behind FNC1 the characters of the mode
--- Alphanumeric stand for others. Headers give none, not even an application's indicator.
+-- The bytes that a reader passes on for headers and segments (ISO/IEC 18004:2006, 6.4.8): those of the segments, except that after FNC1 a % in
+-- Alphanumeric mode is a separator, and %% is a %. Headers give no bytes, not even an application's indicator.
 use Rattle.std.specs.Prelude.{ℕ, Bool, true, false, ◌||◌, List, [], ◌∷◌, ◌++◌, take, drop, if◌then◌else◌}
 use Rattle.qrcode_gs1.specs.declared.symbol.Position.{Position}
 use Rattle.qrcode_gs1.specs.declared.symbol.Position.TheVariants.{First, Second}
@@ -9,26 +9,26 @@ use Rattle.qrcode_reader.specs.declared.spell.headers.Header.TheVariants.{Eci, F
 use Rattle.qrcode_reader.specs.declared.spell.parts.Part.{Part}
 use Rattle.qrcode_reader.specs.declared.spell.parts.Part.TheVariants.{Front, Bytes}
 
-abbrev pub fnc1 : Position → Header  -- FNC1 in a position
+abbrev pub fnc1 : Position → Header  -- the header for FNC1 in this position
 fnc1 First = Fnc1First
 fnc1 (Second n) = Fnc1Second n
 
-abbrev pub is_fnc1 : Part → Bool  -- a part is FNC1, in either position
+abbrev pub is_fnc1 : Part → Bool  -- the part is FNC1, in either position
 is_fnc1 (Front (Eci n)) = false
 is_fnc1 (Front Fnc1First) = true
 is_fnc1 (Front (Fnc1Second n)) = true
 is_fnc1 (Front (StructuredAppend place last parity)) = false
 is_fnc1 (Bytes m n) = false
 
-abbrev pub byte_count : Part → ℕ  -- how many of the bytes are those of a part
+abbrev pub byte_count : Part → ℕ  -- how many of the bytes belong to the part
 byte_count (Front h) = 0
 byte_count (Bytes m n) = n
 
-abbrev pub part_on : Bool → Part → List ℕ → List ℕ  -- what is handed on of a part of these bytes, behind FNC1 or not
+abbrev pub part_on : Bool → Part → List ℕ → List ℕ  -- the bytes passed on for a part whose own bytes are `chunk`; is_marked: it comes after FNC1
 part_on is_marked (Front h) chunk = []
 part_on is_marked (Bytes m n) chunk = if is_marked then shown_in m chunk else chunk
 
-abbrev pub handed_on : Bool → List Part → List ℕ → List ℕ  -- what is handed on of parts and their bytes
+abbrev pub handed_on : Bool → List Part → List ℕ → List ℕ  -- the bytes passed on for all parts; is_marked: they come after FNC1
 handed_on is_marked [] bytes = []
 handed_on is_marked (p ∷ parts) bytes =
     part_on is_marked p (take (byte_count p) bytes) ++ handed_on (is_fnc1 p || is_marked) parts (drop (byte_count p) bytes)

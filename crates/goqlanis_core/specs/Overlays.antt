@@ -1,4 +1,4 @@
--- What stands in the area of a drawing.
+-- The area in the middle of a drawing, and what is in it.
 use Rattle.std.specs.Prelude.{◌≡◌, ℕ, ◌+◌, ◌*◌, ◌/◌, ◌%◌, ◌<◌, ◌≤◌, ◌&&◌, not, nat_le, nat_lt, Bool, List, [], ◌++◌, codes, decimal, if◌then◌else◌}
 use Rattle.qrcode_types.specs.Versions.{side}
 use Rattle.qrcode_types.specs.declared.types.Color.{Color}
@@ -20,29 +20,29 @@ use Rattle.goqlanis_core.specs.Places.{place_in, HasRoom}
 use Rattle.goqlanis_core.specs.declared.places.Place.{Place}
 use Rattle.goqlanis_core.specs.declared.request.Request.{Request}
 
--- the modules of a symbol under the mask that is asked for, with those of a rectangle light
+-- light are the modules of the symbol under the requested mask, with those of the area light
 abbrev pub AreBeside : Request → Code → Rectangle → List Color → Type 0
 AreBeside r code area light =
     (s : List Color) × (AreUnder r.mask code s × (AgreesOutside code.version (only area) s light × IsLightInside code.version (only area) light))
 
--- the modules along the side of the area of the Swiss cross of a bill: the least odd number that is not below 7 of 46 parts of the symbol's side
+-- the Swiss cross of a bill covers an area with `size` modules along its side: the smallest odd number that is at least 7/46 of the symbol's side
 pub record IsCrossSize (side size : ℕ) : Type 0 where
   pub odd : size % 2 ≡ 1
   pub at_least : 7 * side ≤ 46 * size
   pub least : (n : ℕ) → n % 2 ≡ 1 → 7 * side ≤ 46 * n → size ≤ n
 
--- its pixels: 7 of 46 parts of those of the symbol's side, to the nearest, and halves up
+-- the cross has `width` pixels along its side: 7/46 of the symbol's side in pixels, rounded to the nearest, halves up
 pub record IsCrossWidth (side width : ℕ) : Type 0 where
   pub at_most : 46 * width ≤ 7 * side + 23
   pub at_least : 7 * side < 46 * width + 23
 
--- an `svg` element in a place, of what follows its place and size
+-- an `svg` element at a place; `rest` is everything after its position and size
 abbrev pub svg_element : Place → List ℕ → List ℕ
 svg_element p rest =
     codes "<svg x=\"" ++ (decimal p.left ++ (codes "\" y=\"" ++ (decimal p.top ++ (codes "\" width=\"" ++ (decimal p.width ++ (codes "\" height=\"" ++ (decimal p.height ++ (codes "\"" ++ rest))))))))
 
--- the cross in a format, of the units of a module, the modules along a side, and where it begins. A module has 1656 parts, and the cross 252
--- times as many of these along its side as the code has modules
+-- the cross in a format. `unit` is the size of a module, `side` the modules along the symbol's side, and `left` where the cross begins, in 1656ths of
+-- a module. Its side is 252 * side of these.
 abbrev pub cross_text : Format → ℕ → ℕ → ℕ → List ℕ
 cross_text Eps unit side left =
     codes "gsave " ++ (decimal unit ++ (codes " 1656 div dup scale " ++ (decimal left ++ (codes " dup translate " ++ (decimal side
@@ -54,37 +54,36 @@ cross_text f unit side left =
     codes "<g transform=\"scale(" ++ (decimal unit ++ (codes ") scale(.000603864734) translate(" ++ (decimal left ++ (codes " " ++ (decimal left ++ (codes ") scale(" ++ (decimal side
     ++ codes ")\" shape-rendering=\"auto\"><path fill=\"#fff\" d=\"M0 0h252v252H0z\"/><path d=\"M18 18h216v216H18z\"/><path fill=\"#fff\" d=\"M105 56h42v49h49v42h-49v49h-42v-49H56v-42h49z\"/></g>")))))))
 
--- the same in the middle of a drawing: 252 of 1656 is 7 of 46, and 702 are left on either side
+-- the cross in the middle of a drawing: 252 of 1656 parts is 7 of 46, which leaves 702 on either side
 abbrev pub cross_for : Request → Version → List ℕ
 cross_for r v = cross_text r.format (unit_for r v) (side v) (1656 * zone_for r v + 702 * side v)
 
--- what is drawn of what stands in an area
+-- the text to draw on top for what is in the area
 abbrev pub element_for : Request → Version → Rectangle → Inside → List ℕ
 element_for r v area Nothing = []
 element_for r v area Cross = cross_for r v
 element_for r v area (Element margin rest) = svg_element (place_in r v area margin) rest.now
 
-abbrev pub LacksRoom : Version → Rectangle → Inside → Type 0  -- it is an element that has no room
+abbrev pub LacksRoom : Version → Rectangle → Inside → Type 0  -- an element that has no room in the area
 LacksRoom v area Nothing = ⊥
 LacksRoom v area Cross = ⊥
 LacksRoom v area (Element margin rest) = ¬ HasRoom v area margin
 
--- bytes show a symbol with the modules of a rectangle light, and what stands there over all that is drawn
+-- bytes draw the symbol as requested, with the modules of the area light and what is in it on top of everything
 abbrev pub IsShownWith : Request → Code → Rectangle → Inside → List ℕ → Type 0
 IsShownWith r code area inside bytes =
     (light : List Color) × (AreBeside r code area light
     × IsPaintedIn r.format (sheet_for r code.version) (view_for r) (layout_for r code.version) code.version r.parts.now (element_for r code.version area inside) light bytes)
 
-abbrev pub lies_between : ℕ → ℕ → ℕ → Bool  -- from one number on, below another
+abbrev pub lies_between : ℕ → ℕ → ℕ → Bool  -- n is at least `from` and below `to`
 lies_between from to n = nat_le from n && nat_lt n to
 
-abbrev pub is_in_bar : ℕ → ℕ → Bool  -- the upright bar of the white cross has a unit; the other one has it with its place turned
+abbrev pub is_in_bar : ℕ → ℕ → Bool  -- the cell is in the upright bar of the white cross; with x and y exchanged, in the other bar
 is_in_bar x y = lies_between 105 147 x && lies_between 56 196 y
 
--- a unit of the Swiss cross of a bill, which has 252 along a side, is black: inside of the white frame, and in neither bar of
--- the white cross
+-- the cell of the Swiss cross of a bill, on a grid of 252 by 252, is black: inside the white frame, and in neither bar of the white cross
 abbrev pub is_black_unit : ℕ → ℕ → Bool
 is_black_unit x y = lies_between 18 234 x && lies_between 18 234 y && not (is_in_bar x y) && not (is_in_bar y x)
 
-abbrev pub cross_shade : ℕ → Shade  -- a unit by its place in row order
+abbrev pub cross_shade : ℕ → Shade  -- the colour of a cell, by its index in row order
 cross_shade i = grey_shade (if is_black_unit (i % 252) (i / 252) then 0 else 1)

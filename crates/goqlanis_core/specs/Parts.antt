@@ -8,7 +8,8 @@ use Rattle.qrcode_layout.specs.declared.figures.Figure.{Figure}
 use Rattle.goqlanis_core.specs.declared.parts.Part.{Part}
 use Rattle.goqlanis_core.specs.declared.parts.Part.TheVariants.{Finder, Alignment, Timing, FormatWord, VersionWord, Data}
 
--- what a figure belongs to: squares of seven modules are finder patterns, and light bars separate them; the dark module goes with the format word
+-- the part that a figure belongs to: squares of seven modules are finder patterns, with the light bars as their separators; the dark module belongs
+-- to the format information
 abbrev pub figure_part : Figure → Part
 figure_part f =
     elim f.coloring [
@@ -20,10 +21,10 @@ figure_part f =
       | WordDown ↦ VersionWord
     ]
 
--- the part of a place when a figure is drawn over what is there
+-- the part of a place once the figure is drawn over `below`
 abbrev pub part_over : ℕ → ℕ → Part → Figure → Part
 part_over x y below f = if has f x y then figure_part f else below
 
--- the part of the place in column x and row y: the format word, or the last figure that has it, or else data
+-- the part of the place in column x and row y: format information, or that of the last figure that has it, or else data
 unfoldable pub part_of : Version → ℕ → ℕ → Part
 part_of v x y = if is_some (format_index v x y) then FormatWord else fold (part_over x y) Data (figures v)

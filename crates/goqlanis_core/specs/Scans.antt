@@ -1,4 +1,4 @@
--- What is read of a picture.
+-- How a picture decodes, and why it does not.
 use Rattle.std.specs.Prelude.{◌≡◌, ◌⊎◌, ◌==◌, ◌/◌, ◌<◌, ◌≤◌, ℕ, List, [], ◌∷◌, Bool, true, false, Some, None, length, map, flat_map, if◌then◌else◌}
 use Rattle.std.specs.List.{starts_with}
 use Rattle.qrcode_types.specs.declared.types.Color.{Color}
@@ -25,24 +25,24 @@ use Rattle.goqlanis_core.specs.declared.scanning.Scan.{Scan}
 use Rattle.goqlanis_core.specs.declared.scanning.Unread.{Unread}
 use Rattle.goqlanis_core.specs.declared.scanning.Unread.TheVariants.{Unscanned, Png, Jpeg, NoSquare, NoSymbol, OutOfMemory}
 
--- the square of modules that pixels show: no square whose first row has a dark module has fewer modules a side
+-- the pixels show this square of modules in a plain margin, and no square with fewer modules a side whose first row has a dark module
 pub record IsLeastSquareIn (b : Bitmap) (count zone scale : ℕ) (modules : List Color) : Type 0 where
   pub square : IsSquareIn b count zone scale modules
   pub least : (other around size column : ℕ) (others : List Color) → IsFramedIn b other around size column others → count ≤ other
 
-abbrev pub IsSquareOf : Scan → Bitmap → Type 0  -- what is read is that square
+abbrev pub IsSquareOf : Scan → Bitmap → Type 0  -- the code's square is the one in a plain margin
 IsSquareOf scan b = IsLeastSquareIn b scan.square.count scan.square.zone scan.square.scale scan.square.modules.items
 
-abbrev pub header_in : Part → List Header  -- the header that a part is
+abbrev pub header_in : Part → List Header  -- the header, if the part is one
 header_in (Front h) = h ∷ []
 header_in (Bytes m n) = []
 
-abbrev pub headers_in : List Part → List Header  -- the headers among parts
+abbrev pub headers_in : List Part → List Header  -- the headers among the parts
 headers_in parts = flat_map header_in parts
 
--- The reading of that square: the headers and segments in the first position in which there are some. The bytes are those of the segments, behind FNC1 with
--- separators: where there is no header the reading as bytes in the first position in which the square has one, and where FNC1 stands in front, and no other
--- header, what a reader finds behind it.
+-- How a code's square decodes: to headers and segments, in the first position in which it has some. The bytes are those of the segments, after FNC1
+-- with separators. Without headers they are also the first reading of the square as bytes; with FNC1 in front as the only header, they are what a
+-- reader finds after it, and no others.
 pub record IsReadAs (scan : Scan) : Type 0 where
   pub bytes : List ℕ
   pub first : IsFirstPartsReading scan.square.count scan.square.modules.items scan.any.position scan.any.is_inverted scan.any.reading.version
@@ -53,7 +53,7 @@ pub record IsReadAs (scan : Scan) : Type 0 where
   pub marked : (p : gs1.Position) (segments : List Part) → scan.parts.items ≡ Front (fnc1 p) ∷ segments → headers_in segments ≡ []
       → ReadsMarkedOnly (seen scan.square.count scan.any.position scan.any.is_inverted scan.square.modules.items) p scan.any.reading.data.items
 
--- what is read is the square of modules that stand in a grid, each as the pixel at its centre is; of its scale the whole pixels are told, and no zone
+-- the code's square is the one in a grid: each module has the colour of the pixel at its centre; the scale is rounded down to whole pixels, and there is no zone
 pub record IsSampledOf (scan : Scan) (g : Grid) (b : Bitmap) : Type 0 where
   pub count : scan.square.count ≡ g.count
   pub zone : scan.square.zone ≡ 0
@@ -63,7 +63,7 @@ pub record IsSampledOf (scan : Scan) (g : Grid) (b : Bitmap) : Type 0 where
 abbrev pub IsSampledIn : Scan → Bitmap → Type 0
 IsSampledIn scan b = (g : Grid) × ((scan.grid ≡ Some g) × IsSampledOf scan g b)
 
--- the square that pixels show is of so many modules a side, and has no headers and segments in any position; this is why it has none as it stands
+-- the pixels show a square with `count` modules a side in a plain margin; it decodes in no position, and e is why it does not decode as it is
 pub record ShowsNoSymbol (b : Bitmap) (count : ℕ) (e : reading.Unread) : Type 0 where
   pub zone : ℕ
   pub scale : ℕ
@@ -72,7 +72,7 @@ pub record ShowsNoSymbol (b : Bitmap) (count : ℕ) (e : reading.Unread) : Type 
   pub cause : IsPartsCause modules e
   pub none : (p : Position) (is_inverted : Bool) (bytes : List ℕ) (parts : List Part) → ¬ ReadsParts (seen count p is_inverted modules) bytes parts
 
-abbrev pub IsUnreadIn : Bitmap → Unread → Type 0  -- why pixels are not read
+abbrev pub IsUnreadIn : Bitmap → Unread → Type 0  -- why pixels do not decode
 IsUnreadIn b (Unscanned e) = ⊥
 IsUnreadIn b (Png e) = ⊥
 IsUnreadIn b Jpeg = ⊥
@@ -80,46 +80,46 @@ IsUnreadIn b NoSquare = (count zone scale column : ℕ) (modules : List Color) �
 IsUnreadIn b (NoSymbol count e) = ShowsNoSymbol b count e
 IsUnreadIn b OutOfMemory = Unit
 
--- no square in a margin is read: there is none, or it has no headers and segments in any position
+-- no square in a plain margin decodes: there is none, or it has no headers and segments in any position
 abbrev pub IsNotClean : Bitmap → Type 0
 IsNotClean b = IsUnreadIn b NoSquare ⊎ ((count : ℕ) × ((e : reading.Unread) × IsUnreadIn b (NoSymbol count e)))
 
--- what is read of pixels: the square in a margin; or one that is sampled, where no square in a margin is read
+-- the code's square is in the pixels: the one in a plain margin; or one in a grid, if none in a plain margin decodes
 pub record IsFoundIn (scan : Scan) (b : Bitmap) : Type 0 where
   pub found : ((scan.grid ≡ None) × IsSquareOf scan b) ⊎ (IsSampledIn scan b × IsNotClean b)
 
-abbrev pub is_png : List ℕ → Bool  -- bytes begin as a PNG file does
+abbrev pub is_png : List ℕ → Bool  -- the bytes begin like a PNG file
 is_png bytes = starts_with (λ a b. a == b) bytes (137 ∷ 80 ∷ 78 ∷ 71 ∷ [])
 
-abbrev pub is_jpeg : List ℕ → Bool  -- bytes begin as a JPEG file does
+abbrev pub is_jpeg : List ℕ → Bool  -- the bytes begin like a JPEG file
 is_jpeg bytes = starts_with (λ a b. a == b) bytes (255 ∷ 216 ∷ 255 ∷ [])
 
-abbrev pub shade_lightness : Shade → ℕ  -- how light a shade over white is
+abbrev pub shade_lightness : Shade → ℕ  -- how light a colour is over white
 shade_lightness s = lightness s.red s.green s.blue s.opacity
 
--- the pixels of a PNG file: dark ones are those below the middle of the darkest and the lightest
+-- b shows the pixels of a PNG file: dark ones are darker than halfway between the darkest and the lightest
 pub record IsShownBy (bytes : List ℕ) (b : Bitmap) : Type 0 where
   pub image : Image
   pub shown : image_of bytes ≡ Some image
   pub same : b ≡ record { across = image.across; down = image.down; marks = dark_of_shades (map shade_lightness image.pixels) }
 
--- the pixels of a picture: of a PNG file, or of any other
+-- b shows the pixels of a picture: of a PNG file, or of another format
 pub record IsPictureOf (bytes : List ℕ) (b : Bitmap) : Type 0 where
   pub png : is_png bytes ≡ true → IsShownBy bytes b
   pub other : is_png bytes ≡ false → IsSeenIn bytes b
 
--- the pixels of a picture, with dark and light exchanged where their first row is dark
+-- b shows the pixels of a picture, with dark and light exchanged if its first row is dark
 pub record IsSeenAs (bytes : List ℕ) (b : Bitmap) (is_inverted : Bool) : Type 0 where
   pub pixels : Bitmap
   pub shown : IsPictureOf bytes pixels
   pub edge : is_inverted ≡ has_dark_edge pixels
   pub same : b ≡ (if is_inverted then inverted pixels else pixels)
 
--- the image of a PNG file has too many pixels
+-- e says that the image of a PNG file has too many pixels
 abbrev pub IsLargeImage : List ℕ → unscanned.Unscanned → Type 0
 IsLargeImage bytes e = (image : Image) × ((image_of bytes ≡ Some image) × IsColoursRefusal (length image.pixels) image.across image.down e)
 
--- why bytes show no pixels: what they lack, and of a PNG file why it is refused
+-- why bytes show no pixels: what is wrong with them, or why they are not a PNG file that can be read
 abbrev pub IsUnseen : List ℕ → Unread → Type 0
 IsUnseen bytes (Unscanned e) = ((is_png bytes ≡ false) × IsUnscanned bytes e) ⊎ IsLargeImage bytes e
 IsUnseen bytes (Png e) = (is_png bytes ≡ true) × IsRefused bytes e
@@ -128,14 +128,14 @@ IsUnseen bytes NoSquare = ⊥
 IsUnseen bytes (NoSymbol count e) = ⊥
 IsUnseen bytes OutOfMemory = Unit
 
--- what the bytes of a picture are read as: a square of modules that its pixels show, and that square's reading
+-- how a picture decodes: to a square of modules in its pixels, and what that decodes to
 pub record IsScanOf (bytes : List ℕ) (scan : Scan) : Type 0 where
   pub pixels : Bitmap
   pub seen : IsSeenAs bytes pixels scan.is_inverted
   pub square : IsFoundIn scan pixels
   pub read : IsReadAs scan
 
--- why pixels whose square of so many modules a side is not read are not read
+-- the error for pixels whose square with `count` modules a side does not decode
 abbrev pub unread_as : ℕ → reading.Unread → Unread
 unread_as count reading.TheVariants.OutOfMemory = OutOfMemory
 unread_as count reading.TheVariants.NoSuchSide = NoSymbol count reading.TheVariants.NoSuchSide
@@ -143,14 +143,14 @@ unread_as count reading.TheVariants.NoFormat = NoSymbol count reading.TheVariant
 unread_as count (reading.TheVariants.Damaged b) = NoSymbol count (reading.TheVariants.Damaged b)
 unread_as count reading.TheVariants.NotSpelled = NoSymbol count reading.TheVariants.NotSpelled
 
--- pixels that a picture shows are not read
+-- the picture has pixels, and e is why they do not decode
 pub record HasUnreadPixels (bytes : List ℕ) (e : Unread) : Type 0 where
   pub pixels : Bitmap
   pub is_inverted : Bool
   pub seen : IsSeenAs bytes pixels is_inverted
   pub unread : IsUnreadIn pixels e
 
-abbrev pub IsUnreadPicture : List ℕ → Unread → Type 0  -- why the bytes of a picture are not read
+abbrev pub IsUnreadPicture : List ℕ → Unread → Type 0  -- why a picture does not decode
 IsUnreadPicture bytes (Unscanned e) = IsUnseen bytes (Unscanned e)
 IsUnreadPicture bytes (Png e) = IsUnseen bytes (Png e)
 IsUnreadPicture bytes Jpeg = IsUnseen bytes Jpeg

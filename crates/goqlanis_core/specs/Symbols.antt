@@ -12,19 +12,19 @@ use Rattle.qrcode.specs.Texts.{IsSymbolAs, IsBoostedAs}
 use Rattle.goqlanis_core.specs.declared.request.Choice.{Choice}
 use Rattle.goqlanis_core.specs.declared.request.Choice.TheVariants.{From, Boosted, At}
 
--- the symbol of data in a manner, of a choice at a level: of the least version, from one on, that holds the data; of that version at the
--- highest level, from the given one on, at which it does; or of the version that is asked for
+-- code is the symbol of the data, written in this manner: From, in the smallest version from one on that holds it; Boosted, in that version, at the
+-- highest level at which it still holds the data; At, in the given version
 abbrev pub IsSymbolIn : Choice → Manner → EcLevel → List ℕ → Code → Type 0
 IsSymbolIn (From from) m l bytes code = IsLeastFrom m from l bytes code.version × ((code.level ≡ l) × IsSymbolAs m code.version l bytes code.modules)
 IsSymbolIn (Boosted from) m l bytes code = IsBoostedAs m from l bytes code
 IsSymbolIn (At version) m l bytes code = (code.version ≡ version) × ((code.level ≡ l) × IsSymbolAs m version l bytes code.modules)
 
--- why no version from one on is taken: there is no such version, or none from it on holds the data, or memory was refused
+-- why data has no symbol: there is no such version; or no allowed version holds it, for At by the causes of IsRefusedIn; or memory runs out
 abbrev pub IsRefusalFrom : Choice → Manner → EcLevel → List ℕ → QrError → Type 0
 IsRefusalFrom (From from) m l bytes e = IfCause (is_valid from ≡ false) (e ≡ InvalidVersion) (IsRefusedFrom m from l bytes e)
 IsRefusalFrom (Boosted from) m l bytes e = IfCause (is_valid from ≡ false) (e ≡ InvalidVersion) (IsRefusedFrom m from l bytes e)
 IsRefusalFrom (At version) m l bytes e = IsRefusedIn m version l bytes e
 
--- why there is no symbol: memory was refused, or no version that may be taken holds the data
+-- why there is no symbol: memory runs out, or one of these causes
 abbrev pub IsRefusedFor : Choice → Manner → EcLevel → List ℕ → QrError → Type 0
 IsRefusedFor choice m l bytes e = (e ≡ OutOfMemory) ⊎ IsRefusalFrom choice m l bytes e

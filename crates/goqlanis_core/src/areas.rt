@@ -1,4 +1,4 @@
-//! The area of a logo.
+//! Finds the area of a symbol that a logo may cover.
 
 ghost use Rattle.std.specs.Prelude.{◌≡◌, ◌⊎◌, ◌↔◌, ◌^◌, ◌<◌, IsTrue, IfOk, IfErr, IfSome, IfNone};
 ghost use Rattle.qrcode_types.specs.Versions.{has_level, is_valid, level_number};
@@ -19,45 +19,47 @@ use std::alloc::{AllocError, Global};
 /// How large the area of a logo is.
 #[derive(Clone, Copy)]
 pub enum LogoSize {
-    /// As large as leaves half of the codewords that each block may lose, rounded down.
+    /// As large as possible, while each block can still correct half of the errors that it could
+    /// correct without a logo, rounded down.
     Largest,
-    /// So many modules along its longer side, or one less where that is even.
+    /// This many modules along the longer side; one less if the number is even.
     Modules(usize),
-    /// So many hundredths of the symbol's side, rounded down to an odd number of modules.
+    /// This percentage of the symbol's side, at most 100, rounded down to an odd number of modules,
+    /// at least 1.
     Percent(u32),
 }
 
-/// What is asked of the area of a logo, which lies in the middle of a symbol.
+/// The requested area, which lies in the middle of the symbol.
 #[derive(Clone, Copy)]
 pub struct LogoWish {
     pub size: LogoSize,
-    /// How wide it is beside its height.
+    /// The width, in proportion to `down`.
     pub across: u32,
-    /// How high it is beside its width.
+    /// The height, in proportion to `across`.
     pub down: u32,
-    /// Which patterns it leaves alone.
+    /// Which patterns the area must not touch.
     pub kept: Kept,
 }
 
 /// Why a symbol has no such area.
 #[derive(Clone, Copy)]
 pub enum LogoError {
-    /// It has no module, or more along a side than the symbol.
+    /// The area has no module, or more modules along a side than the symbol.
     Outside,
-    /// It has modules of a pattern that it is to leave alone.
+    /// The area touches a pattern that it must not touch.
     Patterns,
-    /// It may not show anything.
+    /// The area covers too much: not every content of it can be corrected.
     Excess(Excess),
-    /// No area in the middle leaves half of what each block may lose.
+    /// No area in the middle leaves half of the error correction.
     NoRoom,
-    /// Memory was refused.
+    /// Memory ran out.
     OutOfMemory,
 }
 
-/// The area of a logo in each symbol of a version and level. Whatever it shows, the symbol is read
-/// as its bytes.
+/// Returns the area of a logo in symbols of `version` and `ec_level`. Whatever the area shows, the
+/// symbol still decodes to its bytes.
 ///
-/// `LogoError`: why there is none, `OutOfMemory` among them.
+/// Errors: the `LogoError` that says why there is no such area; or `OutOfMemory`.
 pub fn logo_area(
     alloc: Global,
     version: Version,
@@ -75,7 +77,7 @@ pub fn logo_area(
     }
 }
 
-// The modules along the longer side, where they are given.
+// The requested modules along the longer side; `None` for the largest area.
 fn size_in(version: Version, size: LogoSize) -> Option<usize>
     requires { IsTrue (is_valid version) }
     ensures { result ≡ size_in version size }
@@ -87,7 +89,7 @@ fn size_in(version: Version, size: LogoSize) -> Option<usize>
     }
 }
 
-// What is asked of a rectangle that leaves a reserve.
+// The wish for a rectangle that leaves `reserve` correctable codewords in each block.
 fn wish_for(wish: LogoWish, reserve: usize) -> Wish
     ensures { result ≡ wish_for wish reserve }
 {
@@ -99,7 +101,7 @@ fn wish_for(wish: LogoWish, reserve: usize) -> Wish
     }
 }
 
-// The largest area that leaves half of what each block may lose.
+// The largest area that leaves half of the error correction.
 fn largest_area(
     alloc: Global,
     version: Version,
@@ -120,7 +122,7 @@ fn largest_area(
     }
 }
 
-// The area with so many modules along its longer side.
+// The area with `size` modules along its longer side, or one less.
 fn sized_area(
     alloc: Global,
     version: Version,
@@ -150,10 +152,10 @@ fn sized_area(
     }
 }
 
-/// The first version and level that have such an area: the version at the lowest higher level, or
-/// else the smallest larger version of Normal at the level.
+/// Suggests where the wish can be met: `version` at the lowest higher level, or else the smallest
+/// larger Normal version at `ec_level`. `None` if neither exists.
 ///
-/// `AllocError`: memory was refused.
+/// Errors: only `AllocError`, if memory runs out.
 pub fn roomier(
     alloc: Global,
     version: Version,
@@ -173,7 +175,7 @@ pub fn roomier(
     }
 }
 
-// The lowest higher level at which a version has such an area.
+// The lowest level above `ec_level` at which `version` has such an area.
 fn higher_level(
     alloc: Global,
     version: Version,
@@ -193,7 +195,7 @@ fn higher_level(
     Ok(None)
 }
 
-// The level with a number.
+// The level with this number: 0 to 3 for L, M, Q, H.
 fn level_of(number: usize) -> EcLevel
     requires { number < 4 }
     ensures { level_number result ≡ number }
@@ -206,7 +208,7 @@ fn level_of(number: usize) -> EcLevel
     }
 }
 
-// The smallest larger version of Normal that has such an area at a level.
+// The smallest Normal version larger than `version` that has such an area at `ec_level`.
 fn larger_version(
     alloc: Global,
     version: Version,
@@ -226,7 +228,7 @@ fn larger_version(
     Ok(None)
 }
 
-// The number of a version of Normal; 0 for Micro.
+// The number of a Normal version; 0 for Micro.
 fn number_of(version: Version) -> usize
     ensures value { result ≡ number_of version }
     ensures at_most { result < 2 ^ 16 }
@@ -237,7 +239,7 @@ fn number_of(version: Version) -> usize
     }
 }
 
-// Whether there are symbols of a version and level, and they have such an area.
+// Whether `version` has the level, and symbols of both have such an area.
 fn has_area(
     alloc: Global,
     version: Version,

@@ -1,4 +1,4 @@
-//! The codes of a picture, checked.
+//! Checks the codes of a picture against the standard.
 
 ghost use Rattle.std.specs.Prelude.{◌≡◌, ◌≤◌, ◌∷◌, [], All, length, IfErr, IfOk};
 ghost use Rattle.std.specs.List.{AllZip};
@@ -11,20 +11,21 @@ use qrcode_check::{Check, check_seen, check_square};
 use qrcode_reader::scan::square_of;
 use std::alloc::{AllocError, Global};
 
-/// The codes of a picture, checked.
+/// The checks of a picture's codes.
 #[derive(Drop)]
 pub struct Checks {
-    /// What is said of each of the codes that are read, in their order; or of that square alone.
+    /// A check for each decoded code, in the same order; or only that of the square that does not
+    /// decode.
     pub checks: Vec<Check>,
-    /// The codes that are read, and those that seem to be there and are not. There are none where
-    /// all that the picture shows is a square in a margin that is read as bits alone.
+    /// The decoded codes, and those that were found but do not decode. Both are empty if the
+    /// picture is a square in a plain margin whose bits are no headers and segments.
     pub codes: Codes,
 }
 
-/// Checks the codes of a picture: those that are read; or where none is, since the bits of the
-/// square in a margin are no headers and segments, that square.
+/// Checks the decoded codes of a picture. If none decodes, since the bits of the square in a plain
+/// margin are no headers and segments, checks that square.
 ///
-/// The errors are those of `read_codes`, except for bits that are no headers and segments.
+/// Errors: those of `read_codes`, except that bits which are no headers and segments are no error.
 pub fn check_codes(alloc: Global, bytes: &[u8]) -> Result<Checks, Unread>
     ensures each { IfOk result (λ found.
         AreChecksOf bytes.now found.codes.scans.items found.checks.items) }
@@ -41,7 +42,7 @@ pub fn check_codes(alloc: Global, bytes: &[u8]) -> Result<Checks, Unread>
     }
 }
 
-// One check.
+// The check of a square that does not decode.
 fn only(alloc: Global, check: Check) -> Result<Checks, AllocError>
     ensures checks { IfOk result (λ found. found.checks.items ≡ check ∷ []) }
     ensures scans { IfOk result (λ found. found.codes.scans.items ≡ []) }
@@ -56,7 +57,7 @@ fn only(alloc: Global, check: Check) -> Result<Checks, AllocError>
     })
 }
 
-// Checks the codes that are read.
+// Checks each decoded code.
 fn checked(alloc: Global, codes: Codes) -> Result<Checks, AllocError>
     requires { All HasSquare codes.scans.items }
     ensures checks { IfOk result (λ found.
@@ -70,7 +71,7 @@ fn checked(alloc: Global, codes: Codes) -> Result<Checks, AllocError>
     Ok(Checks { checks, codes })
 }
 
-// Checks a code that is read. It is read as bits, so that memory alone may be refused.
+// Checks a decoded code. Its bits can be read, so only memory can fail.
 fn check_scan(alloc: Global, scan: &Scan) -> Result<Check, AllocError>
     requires { HasSquare scan.now }
     ensures { IfOk result (IsCheckOfScan scan.now) }
@@ -82,8 +83,8 @@ fn check_scan(alloc: Global, scan: &Scan) -> Result<Check, AllocError>
     }
 }
 
-// Checks the square in a margin of a picture as bits. It has been read as bits that are no headers
-// and segments, so that memory alone may be refused.
+// Checks the square in a plain margin. Its bits can be read, although they are no headers and
+// segments, so only memory can fail.
 fn unspelled(alloc: Global, bytes: &[u8]) -> Result<Check, AllocError>
     ensures { IfOk result (IsSquareCheckOf bytes.now) }
 {

@@ -1,4 +1,4 @@
-//! All codes of a picture.
+//! Finds and decodes all codes of a picture.
 
 ghost use Rattle.std.specs.Prelude.{◌≡◌, ◌≤◌, ◌⊎◌, ◌++◌, ◌∷◌, [], ℕ, All, insert, length, IsTrue, IfOk, IfErr, OnOk};
 ghost use Rattle.qrcode_reader.specs.declared.refusals.Unread.TheVariants.{OutOfMemory};
@@ -11,24 +11,24 @@ use qrcode_reader::scan::{Grid, Pixels, Square, grids_of, sampled_at};
 use qrcode_reader::{AnyPartsReading, Unread, read_any_parts};
 use std::alloc::{AllocError, Global};
 
-/// A square between finder patterns that is not read.
+/// A square that was found by its finder patterns but does not decode.
 #[derive(Clone, Copy)]
 pub struct Missed {
-    /// Where its modules stand.
+    /// The position of its modules.
     pub grid: Grid,
-    /// Why it is not read as it stands; it is read in no other position.
+    /// Why it does not decode as it is. Rotated, mirrored or inverted it does not decode either.
     pub cause: Unread,
 }
 
 impl Missed {
-    /// The column and row of pixels where it starts.
+    /// Returns the pixel column and row of its upper left corner.
     pub fn corner(&self) -> (usize, usize) {
         let place = place_of(&self.grid);
         (place.left, place.top)
     }
 }
 
-// What stands in a grid.
+// What a grid turns out to be.
 #[derive(Drop)]
 enum Found {
     Nothing,
@@ -36,7 +36,7 @@ enum Found {
     Missed(Missed),
 }
 
-// The first column and row of a square, and those behind its last ones.
+// The pixels that a square takes: from `left` to before `right`, and from `top` to before `bottom`.
 #[derive(Clone, Copy)]
 struct Place {
     left: usize,
@@ -48,15 +48,17 @@ struct Place {
 /// The codes of a picture.
 #[derive(Drop)]
 pub struct Codes {
-    /// Those that are read, from the top down, and from the left where they stand side by side.
+    /// The decoded codes, from top to bottom, and from left to right where they are side by side.
     pub scans: Vec<Scan>,
-    /// Those that seem to be there, and are not read.
+    /// Squares that look like codes but do not decode.
     pub missed: Vec<Missed>,
 }
 
-/// Reads the codes of a picture: the square in a margin, or else those that stand between finder
-/// patterns. Of the latter, Micro ones have no more wrong codewords than the standard allows. There
-/// is one at least, or an error.
+/// Decodes the codes of a picture: the square in a plain margin, or else the squares that are found
+/// by their finder patterns. Among the latter, Micro symbols with more wrong codewords than the
+/// standard allows are ignored.
+///
+/// Errors: why nothing decodes; so without an error there is at least one code.
 #[tactic(auto, using(crate::proofs::WhyUnread::unread_picture, crate::proofs::WhyUnread::unseen_picture, crate::proofs::Read::scans_of, crate::proofs::Read::missed_of))]
 pub fn read_codes(alloc: Global, bytes: &[u8]) -> Result<Codes, scanning::Unread>
     ensures value { IfOk result (λ codes. All (IsScanOf bytes.now) codes.scans.items) }
@@ -70,7 +72,7 @@ pub fn read_codes(alloc: Global, bytes: &[u8]) -> Result<Codes, scanning::Unread
     }
 }
 
-// The codes in pixels, which may have dark and light exchanged.
+// Decodes the codes in pixels whose dark and light may have been exchanged.
 #[tactic(auto, using(crate::proofs::Read::only_code, crate::proofs::WhyUnread::not_clean))]
 fn codes_in(alloc: Global, pixels: &Pixels, is_inverted: bool) -> Result<Codes, scanning::Unread>
     ensures codes { IfOk result (AreCodesIn pixels.now is_inverted) }
@@ -94,7 +96,7 @@ fn codes_in(alloc: Global, pixels: &Pixels, is_inverted: bool) -> Result<Codes, 
     }
 }
 
-// One code.
+// A single code.
 fn only(alloc: Global, scan: Scan) -> Result<Codes, AllocError>
     ensures scans { IfOk result (λ codes. codes.scans.items ≡ scan ∷ []) }
     ensures missed { IfOk result (λ codes. codes.missed.items ≡ []) }
@@ -105,7 +107,7 @@ fn only(alloc: Global, scan: Scan) -> Result<Codes, AllocError>
     })
 }
 
-// The codes between finder patterns.
+// Decodes the codes that are found by their finder patterns.
 #[tactic(auto, using(crate::proofs::Read::no_code))]
 fn codes_found(alloc: Global, pixels: &Pixels, is_inverted: bool) -> Result<Codes, AllocError>
     requires { IsNotClean pixels.now }
@@ -121,7 +123,7 @@ fn codes_found(alloc: Global, pixels: &Pixels, is_inverted: bool) -> Result<Code
     Ok(codes)
 }
 
-// Adds what stands in a grid, unless a code is read there.
+// Adds what is in a grid, unless a decoded code overlaps it.
 fn add(
     codes: &mut Codes,
     alloc: Global,
@@ -144,7 +146,7 @@ fn add(
     Ok(())
 }
 
-// What stands in a grid.
+// Decodes what is in a grid.
 fn found_at(
     alloc: Global,
     pixels: &Pixels,
@@ -176,7 +178,7 @@ fn found_at(
 }
 
 // Whether a Micro symbol has more wrong codewords than the standard allows (ISO/IEC 18004:2006,
-// 6.5.1). It has one finder pattern and little error correction: there are such in noise.
+// 6.5.1). With one finder pattern and little error correction, such symbols appear in noise.
 fn is_doubtful(any: &AnyPartsReading) -> bool {
     let read = &any.reading;
     match max_allowed_errors(read.version, read.ec_level) {
@@ -185,14 +187,14 @@ fn is_doubtful(any: &AnyPartsReading) -> bool {
     }
 }
 
-// Whether what is not read is a code nevertheless: it has format words.
+// Whether a square that does not decode is probably a code: it has format words.
 fn is_likely(cause: Unread) -> bool
     ensures { IsTrue result → ¬ (cause ≡ OutOfMemory) }
 {
     matches!(cause, Unread::Damaged(_) | Unread::NotSpelled)
 }
 
-// Inserts a code in a grid before the first one that it precedes.
+// Inserts a code before the first one that it precedes.
 fn insert_code(scans: &mut Vec<Scan>, scan: Scan, grid: &Grid) -> Result<(), AllocError>
     ensures { OnOk result ((n : ℕ) × (scans.new.items ≡ insert scans.old.items n scan)) }
 {
@@ -207,7 +209,7 @@ fn insert_code(scans: &mut Vec<Scan>, scan: Scan, grid: &Grid) -> Result<(), All
     Ok(())
 }
 
-// Appends what is not read, unless it stands where something else is not.
+// Appends a square that does not decode, unless it overlaps another one.
 fn push_missed(all: &mut Vec<Missed>, missed: Missed) -> Result<(), AllocError>
     ensures { OnOk result ((all.new.items ≡ all.old.items)
         ⊎ (all.new.items ≡ all.old.items ++ missed ∷ [])) }
@@ -223,7 +225,7 @@ fn push_missed(all: &mut Vec<Missed>, missed: Missed) -> Result<(), AllocError>
 }
 
 impl Codes {
-    /// Whether a code is read where a grid stands.
+    /// Whether a decoded code overlaps the grid.
     pub fn has_read(&self, grid: &Grid) -> bool {
         let place = place_of(grid);
         self.scans.iter().any(|scan| scan
@@ -232,7 +234,7 @@ impl Codes {
     }
 }
 
-// Where the modules of a grid stand.
+// The pixels that a grid's modules take.
 fn place_of(grid: &Grid) -> Place {
     let parts = grid.parts.max(1);
     Place {
@@ -243,7 +245,7 @@ fn place_of(grid: &Grid) -> Place {
     }
 }
 
-// Whether squares have pixels in common.
+// Whether two squares have pixels in common.
 fn overlap(one: Place, other: Place) -> bool {
     one.left < other.right
         && other.left < one.right
@@ -251,7 +253,7 @@ fn overlap(one: Place, other: Place) -> bool {
         && other.top < one.bottom
 }
 
-// Whether a square stands above another, or beside it and to the left.
+// Whether a square is above another, or next to it on the left.
 fn precedes(one: Place, other: Place) -> bool {
     one.bottom <= other.top || (one.top < other.bottom && one.left < other.left)
 }

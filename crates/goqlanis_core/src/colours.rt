@@ -1,9 +1,9 @@
-//! Colours as people write them: names of CSS, and digits to the base 16.
+//! Parses colours: CSS names and hexadecimal digits.
 
 ghost use Rattle.std.specs.Prelude.{◌≡◌, map, ◌<◌, IfSome};
 ghost use Rattle.goqlanis_core.specs.Colours.{colour_named, is_clear, is_name, colour_of_digits, colour_of_parts, digit_of, names, number_among, opaque, pair, row_of, without_hash};
 
-/// A colour: red, green and blue, and how opaque it is, each from 0 to 255.
+/// A colour: red, green, blue and opacity, each from 0 to 255.
 #[derive(Clone, Copy, PartialEq, Eq)]
 pub struct Colour {
     pub red: u8,
@@ -12,7 +12,7 @@ pub struct Colour {
     pub opacity: u8,
 }
 
-/// No colour: what lies below is seen.
+/// No colour: what is below shows through.
 pub const TRANSPARENT: Colour = Colour {
     red: 255,
     green: 255,
@@ -20,7 +20,7 @@ pub const TRANSPARENT: Colour = Colour {
     opacity: 0,
 };
 
-// The named colours of CSS Color Module Level 4: red, green and blue in the bytes of a number.
+// The named colours of CSS Color Module Level 4, as `0xrrggbb`.
 #[rattlefmt::skip]
 pub static NAMES: &[(&str, u32)] = &[
     ("aliceblue", 0xf0f8ff), ("antiquewhite", 0xfaebd7), ("aqua", 0x00ffff),
@@ -71,9 +71,9 @@ pub static NAMES: &[(&str, u32)] = &[
     ("yellow", 0xffff00), ("yellowgreen", 0x9acd32),
 ];
 
-/// The colour that a text names, in capitals or not: `transparent` or `none`, a name of CSS, or 3,
-/// 4, 6 or 8 digits to the base 16, with or without `#` before them, as `#rgb`, `#rgba`, `rrggbb`
-/// and `#rrggbbaa`. `None`: it names no colour.
+/// Parses a colour, ignoring case: `transparent` or `none`, a CSS name, or 3, 4, 6 or 8 hexadecimal
+/// digits, with or without `#`, as `#rgb`, `#rgba`, `rrggbb` and `#rrggbbaa`. Returns `None` if
+/// `text` is no colour.
 pub fn colour_named(text: &str) -> Option<Colour>
     ensures { result ≡ colour_named text.now }
 {
@@ -86,28 +86,28 @@ pub fn colour_named(text: &str) -> Option<Colour>
     }
 }
 
-// Whether a text names no colour, in capitals or not.
+// Whether a text is `transparent` or `none`, ignoring case.
 fn is_clear(text: &str) -> bool
     ensures { result ≡ is_clear text.now }
 {
     text.eq_ignore_ascii_case("transparent") || text.eq_ignore_ascii_case("none")
 }
 
-// The number of the colour of a name, in capitals or not.
+// The number of a named colour, ignoring case.
 fn number_named(text: &str) -> Option<u32>
     ensures { result ≡ number_among names text.now }
 {
     number_among(NAMES, text)
 }
 
-// Whether a text is a name, in capitals or not.
+// Whether a text is this name, ignoring case.
 fn is_name(name: &str, text: &str) -> bool
     ensures { result ≡ is_name name.now text.now }
 {
     name.eq_ignore_ascii_case(text)
 }
 
-// The number of the first of some names that a text is, in capitals or not.
+// The number of the first of `names` that equals the text, ignoring case.
 fn number_among(names: &[(&str, u32)], text: &str) -> Option<u32>
     ensures { result ≡ number_among (map row_of names.now) text.now }
 {
@@ -119,7 +119,7 @@ fn number_among(names: &[(&str, u32)], text: &str) -> Option<u32>
     None
 }
 
-// Red, green and blue of a number.
+// The opaque colour `0xrrggbb`.
 fn opaque(number: u32) -> Colour
     ensures { result ≡ opaque number }
 {
@@ -131,7 +131,7 @@ fn opaque(number: u32) -> Colour
     }
 }
 
-// A text without # at its beginning.
+// Removes one `#` at the start.
 fn without_hash(text: &[u8]) -> &[u8]
     ensures { result.now ≡ without_hash text.now }
 {
@@ -141,7 +141,7 @@ fn without_hash(text: &[u8]) -> &[u8]
     }
 }
 
-// The colour of digits: one or two for red, for green, for blue, and perhaps for how opaque it is.
+// Parses digits: one or two each for red, green, blue and, optionally, opacity.
 fn colour_of_digits(digits: &[u8]) -> Option<Colour>
     ensures { result ≡ colour_of_digits digits.now }
 {
@@ -158,7 +158,7 @@ fn colour_of_digits(digits: &[u8]) -> Option<Colour>
     }
 }
 
-// A colour of its parts, where each is a number.
+// The colour of these parts, if none is missing.
 fn colour_of_parts(
     red: Option<u8>,
     green: Option<u8>,
@@ -175,14 +175,14 @@ fn colour_of_parts(
     })
 }
 
-// The number of two digits to the base 16.
+// The value of two hexadecimal digits.
 fn pair(high: u8, low: u8) -> Option<u8>
     ensures { result ≡ pair high low }
 {
     Some(16 * digit_of(high)? + digit_of(low)?)
 }
 
-// A digit to the base 16, in capitals or not.
+// The value of a hexadecimal digit, ignoring case.
 fn digit_of(byte: u8) -> Option<u8>
     ensures value { result ≡ digit_of byte }
     ensures at_most { IfSome result (λ digit. digit < 16) }

@@ -1,4 +1,4 @@
-//! Drawings for requests.
+//! Makes symbols, and draws them as requested.
 
 ghost use Rattle.std.specs.Prelude.{◌≡◌, ◌≤◌, ◌⊎◌, length, unwrap_or, IfOk, IfErr, IsOkUnless};
 ghost use Rattle.qrcode_types.specs.declared.types.QrError.TheVariants.{InvalidVersion, OutOfMemory};
@@ -19,18 +19,19 @@ use qrcode::render::svg::{Frame, Size};
 use qrcode::types::{Color, EcLevel, QrResult};
 use std::alloc::Global;
 
-/// A symbol, and the bytes that show it under the mask that is asked for.
+/// A symbol and its picture.
 #[derive(Drop)]
 pub struct Drawing {
-    /// The symbol under the mask of least penalty.
+    /// The symbol under its own mask, the first with the lowest penalty. The picture may show
+    /// another mask.
     pub code: QrCode,
     pub bytes: Vec<u8>,
 }
 
-/// The symbol of data in a manner, of a choice at a level.
+/// Encodes `bytes` at `level` in a version that `choice` allows, written as `manner` says.
 ///
-/// It is refused where no version that may be taken holds the data, by the causes of
-/// `QrCode::at_least`, `QrCode::at_least_boosted` or `QrCode::in_version`, `OutOfMemory` among them.
+/// Errors: those of `QrCode::at_least`, `QrCode::at_least_boosted` and `QrCode::in_version`,
+/// `OutOfMemory` among them.
 pub fn symbol_in(
     alloc: Global,
     choice: Choice,
@@ -48,9 +49,10 @@ pub fn symbol_in(
     }
 }
 
-/// A symbol, drawn as a request asks for.
+/// Draws `code` as requested, under the requested mask.
 ///
-/// `InvalidVersion`: its version has no mask of the number. `OutOfMemory`: memory was refused.
+/// Errors: `InvalidVersion` if the version of `code` lacks that mask; `OutOfMemory` if memory runs
+/// out, or if the picture is larger than its format allows, as `draw_in` says.
 pub fn drawing_of(alloc: Global, request: &Request<'_>, code: QrCode) -> QrResult<Drawing>
     ensures symbol { IfOk result (λ drawing. drawing.code ≡ code) }
     ensures shown { IfOk result (IsShownIn request.now) }
@@ -62,7 +64,7 @@ pub fn drawing_of(alloc: Global, request: &Request<'_>, code: QrCode) -> QrResul
     Ok(Drawing { code, bytes })
 }
 
-/// Modules of a symbol, drawn as a request asks for, in SVG, EPS and PDF with something over them.
+/// Draws these modules of a symbol as requested. In SVG, EPS and PDF, draws `over` on top of them.
 pub(crate) fn modules_drawn(
     alloc: Global,
     request: &Request<'_>,
@@ -92,7 +94,7 @@ pub(crate) fn modules_drawn(
     painted(alloc, request.format, code.version(), &picture, &sheet)
 }
 
-// The sheet of a symbol, with something over the modules.
+// The sheet for a symbol, with `over` on top of the modules.
 fn sheet<'a>(request: &Request<'a>, code: &QrCode, over: &'a [u8]) -> Sheet<'a>
     ensures sheet { sheet_of result ≡ sheet_for request.now code.now.version }
     ensures parts { result.parts.now ≡ request.now.parts.now }
@@ -115,7 +117,7 @@ fn sheet<'a>(request: &Request<'a>, code: &QrCode, over: &'a [u8]) -> Sheet<'a>
     }
 }
 
-/// The pixels of an inch, where they are a length.
+/// Returns the pixels per inch that the request's `length` sets, if it sets one.
 pub fn dots(request: &Request<'_>, code: &QrCode) -> Option<u32>
     ensures { result ≡ dots_for request.now code.now.version }
 {
@@ -129,7 +131,7 @@ pub fn dots(request: &Request<'_>, code: &QrCode) -> Option<u32>
     }
 }
 
-/// The modules of the quiet zone at each side.
+/// Returns the width of the quiet zone in modules.
 pub fn quiet_zone(request: &Request<'_>, code: &QrCode) -> u32
     ensures value { result ≡ unwrap_or request.now.zone (quiet_zone code.now.version) }
     ensures at_most { result ≤ 255 }
@@ -141,7 +143,7 @@ pub fn quiet_zone(request: &Request<'_>, code: &QrCode) -> u32
     }
 }
 
-/// The units of a module, in which what stands over a drawing is placed.
+/// Returns the size of a module in the units that overlays are placed in.
 pub(crate) fn unit(request: &Request<'_>, code: &QrCode) -> u32
     ensures value { result ≡ unit_for request.now code.now.version }
     ensures at_least { 1 ≤ result }
@@ -150,8 +152,8 @@ pub(crate) fn unit(request: &Request<'_>, code: &QrCode) -> u32
     request.format.units(scale(request, code).max(1))
 }
 
-/// The pixels of a module, as many as there is room for where the pixels of a side are given; 0
-/// where there is room for none.
+/// Returns the pixels of a module: those requested, or as many as fit in the requested side. 0 if a
+/// module does not fit.
 pub fn scale(request: &Request<'_>, code: &QrCode) -> u32
     ensures value { result ≡ scale_for request.now code.now.version }
     ensures at_most { result ≤ 65535 }

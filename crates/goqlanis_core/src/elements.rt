@@ -1,4 +1,4 @@
-//! Symbols of elements of GS1, and of data of applications.
+//! Makes symbols with FNC1: GS1 elements, and data in an application's own format.
 
 ghost use Rattle.std.specs.Prelude.{◌≡◌, ◌≢◌, true, false, map, IfOk, IfErr};
 ghost use Rattle.qrcode_gs1.specs.Items.{item};
@@ -12,10 +12,12 @@ use qrcode_gs1::symbol::errors::{SymbolError, SymbolResult};
 use qrcode_gs1::symbol::{for_application_from, gs1_from};
 use std::alloc::Global;
 
-/// The symbol of elements that a choice asks for at a level, which is kept.
+/// Encodes GS1 elements at `level` in the smallest version that `choice` allows and that holds
+/// them. The level is kept, also with `Choice::Boosted`.
 ///
-/// `Elements`: which element is refused first, and why. `Symbol(DataTooLong)`: no version that the
-/// choice allows holds them; none of Micro QR does. `OutOfMemory`, in either: memory was refused.
+/// Errors: `Elements` with the first element that is not valid, and why; `Symbol(DataTooLong)` if
+/// no version that the choice allows holds them (Micro QR never does); `OutOfMemory`, in either of
+/// these, if memory runs out.
 #[tactic(auto, using(crate::proofs::Choices::elements_alone))]
 pub fn symbol_of_elements(
     alloc: Global,
@@ -41,11 +43,12 @@ pub fn symbol_of_elements(
     }
 }
 
-/// The symbol of an application's data, behind FNC1 in second position and the application's
-/// indicator, at a level, which is kept. Byte 29 is the separator.
+/// Encodes data in an application's own format at `level`, in the smallest version that `choice`
+/// allows and that holds it: after FNC1 in second position and the indicator `application`. The
+/// level is kept, also with `Choice::Boosted`. Byte 29 is the separator.
 ///
-/// `DataTooLong`: no version that the choice allows holds the data; none of Micro QR does.
-/// `OutOfMemory`: memory was refused.
+/// Errors: `DataTooLong` if no version that the choice allows holds the data (Micro QR never does);
+/// `OutOfMemory` if memory runs out.
 #[tactic(auto, using(crate::proofs::Choices::alone))]
 pub fn symbol_for_application(
     alloc: Global,
@@ -74,7 +77,7 @@ pub fn symbol_for_application(
     }
 }
 
-// Whether a symbol is of a version.
+// Whether a symbol has this version.
 fn is_of(code: &QrCode, version: Version) -> bool
     ensures same { result ≡ true → code.now.version ≡ version }
     ensures other { result ≡ false → code.now.version ≢ version }
@@ -82,7 +85,7 @@ fn is_of(code: &QrCode, version: Version) -> bool
     code.version() == version
 }
 
-// The number of a version of Normal; 0 for Micro, which has no FNC1.
+// The number of a Normal version; 0 for Micro, which has no FNC1.
 fn number_of(version: Version) -> usize
     ensures { result ≡ number_of version }
 {

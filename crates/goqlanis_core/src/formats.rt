@@ -1,4 +1,4 @@
-//! The formats of drawings: what each is called, and what is known of it next to what it draws.
+//! The output formats: their names and file extensions, and what is known of each.
 
 ghost use Rattle.std.specs.Prelude.{◌≡◌, ◌≤◌, map};
 ghost use Rattle.std.specs.Option.{option_map};
@@ -9,59 +9,60 @@ use Format::{
     Svg, SvgPath, Terminal, Tspl, Xbm, Zpl,
 };
 
-/// How modules are drawn.
+/// An output format.
 #[derive(Clone, Copy, PartialEq, Eq)]
 pub enum Format {
-    /// Lines of a character for each two pixels, one above the other: blocks where they are dark.
+    /// Lines of half blocks: a character for two pixels, one above the other, drawn where they are
+    /// dark.
     HalfBlocks,
-    /// The same, with blocks where pixels are light, for dark grounds.
+    /// Half blocks that are drawn where pixels are light, for dark backgrounds.
     LightHalfBlocks,
-    /// Half blocks in black on white, by the control sequences of a terminal of 256 colours.
+    /// Half blocks in black on white, for a terminal with 256 colours.
     Terminal,
-    /// Lines of a character for each pixel.
+    /// Lines with one character for each pixel: full blocks for dark ones, spaces for light ones.
     Chars,
-    /// A PNG file of two colours, of 1 to 65,535 pixels a side.
+    /// A PNG file of 1 to 65,535 pixels a side, in two colours unless parts have their own.
     Png,
-    /// An SVG text.
+    /// An SVG file.
     Svg,
-    /// An SVG text of one path, by the runs of dark modules.
+    /// An SVG file with one path, made of the runs of dark modules.
     SvgPath,
-    /// Encapsulated PostScript, a text, in which a pixel is a point.
+    /// An EPS file, in which a pixel is a point unless a resolution is set.
     Eps,
-    /// A PIC text, which has no light modules.
+    /// A PIC file for troff, which draws no light modules.
     Pic,
-    /// A file of black and white pixels, eight in a byte.
+    /// A PBM file: black and white pixels, eight in a byte.
     Pbm,
-    /// A grey map: a file of a byte a pixel.
+    /// A PGM file: grey pixels, a byte for each.
     Pgm,
-    /// The bytes of a grey map without its head: 0 for a dark pixel, 255 for a light one.
+    /// The pixels alone, a byte for each: 0 for dark, 255 for light.
     Grey,
-    /// A PDF file of one page, in which a pixel is a point unless there are dots per inch.
+    /// A PDF file of one page, in which a pixel is a point unless a resolution is set.
     Pdf,
-    /// What a label printer takes that speaks ZPL II, a text.
+    /// ZPL II for label printers; text.
     Zpl,
-    /// What a label printer takes that speaks TSPL.
+    /// TSPL for label printers.
     Tspl,
-    /// What a receipt printer takes that speaks ESC/POS, of at most 65,535 pixels a side.
+    /// ESC/POS for receipt printers, at most 65,535 pixels a side.
     EscPos,
-    /// A text in C of black and white pixels, eight in a byte.
+    /// An XBM file: C source with black and white pixels, eight in a byte.
     Xbm,
-    /// A file of red, green and blue of each pixel.
+    /// A PPM file: red, green and blue of each pixel.
     Ppm,
-    /// Lines of two characters for each pixel: number signs where they are dark, spaces elsewhere.
+    /// Lines with two characters for each pixel: `##` for dark ones, spaces for light ones.
     Ascii,
 }
 
-/// What a format of the program is called.
+/// The names of a format.
 pub struct Row {
     pub format: Format,
-    /// What `--format` calls it.
+    /// The name for `--format`.
     pub name: &'static str,
-    /// Its file extension, where it has one.
+    /// The file extension, if it has one.
     pub ending: Option<&'static str>,
 }
 
-/// The formats of the program, in the order in which it lists them.
+/// The formats of the program, in the order of its help.
 #[rattlefmt::skip]
 pub static FORMATS: &[Row] = &[
     Row { format: HalfBlocks, name: "half-blocks", ending: Some("txt") },
@@ -82,7 +83,7 @@ pub static FORMATS: &[Row] = &[
     Row { format: Ascii, name: "ascii", ending: None },
 ];
 
-// The formats of the library for C, in the order of their numbers, from 0 on.
+// The formats of the C library; the index is the number in C.
 static IN_C: &[Format] = &[
     HalfBlocks,
     LightHalfBlocks,
@@ -103,21 +104,21 @@ static IN_C: &[Format] = &[
     Ascii,
 ];
 
-/// The format of a number in C.
+/// Returns the format with this number in the C library.
 pub fn format_numbered(number: u32) -> Option<Format>
     ensures { result ≡ format_numbered number }
 {
     IN_C.get(number as usize).copied()
 }
 
-/// The format of a name, in capitals or not.
+/// Returns the format with this name, ignoring case.
 pub fn format_named(name: &str) -> Option<Format>
     ensures { result ≡ format_named name.now }
 {
     named_among(FORMATS, name)
 }
 
-// The first format among these with a name.
+// The first of `rows` with this name, ignoring case.
 fn named_among(rows: &[Row], name: &str) -> Option<Format>
     ensures { result ≡ named_among (map row_of rows.now) name.now }
 {
@@ -129,14 +130,14 @@ fn named_among(rows: &[Row], name: &str) -> Option<Format>
     None
 }
 
-/// The format of a file extension, in capitals or not.
+/// Returns the format with this file extension, ignoring case.
 pub fn format_of_ending(ending: &str) -> Option<Format>
     ensures { result ≡ format_of_ending ending.now }
 {
     ending_among(FORMATS, ending)
 }
 
-// The first format among these with a file extension.
+// The first of `rows` with this file extension, ignoring case.
 fn ending_among(rows: &[Row], ending: &str) -> Option<Format>
     ensures { result ≡ ending_among (map row_of rows.now) ending.now }
 {
@@ -148,7 +149,7 @@ fn ending_among(rows: &[Row], ending: &str) -> Option<Format>
     None
 }
 
-// Whether a name or a file extension is the known one, in capitals or not.
+// Whether a name or file extension is the known one, ignoring case.
 fn is_known(known: Option<&str>, name: &str) -> bool
     ensures { result ≡ is_known (option_map (λ text. text.now) known.entry) name.now }
 {
@@ -159,21 +160,21 @@ fn is_known(known: Option<&str>, name: &str) -> bool
 }
 
 impl Format {
-    /// Whether it is a text; others are for files.
+    /// Whether the format is text; the others are binary files.
     pub fn is_text(self) -> bool
         ensures { result ≡ is_text self }
     {
         !matches!(self, Png | Pbm | Pgm | Grey | Pdf | Tspl | EscPos | Ppm)
     }
 
-    /// Whether its caller chooses its colours.
+    /// Whether one can choose the colours of dark and light modules.
     pub fn has_colours(self) -> bool
         ensures { result ≡ has_colours self }
     {
         matches!(self, Png | Svg | SvgPath | Eps | Pdf | Ppm)
     }
 
-    /// The pixels of a module where nothing else is asked for.
+    /// Returns the default for the pixels of a module.
     pub fn pixels(self) -> u16
         ensures { result ≡ pixels self }
     {
@@ -183,8 +184,8 @@ impl Format {
         }
     }
 
-    /// The units of a module of so many pixels, in which what stands over a drawing is placed: a
-    /// unit of SVG of one path and of PDF is a module.
+    /// Returns the size of a module of `pixels` pixels in the units that overlays are placed in: 1
+    /// in `SvgPath` and `Pdf`, where a module is the unit, and `pixels` in other formats.
     pub fn units(self, pixels: u32) -> u32
         requires { 1 ≤ pixels }
         ensures value { result ≡ units self pixels }
@@ -197,7 +198,8 @@ impl Format {
         }
     }
 
-    /// What ends a drawing, behind all that it draws, where that may stand before it.
+    /// Returns the end of the file, before which overlays can be inserted; `None` if there is no
+    /// such place.
     pub fn tail(self) -> Option<&'static str>
         ensures { option_map (λ text. text.now) result ≡ tail self }
     {
@@ -208,7 +210,7 @@ impl Format {
         }
     }
 
-    /// The most pixels along a side: of PNG and ESC/POS what their numbers hold, and of characters
+    /// Returns the maximum pixels along a side: what the numbers in PNG and ESC/POS hold; for text,
     /// more than a terminal or a page shows.
     pub fn greatest_side(self) -> u32
         ensures { result ≡ greatest_side self }

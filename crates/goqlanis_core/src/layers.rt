@@ -1,4 +1,4 @@
-//! Drawings with colours of parts: each is drawn over what is there.
+//! Draws symbols whose parts have their own colours, layer upon layer.
 
 ghost use Rattle.std.specs.Prelude.{◌≡◌, ◌==◌, ◌<◌, false, length, string_bytes, IsTrue, IfOk, OnOk, IsOkUnless};
 ghost use Rattle.qrcode_types.specs.Versions.{is_valid, side};
@@ -20,21 +20,22 @@ use qrcode_layout::figures::color_of;
 use qrcode_reader::walk::side;
 use std::alloc::{AllocError, Global};
 
-/// The colour of the dark or of the light modules of a part, in PNG, SVG, EPS and PDF.
+/// A colour for the dark or the light modules of one part, in PNG, SVG, EPS and PDF.
 #[derive(Clone, Copy)]
 pub struct PartInk<'a> {
     pub part: Part,
-    /// Which of its modules have the colour.
+    /// Whether the dark or the light modules get the colour.
     pub tone: Color,
     pub ink: Ink<'a>,
 }
 
-/// A picture of a symbol of a version in a format, with colours of parts in PNG, SVG, EPS and PDF,
-/// and in the last three with something over all. Of two colours for the same modules the later one
-/// is taken.
+/// Draws a picture of a symbol of `version`. In PNG, SVG, EPS and PDF parts get their own colours;
+/// the last of several for the same modules counts. In SVG, EPS and PDF `sheet.over` is drawn on
+/// top.
 ///
-/// `OutOfMemory`: memory was refused, or a PNG file would have no pixel, or more than 65,535 along
-/// a side; with colours of parts, more than 8,192.
+/// Errors: only `OutOfMemory`, if memory runs out or the picture is too large: a PNG or ESC/POS
+/// picture of more than 65,535 pixels a side, or a PNG file with colours of parts of more than
+/// 8,192, or a PNG file without pixels.
 pub(crate) fn painted(
     alloc: Global,
     format: Format,
@@ -64,7 +65,7 @@ pub(crate) fn painted(
     }
 }
 
-/// Whether the module with an index has a colour.
+/// Whether the module at `index`, in row order, gets this colour.
 pub(crate) fn is_painted(
     ink: &PartInk<'_>,
     version: Version,
@@ -79,7 +80,7 @@ pub(crate) fn is_painted(
     ink.tone == modules[index] && ink.part == part_of(version, index % width, index / width)
 }
 
-// The modules that have the colour, as dark ones among light ones.
+// Marks the modules that get this colour as dark, and the others as light.
 fn layer(
     alloc: Global,
     version: Version,
@@ -96,7 +97,7 @@ fn layer(
     Ok(colors)
 }
 
-// What is drawn over the modules: a layer for each colour, and something over all.
+// What is drawn on top of the modules: a layer for each colour, then `sheet.over`.
 fn over(
     alloc: Global,
     format: Format,
@@ -117,7 +118,7 @@ fn over(
     Ok(text)
 }
 
-// The layer of a colour.
+// The layer of one colour.
 fn layer_in(
     alloc: Global,
     format: Format,
@@ -155,7 +156,7 @@ fn layer_in(
     }
 }
 
-// Lines of PostScript that fill the dark modules in a colour.
+// PostScript that fills the dark modules with a colour.
 fn eps_layer(alloc: Global, shown: &Picture<'_>, ink: Ink<'_>) -> QrResult<Vec<u8>>
     ensures value { IfOk result (λ text. text.items ≡ drawn eps_rect (layout_of shown.now)
         shown.now.modules.now (eps_paint (eps_ink (shade_of ink.entry)))) }
@@ -167,7 +168,7 @@ fn eps_layer(alloc: Global, shown: &Picture<'_>, ink: Ink<'_>) -> QrResult<Vec<u
     Ok(text.into_bytes())
 }
 
-// Appends a box for each dark module.
+// Appends a `rectfill` for each dark module.
 fn push_boxes(text: &mut String, shown: &Picture<'_>) -> QrResult<()>
     ensures appends { OnOk result (string_bytes text.new
         ≡ drawn eps_rect (layout_of shown.now) shown.now.modules.now (string_bytes text.old)) }
@@ -188,7 +189,7 @@ fn push_boxes(text: &mut String, shown: &Picture<'_>) -> QrResult<()>
     Ok(())
 }
 
-/// A text with something before its tail.
+/// Inserts `over` before `tail`, which `text` ends with.
 pub(crate) fn inserted(text: Vec<u8>, tail: &str, over: &[u8]) -> Result<Vec<u8>, AllocError>
     requires { HasTail tail.now text.items }
     ensures { IfOk result (λ new. IsInserted tail.now over.now text.items new.items) }

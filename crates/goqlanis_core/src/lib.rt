@@ -1,5 +1,5 @@
-//! What the program `goqlanis` draws for a request, what it reads of a picture, and why it refuses
-//! either.
+//! What the program `goqlanis` and the C library share: symbols and their pictures as requested,
+//! codes read from pictures, and why either fails.
 #![tactic(auto)]
 
 pub mod areas;

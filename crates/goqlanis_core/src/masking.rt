@@ -1,4 +1,4 @@
-//! The modules of a symbol under the mask that is asked for.
+//! The modules of a symbol under the requested mask.
 
 ghost use Rattle.std.specs.Prelude.{◌≡◌, ◌⊎◌, length, IfErr, IfOk};
 ghost use Rattle.qrcode_types.specs.declared.types.QrError.TheVariants.{InvalidVersion, OutOfMemory};
@@ -9,10 +9,11 @@ use qrcode::types::{Color, QrError, QrResult};
 use qrcode_layout::masks::{mask_count, nth_mask};
 use std::alloc::Global;
 
-/// The modules of a symbol under the mask of a number, 0 to 7, of Micro 0 to 3; where none is
-/// given, as they are.
+/// Returns the modules of `code` under the mask with this number: 0 to 7, in Micro 0 to 3. Without
+/// a number, under its own mask.
 ///
-/// `InvalidVersion`: the version has no mask of the number. `OutOfMemory`: memory was refused.
+/// Errors: `InvalidVersion` if the version has no mask with this number; `OutOfMemory` if memory
+/// runs out.
 pub fn modules_under(alloc: Global, code: &QrCode, mask: Option<usize>) -> QrResult<Vec<Color>>
     ensures under { IfOk result (λ modules. AreUnder mask code.now modules.items) }
     ensures square { IfOk result (λ modules.

@@ -1,4 +1,4 @@
-//! What stands in the area of a drawing: a logo, or the Swiss cross.
+//! Draws symbols with an empty area in the middle, and what is in it: a logo, or the Swiss cross.
 
 ghost use Rattle.std.specs.Prelude.{◌≡◌, ◌⊎◌, ◌<◌, ◌*◌, ◌^◌, max, length, map, if◌then◌else◌, string_bytes, IfOk, IfErr, IfNone, IfSome};
 ghost use Rattle.qrcode_types.specs.Versions.{side};
@@ -20,9 +20,9 @@ use qrcode_area::areas::{Area, Rectangle};
 use qrcode_area::covered::lightened;
 use std::alloc::{AllocError, Global};
 
-/// The modules along the side of the area of the Swiss cross of a bill, in a symbol with so many
-/// along its side: it is 7 mm of 46 mm wide (Swiss Implementation Guidelines QR-bill), and has the
-/// least odd number of modules that is not less.
+/// Returns the modules along the side of the area that the Swiss cross of a bill covers, in a
+/// symbol with `side` modules. The cross is 7 mm of 46 mm wide (Swiss Implementation Guidelines
+/// QR-bill); the area has the smallest odd number of modules that covers it.
 pub fn cross_size(side: usize) -> usize
     ensures { side < 2 ^ 32 → IsCrossSize side result }
 {
@@ -30,7 +30,7 @@ pub fn cross_size(side: usize) -> usize
     modules + 1 - modules % 2
 }
 
-/// The pixels along the side of the Swiss cross of a bill, to the nearest.
+/// Returns the pixels along the side of the Swiss cross of a bill, rounded to the nearest.
 pub fn cross_width(request: &Request<'_>, code: &QrCode) -> u32
     ensures { IsCrossWidth (side code.now.version * max (scale_for request.now code.now.version) 1)
         result }
@@ -39,7 +39,7 @@ pub fn cross_width(request: &Request<'_>, code: &QrCode) -> u32
     ((7 * pixels + 23) / 46) as u32
 }
 
-// An `svg` element in a place. What follows its place and size ends it.
+// An `svg` element at `place`; `rest` is everything after its position and size.
 fn svg_element(alloc: Global, place: Place, rest: &str) -> Result<String, AllocError>
     ensures { IfOk result (λ text. string_bytes text ≡ svg_element place rest.now) }
 {
@@ -52,7 +52,7 @@ fn svg_element(alloc: Global, place: Place, rest: &str) -> Result<String, AllocE
     format!(in alloc; "<svg x=\"{left}\" y=\"{top}\" width=\"{width}\" height=\"{height}\"{rest}")
 }
 
-// The Swiss cross of a bill in SVG, EPS and PDF, in the middle of a drawing: 7 mm of 46 mm wide.
+// The Swiss cross of a bill in the middle of an SVG, EPS or PDF drawing: 7 mm of 46 mm wide.
 fn cross(alloc: Global, request: &Request<'_>, code: &QrCode) -> Result<String, AllocError>
     ensures { IfOk result (λ text. string_bytes text ≡ cross_for request.now code.now.version) }
 {
@@ -61,8 +61,8 @@ fn cross(alloc: Global, request: &Request<'_>, code: &QrCode) -> Result<String, 
     cross_text(alloc, request.format, unit, side, 1656 * zone + 702 * side)
 }
 
-// The cross in a format, of the units of a module, the modules along a side, and where it begins,
-// in parts of which a module has 1656: 0.000603864734 is one of them.
+// The cross in a format: `unit` is the size of a module, `side` the symbol's side in modules, and
+// `left` where the cross begins, in 1656ths of a module: 0.000603864734 is 1 / 1656.
 fn cross_text(
     alloc: Global,
     format: Format,
@@ -92,12 +92,13 @@ fn cross_text(
     }
 }
 
-/// The units along the side of the Swiss cross of a bill, of which each has a colour of its own.
+/// The cells along a side of the grid on which the Swiss cross of a bill is drawn.
 pub const CROSS_UNITS: u16 = 252;
 
-/// The Swiss cross of a bill, by the pixels of its units: black with a white frame.
+/// Returns the pixels of the Swiss cross of a bill, one for each cell of its grid: black with a
+/// white frame.
 ///
-/// `AllocError`: memory was refused.
+/// Errors: only `AllocError`, if memory runs out.
 pub fn cross_pixels(alloc: Global) -> Result<Vec<[u8; 4]>, AllocError>
     ensures { IfOk result (λ pixels. map rgba pixels.items
         ≡ map cross_shade (range_with_len 0 (252 * 252))) }
@@ -109,7 +110,7 @@ pub fn cross_pixels(alloc: Global) -> Result<Vec<[u8; 4]>, AllocError>
     Ok(pixels)
 }
 
-// The colour of a unit of the cross.
+// The pixel of a cell.
 fn cross_pixel(x: u32, y: u32) -> [u8; 4]
     ensures { rgba result ≡ grey_shade (if is_black_unit x y then 0 else 1) }
 {
@@ -120,7 +121,7 @@ fn cross_pixel(x: u32, y: u32) -> [u8; 4]
     }
 }
 
-// Whether a unit is black: inside of the frame, and in neither bar of the cross.
+// Whether a cell is black: inside the frame, and in neither bar of the cross.
 fn is_black_unit(x: u32, y: u32) -> bool
     ensures { result ≡ is_black_unit x y }
 {
@@ -128,37 +129,39 @@ fn is_black_unit(x: u32, y: u32) -> bool
     is_inside && !is_in_bar(x, y) && !is_in_bar(y, x)
 }
 
-// Whether the upright bar of the cross has a unit.
+// Whether a cell is in the upright bar of the cross.
 fn is_in_bar(x: u32, y: u32) -> bool
     ensures { result ≡ is_in_bar x y }
 {
     lies_between(105, 147, x) && lies_between(56, 196, y)
 }
 
-// Whether a number is one or greater, and below another.
+// Whether `n` is at least `from` and below `to`.
 fn lies_between(from: u32, to: u32, n: u32) -> bool
     ensures { result ≡ lies_between from to n }
 {
     from <= n && n < to
 }
 
-/// What stands in an area.
+/// What is in the area.
 #[derive(Clone, Copy)]
 pub enum Inside<'a> {
     /// Nothing: its modules are light.
     Nothing,
-    /// The Swiss cross of a bill in SVG, EPS and PDF, black with a white frame, in the middle.
+    /// The Swiss cross of a bill, black with a white frame, in SVG, EPS and PDF. It is in the
+    /// middle.
     Cross,
-    /// An `svg` element in the area less a margin of so many modules at each side, by what follows
-    /// its place and size and ends it.
+    /// An `svg` element: the margin in modules on each side, and everything after its position and
+    /// size.
     Element(u8, &'a str),
 }
 
-/// A symbol with the modules of a rectangle light, drawn as a request asks for, and what stands
-/// there, over all that is drawn. `None`: it is an element, and its margin leaves no module, or the
-/// rectangle is not inside the symbol.
+/// Draws `code` as requested, with the modules of `area` light and `inside` on top of everything.
+/// Returns `None` if an element has no room: its margin leaves no module, or `area` is not inside
+/// the symbol.
 ///
-/// `InvalidVersion`: its version has no mask of the number. `OutOfMemory`: memory was refused.
+/// Errors: `InvalidVersion` if the version of `code` lacks the requested mask; `OutOfMemory` if
+/// memory runs out, or if the picture is larger than its format allows, as `draw_in` says.
 pub fn with_logo(
     alloc: Global,
     request: &Request<'_>,
@@ -181,7 +184,7 @@ pub fn with_logo(
     Ok(Some(bytes))
 }
 
-// What is drawn of what stands in an area, where there is room for it.
+// The text to draw on top, or `None` if it has no room.
 fn element(
     alloc: Global,
     request: &Request<'_>,
@@ -204,9 +207,10 @@ fn element(
     }
 }
 
-/// The modules of a symbol under the mask that is asked for, with those of a rectangle light.
+/// Returns the modules of `code` under the requested mask, with those of `area` light.
 ///
-/// `InvalidVersion`: its version has no mask of the number. `OutOfMemory`: memory was refused.
+/// Errors: `InvalidVersion` if the version of `code` lacks that mask; `OutOfMemory` if memory runs
+/// out.
 pub(crate) fn modules_beside(
     alloc: Global,
     request: &Request<'_>,

@@ -1,4 +1,4 @@
-//! Which part of a symbol a module belongs to.
+//! The part of a symbol that a module belongs to.
 
 ghost use Rattle.std.specs.Prelude.{◌≡◌, ◌↔◌, ◌<◌, ◌≤◌, false, fold, IsTrue};
 ghost use Rattle.qrcode_types.specs.Versions.{is_micro, is_valid, side};
@@ -18,21 +18,21 @@ use qrcode_types::types::Version;
 /// A part of a symbol.
 #[derive(Clone, Copy, PartialEq, Eq)]
 pub enum Part {
-    /// The finder patterns, with the light modules that separate them from the rest.
+    /// Finder patterns, and their separators.
     Finder,
-    /// The alignment patterns, also where they cross timing modules.
+    /// Alignment patterns, also where they cross a timing pattern.
     Alignment,
-    /// The timing modules, dark and light by turns.
+    /// Timing patterns.
     Timing,
-    /// The format word, and the dark module beside it.
+    /// Format information, and the dark module next to it.
     FormatWord,
-    /// The version word.
+    /// Version information.
     VersionWord,
-    /// The places that no pattern and no format word has: data and error correction.
+    /// Everything else: data, error correction and remainder bits.
     Data,
 }
 
-/// The part that the module in a column and a row of a symbol belongs to.
+/// Returns the part that the module in column `x` and row `y` belongs to.
 pub fn part_of(version: Version, x: usize, y: usize) -> Part
     requires valid { IsTrue (is_valid version) }
     requires inside { x < side version }
@@ -52,7 +52,7 @@ pub fn part_of(version: Version, x: usize, y: usize) -> Part
     alignments_over(version, x, y, part)
 }
 
-// The part of a place when a figure is drawn over what is there.
+// The part of a place once `figure` is drawn over `below`.
 fn part_over(figure: &Figure, x: usize, y: usize, below: Part) -> Part
     ensures { result ≡ part_over x y below figure.now }
 {
@@ -63,7 +63,7 @@ fn part_over(figure: &Figure, x: usize, y: usize, below: Part) -> Part
     }
 }
 
-// The part that a figure is, or belongs to.
+// The part that a figure belongs to.
 fn figure_part(figure: &Figure) -> Part
     ensures { result ≡ figure_part figure.now }
 {
@@ -77,7 +77,7 @@ fn figure_part(figure: &Figure) -> Part
     }
 }
 
-// The same of figures, one over the other.
+// The part of a place once all these figures are drawn over `below`, in order.
 #[tactic(auto, using(std::proofs::lemmas::List::Sums::fold_more))]
 fn drawn_over(figures: &[Figure], x: usize, y: usize, below: Part) -> Part
     ensures { result ≡ fold (part_over x y) below figures.now }
@@ -89,7 +89,7 @@ fn drawn_over(figures: &[Figure], x: usize, y: usize, below: Part) -> Part
     part
 }
 
-// The same of the copies of the version word in a symbol of Normal with so many modules a side.
+// Draws the copies of the version information over `below`; `width` is the side of a Normal symbol.
 fn words_over(width: usize, x: usize, y: usize, below: Part) -> Part
     requires { 21 ≤ width }
     ensures { result ≡ fold (part_over x y) below (version_figures width) }
@@ -101,7 +101,7 @@ fn words_over(width: usize, x: usize, y: usize, below: Part) -> Part
     }
 }
 
-// The same of the alignment patterns that have their centres in row `b`.
+// Draws the alignment patterns whose centres are in row `b` over `below`.
 fn alignment_row_over(version: Version, b: usize, x: usize, y: usize, below: Part) -> Part
     requires { IsTrue (is_valid version) }
     ensures { result ≡ fold (part_over x y) below (alignment_row version b) }
@@ -117,7 +117,7 @@ fn alignment_row_over(version: Version, b: usize, x: usize, y: usize, below: Par
     part
 }
 
-// The same of the alignment patterns.
+// Draws the alignment patterns over `below`.
 fn alignments_over(version: Version, x: usize, y: usize, below: Part) -> Part
     requires { IsTrue (is_valid version) }
     ensures { result ≡ fold (part_over x y) below (alignments version) }

@@ -1,4 +1,4 @@
-//! A picture in the middle of a drawing, as a PNG file in full colour.
+//! Draws a picture in the middle of a symbol, as a PNG file in full colour.
 
 ghost use Rattle.std.specs.Prelude.{◌≡◌, ◌⊎◌, ◌+◌, ◌*◌, ◌<◌, ◌≤◌, ◌^◌, length, map, slice_index_or, IfOk, IfErr};
 ghost use Rattle.std.specs.List.{range_with_len};
@@ -20,11 +20,11 @@ use qrcode_area::areas::{Area, Rectangle};
 use qrcode_png::full_color;
 use std::alloc::{AllocError, Global};
 
-/// The most pixels along the side of a drawing with a picture in its middle.
+/// The maximum pixels along a side of such a file.
 pub const GREATEST_SIDE: u32 = 8192;
 
-/// The red, green, blue and opacity of pixels, row by row, and the pixels of a drawing that show
-/// them.
+/// A picture, as red, green, blue and opacity of each pixel, row by row; and the place in the
+/// drawing where it is shown.
 #[derive(Clone, Copy)]
 pub struct Inset<'a> {
     pub pixels: &'a [[u8; 4]],
@@ -33,11 +33,12 @@ pub struct Inset<'a> {
     pub place: Place,
 }
 
-/// A PNG file of a symbol with the modules of a rectangle light, drawn as a request asks for, and
-/// there with a picture over it, of which each pixel shows what lies at its middle.
+/// Draws `code` as requested, as a PNG file, with the modules of `area` light and the picture over
+/// them. A pixel of the drawing shows the pixel of the picture that is at its middle.
 ///
-/// `InvalidVersion`: its version has no mask of the number. `OutOfMemory`: memory was refused, or a
-/// side has more than `GREATEST_SIDE` pixels, which is tested before memory is taken for them.
+/// Errors: `InvalidVersion` if the version of `code` lacks the requested mask; `OutOfMemory` if
+/// memory runs out, or a side has more than `GREATEST_SIDE` pixels; that is tested before memory is
+/// requested.
 pub fn pasted(
     alloc: Global,
     request: &Request<'_>,
@@ -76,8 +77,8 @@ pub fn pasted(
     Ok(full_color(alloc, &pixels, side, side, density)?)
 }
 
-// A drawing without its picture: a byte for each pixel, 0 for a dark one; the pixels along a side;
-// the modules of the quiet zone; the pixels of a module; the area; and the shades of dark and of
+// A drawing before the picture is added: a byte for each pixel, 0 for dark; the pixels along a
+// side; the quiet zone in modules; the pixels of a module; the area; and the colours of dark and
 // light pixels.
 #[derive(Clone, Copy)]
 struct Ground<'a> {
@@ -93,7 +94,7 @@ struct Ground<'a> {
 }
 
 impl<'a> Ground<'a> {
-    // The pixels with a picture.
+    // All pixels, with the picture.
     fn pixels(&self, alloc: Global, inset: &Inset<'_>) -> Result<Vec<[u8; 4]>, AllocError>
         ensures { IfOk result (λ pixels. map rgba pixels.items ≡ map (inset_shade self.now.zone
             self.now.scale self.now.side self.now.area inset.now (map (byte_shade (rgba self.now.dark)
@@ -107,7 +108,7 @@ impl<'a> Ground<'a> {
         Ok(pixels)
     }
 
-    // A pixel by its place.
+    // The pixel at index `i`, with the picture.
     fn pixel(&self, inset: &Inset<'_>, i: usize) -> [u8; 4]
         requires { i < length self.now.marks.now }
         ensures { rgba result ≡ inset_shade self.now.zone self.now.scale self.now.side self.now.area
@@ -125,7 +126,7 @@ impl<'a> Ground<'a> {
         }
     }
 
-    // Its shade without a picture.
+    // The pixel at index `i`, without the picture.
     fn own(&self, i: usize) -> [u8; 4]
         requires { i < length self.now.marks.now }
         ensures { rgba result ≡ slice_index_or (map (byte_shade (rgba self.now.dark)
@@ -134,14 +135,14 @@ impl<'a> Ground<'a> {
         self.shade(self.marks[i])
     }
 
-    // The shade of a byte.
+    // The colour for a byte.
     fn shade(&self, byte: u8) -> [u8; 4]
         ensures { rgba result ≡ byte_shade (rgba self.now.dark) (rgba self.now.light) byte }
     {
         if byte == 0 { self.dark } else { self.light }
     }
 
-    // Whether the area has the module of a pixel.
+    // Whether a pixel's module is in the area.
     fn is_in_area(&self, x: usize, y: usize) -> bool
         ensures { result ≡ in_area self.now.zone self.now.scale self.now.area x y }
     {
@@ -154,7 +155,7 @@ impl<'a> Ground<'a> {
 }
 
 impl<'a> Inset<'a> {
-    // The pixel of the picture that a pixel of the drawing shows, where it shows one.
+    // The pixel of the picture that is shown at this pixel of the drawing, if any.
     fn at(&self, x: usize, y: usize) -> Option<[u8; 4]>
         ensures { result ≡ logo_at self.now x y }
     {
@@ -176,7 +177,7 @@ impl<'a> Inset<'a> {
     }
 }
 
-// Of so many pixels the one that the middle of a pixel shows, where others stand in their place.
+// Scales an index below `count` to one below `size`: the pixel at the middle of this one.
 fn scaled(place: u32, count: u32, size: u16) -> u16
     requires { place < count }
     ensures { result ≡ scaled place count size }
@@ -184,7 +185,7 @@ fn scaled(place: u32, count: u32, size: u16) -> u16
     ((2 * place as u64 + 1) * size as u64 / (2 * count as u64)) as u16
 }
 
-// A shade over another.
+// Draws one colour over another, by its opacity.
 fn over(ground: [u8; 4], shade: [u8; 4]) -> [u8; 4]
     ensures { rgba result ≡ over (rgba ground) (rgba shade) }
 {
@@ -201,7 +202,7 @@ fn over(ground: [u8; 4], shade: [u8; 4]) -> [u8; 4]
     ]
 }
 
-// The mean of two levels of these weights, to the nearest.
+// The weighted mean of two levels, rounded to the nearest.
 fn mean(own: u32, level: u8, other: u32, below: u8) -> u8
     requires some { 1 ≤ own + other }
     requires few { own + other < 2 ^ 17 }

@@ -1,4 +1,4 @@
-//! A square of modules, and how it is drawn.
+//! What is drawn: modules, colours and sizes.
 
 ghost use Rattle.std.specs.Prelude.{◌≡◌, ◌+◌, ◌*◌, ◌^◌, ◌<◌, ◌≤◌, length};
 
@@ -6,8 +6,8 @@ use crate::layers::PartInk;
 use qrcode::render::svg::Frame;
 use qrcode::types::Color;
 
-/// A colour: what SVG writes as it is; red, green and blue from 0 to 255 for EPS and PNG; and how
-/// opaque it is in PNG, from 0 to 255.
+/// A colour: `name` is written to SVG as it is; red, green, blue and opacity, from 0 to 255, are
+/// for other formats. Only PNG has opacity.
 #[derive(Clone, Copy)]
 pub struct Ink<'a> {
     pub name: &'a str,
@@ -17,20 +17,20 @@ pub struct Ink<'a> {
     pub opacity: u8,
 }
 
-/// Where a picture stands, how large it is, and what is said of it, in the formats that have that.
+/// The position and size of a picture, its title and the like, and what is drawn over it, in
+/// formats that have these.
 #[derive(Clone, Copy)]
 pub struct Sheet<'a> {
-    /// The pixels of an inch in EPS and PDF, in place of the dots per inch of the picture, where
-    /// they are given.
+    /// The pixels per inch in EPS and PDF; without it, `dpi` of the picture.
     pub dots: Option<u32>,
-    /// The dots from the left and from the top of a label, in ZPL and TSPL.
+    /// The position on a label in ZPL and TSPL, in dots from the left and from the top.
     pub place: (u32, u32),
-    /// What stands at the element of SVG of one path.
+    /// The size, title, ID and the like of an `SvgPath`; the title also of a PDF file.
     pub frame: Frame<'a>,
-    /// The colours of parts in SVG, EPS, PDF and PNG. Of two for the same modules the later one is
-    /// taken.
+    /// The colours of parts, in SVG, EPS, PDF and PNG. The last of several for the same modules
+    /// counts.
     pub parts: &'a [PartInk<'a>],
-    /// What is drawn over all modules in SVG, EPS and PDF: an element, lines or operators.
+    /// What is drawn over all modules in SVG, EPS and PDF: elements, PostScript or operators.
     pub over: &'a [u8],
 }
 
@@ -41,18 +41,18 @@ pub struct Picture<'a> {
     pub modules: &'a [Color],
     /// The modules along a side.
     pub width: u32,
-    /// The modules of the quiet zone at each side.
+    /// The width of the quiet zone in modules.
     pub zone: u32,
     /// The pixels of a module, across and down.
     pub scale: u32,
-    /// The colours of SVG, EPS and PNG.
+    /// The colours, in formats that have them.
     pub dark: Ink<'a>,
     pub light: Ink<'a>,
-    /// Whether dark and light are exchanged. PIC, which draws no light, is as it is.
+    /// Whether dark and light are exchanged; not in PIC, which draws no light modules.
     pub is_inverted: bool,
-    /// The dots per inch that a PNG file names, where they are given: pixels along a printed inch.
+    /// The dots per inch: recorded in a PNG file; in EPS and PDF, pixels per inch.
     pub dpi: Option<u16>,
-    /// Whether a newline stands behind the last line of characters.
+    /// Whether text ends with a newline.
     pub ends_lines: bool,
     pub ghost square: { length modules.now ≡ width * width },
     pub ghost side_at_most: { width + 2 * zone < 2 ^ 16 },

@@ -1,4 +1,4 @@
-//! Places in a drawing.
+//! Rectangles in a drawing.
 
 ghost use Rattle.std.specs.Prelude.{◌≡◌, ◌↔◌, ◌+◌, ◌<◌, ◌≤◌, IsTrue, IfNone, IfSome};
 ghost use Rattle.goqlanis_core.specs.Places.{fitted, is_in_place, place_in, square, HasPixels, HasRoom};
@@ -8,7 +8,7 @@ use crate::request::Request;
 use qrcode::QrCode;
 use qrcode_area::areas::Rectangle;
 
-/// A rectangle of pixels, or of the units of a drawing.
+/// A rectangle in pixels, or in the units that overlays are placed in.
 #[derive(Clone, Copy)]
 pub struct Place {
     pub left: u32,
@@ -17,8 +17,8 @@ pub struct Place {
     pub height: u32,
 }
 
-/// The units of a rectangle of modules less a margin of so many at each side, in a drawing that a
-/// request asks for. `None`: they have no module, or the rectangle is not inside the symbol.
+/// Returns where `area` less `margin` modules on each side is in the drawing, in the units that
+/// overlays are placed in. Returns `None` if no module is left, or `area` is not inside the symbol.
 pub fn place_in(request: &Request<'_>, code: &QrCode, area: Rectangle, margin: u8) -> Option<Place>
     ensures value { IfSome result (λ place.
         place ≡ place_in request.now code.now.version area margin) }
@@ -41,7 +41,7 @@ pub fn place_in(request: &Request<'_>, code: &QrCode, area: Rectangle, margin: u
     })
 }
 
-// Whether so many modules from one on lie below a bound.
+// Whether `count` modules from `start` on are within `side`.
 fn is_within(side: usize, start: usize, count: usize) -> bool
     ensures { IsTrue result ↔ (start + count ≤ side) }
 {
@@ -49,7 +49,7 @@ fn is_within(side: usize, start: usize, count: usize) -> bool
 }
 
 impl Place {
-    /// Whether it has a pixel.
+    /// Whether the pixel in column `x` and row `y` is in this place.
     pub fn has(&self, x: usize, y: usize) -> bool
         ensures { result ≡ is_in_place self.now x y }
     {
@@ -59,8 +59,8 @@ impl Place {
             && y - (self.top as usize) < self.height as usize
     }
 
-    /// The square in its middle with so many pixels along its side, or one more, as far as there is
-    /// room.
+    /// Returns the square in the middle: `size` pixels along its side, fewer if there is no room,
+    /// and one more if it could not be centred across otherwise.
     pub fn square(self, size: u32) -> Place
         requires { HasPixels self }
         ensures { result ≡ square self size }
@@ -75,7 +75,8 @@ impl Place {
         }
     }
 
-    /// The largest place of a ratio in its middle.
+    /// Returns the largest rectangle in the middle with the proportions `across` to `down`, rounded
+    /// down to whole pixels, at least 1.
     pub fn fitted(self, across: u16, down: u16) -> Place
         requires { HasPixels self }
         ensures value { result ≡ fitted self across down }

@@ -1,4 +1,4 @@
-//! What a refusal says: what, why, and what would help.
+//! Messages for refusals: what was asked for, why it fails, and what would help.
 
 use crate::drawing::symbol_in;
 use crate::elements::{symbol_for_application, symbol_of_elements};
@@ -12,8 +12,9 @@ use qrcode_types::tables;
 use std::alloc::{AllocError, Global};
 use std::fmt;
 
-/// The text of a refusal of bytes: what is asked for, and what would hold them. There is none where
-/// memory ran out.
+/// Says why `bytes` have no symbol, and what would hold them.
+///
+/// Errors: only `AllocError`, if memory runs out or `error` is `OutOfMemory`.
 pub fn refusal_text(
     alloc: Global,
     request: &Request<'_>,
@@ -38,8 +39,10 @@ pub fn refusal_text(
     }
 }
 
-/// The text of a refusal of segments by hand; of one version that has no room for them it names the
-/// least behind it that has. There is none where memory ran out.
+/// Says why segments have no symbol. If one version was asked for and has no room, it names the
+/// smallest larger one that has.
+///
+/// Errors: only `AllocError`, if memory runs out or `error` is `OutOfMemory`.
 pub fn segments_refusal_text(
     alloc: Global,
     request: &Request<'_>,
@@ -59,7 +62,7 @@ pub fn segments_refusal_text(
     }
 }
 
-// The version that is asked for cannot write a segment.
+// The requested version cannot write one of the segments.
 fn no_segment_text(
     alloc: Global,
     version: Version,
@@ -75,7 +78,9 @@ fn no_segment_text(
     format!(in alloc; "version {name} lacks a mode of the segments; M3, M4 and 1 to 40 have all")
 }
 
-/// The text of a refusal of elements of GS1 that no version that may be taken holds.
+/// Says that no allowed version holds the GS1 elements.
+///
+/// Errors: only `AllocError`, if memory runs out.
 pub fn elements_refusal_text(
     alloc: Global,
     request: &Request<'_>,
@@ -86,7 +91,9 @@ pub fn elements_refusal_text(
     marked_refusal_text(alloc, request, "elements", least)
 }
 
-/// The text of a refusal of data of an application that no version that may be taken holds.
+/// Says that no allowed version holds the data of an application.
+///
+/// Errors: only `AllocError`, if memory runs out.
 pub fn application_refusal_text(
     alloc: Global,
     request: &Request<'_>,
@@ -98,13 +105,13 @@ pub fn application_refusal_text(
     marked_refusal_text(alloc, request, "data", least)
 }
 
-// The version of a symbol that is made.
+// The version of a symbol, if it was made.
 fn version_of<E: Drop>(made: Result<QrCode, E>) -> Option<Version> {
     made.ok().map(|code| code.version())
 }
 
-// The text of a refusal of what stands behind FNC1, by the least version that holds it from the one
-// that is asked for on.
+// Says that no allowed version holds data with FNC1; `least` is the smallest that does, from the
+// requested one on.
 fn marked_refusal_text(
     alloc: Global,
     request: &Request<'_>,
@@ -122,8 +129,8 @@ fn marked_refusal_text(
     }
 }
 
-// The text of a refusal of what no version that may be taken has room for, by the least version
-// that holds it from the one that is asked for on.
+// Says that no allowed version has room; `least` is the smallest that does, from the requested one
+// on.
 fn room_refusal_text(
     alloc: Global,
     request: &Request<'_>,
@@ -143,7 +150,7 @@ fn room_refusal_text(
     Ok(text)
 }
 
-// No version that may be taken holds the bytes.
+// Says that no allowed version holds the bytes.
 fn too_long_text(alloc: Global, request: &Request<'_>, bytes: &[u8]) -> Result<String, AllocError> {
     let (level, count) = (request.level, Grouped(bytes.len()));
     let mut text = format!(in alloc; "{count} bytes at ")?;
@@ -169,7 +176,7 @@ fn too_long_text(alloc: Global, request: &Request<'_>, bytes: &[u8]) -> Result<S
     Ok(text)
 }
 
-// What holds the bytes: a later version, a lower level, or several symbols.
+// Appends what would hold the bytes: a larger version, a lower level, or several symbols.
 fn push_help(text: &mut String, request: &Request<'_>, bytes: &[u8]) -> Result<(), AllocError> {
     let (alloc, manner) = (*text.allocator(), request.manner);
     let from = Choice::From(first_of(request.choice));
@@ -186,7 +193,7 @@ fn push_help(text: &mut String, request: &Request<'_>, bytes: &[u8]) -> Result<(
     text.push_str("; goqlanis split splits them over several codes")
 }
 
-// The version that is asked for lacks the level.
+// The requested version lacks the level.
 fn no_level_text(alloc: Global, version: Version, level: EcLevel) -> Result<String, AllocError> {
     let name = VersionName(version);
     let levels = match version {
@@ -197,7 +204,7 @@ fn no_level_text(alloc: Global, version: Version, level: EcLevel) -> Result<Stri
     format!(in alloc; "version {name} has no level {level:?}; it has {levels}")
 }
 
-// The version that is asked for cannot write the data.
+// The requested version cannot write the data.
 fn no_mode_text(alloc: Global, manner: Manner, version: Version) -> Result<String, AllocError> {
     let name = VersionName(version);
     if manner == Manner::MarkedText {
@@ -212,7 +219,7 @@ fn no_mode_text(alloc: Global, manner: Manner, version: Version) -> Result<Strin
     format!(in alloc; "version {name} holds only {modes}; M3, M4 and 1 to 40 hold any bytes")
 }
 
-// The most bytes that a symbol holds in one segment of bytes, or 0 where it has no such segment.
+// The most bytes that fit in a symbol as one Byte segment; 0 if the version has no such segments.
 fn byte_room(manner: Manner, version: Version, level: EcLevel) -> usize {
     if !version.is_valid() || matches!(version, Version::Micro(1 | 2)) {
         return 0;
@@ -222,7 +229,7 @@ fn byte_room(manner: Manner, version: Version, level: EcLevel) -> usize {
     room.saturating_sub(manner.front_length() + head) / 8
 }
 
-/// A version by its number, or by M and its number.
+/// Displays a version as people write it: `7` or `M2`.
 #[derive(Clone, Copy)]
 pub struct VersionName(pub Version);
 
@@ -235,7 +242,7 @@ impl fmt::Display for VersionName {
     }
 }
 
-/// A number below a thousand millions, with a comma before each three digits.
+/// Displays a number below 1,000,000,000 with a comma between groups of three digits.
 #[derive(Clone, Copy)]
 pub struct Grouped(pub usize);
 

@@ -1,4 +1,4 @@
-//! How each format draws a picture.
+//! Draws a picture in each format.
 
 ghost use Rattle.std.specs.Prelude.{◌≡◌, ◌^◌, ◌<◌, ◌≤◌, Some, true, false, string_bytes, IsTrue, IfOk, IsOkUnless};
 ghost use Rattle.std.specs.Option.{option_or};
@@ -24,10 +24,10 @@ use qrcode::types::QrResult;
 use qrcode_png::with_density;
 use std::alloc::Global;
 
-/// A picture in a format.
+/// Draws a picture in a format.
 ///
-/// `OutOfMemory`: memory was refused, or a PNG file would have no pixel, or more than 65,535 along
-/// a side.
+/// Errors: only `OutOfMemory`, if memory runs out or the picture is too large: a PNG or ESC/POS
+/// picture of more than 65,535 pixels a side, or a PNG file without pixels.
 pub fn draw_in(alloc: Global, format: Format, picture: &Picture<'_>) -> QrResult<Vec<u8>>
     ensures drawing { IfOk result (λ drawing. IsDrawnIn format (view_of picture.now)
         (layout_of picture.now) picture.now.modules.now drawing.items) }
@@ -68,9 +68,9 @@ pub fn draw_in(alloc: Global, format: Format, picture: &Picture<'_>) -> QrResult
     }
 }
 
-/// A picture in a format, on a sheet.
+/// Draws a picture in a format, with the position, size and title that a sheet gives.
 ///
-/// `OutOfMemory`: as `draw_in` says.
+/// Errors: those of `draw_in`.
 pub fn draw_on(
     alloc: Global,
     format: Format,
@@ -91,7 +91,7 @@ pub fn draw_on(
     }
 }
 
-// A picture of black and white pixels, eight in a byte.
+// Draws black and white pixels, eight in a byte.
 fn bits<F: Packing>(alloc: Global, shown: &Picture<'_>) -> QrResult<Vec<u8>>
     ensures picture { IfOk result (λ file. file.items ≡ packed_file F.before F.row_of F.behind
         (dark_of (view_of shown.now) true false) (light_of (view_of shown.now) true false)
@@ -106,7 +106,7 @@ fn bits<F: Packing>(alloc: Global, shown: &Picture<'_>) -> QrResult<Vec<u8>>
     )
 }
 
-/// A picture of pixels that stand for dark and light unless these are exchanged.
+/// Draws a picture with these values for dark and light modules, exchanged if it is inverted.
 pub(crate) fn drawn<P: Pixel>(
     alloc: Global,
     picture: &Picture<'_>,
@@ -119,7 +119,7 @@ pub(crate) fn drawn<P: Pixel>(
     renderer(picture, dark, light).build(alloc)
 }
 
-// The renderer of a picture, of these pixels.
+// The renderer of a picture, with these values for dark and light modules.
 fn renderer<'a, P: Pixel>(picture: &Picture<'a>, dark: P, light: P) -> Renderer<'a, P>
     ensures value { result ≡ setting_of picture.now dark light }
     ensures fits { IsTrue (fits result) }
@@ -136,7 +136,7 @@ fn renderer<'a, P: Pixel>(picture: &Picture<'a>, dark: P, light: P) -> Renderer<
     renderer
 }
 
-// Half blocks, of which those of dark pixels are drawn.
+// Half blocks that are drawn where pixels are dark.
 fn half_blocks(alloc: Global, picture: &Picture<'_>) -> QrResult<String>
     ensures value { IfOk result (λ text. string_bytes text ≡ half_block_text
         (view_of picture.now) true false (layout_of picture.now) picture.now.modules.now) }
@@ -145,7 +145,7 @@ fn half_blocks(alloc: Global, picture: &Picture<'_>) -> QrResult<String>
     drawn(alloc, picture, Dense1x2::Dark, Dense1x2::Light)
 }
 
-// A PNG file.
+// A PNG file in two colours.
 fn png(alloc: Global, picture: &Picture<'_>) -> QrResult<Vec<u8>>
     ensures shows { IfOk result (λ file. IsDrawnIn Png (view_of picture.now)
         (layout_of picture.now) picture.now.modules.now file.items) }
@@ -158,14 +158,14 @@ fn png(alloc: Global, picture: &Picture<'_>) -> QrResult<Vec<u8>>
     }
 }
 
-// The pixels of an inch: those that are given, or those of the picture.
+// The pixels per inch: `given`, or those of the picture.
 fn dots_of(picture: &Picture<'_>, given: Option<u32>) -> Option<u32>
     ensures { result ≡ option_or given picture.now.dpi }
 {
     given.or(picture.dpi.map(|dpi| dpi as u32))
 }
 
-// An SVG text of one path, in a frame.
+// An SVG file with one path, with the size and title of a frame.
 fn path(alloc: Global, picture: &Picture<'_>, frame: &svg::Frame<'_>) -> QrResult<Vec<u8>>
     ensures shows { IfOk result (λ text. IsFramed (frame_of frame.now) (view_of picture.now)
         (layout_of picture.now) picture.now.modules.now text.items) }
@@ -176,7 +176,7 @@ fn path(alloc: Global, picture: &Picture<'_>, frame: &svg::Frame<'_>) -> QrResul
     Ok(svg::framed(alloc, &renderer, frame)?.into_bytes())
 }
 
-// What a label printer takes that speaks ZPL II, with the picture at a place.
+// ZPL II, with the picture at a place on the label.
 fn zpl(alloc: Global, picture: &Picture<'_>, place: (u32, u32)) -> QrResult<Vec<u8>>
     ensures shows { IfOk result (λ file. IsZplAt place (view_of picture.now)
         (layout_of picture.now) picture.now.modules.now file.items) }
@@ -186,7 +186,7 @@ fn zpl(alloc: Global, picture: &Picture<'_>, place: (u32, u32)) -> QrResult<Vec<
     zpl::at_place(alloc, &renderer(picture, dark, light), place)
 }
 
-// What a label printer takes that speaks TSPL.
+// TSPL, with the picture at the sheet's place on the label.
 fn tspl(alloc: Global, picture: &Picture<'_>, sheet: &Sheet<'_>) -> QrResult<Vec<u8>>
     ensures value { IfOk result (λ file. IsDrawnOn Tspl (sheet_of sheet.now)
         (view_of picture.now) (layout_of picture.now) picture.now.modules.now file.items) }
@@ -196,7 +196,7 @@ fn tspl(alloc: Global, picture: &Picture<'_>, sheet: &Sheet<'_>) -> QrResult<Vec
     tspl::at_place(alloc, &renderer(picture, dark, light), sheet.place)
 }
 
-// An EPS text, of so many pixels to an inch where they are given.
+// An EPS file; the pixels per inch are `given` or the picture's, else a pixel is a point.
 fn eps(alloc: Global, picture: &Picture<'_>, given: Option<u32>) -> QrResult<Vec<u8>>
     ensures text { IfOk result (λ text. text.items ≡ eps_on given (view_of picture.now)
         (layout_of picture.now) picture.now.modules.now) }
@@ -216,7 +216,7 @@ fn eps(alloc: Global, picture: &Picture<'_>, given: Option<u32>) -> QrResult<Vec
     }
 }
 
-// An EPS text, of so many pixels to an inch.
+// An EPS file with `dots` pixels per inch.
 fn sized_eps(alloc: Global, picture: &Picture<'_>, dots: u32) -> QrResult<Vec<u8>>
     requires { 1 ≤ dots }
     ensures text { IfOk result (λ text. text.items ≡ eps_on (Some dots) (view_of picture.now)
@@ -227,8 +227,8 @@ fn sized_eps(alloc: Global, picture: &Picture<'_>, dots: u32) -> QrResult<Vec<u8
     Ok(eps::with_density(alloc, &renderer, dots)?.into_bytes())
 }
 
-/// A PDF file, of so many pixels to an inch where they are given, with operators over the modules,
-/// and a title unless it is empty.
+/// Draws a PDF file with operators over the modules, and a title unless it is empty. The pixels per
+/// inch are `given` or the picture's, else a pixel is a point.
 pub(crate) fn pdf_file(
     alloc: Global,
     picture: &Picture<'_>,
@@ -249,14 +249,14 @@ pub(crate) fn pdf_file(
     pdf::with_extras(alloc, &renderer(picture, dark, light), extras)
 }
 
-/// Red, green and blue.
+/// Returns red, green and blue.
 pub(crate) fn rgb(ink: Ink<'_>) -> [u8; 3]
     ensures value { result ≡ rgb (shade_of ink.entry) }
 {
     [ink.red, ink.green, ink.blue]
 }
 
-/// Dots per inch as dots per metre, to the nearest; an inch is 0.0254 metres.
+/// Converts dots per inch to dots per metre, rounded to the nearest; an inch is 0.0254 metres.
 pub(crate) fn per_metre(dpi: u16) -> u32
     ensures value { result ≡ per_metre dpi }
     ensures at_most { result < 2 ^ 31 }
@@ -264,7 +264,7 @@ pub(crate) fn per_metre(dpi: u16) -> u32
     (10000 * dpi as u32 + 127) / 254
 }
 
-// Lines of characters, with a newline at the end where there is to be one.
+// The bytes of a text, with a newline at the end if the picture asks for one.
 fn lines(picture: &Picture<'_>, mut text: String) -> QrResult<Vec<u8>>
     ensures value { IfOk result (λ lines.
         lines.items ≡ ended (view_of picture.now) (string_bytes text)) }
@@ -276,7 +276,7 @@ fn lines(picture: &Picture<'_>, mut text: String) -> QrResult<Vec<u8>>
     Ok(text.into_bytes())
 }
 
-// A colour of EPS.
+// The colour for EPS.
 fn eps_ink(ink: Ink<'_>) -> eps::Color
     ensures value { result ≡ eps_ink (shade_of ink.entry) }
 {
@@ -287,7 +287,7 @@ fn eps_ink(ink: Ink<'_>) -> eps::Color
     }
 }
 
-// A colour of PNG.
+// The colour for PNG.
 pub(crate) fn png_ink(ink: Ink<'_>) -> qrcode_png::Color
     ensures value { result ≡ png_ink (shade_of ink.entry) }
 {

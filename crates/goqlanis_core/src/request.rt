@@ -1,4 +1,4 @@
-//! Requests for drawings.
+//! What is asked for: the symbol, and how to draw it.
 
 ghost use Rattle.std.specs.Prelude.{◌≡◌, IsUtf8};
 ghost use Rattle.qrcode_bits.specs.declared.bits.manner.Manner.TheVariants.{Bytes, Text};
@@ -10,63 +10,64 @@ use qrcode::bits::Manner;
 use qrcode::render::svg::Frame;
 use qrcode::types::{EcLevel, Version};
 
-/// Which version to use. Versions are in the order M1 to M4, 1 to 40.
+/// Which versions are allowed. They are in the order M1 to M4, then 1 to 40.
 #[derive(Clone, Copy)]
 pub enum Choice {
     /// The smallest that holds the data, from this one on.
     From(Version),
-    /// The same, with the level raised as far as that version still holds the data.
+    /// The smallest that holds the data, from this one on; then the highest level at which that
+    /// version still holds it.
     Boosted(Version),
-    /// This one.
+    /// Only this one.
     At(Version),
 }
 
-/// A length instead of pixels: each dot has this share of an inch. A module is as many dots long as
-/// it has pixels; or the side is, and each module has its share of it.
+/// A size in inches instead of pixels: the `scale` of the request counts dots, along a module or
+/// along the whole side.
 #[derive(Clone, Copy)]
 pub struct Length {
-    /// Dots per inch.
+    /// The dots per inch.
     pub dots: u16,
-    /// Whether the dots are the length of the side, not of a module.
+    /// Whether `scale` is the length of the side with its quiet zone; if not, of a module.
     pub is_side: bool,
 }
 
-/// A request for a drawing.
+/// A request for a symbol and its picture.
 #[derive(Clone, Copy)]
 pub struct Request<'a> {
-    /// How the data is written.
+    /// How the data is written: as bytes, as text, or as text marked as UTF-8.
     pub manner: Manner,
     pub choice: Choice,
     pub level: EcLevel,
-    /// The mask, 0 to 7, in Micro QR 0 to 3; without it the first of lowest penalty.
+    /// The mask: 0 to 7, in Micro QR 0 to 3. Without it, the first with the lowest penalty.
     pub mask: Option<usize>,
     pub format: Format,
-    /// The modules of the quiet zone on each side; without it as many as the standard asks for.
+    /// The width of the quiet zone in modules. Without it, what the standard requires.
     pub zone: Option<u8>,
     /// The pixels of a module, across and down; 0 means 1.
     pub scale: u16,
-    /// The maximum pixels of a side; with it, modules are as large as fits.
+    /// The maximum pixels along a side. If set, modules are as large as fits, instead of `scale`.
     pub size: Option<u16>,
-    /// The pixels per printed inch that a PNG file names.
+    /// The dots per inch: recorded in a PNG file; in EPS and PDF, pixels per inch.
     pub dpi: Option<u16>,
-    /// Whether the pixels of a module are a length, in SVG of one path, EPS and PDF.
+    /// Sets the size in inches, in `SvgPath`, EPS and PDF; see `Length`.
     pub length: Option<Length>,
-    /// The dots from the left and from the top of a label, in ZPL and TSPL.
+    /// The position on a label in ZPL and TSPL, in dots from the left and from the top.
     pub place: (u32, u32),
-    /// The title, ID and the like of SVG of one path; a length sets its size.
+    /// The title, ID and the like of an `SvgPath`, and its size unless `length` sets that; the
+    /// title also of a PDF file.
     pub frame: Frame<'a>,
-    /// The colours of SVG, EPS and PNG.
+    /// The colours, in formats that have them.
     pub dark: Ink<'a>,
     pub light: Ink<'a>,
-    /// The colours of parts in SVG, EPS, PDF and PNG. Of two for the same modules the later one is
-    /// taken.
+    /// The colours of parts, in SVG, EPS, PDF and PNG. The last of several for the same modules
+    /// counts.
     pub parts: &'a [PartInk<'a>],
-    /// Whether dark and light are exchanged. PIC, which draws no light, is as it is.
+    /// Whether dark and light are exchanged; not in PIC, which draws no light modules.
     pub is_inverted: bool,
 }
 
-/// How data is written where nothing else is asked for: what is UTF-8 as a text, and other bytes as
-/// bytes.
+/// Returns how data is written by default: UTF-8 as text, other data as bytes.
 pub fn manner_of(bytes: &[u8]) -> Manner
     ensures text { IsUtf8 bytes.now → result ≡ Text }
     ensures other { ¬ IsUtf8 bytes.now → result ≡ Bytes }

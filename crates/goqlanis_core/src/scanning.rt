@@ -1,4 +1,4 @@
-//! Pictures, read.
+//! Decodes the code in a picture.
 
 ghost use Rattle.std.specs.Prelude.{◌≡◌, ◌++◌, true, false, None, IfOk, IfErr, OnOk};
 ghost use Rattle.qrcode_gs1.specs.symbol.Characters.{undoubled};
@@ -17,37 +17,39 @@ use qrcode_reader::{AnyPartsReading, AnyReading, Reading, read_any_parts};
 use std::alloc::{AllocError, Global};
 use std::fmt;
 
-/// A picture, read.
+/// A decoded code.
 #[derive(Drop)]
 pub struct Scan {
-    /// The square of modules that it shows. Of one in a grid `scale` is the whole pixels of a
-    /// module, and `zone` is 0.
+    /// The square of modules. If it was found by its finder patterns, `zone` is 0, and `scale` is
+    /// rounded down to whole pixels.
     pub square: Square,
-    /// Where the modules stand, if the picture is not a square in a margin that is read.
+    /// The position of the modules, if the code was found by its finder patterns rather than in a
+    /// plain margin.
     pub grid: Option<Grid>,
-    /// Whether the picture has dark and light exchanged.
+    /// Whether dark and light are exchanged in the whole picture.
     pub is_inverted: bool,
-    /// What the square is read as, and in which position: the bytes of the segments, behind FNC1
-    /// with separators.
+    /// The decoded bytes, and the position in which the square decodes. They are those of the
+    /// segments, after FNC1 with separators.
     pub any: AnyReading,
-    /// The headers and the segments that it is read as, in their order.
+    /// The decoded headers and segments, in order.
     pub parts: Vec<Part>,
 }
 
-/// Why a picture is not read.
+/// Why a picture does not decode.
 #[derive(Clone, Copy)]
 pub enum Unread {
-    /// There are no pixels.
+    /// The bytes show no pixels.
     Unscanned(Unscanned),
-    /// It is a PNG file, and not read as one.
+    /// It is a PNG file that cannot be read.
     Png(qrcode_png::Unread),
     /// It is a JPEG file.
     Jpeg,
-    /// The pixels show no square of modules.
+    /// There is no square of modules.
     NoSquare,
-    /// The square of so many modules a side, as it stands, is not read, and in no other position.
+    /// There is a square with this many modules a side, but it decodes in no position; the cause is
+    /// that of the square as it is.
     NoSymbol(usize, qrcode_reader::Unread),
-    /// Memory was refused.
+    /// Memory ran out.
     OutOfMemory,
 }
 
@@ -76,7 +78,7 @@ impl fmt::Display for Unread {
     }
 }
 
-// Why there are no pixels.
+// Says why there are no pixels.
 fn cause_text(cause: Unscanned) -> &'static str {
     match cause {
         Unscanned::NotPicture =>
@@ -91,22 +93,22 @@ fn cause_text(cause: Unscanned) -> &'static str {
     }
 }
 
-// Whether bytes begin as a PNG file does.
+// Whether bytes begin like a PNG file.
 fn is_png(bytes: &[u8]) -> bool
     ensures { result ≡ is_png bytes.now }
 {
     bytes.starts_with(&[0x89, b'P', b'N', b'G'])
 }
 
-// Whether bytes begin as a JPEG file does.
+// Whether bytes begin like a JPEG file.
 fn is_jpeg(bytes: &[u8]) -> bool
     ensures { result ≡ is_jpeg bytes.now }
 {
     bytes.starts_with(&[0xff, 0xd8, 0xff])
 }
 
-// The pixels of a picture, with dark and light exchanged where the first row is dark; and whether
-// they are.
+// Reads the pixels of a picture. If its first row is dark, exchanges dark and light and returns
+// `true`.
 pub(crate) fn seen_in(alloc: Global, bytes: &[u8]) -> Result<(Pixels, bool), Unread>
     ensures value { IfOk result (λ seen. IsSeenAs bytes.now seen.0 seen.1) }
     ensures causes { IfErr result (IsUnseen bytes.now) }
@@ -122,7 +124,7 @@ pub(crate) fn seen_in(alloc: Global, bytes: &[u8]) -> Result<(Pixels, bool), Unr
     }
 }
 
-// The pixels of a picture.
+// Reads the pixels of a picture in any format.
 #[tactic(auto, using(crate::proofs::Seen::png_picture, crate::proofs::Seen::other_picture))]
 fn pixels_in(alloc: Global, bytes: &[u8]) -> Result<Pixels, Unread>
     ensures value { IfOk result (IsPictureOf bytes.now) }
@@ -140,7 +142,7 @@ fn pixels_in(alloc: Global, bytes: &[u8]) -> Result<Pixels, Unread>
     }
 }
 
-// The pixels of a PNG file.
+// Reads the pixels of a PNG file.
 #[tactic(auto, using(crate::proofs::Seen::shown_by, crate::proofs::Seen::large_image))]
 fn png_pixels(alloc: Global, bytes: &[u8]) -> Result<Pixels, Unread>
     requires png { is_png bytes.now ≡ true }
@@ -160,7 +162,7 @@ fn png_pixels(alloc: Global, bytes: &[u8]) -> Result<Pixels, Unread>
     }
 }
 
-// Reads the square in a margin of pixels.
+// Decodes the square in a plain margin.
 #[tactic(auto, using(crate::proofs::WhyUnread::unread_square))]
 pub(crate) fn read_clean(alloc: Global, pixels: &Pixels, is_inverted: bool) -> Result<Scan, Unread>
     ensures square { IfOk result (λ scan. IsSquareOf scan pixels.now) }
@@ -179,7 +181,7 @@ pub(crate) fn read_clean(alloc: Global, pixels: &Pixels, is_inverted: bool) -> R
     Ok(scan_of(alloc, square, None, is_inverted, any)?)
 }
 
-// Why a square of so many modules a side is not read.
+// Says why a square with `count` modules a side does not decode.
 fn no_symbol(count: usize, error: qrcode_reader::Unread) -> Unread
     ensures { result ≡ unread_as count error }
 {
@@ -189,7 +191,7 @@ fn no_symbol(count: usize, error: qrcode_reader::Unread) -> Unread
     }
 }
 
-// What is read of a picture, by the headers and segments of its square.
+// Puts together what was decoded from a square.
 pub(crate) fn scan_of(
     alloc: Global,
     square: Square,
@@ -225,7 +227,7 @@ pub(crate) fn scan_of(
     })
 }
 
-// The bytes that are read of parts (ISO/IEC 18004:2006, 6.4.8).
+// The bytes of headers and segments, as a reader passes them on (ISO/IEC 18004:2006, 6.4.8).
 fn handed_on(alloc: Global, found: &Parts) -> Result<Vec<u8>, AllocError>
     ensures { IfOk result (λ bytes. bytes.items
         ≡ handed_on false found.now.parts.items found.now.bytes.items) }
@@ -242,7 +244,7 @@ fn handed_on(alloc: Global, found: &Parts) -> Result<Vec<u8>, AllocError>
     Ok(bytes)
 }
 
-// How many of the bytes are those of a part.
+// The number of bytes that a part has.
 fn byte_count(part: Part) -> usize
     ensures { result ≡ byte_count part }
 {
@@ -259,7 +261,7 @@ fn is_fnc1(part: Part) -> bool
     matches!(part, Part::Front(Header::Fnc1First | Header::Fnc1Second(_)))
 }
 
-// Appends what is handed on of a part of these bytes, behind FNC1 or not.
+// Appends the bytes of a part; `is_marked`: it comes after FNC1.
 fn push_part(
     bytes: &mut Vec<u8>,
     is_marked: bool,
@@ -276,11 +278,10 @@ fn push_part(
     }
 }
 
-// The separator of elements.
+// The separator of GS1 elements.
 const SEPARATOR: u8 = 29;
 
-// Appends alphanumeric characters behind FNC1: a percent sign is a separator, and two of them are a
-// percent sign.
+// Appends alphanumeric characters that come after FNC1: `%` is a separator, and `%%` is `%`.
 fn push_undoubled(bytes: &mut Vec<u8>, characters: &[u8]) -> Result<(), AllocError>
     ensures { OnOk result (bytes.new.items ≡ bytes.old.items ++ undoubled characters.now) }
 {

@@ -1,4 +1,4 @@
-//! Symbols of segments by hand.
+//! Makes symbols of segments that the user chose.
 
 ghost use Rattle.std.specs.Prelude.{◌≡◌, ◌⊎◌, ◌≤◌, Some, None, [], length, IsTrue, IfOk, IfErr, OnOk};
 ghost use Rattle.std.specs.List.{position_from};
@@ -15,24 +15,24 @@ use qrcode::types::{EcLevel, Mode, QrError, QrResult, Version};
 use qrcode_types::characters::can_write;
 use std::alloc::Global;
 
-/// What is written by hand, one after the other.
+/// A segment, or the header of a character set.
 #[derive(Clone, Copy)]
 pub enum Segment<'a> {
-    /// Bytes in a mode; of Kanji, pairs of bytes of Shift JIS. Without bytes it is left out, since
-    /// digits without any are the terminator of Micro.
+    /// Bytes in a mode; in Kanji mode, pairs of bytes of Shift JIS. An empty segment is left out,
+    /// since an empty Numeric segment looks like the terminator of Micro QR.
     Data(Mode, &'a [u8]),
-    /// The number of a character set, at most 999,999, for what stands behind it (ECI).
+    /// The number of a character set (ECI), at most 999,999, for the segments after it.
     CharacterSet(u32),
 }
 
-/// The first segment, counted from 0, that its mode cannot write.
+/// Returns the index of the first segment that its mode cannot write.
 pub fn unwritable(segments: &[Segment<'_>]) -> Option<usize>
     ensures { result ≡ position_from is_unwritable 0 segments.now }
 {
     segments.iter().position(|segment| is_unwritable(segment))
 }
 
-// Whether the mode of a segment cannot write it.
+// Whether the mode of a segment cannot write its bytes.
 fn is_unwritable(segment: &Segment<'_>) -> bool
     ensures { result ≡ is_unwritable segment.now }
 {
@@ -42,14 +42,17 @@ fn is_unwritable(segment: &Segment<'_>) -> bool
     }
 }
 
-/// The symbol of segments, one after the other, in the smallest version that the choice allows and
-/// that holds them. A choice that raises levels keeps the level.
+/// Encodes segments in order, at `level`, in the smallest version that `choice` allows and that
+/// holds them. The level is kept, also with `Choice::Boosted`.
 ///
-/// `InvalidVersion`: the choice names no version. If no version holds the segments, the error is the
-/// first cause in the last one: `InvalidCharacter`, a mode cannot write its segment;
-/// `InvalidEciDesignator`, the number of a character set is above 999,999;
-/// `UnsupportedCharacterSet`, the version lacks a mode, or character sets; `InvalidVersion`, it lacks
-/// the level; `DataTooLong`, it has no room. `OutOfMemory`: memory was refused.
+/// Errors: `InvalidVersion` if there is no such version as the choice names; `OutOfMemory` if
+/// memory runs out. If no allowed version holds the segments, the error is that of the largest
+/// allowed version. For the first segment that fails, the first cause that applies:
+/// `InvalidCharacter` if its mode cannot write its bytes; `UnsupportedCharacterSet` if the version
+/// lacks the mode, or ECI; `InvalidEciDesignator` if the number of a character set is above
+/// 999,999; `DataTooLong` if it is too long for its length field, or the bits exceed 16,777,216. If
+/// none fails: `InvalidVersion` if the version lacks the level; `DataTooLong` if the symbol has no
+/// room.
 pub fn symbol_of(
     alloc: Global,
     choice: Choice,
@@ -85,7 +88,7 @@ pub(crate) fn first_of(choice: Choice) -> Version
     version
 }
 
-// The last version that a choice may take.
+// The largest version that a choice allows.
 fn last_of(choice: Choice) -> Version
     ensures { result ≡ last_of choice }
 {
@@ -95,7 +98,7 @@ fn last_of(choice: Choice) -> Version
     }
 }
 
-// The place of a version in the order M1 to M4, 1 to 40, from 1 on.
+// The rank of a version in the order M1 to M4, 1 to 40, from 1 to 44.
 fn rank(version: Version) -> usize
     requires { IsTrue (is_valid version) }
     ensures value { result ≡ rank version }
@@ -108,7 +111,7 @@ fn rank(version: Version) -> usize
     }
 }
 
-// The version at a place.
+// The version with this rank.
 fn version_at(place: usize) -> Version
     requires at_least { 1 ≤ place }
     requires at_most { place ≤ 44 }
@@ -122,7 +125,7 @@ fn version_at(place: usize) -> Version
     }
 }
 
-// The symbol of segments in a version.
+// Encodes segments in one version.
 fn in_version(
     alloc: Global,
     version: Version,
@@ -142,7 +145,7 @@ fn in_version(
     QrCode::with_bits(alloc, bits, level)
 }
 
-// Appends segments one after the other to an empty list.
+// Appends all segments to an empty list of bits.
 fn push_all(bits: &mut Bits, segments: &[Segment<'_>]) -> QrResult<()>
     requires empty { bits.old.bits ≡ [] }
     ensures version { bits.new.version ≡ bits.old.version }
@@ -158,7 +161,7 @@ fn push_all(bits: &mut Bits, segments: &[Segment<'_>]) -> QrResult<()>
     Ok(())
 }
 
-// Appends a segment, which is left out where it is empty.
+// Appends a segment, unless it is empty.
 fn push(bits: &mut Bits, segment: &Segment<'_>) -> QrResult<()>
     ensures { Appends (segment_refusal bits.old.version (length bits.old.bits) segment.now)
         (segment_bits bits.old.version segment.now) bits.old bits.new result }

@@ -1,4 +1,4 @@
-//! PNG files with colours of parts.
+//! Draws PNG files whose parts have their own colours.
 
 ghost use Rattle.std.specs.Prelude.{◌≡◌, ◌*◌, ◌<◌, [], length, slice_index_or, IsTrue, IfOk, IsOkUnless};
 ghost use Rattle.qrcode_types.specs.Colors.{select_of};
@@ -15,14 +15,14 @@ use qrcode::types::{Color, QrError, QrResult, Version};
 use qrcode_png::full_color;
 use std::alloc::{AllocError, Global};
 
-/// The most pixels along a side of a PNG file with colours of parts: each takes four bytes of
-/// memory.
+/// The maximum pixels along a side of a PNG file with colours of parts, since each takes four bytes
+/// of memory.
 pub const GREATEST_PAINTED: u32 = 8_192;
 
-/// A PNG file of a picture of a symbol of a version, with colours of parts.
+/// Draws a picture of a symbol of `version` as a PNG file, with colours of parts.
 ///
-/// `OutOfMemory`: memory was refused, or the file would have no pixel, or more than 8,192 along a
-/// side.
+/// Errors: only `OutOfMemory`, if memory runs out, or if there would be no pixel or more than
+/// `GREATEST_PAINTED` along a side.
 pub(crate) fn png_file(
     alloc: Global,
     version: Version,
@@ -43,7 +43,7 @@ pub(crate) fn png_file(
     Ok(full_color(alloc, &pixels, side, side, density)?)
 }
 
-// The pixels of a picture of less than 2^32 a side, row by row.
+// The pixels of a picture, row by row.
 fn pixels(
     alloc: Global,
     version: Version,
@@ -64,7 +64,7 @@ fn pixels(
     Ok(pixels)
 }
 
-// The pixel in a column and a row, of the colours of the modules.
+// The pixel in column `x` and row `y`, from the colours of the modules.
 fn pixel(shown: &Picture<'_>, modules: &[[u8; 4]], x: usize, y: usize) -> [u8; 4]
     requires { length modules.now ≡ length shown.now.modules.now }
     ensures { result ≡ pixel_in (layout_of shown.now) (λ i. slice_index_or modules.now i [])
@@ -98,7 +98,7 @@ fn module_colors(
     Ok(modules)
 }
 
-// The colour of the module with an index: the last one that it has.
+// The colour of the module at `index`: the last of `inks` that applies, or the plain one.
 #[tactic(auto, using(std::proofs::lemmas::List::Sums::fold_more))]
 fn module_color(
     version: Version,
@@ -120,7 +120,7 @@ fn module_color(
     color
 }
 
-// The colour of dark or of light modules.
+// The plain colour of dark or light modules, exchanged if the picture is inverted.
 fn plain(shown: &Picture<'_>, tone: Color) -> [u8; 4]
     ensures { result ≡ shade_bytes (select_of tone
         (dark_of (view_of shown.now) (view_of shown.now).dark (view_of shown.now).light)

@@ -1,4 +1,4 @@
-//! Lines in black on white, for a terminal of 256 colours.
+//! Prints lines in black on white, for a terminal with 256 colours.
 
 ghost use Rattle.std.specs.Prelude.{◌≡◌, ◌++◌, string_bytes, IfOk, OnOk, IsOkUnless};
 ghost use Rattle.qrcode_types.specs.declared.types.QrError.TheVariants.{OutOfMemory};
@@ -7,15 +7,15 @@ ghost use Rattle.goqlanis_core.specs.Terminal.{coloured_byte, coloured_text};
 use qrcode::types::QrResult;
 use std::alloc::Global;
 
-// The control sequences of a terminal that set black on white, that take the colours back, and
-// these round a newline.
+// The control sequences that set black on white; that reset the colours, with a newline; and both,
+// for a newline between lines.
 static BLACK_ON_WHITE: &[u8] = b"\x1b[38;5;16;48;5;231m";
 
 static DEFAULT_COLOURS: &[u8] = b"\x1b[0m\n";
 
 static BETWEEN_LINES: &[u8] = b"\x1b[0m\n\x1b[38;5;16;48;5;231m";
 
-/// Lines in black on white: the colours are set before each line and taken back behind it.
+/// Puts lines in black on white: sets the colours before each line and resets them after it.
 #[tactic(auto, using(crate::proofs::Pieces::flat_map_more))]
 pub(crate) fn coloured(alloc: Global, text: &String) -> QrResult<Vec<u8>>
     ensures value { IfOk result (λ lines. lines.items ≡ coloured_text (string_bytes text.now)) }
@@ -29,7 +29,7 @@ pub(crate) fn coloured(alloc: Global, text: &String) -> QrResult<Vec<u8>>
     Ok(lines)
 }
 
-// Appends a byte of lines in black on white.
+// Appends a byte of the text, with the control sequences if it is a newline.
 fn push_coloured(lines: &mut Vec<u8>, byte: u8) -> QrResult<()>
     ensures appends { OnOk result (lines.new.items ≡ lines.old.items ++ coloured_byte byte) }
     ensures memory { IsOkUnless result OutOfMemory }

@@ -1,4 +1,4 @@
-//! Why the program does not do what it is asked.
+//! Why the program fails, and its exit status.
 
 ghost use Rattle.std.specs.Prelude.{IsErr};
 
@@ -6,18 +6,18 @@ use crate::streams::shown;
 use std::alloc::{AllocError, AllocFailed, Global};
 use std::process::ExitCode;
 
-/// Why the program does not do what it is asked.
+/// Why the program fails.
 #[derive(Drop)]
 pub enum Failure {
-    /// The command line is wrong: status 2.
+    /// The command line is wrong: exit status 2.
     Usage(String),
-    /// The data, a file or the terminal does not serve: status 1.
+    /// The data, a file or the terminal cannot be used: exit status 1.
     Refused(String),
-    /// What was drawn cannot be written, so that nothing more is drawn: status 1.
+    /// A drawing cannot be written, so nothing more is drawn: exit status 1.
     Unwritten(String),
-    /// Nobody reads what is written to standard output: status 1, without a line.
+    /// Standard output is closed, as by `| head`: exit status 1, without a message.
     Unheard,
-    /// Memory ran out: status 1.
+    /// Memory ran out: exit status 1.
     OutOfMemory,
 }
 
@@ -33,8 +33,8 @@ impl<T: Drop> From<AllocFailed<T>> for Failure {
     }
 }
 
-/// The exit status of a run, whose failure is reported in a line on standard error, unless it is
-/// that nobody reads.
+/// Returns the exit status of a run, and reports a failure in one line on standard error, except
+/// `Unheard`.
 pub fn status(rt: &HostRuntime, run: Result<ExitCode, Failure>) -> ExitCode {
     let (code, why) = match &run {
         Ok(code) => return *code,
@@ -48,14 +48,15 @@ pub fn status(rt: &HostRuntime, run: Result<ExitCode, Failure>) -> ExitCode {
     code
 }
 
-/// A wrong command line, by its reason.
+/// Fails with `Usage`: the command line is wrong because of `why`. If memory runs out, fails with
+/// `OutOfMemory` instead.
 pub fn usage<T>(alloc: Global, why: &str) -> Result<T, Failure>
     ensures { IsErr result }
 {
     Err(Failure::Usage(String::from_str(alloc, why)?))
 }
 
-/// A refusal, by its reason.
+/// Fails with `Refused` because of `why`. If memory runs out, fails with `OutOfMemory` instead.
 pub fn refused<T>(alloc: Global, why: &str) -> Result<T, Failure>
     ensures { IsErr result }
 {

@@ -1,4 +1,4 @@
-//! Files: data whole, and drawings whole or not at all.
+//! Writes files atomically.
 
 use std::alloc::AllocError;
 use std::fs::{File, Metadata, OpenOptions, Permissions};
@@ -11,54 +11,54 @@ use thiserror::Error;
 /// Why a file is not written.
 #[derive(Debug, Drop, Error)]
 pub enum Unwritten {
-    /// What stands under its name takes no data, or nothing can be told of it.
+    /// The path cannot be opened, written or looked up.
     #[error("{0}")]
     File(#[from] io::Error),
-    /// No file can be made in this folder, which is to hold it.
+    /// No file can be created in this folder.
     #[error("no file can be made in its folder {0}: {1}")]
     Folder(String, io::Error),
-    /// This folder, which is to hold it, may not be read.
+    /// The user may not read this folder, in which the file would be created.
     #[error("its folder {0} cannot be read by this user: name another one, or allow it with chmod +r")]
     Closed(String),
-    /// What stands under its name is a folder.
+    /// The path names a folder.
     #[error("it is a folder; name a file in it")]
     IsFolder,
-    /// It was written beside its place, and cannot be put there.
+    /// The new file was written under a temporary name, and cannot be renamed to its path.
     #[error("another file cannot take its place: {0}")]
     Place(io::Error),
-    /// Its owner could not read what takes its place.
+    /// The path names a file of another user, who could not read the new one.
     #[error("it belongs to another user, who could not read the new one: remove it first")]
     Owner,
-    /// What stands there is another user's, in a folder that everybody writes to.
+    /// The path names another user's file, link or pipe in a folder that everybody may write to.
     #[error("it is another user's, in a folder for everybody: remove it, or take another name")]
     Strange,
-    /// All names for new files are taken in this folder.
+    /// All temporary names are taken in this folder.
     #[error("its folder {0} has goqlanis-0.new to goqlanis-9999.new: remove those of ended runs")]
     Taken(String),
     #[error("out of memory")]
     OutOfMemory(#[from(alloc)] AllocError),
 }
 
-// The most links that are followed, as Linux does.
+// The maximum number of links that are followed, as in Linux.
 const LINKS: u32 = 40;
 
-// How many names are tried for a new file: others may have taken many, so as to take time.
+// How many temporary names are tried; bounded, since others may have taken many on purpose.
 const NAMES: u32 = 10_000;
 
-// A folder, whose names are looked up in what was opened once: another folder, or a link, that
-// takes its place meanwhile is not seen.
+// An open folder. Names are looked up in the folder that was opened once, so a folder or link that
+// takes its place meanwhile is not followed.
 #[derive(Drop)]
 struct Folder {
-    // As it is written, with the slash behind it.
+    // The name as it was given, with a slash at the end.
     name: String,
-    // The way to it: by the number of what is open; where there is no /proc, its name, so that what
-    // takes its place is seen.
+    // The path for look-ups: the open file under /proc/self/fd; or, where there is no /proc, the
+    // name, which a folder that takes its place could redirect.
     way: String,
     _open: File,
 }
 
-// A folder of a name. One that cannot be opened is refused: by its name alone, whoever takes its
-// place would be given what is written.
+// Opens a folder. One that cannot be opened is rejected: with only its name, the output would go to
+// whatever takes its place.
 fn opened(rt: &HostRuntime, name: &str) -> Result<Folder, Unwritten> {
     let name = format!(in rt.alloc(); "{name}/")?;
     let open = match File::open(rt, name.as_str()) {
@@ -80,9 +80,12 @@ fn opened(rt: &HostRuntime, name: &str) -> Result<Folder, Unwritten> {
     })
 }
 
-/// Writes a file atomically: next to it under another name, where only its owner can read it, and
-/// renamed into its place. Links are followed. What is no regular file, such as a pipe, and what is
-/// open already, is written directly. Nothing of another user is taken in a folder for everybody.
+/// Writes `bytes` to the file at `path` atomically: to a temporary file in the same folder, which
+/// only its owner can read, and which is then renamed. Links are followed. Pipes, devices and files
+/// that are already open are written directly. In a folder that everybody may write to, another
+/// user's link, pipe or file is rejected.
+///
+/// Errors: the `Unwritten` that says why; an old regular file is then as it was.
 pub fn write_whole(rt: &HostRuntime, path: &str, bytes: &[u8]) -> Result<(), Unwritten> {
     let mut place = String::from_str(rt.alloc(), path)?;
     for _ in 0..LINKS {
@@ -113,12 +116,12 @@ pub fn write_whole(rt: &HostRuntime, path: &str, bytes: &[u8]) -> Result<(), Unw
         }
         place = followed(rt, inside.as_str(), within)?;
     }
-    // As Linux says of as many links.
+    // Opens it, so that the error is the one that Linux gives for this many links.
     write_straight(rt, place.as_str(), false, bytes)
 }
 
-// Whether what was found under a name is a file that is open in this process or another one, as
-// /dev/stdout is: of the links of /proc only these are named by a number.
+// Whether `found` is the link to an open file of this or another process, as /dev/stdout is: among
+// the links in /proc only these have a number as their name.
 fn is_open_file(rt: &HostRuntime, name: &str, found: &Metadata) -> bool {
     found.is_symlink()
         && !name.is_empty()
@@ -126,13 +129,13 @@ fn is_open_file(rt: &HostRuntime, name: &str, found: &Metadata) -> bool {
         && fs::metadata(rt, "/proc/self").is_ok_and(|proc| proc.dev() == found.dev())
 }
 
-// Whether a path names a file that is open already, itself or through links.
+// Whether `path` names an open file, directly or through links.
 fn leads_to_open_file(rt: &HostRuntime, path: &str) -> Result<bool, Unwritten> {
     let mut place = String::from_str(rt.alloc(), path)?;
     for _ in 0..LINKS {
         let (folder, name) = parts_of(place.as_str());
         if folder == "/proc/self/fd" {
-            // Also where there is no /proc.
+            // This holds even where there is no /proc.
             return Ok(true);
         }
         let found = fs::symlink_metadata(rt, place.as_str())?;
@@ -144,14 +147,14 @@ fn leads_to_open_file(rt: &HostRuntime, path: &str) -> Result<bool, Unwritten> {
     Ok(false)
 }
 
-/// Whether a path names no file of its own: a folder, a pipe, a device, or what is open already, as
-/// /dev/stdout.
+/// Whether `path` names something other than a regular file: a folder, a pipe, a device, or a file
+/// that is already open, such as /dev/stdout.
 pub fn is_stream(rt: &HostRuntime, path: &str) -> bool {
     leads_to_open_file(rt, path).unwrap_or(false)
         || fs::metadata(rt, path).is_ok_and(|found| !found.is_file())
 }
 
-// What a link names that stands in a folder.
+// Returns the path that a link in `folder` points to.
 fn followed(rt: &HostRuntime, link: &str, folder: &str) -> Result<String, Unwritten> {
     let named = fs::read_link(rt, link)?;
     let target = named.as_path().as_str();
@@ -161,9 +164,9 @@ fn followed(rt: &HostRuntime, link: &str, folder: &str) -> Result<String, Unwrit
     Ok(format!(in rt.alloc(); "{folder}/{target}")?)
 }
 
-// Whether what was found in a folder is neither this user's nor its owner's, where everybody can
-// make files and nobody can remove another's (sticky). Linux refuses to open such links, pipes and
-// files for whoever would make one, but here it is not asked to.
+// Whether `found` belongs neither to this user nor to the folder's owner, in a folder where
+// everybody may create files and nobody may remove another's (sticky). Linux refuses to open such
+// links, pipes and files when asked to create them, which is not asked here.
 fn is_strange(rt: &HostRuntime, folder: &str, found: &Metadata) -> io::Result<bool> {
     let folder = fs::metadata(rt, folder)?;
     if folder.mode() & 0o1002 != 0o1002 || found.uid() == folder.uid() {
@@ -172,13 +175,13 @@ fn is_strange(rt: &HostRuntime, folder: &str, found: &Metadata) -> io::Result<bo
     Ok(found.uid() != fs::metadata(rt, "/proc/self")?.uid())
 }
 
-// The folder of a path, without the slash behind it, and the name there.
+// Splits a path into its folder, without the slash at its end, and the name in it.
 fn parts_of(path: &str) -> (&str, &str) {
     path.rsplit_once('/').unwrap_or((".", path))
 }
 
-// Writes what is no regular file, or after what is in a file that is open already. A regular file
-// that took its place meanwhile is left alone.
+// Writes to a pipe or device, or appends to a file that is already open. A regular file that took
+// its place meanwhile is left alone.
 fn write_straight(
     rt: &HostRuntime,
     place: &str,
@@ -195,8 +198,8 @@ fn write_straight(
     Ok(file.write_all(bytes)?)
 }
 
-// Writes a new file in a folder, under the first name that is free, and renames it to the path,
-// where an old file may stand.
+// Writes a temporary file under the first free name, and renames it to `path`, where an old file
+// may be.
 fn replace(
     rt: &HostRuntime,
     folder: Folder,
@@ -218,27 +221,27 @@ fn replace(
     Err(Unwritten::Taken(folder.name))
 }
 
-// A new file of its owner alone, and the permissions that a file gets there by itself.
+// Creates a file that only its owner can access. Also returns the permissions that a new file
+// usually gets in this folder.
 fn private_file(rt: &HostRuntime, path: &str) -> io::Result<(File, u32)> {
     let usual = usual_rights(rt, path)?;
     Ok((created(rt, path, 0o600)?, usual))
 }
 
-// The permissions of an old file that are kept: those of its owner, and what group and others both
-// had. What shows as the group's may be that of single users (ACL), which std cannot ask.
+// The permissions that are kept of an old file: the owner's, and those that both group and others
+// had. The group's bits may stand for an ACL of single users, which std cannot read.
 fn kept_rights(mode: u32) -> u32 {
     let shared = mode & mode >> 3 & 0o7;
     mode & 0o700 | shared << 3 | shared
 }
 
-// The permissions that a new file gets by itself: of one without data, which is removed.
+// Finds the permissions that a new file usually gets, by creating an empty one and removing it.
 fn usual_rights(rt: &HostRuntime, path: &str) -> io::Result<u32> {
     let mode = created(rt, path, 0o666)?.metadata()?.mode();
     fs::remove_file(rt, path)?;
     Ok(mode & 0o777)
 }
 
-// A new file.
 fn created(rt: &HostRuntime, path: &str, mode: u32) -> io::Result<File> {
     OpenOptions::new()
         .write(true)
@@ -247,8 +250,9 @@ fn created(rt: &HostRuntime, path: &str, mode: u32) -> io::Result<File> {
         .open(rt, path)
 }
 
-// Writes all of a new file, and waits until it is on the disk. Between opening and renaming nothing
-// is done by its name, which others may have given to another file.
+// Writes all of a new file, sets its permissions and waits until it is on disk. From opening to
+// renaming, the file is never looked up by name, since others may have given that name to another
+// file.
 fn fill(mut file: File, usual: u32, old: Option<&Metadata>, bytes: &[u8]) -> Result<(), Unwritten> {
     let rights = match old {
         Some(old) => rights_after(&file, usual, old)?,
@@ -259,9 +263,9 @@ fn fill(mut file: File, usual: u32, old: Option<&Metadata>, bytes: &[u8]) -> Res
     Ok(file.sync_all()?)
 }
 
-// Gives a new file the owner and the group of the old one, where that is allowed, and returns its
-// permissions. A file that stays this user's in the place of another's has no more of them than any
-// new file, and the owner of the old one has to be able to read it.
+// Gives a new file the owner and group of the old one if that is allowed, and returns its
+// permissions. If it replaces another user's file but stays this user's, it gets no more rights
+// than any new file, and the old owner must be able to read it.
 fn rights_after(file: &File, usual: u32, old: &Metadata) -> Result<u32, Unwritten> {
     let kept = kept_rights(old.mode());
     let is_given = fchown(file, Some(old.uid()), Some(old.gid())).is_ok();
@@ -276,7 +280,7 @@ fn rights_after(file: &File, usual: u32, old: &Metadata) -> Result<u32, Unwritte
     }
 }
 
-// Renames a new file to a path, where it is filled; else, and where that fails, takes it away.
+// Renames a completely written file to `path`. Removes it if writing or renaming failed.
 fn settle(
     rt: &HostRuntime,
     filled: Result<(), Unwritten>,

@@ -1,4 +1,4 @@
-//! What comes in and goes out of `goqlanis`: files, standard input and output, and failures.
+//! Input and output of `goqlanis`: files, standard input and output, progress and failures.
 #![tactic(auto)]
 
 pub mod failure;

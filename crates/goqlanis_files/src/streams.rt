@@ -1,4 +1,4 @@
-//! What comes in and goes out.
+//! Reads and writes files, standard input and standard output.
 
 use crate::failure::Failure;
 use crate::files::{Unwritten, write_whole};
@@ -8,19 +8,22 @@ use std::io::{ErrorKind, IsTerminal, Read, Write};
 use std::process::ExitCode;
 use std::{env, fmt, fs, io};
 
-/// The most bytes of data that are read: those of the longest data that a symbol holds, 7,089
-/// digits, and a newline.
+/// The maximum bytes of data that are read: the longest data that a symbol holds, 7,089 digits, and
+/// a newline.
 pub const MOST_DATA: usize = 7_090;
 
-/// The most bytes of a picture that are read, 64 MiB.
+/// The maximum bytes of a picture that are read: 64 MiB.
 pub const MOST_PICTURE: usize = 67_108_864;
 
-/// Whether what goes to standard output may have colours.
+/// Whether standard output may have colours: it is a terminal, and `NO_COLOR` is not set.
 pub fn has_colours(rt: &HostRuntime) -> bool {
     rt.stdout().is_terminal() && env::var(rt, "NO_COLOR").is_err()
 }
 
-/// Writes to standard output.
+/// Writes `bytes` to standard output.
+///
+/// Errors: `Unheard` if it is closed; `Unwritten` if writing fails otherwise; `OutOfMemory` if
+/// memory runs out.
 pub fn print(rt: &HostRuntime, bytes: &[u8]) -> Result<ExitCode, Failure> {
     match io::writer(rt).write_all(bytes) {
         Ok(()) => Ok(ExitCode::SUCCESS),
@@ -32,7 +35,9 @@ pub fn print(rt: &HostRuntime, bytes: &[u8]) -> Result<ExitCode, Failure> {
     }
 }
 
-/// Writes a file, whole or not at all.
+/// Writes `bytes` to the file at `path`. If anything fails, an old file stays as it was.
+///
+/// Errors: `Unwritten`, with the reason; `OutOfMemory` if memory runs out.
 pub fn write_file(rt: &HostRuntime, path: &str, bytes: &[u8]) -> Result<ExitCode, Failure> {
     match write_whole(rt, path, bytes) {
         Ok(()) => Ok(ExitCode::SUCCESS),
@@ -43,8 +48,10 @@ pub fn write_file(rt: &HostRuntime, path: &str, bytes: &[u8]) -> Result<ExitCode
     }
 }
 
-/// Writes data that was read to the named output, or to standard output; to a terminal that is not
-/// named, with escapes, in which line breaks and tabs stay.
+/// Writes `data` to the file `output`; without it or with `-`, to standard output. Without it, a
+/// terminal gets control and invisible characters as escapes, except line breaks and tabs.
+///
+/// Errors: those of `print` and `write_file`.
 pub fn write_data(
     rt: &HostRuntime,
     output: Option<&str>,
@@ -57,7 +64,7 @@ pub fn write_data(
     }
 }
 
-// Writes data to a terminal, in lines of its own.
+// Writes data to a terminal, with escapes, and ends the last line.
 fn show(rt: &HostRuntime, data: &[u8]) -> Result<ExitCode, Failure> {
     let shown = Escaped {
         bytes: data,
@@ -68,7 +75,10 @@ fn show(rt: &HostRuntime, data: &[u8]) -> Result<ExitCode, Failure> {
     print(rt, text.as_bytes())
 }
 
-/// All of a file, unless it has more than so many bytes.
+/// Reads a whole file.
+///
+/// Errors: `Refused` if it cannot be read, or has more than `most` bytes; `OutOfMemory` if memory
+/// runs out.
 pub fn read_file(rt: &HostRuntime, path: &str, most: usize) -> Result<Vec<u8>, Failure> {
     match fs::open(rt, path) {
         Ok(file) => read_all(rt.alloc(), path, file, most),
@@ -76,20 +86,23 @@ pub fn read_file(rt: &HostRuntime, path: &str, most: usize) -> Result<Vec<u8>, F
     }
 }
 
-/// All of standard input, where `what` is asked for, unless it has more than so many bytes.
+/// Reads all of standard input. On a terminal it first asks for `what`.
+///
+/// Errors: `Refused` if it cannot be read, or has more than `most` bytes; `OutOfMemory` if memory
+/// runs out.
 pub fn read_standard_input(rt: &HostRuntime, what: &str, most: usize) -> Result<Vec<u8>, Failure> {
     ask(rt, what);
     read_all(rt.alloc(), "standard input", rt.stdin(), most)
 }
 
-/// Asks for `what`, where standard input is a terminal.
+/// Asks for `what` on standard error, if standard input is a terminal.
 pub fn ask(rt: &HostRuntime, what: &str) {
     if rt.stdin().is_terminal() {
         let _ = eprintln!(rt; "goqlanis: {what}, and Ctrl-D at its end:");
     }
 }
 
-// All of what has a name, read to one byte more than may be.
+// Reads all of `from`, which messages call `name`: at most one byte more than `most`.
 fn read_all<R: Read + Drop>(
     alloc: Global,
     name: &str,
@@ -117,21 +130,23 @@ fn read_all<R: Read + Drop>(
     }
 }
 
-/// A refusal of what has a name and cannot be read.
+/// Fails with `Refused`: `name` cannot be read. If memory runs out, fails with `OutOfMemory`
+/// instead.
 pub fn unread<T>(alloc: Global, name: &str, error: &io::Error) -> Result<T, Failure> {
     Err(Failure::Refused(format!(in alloc; "cannot read {name}: {error}")?))
 }
 
-/// Bytes as a terminal may see them: characters that control it, hide or reorder others as escapes,
-/// such as \u{1b}, and bytes that are not UTF-8 too, such as \xff.
+/// Displays bytes so that they are safe in a terminal. Characters that control it, or hide or
+/// reorder others, become escapes such as \u{1b}; bytes that are not UTF-8 become escapes such as
+/// \xff.
 #[derive(Clone, Copy)]
 pub struct Escaped<'a> {
     pub bytes: &'a [u8],
-    /// Whether line breaks and tabs stay.
+    /// Whether line breaks and tabs are left as they are.
     pub has_lines: bool,
 }
 
-/// A text as it is shown within a line.
+/// Displays `text` within one line, with escapes for line breaks and tabs too.
 pub fn shown(text: &str) -> Escaped<'_> {
     Escaped {
         bytes: text.as_bytes(),
@@ -149,16 +164,16 @@ impl fmt::Display for Escaped<'_> {
     }
 }
 
-/// Whether a character may be hidden, or hide or reorder others: in Unicode 18 it has the category
-/// Cc or Cf, or the property Default_Ignorable_Code_Point, or separates lines. Some emoji have such
-/// characters.
+/// Whether a character is invisible or may hide or reorder others: in Unicode 18 it has the
+/// category Cc or Cf, or the property Default_Ignorable_Code_Point, or it separates lines. Some
+/// emoji contain such characters.
 pub fn is_unseen(character: char) -> bool {
     let code = character as u32;
     let mut ranges = UNSEEN.iter();
     character.is_control() || ranges.any(|(first, last)| *first <= code && code <= *last)
 }
 
-// The ranges of these characters but for Cc; the separators are U+2028 and U+2029.
+// The ranges of these characters, except Cc; the separators are U+2028 and U+2029.
 #[rattlefmt::skip]
 static UNSEEN: &[(u32, u32)] = &[
     (0xad, 0xad), (0x34f, 0x34f), (0x600, 0x605), (0x61c, 0x61c), (0x6dd, 0x6dd), (0x70f, 0x70f),
@@ -168,7 +183,7 @@ static UNSEEN: &[(u32, u32)] = &[
     (0x13430, 0x1343f), (0x1bca0, 0x1bca3), (0x1d173, 0x1d17a), (0xe0000, 0xe0fff),
 ];
 
-// Writes a text with its unseen characters as escapes.
+// Writes `text` with escapes for such characters.
 fn write_text<W: fmt::Write>(
     f: &mut fmt::Formatter<W>,
     text: &str,

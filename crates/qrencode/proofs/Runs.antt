@@ -1,4 +1,4 @@
--- What the contracts of programs take from that of `deliver`.
+-- How the contract of `run` follows from that of `deliver`.
 use Rattle.std.specs.Prelude.{◌≡◌, ℕ, List, Option, Result, Ok, Err, IsOkAnd, IfOk, IfErr}
 use Rattle.std.proofs.Common.{subst}
 use Rattle.qrcode_types.specs.declared.types.QrError.{QrError}
@@ -6,7 +6,7 @@ use Rattle.qrencode.specs.declared.program.Fault.{Fault}
 use Rattle.qrencode.specs.declared.program.Fault.TheVariants.{MissingArgument, Qr, CannotWrite}
 use Rattle.qrencode.specs.Runs.{IsRun}
 
--- a run that delivers what was made makes what that is, and is refused for its causes
+-- if what was made satisfies Made, and its errors satisfy Refused, then so do the output and the errors of a run that delivers it
 pub is_run-made : {T : Type 0} (items : T → List ℕ) (made : Result T QrError) (Made : List ℕ → Type 0) (Refused : QrError → Type 0) (old new : Option (List ℕ)) (result : Result Unit Fault)
     → IfOk made (λ x. Made (items x)) → IfErr made Refused
     → IsRun (λ bytes. IsOkAnd made (λ x. items x ≡ bytes)) (λ e. made ≡ Err e) old new result

@@ -1,4 +1,4 @@
--- What a run of a program does: it writes what it made, or says why not.
+-- What a run of the program does: it writes its output, or says why it wrote nothing.
 use Rattle.std.specs.Prelude.{◌≡◌, ℕ, List, ⊤, Option, Result, MatchResult}
 use Rattle.std.specs.Io.KnownBytes.{Appends}
 use Rattle.qrcode_types.specs.declared.types.QrError.{QrError}
@@ -10,13 +10,13 @@ IsCannotWrite CannotWrite = ⊤
 IsCannotWrite MissingArgument = ⊥
 IsCannotWrite (Qr e) = ⊥
 
--- the cause of a fault: a refusal, with the writer as it was, or a failed write of what was made
+-- why a run failed: the output could not be made, and nothing was written; or it was made, and writing failed
 abbrev pub IsCause : (List ℕ → Type 0) → (QrError → Type 0) → Option (List ℕ) → Option (List ℕ) → Fault → Type 0
 IsCause Made Refused old new (Qr e) = Refused e × (new ≡ old)
 IsCause Made Refused old new CannotWrite = (bytes : List ℕ) × Made bytes
 IsCause Made Refused old new MissingArgument = ⊥
 
--- a run wrote all of what was made, or failed by its cause
+-- a run wrote all of its output, or failed for one of these causes
 abbrev pub IsRun : (List ℕ → Type 0) → (QrError → Type 0) → Option (List ℕ) → Option (List ℕ) → Result Unit Fault → Type 0
 IsRun Made Refused old new result =
     MatchResult result (λ _. (bytes : List ℕ) × Made bytes × Appends old new bytes) (IsCause Made Refused old new)

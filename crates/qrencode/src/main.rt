@@ -1,4 +1,4 @@
-//! Prints a text as a symbol, in cells of inverse video.
+//! Prints a text as a QR code in the terminal, drawn in inverse video.
 #![tactic(auto)]
 
 mod program;
@@ -15,15 +15,15 @@ fn main(rt: HostRuntime) -> ExitCode {
     status(&rt, draw_argument(&rt))
 }
 
-// Draws the first argument on standard output. A list of arguments that cannot be taken counts as a
-// lack of memory.
+// Draws the first argument on standard output. Arguments that cannot be obtained count as out of
+// memory.
 fn draw_argument(rt: &HostRuntime) -> Result<(), Fault> {
     let mut words = env::args(rt).map_err(|_| Fault::Qr(QrError::OutOfMemory))?;
     let text = words.nth(1);
     program::run(rt.alloc(), text.as_deref(), &mut rt.stdout())
 }
 
-// The exit status of a run, whose fault is printed in a line on standard error.
+// Turns the outcome of a run into an exit status, and prints a fault on standard error.
 fn status<R: Eprint>(rt: &R, run: Result<(), Fault>) -> ExitCode
     ensures { exit_status result ≡ (if is_ok run then 0 else 1) }
 {

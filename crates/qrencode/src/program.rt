@@ -1,4 +1,4 @@
-//! The program, over any writer.
+//! The program, with any writer as its output.
 
 ghost use Rattle.std.specs.Prelude.{◌≡◌, ◌⊎◌, ◌↔◌, List, Some, None, string_bytes, IfOk, IfErr, IsErrOf, IsOkAnd, IfSome, IsOkUnless};
 ghost use Rattle.qrcode_types.specs.declared.types.EcLevel.TheVariants.{M};
@@ -14,31 +14,32 @@ use std::alloc::Global;
 use std::io::Write;
 use thiserror::Error;
 
-/// Why the program did not do what it was asked. Its text is the line on standard error.
+/// Why a run failed. `Display` gives the line for standard error.
 #[derive(Clone, Copy, Debug, Error)]
 pub enum Fault {
-    /// There is no text.
+    /// No text was given.
     #[error("qrencode: missing argument")]
     MissingArgument,
-    /// There is no symbol, or memory ran out.
+    /// The text has no symbol, or memory ran out.
     #[error("qrencode: {0}")]
     Qr(QrError),
-    /// The writer failed.
+    /// Writing failed.
     #[error("qrencode: cannot write")]
     CannotWrite,
 }
 
-// A dark and a light cell: two spaces in inverse video, and two on the default background.
+// A dark module is two spaces in inverse video, a light one two spaces on the default background.
 static DARK: &str = "\x1b[7m  \x1b[0m";
 
 static LIGHT: &str = "\x1b[49m  \x1b[0m";
 
-/// Writes the symbol of a text at level M, of the least version that holds it, with its quiet zone:
-/// a line for each row of modules, without a newline at the end. The whole text is made before the
-/// first write.
+/// Encodes `text` at level M, in the smallest Normal version that holds it, and writes the symbol
+/// with its quiet zone to `out`: one line for each row of modules, without a newline at the end.
+/// The whole output is made before the first write.
 ///
-/// `MissingArgument`: there is no text. `Qr(DataTooLong)`: no Normal version holds it.
-/// `Qr(OutOfMemory)`: memory ran out. `CannotWrite`: the writer failed, and may have taken a part.
+/// Errors: `MissingArgument` if there is no text; `Qr(DataTooLong)` if no Normal version holds it;
+/// `Qr(OutOfMemory)` if memory runs out; `CannotWrite` if the writer fails, which may have taken a
+/// part of the output. On the other errors nothing is written.
 pub fn run<W: Write>(alloc: Global, text: Option<&str>, out: &mut W) -> Result<(), Fault>
     ensures usage { IsErrOf result Fault.MissingArgument ↔ (text.entry ≡ None) }
     ensures nothing { IfErr result (λ fault.
@@ -52,7 +53,7 @@ pub fn run<W: Write>(alloc: Global, text: Option<&str>, out: &mut W) -> Result<(
     deliver(picture(alloc, text.as_bytes()), out)
 }
 
-// Writes what was made, or hands on why nothing was.
+// Writes `made`, or passes its error on.
 fn deliver<W: Write>(made: QrResult<Vec<u8>>, out: &mut W) -> Result<(), Fault>
     ensures { IsRun (λ bytes. IsOkAnd made (λ v. v.items ≡ bytes)) (IsErrOf made)
         (W.contents out.old) (W.contents out.new) result }
@@ -61,7 +62,7 @@ fn deliver<W: Write>(made: QrResult<Vec<u8>>, out: &mut W) -> Result<(), Fault>
     out.write_all(&bytes).map_err(|_| Fault::CannotWrite)
 }
 
-// The symbol of bytes, as cells.
+// Encodes `bytes` and draws the symbol.
 fn picture(alloc: Global, bytes: &[u8]) -> QrResult<Vec<u8>>
     ensures value { IfOk result (λ text. IsTerminalText bytes.now text.items) }
     ensures causes { IfErr result (IsRefused M bytes.now) }
@@ -71,7 +72,7 @@ fn picture(alloc: Global, bytes: &[u8]) -> QrResult<Vec<u8>>
     Ok(cells.into_bytes())
 }
 
-// A symbol as cells.
+// Draws a symbol as text for the terminal.
 fn cells(alloc: Global, code: &QrCode) -> QrResult<String>
     ensures value { IfOk result (λ text.
         string_bytes text ≡ terminal_text code.now.version code.now.modules) }

@@ -7,7 +7,7 @@ use Rattle.qrcode_render.specs.Setting.{layout_of as at_of}
 use Rattle.goqlanis_core.specs.Formats.{dark_of, light_of, eps_in, layout_of, view_of}
 use Rattle.goqlanis_core.proofs.render.sized_eps.Goals as goal
 
--- where a dot to an inch or more is given
+-- with at least one pixel per inch, the EPS text has that size
 sized : (n : ℕ) (at : Layout) (s : List Color) (dark light : eps.Color) → 1 ≤ n → eps_in (Some n) at s dark light ≡ eps_sized_text n at s dark light
 sized zero at s dark light few = absurd (omega arith)
 sized (suc n) at s dark light few = refl

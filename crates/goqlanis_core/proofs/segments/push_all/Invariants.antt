@@ -2,7 +2,7 @@ use Rattle.std.proofs.Common.{◌≡◌, None, take}
 use Rattle.goqlanis_core.specs.Segments.{segments_refusal, written_segments}
 use Rattle.goqlanis_core.proofs.segments.push_all.Given as goal
 
--- so many segments are taken and written
+-- the segments up to this one are written, without a cause to fail
 abbrev pub invariant-loop-segment : goal.invariant-loop-segment
 invariant-loop-segment l =
     (l.bits.version ≡ l.initial.bits.version)

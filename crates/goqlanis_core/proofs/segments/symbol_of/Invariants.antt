@@ -3,6 +3,6 @@ use Rattle.goqlanis_core.specs.Segments.{first_of}
 use Rattle.goqlanis_core.proofs.Held.{NoneHolds}
 use Rattle.goqlanis_core.proofs.segments.symbol_of.Given as goal
 
--- no version before the place holds the segments
+-- no version with a smaller rank holds the segments
 abbrev pub invariant-loop-place : goal.invariant-loop-place
 invariant-loop-place l = NoneHolds l.level l.fn.segments (rank (first_of l.fn.choice)) l.place

@@ -1,7 +1,7 @@
 use Rattle.std.proofs.Common.{◌∙◌, ap}
 use Rattle.qrencode.proofs.program.picture.Goals as goal
 
--- The cells are those of the symbol that was made.
+-- The text is that of the symbol that was made.
 pub returns-clause-value : goal.returns-clause-value
 returns-clause-value c =
     let code = c.in_ok-code.code in
