@@ -83,7 +83,7 @@ static void shapes(void)
     expect(drawing.size == sizeof drawing && drawing.format == GOQ_PNG, "a drawing that is assigned");
     expect(drawing.zone == 4 && drawing.scale == 8 && drawing.dark == 0 && drawing.light == 0xffffff && drawing.dpi == 0, "its defaults");
     expect(goq_version() == GOQ_VERSION && GOQ_VERSION == 10000, "the version");
-    expect(!strcmp(goq_strerror(GOQ_NO_ROOM), "no symbol of the asked kind holds the data"), "the text of an answer");
+    expect(!strcmp(goq_strerror(GOQ_NO_ROOM), "the data does not fit: use a lower level or a larger version, or split it"), "the text of an answer");
     expect(!strcmp(goq_strerror(999), "no answer of this library"), "the text of none");
     expect(goq_width(0) == 0 && goq_width(1) == 21 && goq_width(40) == 177 && goq_width(GOQ_MICRO(1)) == 11 && goq_width(45) == 0, "widths");
     expect(goq_is_functional(1, 0, 0) && !goq_is_functional(1, 20, 20) && !goq_is_functional(1, 21, 0) && !goq_is_functional(0, 0, 0), "patterns");

@@ -126,29 +126,31 @@ class AreaTooLarge(Error, ValueError):
 _CAUSES: Dict[int, Tuple[Type[Error], str]] = {
     goq.NO_SUCH_LEVEL: (NoSuchLevel, "the levels are L, M, Q and H"),
     goq.NO_SUCH_VERSION: (NoSuchVersion, "the versions are 1 to 40 and M1 to M4"),
-    goq.LEVEL_NOT_IN_VERSION: (LevelNotInVersion, "the version lacks the level"),
+    goq.LEVEL_NOT_IN_VERSION: (LevelNotInVersion, "the version has no such level: use level L or "
+                               "a Normal version"),
     goq.TOO_LONG: (TooLong, "no symbol holds more than 7,089 bytes"),
     goq.NO_MODE: (NoMode, "the version lacks a mode that the data needs; M3, M4 and 1 to 40 have "
                   "all"),
-    goq.NO_ROOM: (NoRoom, "no symbol of the asked kind holds the data"),
-    goq.OUT_OF_MEMORY: (OutOfMemory, "memory was refused"),
+    goq.NO_ROOM: (NoRoom, "the data does not fit: use a lower level or a larger version, or split "
+                  "it"),
+    goq.OUT_OF_MEMORY: (OutOfMemory, "out of memory"),
     goq.NO_SUCH_SIZE: (NoSuchSize, "the picture would be too large: take a smaller scale or border"),
-    goq.NOT_IN_MODE: (NotInMode, "the mode of a segment lacks one of its bytes"),
+    goq.NOT_IN_MODE: (NotInMode, "a segment has bytes that its mode cannot encode: use byte mode"),
     goq.NO_SUCH_NUMBER: (NoSuchNumber, "character sets have numbers up to 999,999, applications up "
                          "to 255"),
     goq.NO_SUCH_SIDE: (NoSuchSide, "no version has so many modules: give them without a quiet "
                        "zone"),
     goq.NO_FORMAT: (NoFormat, "no format word is near each of its copies; read_any tries all "
                     "positions"),
-    goq.DAMAGED: (Damaged, "a block has too many wrong codewords"),
+    goq.DAMAGED: (Damaged, "the symbol is damaged: a block has more errors than can be corrected"),
     goq.NOT_SPELLED: (NotSpelled, "the bits are not segments and an end, as behind a header; "
                       "read_text reads a text that says that it is UTF-8"),
     goq.NO_SUCH_MASK: (NoSuchMask, "the masks are 0 to 7, in Micro 0 to 3"),
     goq.NOT_IN_FORMAT: (NotInFormat, "PNG and SVG have colours, EPS, PDF and PPM opaque ones, and "
                         "PNG alone has dpi"),
     goq.NOT_SHOWN: (NotShown, "the bits are not a text that readers show; read gives the bytes"),
-    goq.NOT_READ: (Unread, "the square is read in none of the sixteen positions, or has a header: "
-                   "read says more, once it is upright"),
+    goq.NOT_READ: (Unread, "the square does not decode in any of the sixteen positions, or has a "
+                   "header: read says more, once it is upright"),
     goq.NOT_PICTURE: (NotPicture, "it is neither a PNG, PBM or PGM file nor half blocks; convert "
                       "it to PNG"),
     goq.BROKEN_PICTURE: (BrokenPicture, "the picture is cut off, damaged, interlaced or more than "
@@ -159,11 +161,12 @@ _CAUSES: Dict[int, Tuple[Type[Error], str]] = {
                         "smaller ones"),
     goq.NO_SUCH_AREA: (NoSuchArea, "an area is a rectangle inside the symbol, or several: left, "
                        "top, width and height in modules"),
-    goq.NO_AREA: (AreaTooLarge, "no area in the middle leaves so much: take a higher level, or less "
+    goq.NO_AREA: (AreaTooLarge, "no central area leaves that reserve: use a higher level or less "
                   "reserve"),
-    goq.AREA_BLOCK: (AreaTooLarge, "the area touches more codewords of a block than may be lost"),
-    goq.AREA_FORMAT: (AreaTooLarge, "the area has more than three modules of a copy of the format "
-                      "word: move it"),
+    goq.AREA_BLOCK: (AreaTooLarge, "the area covers more codewords of a block than may be lost: "
+                     "shrink it"),
+    goq.AREA_FORMAT: (AreaTooLarge, "the area covers too many modules of the format information: "
+                      "move it"),
 }
 
 # They are shown as the package exports them.

@@ -35,7 +35,7 @@ POSITIONS = ("upright", "rotated left", "upside down", "rotated right", "mirrore
 JOINS = {goq.NOT_SEVERAL: "square {place} has no header of one of several symbols",
          goq.STRANGER: "square {place} is a part of other data than the first",
          goq.MISSING: "part {place} is missing", goq.TWICE: "part {place} is there twice",
-         goq.PARITY: "the parts are not those of the data that their headers name"}
+         goq.PARITY: "the symbols do not belong together: the parity of their data is wrong"}
 
 
 class Reading(NamedTuple):

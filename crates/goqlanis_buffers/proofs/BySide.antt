@@ -1,4 +1,4 @@
--- Lengths of pictures by their sides.
+-- The lengths of pictures follow from their sides.
 use Rattle.std.proofs.Common.{◌≡◌, ℕ, zero, suc, ◌+◌, ◌-◌, ◌*◌, ◌/◌, ◌<◌, ◌≤◌, List, [], ◌∷◌, Bool, true, false, ◌++◌, length, length-append, drop, flat_map, decimal, refl, sym, ap, ap₂, ◌∙◌, subst, arith}
 use Rattle.std.specs.Prelude.{codes}
 use Rattle.std.specs.List.{range_with_len}
@@ -22,7 +22,7 @@ use Rattle.qrcode_render.specs.Printers.{bytes_across, escpos_file, escpos_head,
 use Rattle.qrcode_render.specs.Shades.{colors_of}
 use Rattle.qrcode_render.specs.Texts.{marks_text, raw_bytes}
 
--- pieces of one length, one after the other
+-- the length of n pieces of the same size, joined
 length_of_pieces : (f : ℕ → List ℕ) (size n a : ℕ) → ((y : ℕ) → a ≤ y → y < a + n → length (f y) ≡ size) → length (flat_map f (range_with_len a n)) ≡ n * size
 length_of_pieces f size zero a each = sym (zero-mul size)
 length_of_pieces f size (suc n) a each =
@@ -31,11 +31,11 @@ length_of_pieces f size (suc n) a each =
     ∙ ap₂ (λ x y. x + y) (each a (omega arith) (omega arith)) (length_of_pieces f size n (a + 1) (λ y low high. each y (omega (arith, low)) (omega (arith, high))))
     ∙ more
 
--- a picture has as many marks as pixels
+-- a picture has one mark (dark or light) per pixel
 length_of_marks : (at : Layout) (s : List Color) → length (picture at s).marks ≡ pixels_across at * pixels_down at
 length_of_marks at s = length-map-range_with_len _ 0 (pixels_across at * pixels_down at)
 
--- texts of one length for each pixel
+-- the length of a text in which dark and light pixels have texts of the same size
 length_of_texts : (dark light : List ℕ) (size : ℕ) (marks : List Bool) → length dark ≡ size → length light ≡ size → length (marks_text dark light marks) ≡ length marks * size
 length_of_texts dark light size [] one other = sym (zero-mul size)
 length_of_texts dark light size (true ∷ marks) one other =
@@ -51,7 +51,7 @@ length_of_grey dark light at s =
     let one : length marks * 1 ≡ length marks = omega arith in
     length_of_texts (dark ∷ []) (light ∷ []) 1 marks refl refl ∙ one ∙ length_of_marks at s
 
--- a row of a picture has as many marks as there are pixels across
+-- a row of a picture has one mark per pixel across
 length_of_row : (at : Layout) (s : List Color) (y : ℕ) → y < pixels_down at → length (row_of (picture at s) y) ≡ pixels_across at
 length_of_row at s y inside =
     let w = pixels_across at in
@@ -60,7 +60,7 @@ length_of_row at s y inside =
     let less : y * w + w ≤ length marks = omega (arith, rows, length_of_marks at s) in
     length-take-le (y * w + w - y * w) (drop (y * w) marks) (omega (arith, less, length-drop (y * w) marks)) ∙ omega arith
 
--- a row of pixels, eight in a byte
+-- the length of a row of pixels packed into bytes, eight per byte
 length_of_packed : (blacks : List Bool) → length (packed blacks) ≡ (length blacks + 7) / 8
 unfolding packed
 length_of_packed blacks = length-map-range_with_len _ 0 ((length blacks + 7) / 8)
@@ -91,7 +91,7 @@ length_of_ppm dark light at s one other =
     let head = codes "P6\n" ++ (decimal b.across ++ (codes " " ++ (decimal b.down ++ codes "\n255\n"))) in
     length-append head _ ∙ ap (λ n. length head + n) (length_of_texts dark light 3 b.marks one other ∙ ap (λ n. n * 3) (length_of_marks at s))
 
--- rows of black and white pixels between a head and a tail, each of which becomes as many bytes
+-- the length of a head, rows of black and white pixels that take `size` bytes each, and a tail
 length_of_file : (before : ℕ → ℕ → List ℕ) (row : List ℕ → List ℕ) (behind : List ℕ) (marked other : Bool) (at : Layout) (s : List Color) (size : ℕ)
     → ((bytes : List ℕ) → length bytes ≡ bytes_across (pixels_across at) → length (row bytes) ≡ size)
     → length (packed_file before row behind marked other (picture at s)) ≡ length (before (pixels_across at) (pixels_down at)) + pixels_down at * size + length behind
@@ -106,7 +106,7 @@ length_of_file before row behind marked other at s size each =
     length-append (head ++ flat_map text (range_with_len 0 b.down)) behind
     ∙ ap (λ n. n + length behind) (length-append head _ ∙ ap (λ n. length head + n) rows)
 
--- a byte in XBM
+-- bytes in XBM take five characters each
 length_of_numbers : (bytes : List ℕ) → length (flat_map (λ b. codes "0x" ++ hex_pair (turned b) ++ codes ",") bytes) ≡ 5 * length bytes
 length_of_numbers [] = refl
 length_of_numbers (b ∷ bytes) =
@@ -119,14 +119,14 @@ length_of_xbm_row bytes = length-append (flat_map (λ b. codes "0x" ++ hex_pair 
 abbrev pub at_of : Asked → Layout  -- how the pixels of what is asked for lie
 at_of a = layout a.width a.drawing.now.zone a.drawing.now.scale a.drawing.now.scale
 
--- what is drawn in a format, where that is asked for, has so many bytes
+-- a drawing in the requested format has the length that is computed
 drawn_length : (a : Asked) (f g : Format) (bytes : List ℕ) (count total : ℕ) → f ≡ g → IsDrawable a f
     → IsDrawnIn g (view a.drawing.now) (at_of a) (colors_of a.modules.now) bytes → length bytes ≡ total → count ≡ total → HasLength a count
 drawn_length a f g bytes count total is asked drawn long same =
     let h = subst (IsDrawable a) is asked in
     (bytes, (record { named = g; asked = h.asked; sized = h.sized; drawn = (h.sayable, drawn) }, same ∙ sym long))
 
--- the same of each of these formats
+-- the same for each of these formats
 pub of_grey : (a : Asked) (f : Format) (side count : ℕ) → f ≡ Grey → IsDrawable a f → side ≡ side_of a → count ≡ side * side → HasLength a count
 of_grey a f side count is h at same =
     let s = colors_of a.modules.now in

@@ -14,7 +14,7 @@ use Rattle.goqlanis_buffers.specs.Checking.{HasLevel}
 pub level_exists : (s : List Color) (check : Check) → IsCheck s check → HasLevel check
 level_exists s check is = is.read.only.found.exists
 
--- the same of the codes of a picture
+-- the same for the codes in a picture
 pub levels_exist : (picture : List ℕ) (scans : List Scan) (checks : List Check) → AreChecksOf picture scans checks → All HasLevel checks
 levels_exist picture scans checks are = elim are [
   | inl read ↦ each scans checks read.said

@@ -22,7 +22,7 @@ use Rattle.goqlanis_buffers.specs.declared.answers.Refusal.TheVariants.{AreaForm
 use Rattle.goqlanis_buffers.specs.declared.areas.Taken.{Taken}
 use Rattle.goqlanis_buffers.specs.declared.areas.Uncovered.TheVariants.{Block}
 
--- bytes of which those in an area are light agree outside of it
+-- bytes that were made light in an area agree with the old ones outside of it
 agrees : (v : Version) (area : ℕ → ℕ → Bool) (old new : List ℕ) → length (colors_of old) ≡ side v * side v → length new ≡ length old
     → ((i : ℕ) → i < length old → get_or new i 0 ≡ covered_byte (side v) area old i) → AgreesOutside v area (colors_of old) (colors_of new)
 agrees v area old new square same each = record {
@@ -60,7 +60,7 @@ covered v l k rectangles area old new w square format inside may is across same 
           (agrees_along v (covers rectangles) (colors_of old) (colors_of new) other (agrees v (covers rectangles) old new square same all) beside);
     }
 
--- a block of which more is touched than may be lost refuses the area
+-- a block with more touched codewords than may be lost is a cause of the error
 pub lost_block : (v : Version) (l : EcLevel) (k : MaskPattern) (rectangles : List Rectangle) (modules : List ℕ) (r : Reserve)
     → length (colors_of modules) ≡ side v * side v → HasFormat v (colors_of modules) l k → IsTrue (is_inside (side v) rectangles)
     → IsReserve v l (covers rectangles) r → r.allowed < r.most → IsUncovered rectangles modules (Block r.worst)
@@ -75,17 +75,17 @@ lost_block v l k rectangles modules r square format inside h over = (
   ),
 )
 
--- an area that passes no bound may show anything
+-- an area within all bounds may show anything
 pub may_show : (v : Version) (l : EcLevel) (area : ℕ → ℕ → Bool) (o : Option Excess) → IsItsExcess v l area o → is_some o ≡ false → MayShowAnything v l area
 may_show v l area None h none = h
 may_show v l area (Some e) h none = absurd (true≢false none)
 
--- one that passes a bound may not
+-- an area beyond a bound may not
 may_not : (v : Version) (l : EcLevel) (area : ℕ → ℕ → Bool) (o : Option Excess) → IsItsExcess v l area o → is_some o ≡ true → ¬ MayShowAnything v l area
 may_not v l area None h some = absurd (true≢false (sym some))
 may_not v l area (Some e) h some = excess_is_not v l area e h
 
--- where no block is lost the bound is that of a copy of the format word
+-- if no block loses too much, the area covers too much of a copy of the format information
 pub lost_format : (v : Version) (l : EcLevel) (k : MaskPattern) (rectangles : List Rectangle) (modules : List ℕ) (r : Reserve) (o : Option Excess)
     → length (colors_of modules) ≡ side v * side v → HasFormat v (colors_of modules) l k → IsTrue (is_inside (side v) rectangles)
     → IsReserve v l (covers rectangles) r → r.most ≤ r.allowed → IsItsExcess v l (covers rectangles) o → is_some o ≡ true
@@ -102,7 +102,7 @@ lost_format v l k rectangles modules r o square format inside h fits excess some
       ),
     )
 
--- what C gets of a reserve
+-- a reserve in the form that C gets
 pub taken : (v : Version) (l : EcLevel) (area : ℕ → ℕ → Bool) (r : Reserve) (t : Taken) → IsReserve v l area r
     → t.blocks ≡ length r.touched.items → t.allowed ≡ r.allowed → t.worst ≡ r.worst → t.first ≡ r.first → t.last ≡ r.last
     → IsLeast v l area (told t.may_show_anything t.least) → IsTaken v l area r.touched.items t

@@ -17,7 +17,7 @@ use Rattle.goqlanis_buffers.specs.declared.segments.Segment.{Segment}
 abbrev by_level : ℕ → ℕ → Bool → Option QrError
 by_level used room has = if not has then Some InvalidVersion else (if nat_le used room then None else Some DataTooLong)
 
--- the end of segments that are taken is refused where there is no room for them, or since memory ran out
+-- the terminator after segments without errors fails if there is no room for them, or memory runs out
 pub ended : (version level : ℕ) (v : Version) (l : EcLevel) (segments : List Segment) (list : BitList) (e : QrError) (r : Result (Unit {0}) QrError) (room : ℕ)
     → version_named version ≡ Some v → level_named level ≡ Some l → has_level v l ≡ true
     → list.version ≡ v → list.bits ≡ written_segments v segments → AreTaken v segments (length segments)

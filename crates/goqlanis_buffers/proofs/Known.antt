@@ -1,4 +1,4 @@
--- What is known of a reading.
+-- Facts about readings.
 use Rattle.std.proofs.Common.{◌≢◌, ◌*◌, ℕ, List, length, sym, ◌∙◌}
 use Rattle.std.proofs.lemmas.List.{length-map}
 use Rattle.std.specs.Prelude.{IsTrue}
@@ -15,30 +15,30 @@ use Rattle.qrcode_reader.specs.declared.correction.WrongCodeword.{WrongCodeword}
 use Rattle.qrcode_reader.proofs.Positioned.{unread_of_no_version}
 use Rattle.goqlanis_buffers.specs.Readings.{IsReadNowhere}
 
--- no other bytes are read
+-- the square decodes to no other bytes
 pub only_these : (s : List Color) (v : Version) (l : EcLevel) (k : MaskPattern) (bytes : List ℕ) (wrong : List WrongCodeword)
     → IsReading s v l k bytes wrong → ReadsOnly s bytes
 only_these s v l k bytes wrong reading = reading.only
 
--- no other text is shown
+-- readers show no other text of the square
 pub only_shown : (s : List Color) (v : Version) (l : EcLevel) (k : MaskPattern) (text : List ℕ) (wrong : List WrongCodeword)
     → IsTextReading s v l k text wrong → ShowsTextOnly s text
 only_shown s v l k text wrong reading = reading.only
 
--- the version has the level, of a text too
+-- the version of a reading as text has its level
 pub shown_existing : (s : List Color) (v : Version) (l : EcLevel) (k : MaskPattern) (text : List ℕ) (wrong : List WrongCodeword)
     → IsTextReading s v l k text wrong → IsTrue (has_level v l)
 shown_existing s v l k text wrong reading = reading.read.only.found.exists
 
--- the version has the level
+-- the version of a reading has its level
 pub existing : (s : List Color) (v : Version) (l : EcLevel) (k : MaskPattern) (bytes : List ℕ) (wrong : List WrongCodeword)
     → IsReading s v l k bytes wrong → IsTrue (has_level v l)
 existing s v l k bytes wrong reading = reading.read.only.found.exists
 
--- bytes whose number is that of no square are the colours of none
+-- if no version has this many modules, they are a square of no version
 pub no_side : (bytes : List ℕ) → ((v : Version) → IsTrue (is_valid v) → length bytes ≢ side v * side v) → HasNoVersion (colors_of bytes)
 no_side bytes none v valid same = none v valid (sym (length-map bytes _) ∙ same)
 
--- nor are they read in any position
+-- and they do not decode in any position
 pub nowhere : (bytes : List ℕ) → ((v : Version) → IsTrue (is_valid v) → length bytes ≢ side v * side v) → IsReadNowhere (colors_of bytes)
 nowhere bytes none = record { none = λ w square. unread_of_no_version (colors_of bytes) (no_side bytes none) w square }

@@ -1,4 +1,4 @@
--- The least version of segments.
+-- The smallest version that holds segments.
 use Rattle.std.proofs.Common.{◌≡◌, ℕ, ◌+◌, ◌<◌, ◌≤◌, List, true, false, Some, IsTrue, refl, sym, subst, ◌∙◌, inl, inr, true≢false, arith, pos}
 use denote.Enum.Bare.{sameb, differs_true, differs_false}
 use Rattle.std.specs.Prelude.{◌≢◌, not}
@@ -17,7 +17,7 @@ use Rattle.goqlanis_buffers.specs.declared.answers.Refusal.{Refusal}
 use Rattle.goqlanis_buffers.specs.declared.answers.Refusal.TheVariants.{NoRoom, OutOfMemory}
 use Rattle.goqlanis_buffers.specs.declared.segments.Segment.{Segment}
 
--- what there is no room for is not held
+-- segments without room are not held
 not_held : (v : Version) (l : EcLevel) (segments : List Segment) → HasNoRoom v l segments → ¬ AreHeld v l segments
 not_held v l segments why held = elim why [
   | inl first ↦
@@ -27,14 +27,14 @@ not_held v l segments why held = elim why [
   | inr c ↦ absurd (omega (arith, c.1, held.room))
 ]
 
--- a refusal by what the test for lack of room says of it
+-- the test `refusal != NoRoom` found another error
 pub not_room : (r : Refusal) → true ≡ not (sameb the_type r NoRoom) → r ≢ NoRoom
 not_room r found = differs_true the_type r NoRoom (sym found)
 
 is_room : (r : Refusal) → false ≡ not (sameb the_type r NoRoom) → r ≡ NoRoom
 is_room r found = differs_false the_type tt r NoRoom (sym found)
 
--- segments that are refused for lack of room in a version that has the level
+-- if a version has the level and the error is `NoRoom`, it has no room for the segments
 no_room : (v : Version) (l : EcLevel) (segments : List Segment) → IsTrue (has_level v l) → AreUnheld v l segments NoRoom → HasNoRoom v l segments
 no_room v l segments exists why = elim why [
   | inl memory ↦ let same : NoRoom ≡ OutOfMemory = memory in absurd cc
@@ -47,7 +47,7 @@ no_room v l segments exists why = elim why [
   ]
 ]
 
--- one version more has no room for the segments
+-- one more version has no room for the segments
 pub no_room_more : (number : ℕ) (v : Version) (l : EcLevel) (segments : List Segment) (r : Refusal) → v ≡ Normal (pos number) → 1 ≤ number → number ≤ 40
     → false ≡ not (sameb the_type r NoRoom) → AreUnheld v l segments r
     → ((n : ℕ) → 1 ≤ n → n < number → HasNoRoom (Normal (pos n)) l segments)
@@ -60,14 +60,14 @@ no_room_more number v l segments r named some most found why lesser n first smal
       subst (λ k. HasNoRoom (Normal (pos k)) l segments) equal (no_room (Normal (pos number)) l segments (normal_level number l some most) unheld)
 ]
 
--- the version of a number from 1 to 40
+-- a number from 1 to 40 is that of a Normal version
 pub named_normal : (number : ℕ) → 1 ≤ number → number ≤ 40 → version_named number ≡ Some (Normal (pos number))
 named_normal number some most =
     let low = le-leb 1 number some in
     let high = le-leb number 40 most in
     rw (low, high) refl
 
--- a version that holds segments, and none less that has room
+-- a version that holds the segments, if no smaller one has room, is the smallest
 pub least_held : (number : ℕ) (v : Version) (l : EcLevel) (segments : List Segment) → v ≡ Normal (pos number) → AreHeld v l segments
     → ((n : ℕ) → 1 ≤ n → n < number → HasNoRoom (Normal (pos n)) l segments) → IsLeastHeld l segments (Normal (pos number))
 least_held number v l segments named held lesser = record {
@@ -80,7 +80,7 @@ least_held number v l segments named held lesser = record {
   ];
 }
 
--- a refusal that no version mends
+-- an error of a segment other than `NoRoom`, in the first version with room for those before it, is a cause of the error of the call
 pub lasting : (number level : ℕ) (v : Version) (l : EcLevel) (segments : List Segment) (r : Refusal) → v ≡ Normal (pos number) → 1 ≤ number → number ≤ 40
     → level_named level ≡ Some l → r ≢ NoRoom → AreUnheld v l segments r
     → ((n : ℕ) → 1 ≤ n → n < number → HasNoRoom (Normal (pos n)) l segments) → IsLeastCause level segments r
@@ -95,7 +95,7 @@ lasting number level v l segments r named some most is other why lesser = elim (
   ]
 ]
 
--- no version has room
+-- if no version has room, the error is `NoRoom`
 pub in_none : (level number : ℕ) (l : EcLevel) (segments : List Segment) → level_named level ≡ Some l → 40 < number
     → ((n : ℕ) → 1 ≤ n → n < number → HasNoRoom (Normal (pos n)) l segments) → IsLeastCause level segments NoRoom
 in_none level number l segments is above lesser = inr (inr (l, (is, inr (refl, λ n some most. lesser n some (omega (arith, most, above))))))

@@ -1,4 +1,4 @@
--- A symbol under a mask, in a buffer or without room there.
+-- A symbol under a mask in a buffer, or no room for it.
 use Rattle.std.proofs.Common.{◌<◌, ℕ, List, length, refl, inr}
 use Rattle.std.specs.Prelude.{Option}
 use Rattle.qrcode_types.specs.declared.types.Color.{Color}
@@ -16,7 +16,7 @@ no_room mask own s room under small = inr (inr (
   (record { version = own.version; level = own.level; modules = s }, (record { version = refl; level = refl; under = under }, small)),
 ))
 
--- it has them at its beginning
+-- the buffer begins with them
 pub written : (mask : Option ℕ) (own : Code) (s : List Color) (old new : List ℕ) (symbol : Symbol) → AreUnder mask own s → IsFilled old new (module_bytes s) → IsDescribed own symbol
     → IsWrittenAs (IsMasked mask own) old new symbol
 written mask own s old new symbol under filled described = record {

@@ -1,4 +1,4 @@
--- Why data has no symbol that options ask for.
+-- Errors of the library as causes of the calls for C.
 use Rattle.std.proofs.Common.{◌≡◌, ◌≤◌, ℕ, List, length, Some, IsTrue, refl, sym, subst, inl, inr}
 use Rattle.std.specs.Prelude.{IsUtf8}
 use Rattle.qrcode_types.specs.declared.types.EcLevel.{EcLevel}
@@ -19,7 +19,7 @@ use Rattle.goqlanis_buffers.specs.declared.answers.Refusal.{Refusal}
 use Rattle.goqlanis_buffers.specs.declared.options.Asked.{Asked}
 use Rattle.goqlanis_buffers.specs.declared.options.Options.{Options}
 
--- an error of the library is reported as its refusal
+-- an error of the constructors is the cause of that error of a call with options
 no_symbol : (o : Options) (bytes : List ℕ) (room : ℕ) (e : QrError) → HasNoSymbol o bytes (refusal_in e) → IsOptionsCause o bytes room (refusal_in e)
 no_symbol o bytes room DataTooLong h = h
 no_symbol o bytes room InvalidVersion h = h
@@ -40,7 +40,7 @@ refused_as o a bytes e refusal is named text cause room =
       cause = cause;
     }))
 
--- the same of the symbol of a version and level
+-- the same for the call with a version and level
 no_symbol_in : (version level : ℕ) (bytes : List ℕ) (room : ℕ) (e : QrError) → HasNoSymbolIn version level bytes (refusal_in e) → IsCauseIn version level bytes room (refusal_in e)
 no_symbol_in version level bytes room DataTooLong h = h
 no_symbol_in version level bytes room InvalidVersion h = h
@@ -60,7 +60,7 @@ refused_in version level v l bytes e refusal is named levelled short cause room 
       cause = cause;
     }))
 
--- what refuses a symbol its mask, or its place in the buffer, refuses what options ask for
+-- a missing mask or too small a buffer is the cause of that error of a call with options
 pub masked_as : (o : Options) (a : Asked) (bytes : List ℕ) (own : Code) (room : ℕ) (refusal : Refusal) → IsAsked o a → IsMadeAs a bytes own → IsMaskingCause a.mask own room refusal
     → IsOptionsCause o bytes room refusal
 masked_as o a bytes own room refusal named made (inl is) =

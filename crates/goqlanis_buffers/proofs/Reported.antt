@@ -1,17 +1,17 @@
--- What C gets of a result.
+-- From the contract of a call to that of the call for C.
 use Rattle.std.proofs.Common.{◌≡◌, ℕ, Some, None, ap, sym, subst, ◌∙◌}
 use Rattle.std.specs.Prelude.{Result, Ok, Err, IsSomeAnd}
 use Rattle.goqlanis_buffers.specs.Answers.{refusal_of}
 use Rattle.goqlanis_buffers.specs.Calls.{IsAnswer, IsReported}
 use Rattle.goqlanis_buffers.specs.declared.answers.Refusal.{Refusal}
 
--- 0 is no refusal
+-- 0 is not the number of an error
 not_zero : (number : ℕ) (refusal : Refusal) → refusal_of number ≡ Some refusal → number ≡ 0 → ⊥
 not_zero number refusal is zero =
     let none : None ≡ Some refusal = sym (ap refusal_of zero) ∙ is in
     absurd cc
 
--- what holds of a result is reported of it
+-- what holds of a result also holds of what C gets of it
 pub reported : {T : Type 0} (Does : Result T Refusal → Type 0) (result : Result T Refusal) (number : ℕ) (old new : T)
     → IsAnswer result number old new → Does result → IsReported Does number old new
 reported Does (Ok value) number old new answer holds = record {

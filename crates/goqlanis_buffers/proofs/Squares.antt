@@ -1,4 +1,4 @@
--- Squares that are read one behind the other.
+-- Squares that are decoded one by one.
 use Rattle.std.proofs.Common.{ℕ, ◌+◌, ◌<◌, List, [], ◌∷◌, ◌++◌, length, map, take, get_or, sym, subst}
 use Rattle.std.specs.List.{AllZip}
 use Rattle.std.proofs.lemmas.List.{take_more, map-append}
@@ -7,20 +7,20 @@ use Rattle.goqlanis_buffers.specs.Joining.{found_part, ArePartsOf, IsPartOf}
 use Rattle.goqlanis_buffers.specs.declared.joining.Found.{Found}
 use Rattle.goqlanis_buffers.specs.declared.joining.Square.{Square}
 
--- a relation of two lists, place by place, with one item more in each
+-- a relation that holds item by item also holds with one more item in each list
 pub zip_more : {A B : Type 0} (R : A → B → Type 0) (xs : List A) (ys : List B) (x : A) (y : B) → AllZip R xs ys → R x y → AllZip R (xs ++ x ∷ []) (ys ++ y ∷ [])
 zip_more R [] [] x y all here = (here, tt)
 zip_more R [] (b ∷ ys) x y all here = absurd all
 zip_more R (a ∷ xs) [] x y all here = absurd all
 zip_more R (a ∷ xs) (b ∷ ys) x y all here = (all.0, zip_more R xs ys x y all.1 here)
 
--- the same where the items of the first list are taken from a longer one
+-- the same if the first list is the start of a longer one
 pub zip_taken : {A B : Type 0} (R : A → B → Type 0) (xs : List A) (ys : List B) (i : ℕ) (d : A) (y : B) → i < length xs → AllZip R (take i xs) ys → R (get_or xs i d) y
     → AllZip R (take (i + 1) xs) (ys ++ y ∷ [])
 zip_taken R xs ys i d y inside before here =
     subst (λ taken. AllZip R taken (ys ++ y ∷ [])) (sym (take_more xs i d inside)) (zip_more R (take i xs) ys (get_or xs i d) y before here)
 
--- one square more is read
+-- one more square is decoded
 pub parts_more : (squares : List Square) (found : List Found) (i : ℕ) (d : Square) (f : Found) → i < length squares
     → ArePartsOf (take i squares) (map found_part found) → IsPartOf (colors_of (get_or squares i d).modules.now) (found_part f)
     → ArePartsOf (take (i + 1) squares) (map found_part (found ++ f ∷ []))

@@ -1,4 +1,4 @@
--- Segments that are taken one behind the other.
+-- Segments that are appended one by one.
 use Rattle.std.proofs.Common.{◌≡◌, ℕ, ◌+◌, ◌<◌, ◌≤◌, inl, inr, Bool, List, [], ◌∷◌, ◌++◌, length, get_or, take, Some, None, ap, ◌∙◌, sym, subst, arith}
 use Rattle.std.proofs.Math.Nat.{eq-or-lt_of_le}
 use Rattle.std.proofs.lemmas.List.{take_more, append-nil}
@@ -9,7 +9,7 @@ use Rattle.qrcode_types.specs.declared.types.Version.{Version}
 use Rattle.goqlanis_buffers.specs.Segments.{segment_bits, segment_refusal, written_segments, AreTaken}
 use Rattle.goqlanis_buffers.specs.declared.segments.Segment.{Segment}
 
--- the bits of one segment more, behind those of so many
+-- the bits of i + 1 segments are those of i, and of the next one
 pub written_more : (v u : Version) (segments : List Segment) (i : ℕ) (d : Segment) (old new : List Bool) → i < length segments
     → u ≡ v → old ≡ written_segments v (take i segments) → new ≡ old ++ segment_bits u (get_or segments i d) → new ≡ written_segments v (take (i + 1) segments)
 written_more v u segments i d old new inside same before after =
@@ -20,7 +20,7 @@ written_more v u segments i d old new inside same before after =
     ∙ sym (flat_map-append (segment_bits v) (take i segments) (get_or segments i d ∷ []))
     ∙ sym (ap (written_segments v) (take_more segments i d inside))
 
--- one segment more is taken, behind so many
+-- if i segments have no error, and the next one has none after them, then i + 1 have none
 pub taken_more : (v u : Version) (segments : List Segment) (i : ℕ) (d : Segment) (old : List Bool)
     → u ≡ v → old ≡ written_segments v (take i segments) → AreTaken v segments i → segment_refusal u (length old) (get_or segments i d) ≡ None
     → AreTaken v segments (i + 1)

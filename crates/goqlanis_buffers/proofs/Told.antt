@@ -1,4 +1,4 @@
--- What C gets of codes.
+-- The readings of codes in a picture.
 use Rattle.std.proofs.Common.{ℕ, List}
 use Rattle.std.specs.Prelude.{All, IsTrue}
 use Rattle.std.proofs.lemmas.List.Elements.{All-weaker}
@@ -10,6 +10,6 @@ use Rattle.goqlanis_core.specs.declared.scanning.Scan.{Scan}
 pub read_existing : (scan : Scan) → IsReadAs scan → IsTrue (has_level scan.any.reading.version scan.any.reading.ec_level)
 read_existing scan read = read.first.read.read.only.found.exists
 
--- codes of a picture have readings
+-- each code of a picture has a reading
 pub all_read : (picture : List ℕ) (scans : List Scan) → All (IsScanOf picture) scans → All IsReadAs scans
 all_read picture scans all = All-weaker (IsScanOf picture) IsReadAs (λ scan is. is.read) scans all

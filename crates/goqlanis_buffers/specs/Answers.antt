@@ -1,4 +1,4 @@
--- What the calls for C answer: 0, or the number of a refusal; and the cause of each refusal.
+-- What the calls for C return: 0, or the number of an error; and the cause of each error.
 use Rattle.std.specs.Prelude.{◌≡◌, ◌≢◌, ◌⊎◌, ◌+◌, ◌*◌, ◌^◌, ◌<◌, ◌≤◌, ◌-◌, ◌==◌, nat_le, ⊤, ℕ, pos, List, [], ◌∷◌, length, chars, false, IsTrue, IsUtf8, Option, Some, None, slice_get, if◌then◌else◌}
 use Rattle.qrcode_types.specs.Versions.{has_level}
 use Rattle.qrcode_types.specs.declared.types.EcLevel.{EcLevel}
@@ -26,20 +26,20 @@ use Rattle.goqlanis_buffers.specs.declared.segments.Segment as by_hand
 use Rattle.goqlanis_buffers.specs.declared.answers.Refusal.{Refusal}
 use Rattle.goqlanis_buffers.specs.declared.answers.Refusal.TheVariants.{NoSuchLevel, NoSuchVersion, LevelNotInVersion, TooLong, NoMode, NoRoom, SmallBuffer, OutOfMemory, NoSuchFormat, NotSquare, NoSuchSize, NotText, NoSuchKind, NotInMode, NoSuchNumber, NoSuchSide, NoFormat, Damaged, NotSpelled, NoSuchStruct, NoSuchManner, NoSuchMask, NotInFormat, NotShown, NotSeveral, Stranger, Missing, Twice, Parity, NotRead, NoSuchArea, NoArea, AreaBlock, AreaFormat, NotPicture, BrokenPicture, NoSquare, LargePicture}
 
-abbrev pub refusals : List Refusal  -- the refusals in the order of their numbers, from 1 to 31
+abbrev pub refusals : List Refusal  -- the errors in the order of their numbers, from 1 to 31
 refusals =
     NoSuchLevel ∷ NoSuchVersion ∷ LevelNotInVersion ∷ TooLong ∷ NoMode ∷ NoRoom ∷ SmallBuffer ∷ OutOfMemory ∷
     NoSuchFormat ∷ NotSquare ∷ NoSuchSize ∷ NotText ∷ NoSuchKind ∷ NotInMode ∷ NoSuchNumber ∷
     NoSuchSide ∷ NoFormat ∷ Damaged ∷ NotSpelled ∷ NoSuchStruct ∷ NoSuchManner ∷
     NoSuchMask ∷ NotInFormat ∷ NotShown ∷ NotSeveral ∷ Stranger ∷ Missing ∷ Twice ∷ Parity ∷ NotRead ∷ NoSuchArea ∷ []
 
-abbrev pub more_refusals : List Refusal  -- the same from 46 on: those between are of contents
+abbrev pub more_refusals : List Refusal  -- the errors from 46 on; those between are of contents
 more_refusals = NoArea ∷ AreaBlock ∷ AreaFormat ∷ NotPicture ∷ BrokenPicture ∷ NoSquare ∷ LargePicture ∷ []
 
-abbrev pub refusal_of : ℕ → Option Refusal  -- the refusal of an answer, where it is one
+abbrev pub refusal_of : ℕ → Option Refusal  -- the error with a number, if there is one
 refusal_of n = if n == 0 then None else (if nat_le 46 n then slice_get more_refusals (n - 46) else slice_get refusals (n - 1))
 
--- why bytes are refused at a level, where the least Normal version is chosen and the buffer has so much room
+-- why bytes are not encoded at a level, in the smallest Normal version that holds them, into a buffer of `room` items
 abbrev pub IsAutomaticCause : ℕ → List ℕ → ℕ → Refusal → Type 0
 IsAutomaticCause level bytes room NoSuchLevel = level_named level ≡ None
 IsAutomaticCause level bytes room NoRoom = (l : EcLevel) × ((level_named level ≡ Some l) × ((n : ℕ) → ¬ Holds (Normal (pos n)) l bytes))
@@ -47,14 +47,14 @@ IsAutomaticCause level bytes room SmallBuffer = ExceedsRoom (IsAutomaticSymbol l
 IsAutomaticCause level bytes room OutOfMemory = ⊤
 IsAutomaticCause level bytes room refusal = ⊥
 
--- a level and a version have these numbers
+-- there are a version and a level with these numbers
 pub record AreNamed (version level : ℕ) : Type 0 where
   pub named : Version
   pub at : EcLevel
   pub named_version : version_named version ≡ Some named
   pub named_level : level_named level ≡ Some at
 
--- they have, the bytes are no more than are taken, and the constructor of that version and level refuses them
+-- there are such a version and level, the bytes are within the limit, and the constructor with this version and level fails
 pub record HasNoSymbolIn (version level : ℕ) (bytes : List ℕ) (refusal : Refusal) : Type 0 where
   pub named : AreNamed version level
   pub short : length bytes ≤ data_limit
@@ -62,8 +62,8 @@ pub record HasNoSymbolIn (version level : ℕ) (bytes : List ℕ) (refusal : Ref
   pub reported : refusal ≡ refusal_in error
   pub cause : IsRefusedAt named.named named.at bytes error
 
--- Why bytes are refused at a version and level, where the buffer has so much room: the first of these causes that applies. Those of the constructor are `NoMode`,
--- `LevelNotInVersion` and `NoRoom`, in this order; memory may be refused behind the first.
+-- Why bytes are not encoded in a version and at a level, into a buffer of `room` items: the first of these causes that applies. Those of the constructor are
+-- `NoMode`, `LevelNotInVersion` and `NoRoom`, in this order; memory may run out once the first of these is ruled out.
 abbrev pub IsCauseIn : ℕ → ℕ → List ℕ → ℕ → Refusal → Type 0
 IsCauseIn version level bytes room NoSuchLevel = level_named level ≡ None
 IsCauseIn version level bytes room NoSuchVersion = (level_named level ≢ None) × (version_named version ≡ None)
@@ -71,12 +71,12 @@ IsCauseIn version level bytes room TooLong = AreNamed version level × (data_lim
 IsCauseIn version level bytes room SmallBuffer = ExceedsRoom (IsSymbolIn version level bytes) room
 IsCauseIn version level bytes room refusal = HasNoSymbolIn version level bytes refusal
 
--- one of the segments is refused in a version that has the level, the first that can be, and this is why
+-- the first segment with an error, in a version that has the level, has this one
 abbrev pub IsSegmentCause : ℕ → ℕ → List by_hand.Segment → Refusal → Type 0
 IsSegmentCause version level segments refusal =
     (l : EcLevel) × ((v : Version) × ((level_named level ≡ Some l) × ((version_named version ≡ Some v) × (IsTrue (has_level v l) × IsFirstRefused v segments refusal))))
 
--- why all together are refused at a version and level, where the buffer has so much room
+-- why segments are not encoded, other than an error of one segment, into a buffer of `room` items
 abbrev pub IsJointCause : ℕ → ℕ → List by_hand.Segment → ℕ → Refusal → Type 0
 IsJointCause version level segments room NoSuchLevel = level_named level ≡ None
 IsJointCause version level segments room NoSuchVersion = (level_named level ≢ None) × (version_named version ≡ None)
@@ -88,11 +88,11 @@ IsJointCause version level segments room SmallBuffer = ExceedsRoom (IsSegmentsSy
 IsJointCause version level segments room OutOfMemory = ⊤
 IsJointCause version level segments room refusal = ⊥
 
--- why segments are refused at a version and level, where the buffer has so much room
+-- why segments are not encoded in a version and at a level, into a buffer of `room` items
 abbrev pub IsSegmentsCause : ℕ → ℕ → List by_hand.Segment → ℕ → Refusal → Type 0
 IsSegmentsCause version level segments room refusal = IsSegmentCause version level segments refusal ⊎ IsJointCause version level segments room refusal
 
--- a refusal of one of the segments in the first Normal version that has room for those before it
+-- an error of one segment, in the first Normal version with room for the segments before it
 pub record IsLasting (l : EcLevel) (segments : List by_hand.Segment) (refusal : Refusal) : Type 0 where
   pub number : ℕ
   pub some : 1 ≤ number
@@ -100,8 +100,8 @@ pub record IsLasting (l : EcLevel) (segments : List by_hand.Segment) (refusal : 
   pub before : (n : ℕ) → 1 ≤ n → n < number → HasNoRoom (Normal (pos n)) l segments
   pub refused : IsFirstRefused (Normal (pos number)) segments refusal
 
--- why no least version of segments is answered at a level: memory ran out; no such level; one of the segments is refused, whose cause no version mends; or no
--- Normal version has room for them
+-- why no smallest version of segments is returned at a level: memory ran out; there is no such level; a segment has an error other than lack of room; or no Normal
+-- version has room
 abbrev pub IsLeastCause : ℕ → List by_hand.Segment → Refusal → Type 0
 IsLeastCause level segments refusal =
     (refusal ≡ OutOfMemory)
@@ -109,7 +109,7 @@ IsLeastCause level segments refusal =
     ⊎ ((l : EcLevel) × ((level_named level ≡ Some l) × (((refusal ≢ NoRoom) × IsLasting l segments refusal)
     ⊎ ((refusal ≡ NoRoom) × ((n : ℕ) → 1 ≤ n → n ≤ 40 → HasNoRoom (Normal (pos n)) l segments))))))
 
--- why a text is refused at a level, where the least Normal version is chosen and the buffer has so much room
+-- why a text is not encoded at a level, in the smallest Normal version that holds it, into a buffer of `room` items
 abbrev pub IsTextCause : Manner → ℕ → List ℕ → ℕ → Refusal → Type 0
 IsTextCause m level bytes room NoSuchLevel = level_named level ≡ None
 IsTextCause m level bytes room NotText = (level_named level ≢ None) × (¬ IsUtf8 bytes)
@@ -119,27 +119,27 @@ IsTextCause m level bytes room SmallBuffer = ExceedsRoom (IsTextSymbol m level b
 IsTextCause m level bytes room OutOfMemory = ⊤
 IsTextCause m level bytes room refusal = ⊥
 
--- a drawing is a struct of this library, in a format of it, of modules that are a square
+-- the struct has the right size, the format exists, and the modules are a square of this width
 pub record IsOfSquare (modules : List ℕ) (width : ℕ) (d : Drawing) (f : Format) : Type 0 where
   pub size : d.size ≡ 28
   pub format : format_numbered d.format ≡ Some f
   pub square : length modules ≡ width * width
 
--- the picture may have its size
+-- the scale, the side in modules and the side in pixels are within their limits
 pub record HasSize (width : ℕ) (d : Drawing) (f : Format) : Type 0 where
   pub side : width + 2 * d.zone < 2 ^ 16
   pub scale_least : 1 ≤ d.scale
   pub scale_most : d.scale < 2 ^ 16
   pub pixels : IsTrue (has_side f ((width + 2 * d.zone) * d.scale))
 
--- a picture of these bytes is what is asked for
+-- the bytes are the picture that is asked for
 pub record IsPicture (modules : List ℕ) (width : ℕ) (d : Drawing) (bytes : List ℕ) : Type 0 where
   pub named : Format
   pub asked : IsOfSquare modules width d named
   pub sized : HasSize width d named
   pub drawn : IsDrawn named modules width d bytes
 
--- why modules of a width are not drawn, where the buffer has so much room: the first of these causes that applies
+-- why modules of a width are not drawn into a buffer of `room` bytes: the first of these causes that applies
 abbrev pub IsDrawingCause : List ℕ → ℕ → Drawing → ℕ → Refusal → Type 0
 IsDrawingCause modules width d room NoSuchStruct = d.size ≢ 28
 IsDrawingCause modules width d room NoSuchFormat = (d.size ≡ 28) × (format_numbered d.format ≡ None)
@@ -150,7 +150,7 @@ IsDrawingCause modules width d room SmallBuffer = (bytes : List ℕ) × (IsPictu
 IsDrawingCause modules width d room OutOfMemory = (f : Format) × (IsOfSquare modules width d f × (HasSize width d f × IsTrue (is_sayable f d)))
 IsDrawingCause modules width d room refusal = ⊥
 
-abbrev pub IsReadingCause : List ℕ → ℕ → Refusal → Type 0  -- why modules are not read into a buffer of so much room
+abbrev pub IsReadingCause : List ℕ → ℕ → Refusal → Type 0  -- why modules are not decoded into a buffer of `room` bytes
 IsReadingCause modules room NoSuchSide = HasNoVersion (colors_of modules)
 IsReadingCause modules room NoFormat = HasNoFormat (colors_of modules)
 IsReadingCause modules room Damaged = (block : ℕ) × HasDamagedBlock (colors_of modules) block
@@ -159,14 +159,14 @@ IsReadingCause modules room SmallBuffer = (bytes : List ℕ) × (ReadsOnly (colo
 IsReadingCause modules room OutOfMemory = ⊤
 IsReadingCause modules room refusal = ⊥
 
--- why modules are read in no position, or not into a buffer of so much room
+-- why modules are not decoded in any position, into a buffer of `room` bytes
 abbrev pub IsAnyReadingCause : List ℕ → ℕ → Refusal → Type 0
 IsAnyReadingCause modules room NotRead = IsReadNowhere (colors_of modules)
 IsAnyReadingCause modules room SmallBuffer = (any : Anywhere) × (IsReadAnywhere (colors_of modules) any × (room < length any.bytes))
 IsAnyReadingCause modules room OutOfMemory = ⊤
 IsAnyReadingCause modules room refusal = ⊥
 
-abbrev pub IsTextReadingCause : List ℕ → ℕ → Refusal → Type 0  -- why modules are not read into a buffer of so much room as a text
+abbrev pub IsTextReadingCause : List ℕ → ℕ → Refusal → Type 0  -- why modules are not decoded as a text into a buffer of `room` bytes
 IsTextReadingCause modules room NoSuchSide = HasNoVersion (colors_of modules)
 IsTextReadingCause modules room NoFormat = HasNoFormat (colors_of modules)
 IsTextReadingCause modules room Damaged = (block : ℕ) × HasDamagedBlock (colors_of modules) block
@@ -176,7 +176,7 @@ IsTextReadingCause modules room SmallBuffer =
 IsTextReadingCause modules room OutOfMemory = ⊤
 IsTextReadingCause modules room refusal = ⊥
 
-abbrev pub IsMaskCause : List ℕ → Refusal → Type 0  -- why modules have no mask
+abbrev pub IsMaskCause : List ℕ → Refusal → Type 0  -- why the mask of modules cannot be read
 IsMaskCause modules NoSuchSide = HasNoVersion (colors_of modules)
 IsMaskCause modules NoFormat = HasNoFormat (colors_of modules)
 IsMaskCause modules OutOfMemory = ⊤

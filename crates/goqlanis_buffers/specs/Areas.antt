@@ -1,4 +1,4 @@
--- What the calls for C say of areas.
+-- What the calls for C report of areas.
 use Rattle.std.specs.Prelude.{◌≡◌, ◌≢◌, ◌*◌, ◌/◌, ◌%◌, ◌<◌, ◌≤◌, ◌==◌, ⊤, ℕ, Bool, false, List, length, map, Option, Some, None, Result, slice_index, if◌then◌else◌, IsTrue}
 use Rattle.std.specs.List.{range_with_len}
 use Rattle.qrcode_types.specs.Versions.{block_lengths, ec_length, has_level, side}
@@ -29,13 +29,13 @@ use Rattle.goqlanis_buffers.specs.declared.areas.Uncovered.{Uncovered}
 use Rattle.goqlanis_buffers.specs.declared.areas.Uncovered.TheVariants.{Block, Other}
 use Rattle.goqlanis_buffers.specs.declared.areas.Wish.{Wish}
 
--- a version and level of these numbers, which the version has
+-- the version and level with these numbers; the version has the level
 pub record IsLevelNamed (version level : ℕ) (v : Version) (l : EcLevel) : Type 0 where
   pub named_version : version_named version ≡ Some v
   pub named_level : level_named level ≡ Some l
   pub exists : IsTrue (has_level v l)
 
--- why there are none: the first of these causes that applies
+-- why there is no such pair: the first of these causes that applies
 abbrev pub IsPairCause : ℕ → ℕ → Refusal → Type 0
 IsPairCause version level NoSuchLevel = level_named level ≡ None
 IsPairCause version level NoSuchVersion = (level_named level ≢ None) × (version_named version ≡ None)
@@ -43,10 +43,10 @@ IsPairCause version level LevelNotInVersion =
     (v : Version) × ((l : EcLevel) × ((version_named version ≡ Some v) × ((level_named level ≡ Some l) × (has_level v l ≡ false))))
 IsPairCause version level refusal = ⊥
 
-abbrev pub told : ℕ → ℕ → Option ℕ  -- a number that is told where it is said to be there
+abbrev pub told : ℕ → ℕ → Option ℕ  -- the number n, or none if the flag is 0
 told is_there n = if is_there == 0 then None else Some n
 
--- how many codewords of each block an area touches, and what it takes beside them
+-- how many codewords of each block an area touches, and what else it takes of a symbol
 pub record IsTaken (v : Version) (l : EcLevel) (area : ℕ → ℕ → Bool) (counts : List ℕ) (t : Taken) : Type 0 where
   pub counted : counts ≡ map (touched v l area) (range_with_len 0 (length (block_lengths v l)))
   pub blocks : t.blocks ≡ length (block_lengths v l)
@@ -57,7 +57,7 @@ pub record IsTaken (v : Version) (l : EcLevel) (area : ℕ → ℕ → Bool) (co
   pub last : t.last ≡ touched_places v area Last
   pub least : IsLeast v l area (told t.may_show_anything t.least)
 
--- the same of the area of rectangles in a symbol of a version and level of these numbers, the counts at the beginning of a buffer
+-- what rectangles take of a symbol of the version and level with these numbers; the counts are at the start of a buffer
 pub record IsTakenInto (version level : ℕ) (rectangles : List Rectangle) (old new : List ℕ) (t : Taken) : Type 0 where
   pub v : Version
   pub l : EcLevel
@@ -67,7 +67,7 @@ pub record IsTakenInto (version level : ℕ) (rectangles : List Rectangle) (old 
   pub taken : IsTaken v l (covers rectangles) counts t
   pub filled : IsFilled old new counts
 
--- why that is not told, where the buffer has so much room: the first of these causes that applies
+-- why that is not reported, into a buffer of `room` items: the first of these causes that applies
 abbrev pub IsReserveCause : ℕ → ℕ → List Rectangle → ℕ → Refusal → Type 0
 IsReserveCause version level rectangles room NoSuchArea =
     (v : Version) × ((l : EcLevel) × (IsLevelNamed version level v l × (is_inside (side v) rectangles ≡ false)))
@@ -80,7 +80,7 @@ abbrev pub WritesReserve : ℕ → ℕ → List Rectangle → List ℕ → List 
 WritesReserve version level rectangles old new result =
     Writes (IsTakenInto version level rectangles old) (IsReserveCause version level rectangles (length old)) old new result
 
--- what a wish asks for in a symbol: 2 ^ 32 - 1 is a reserve of half of what may be lost of each block
+-- what a wish asks for in a symbol; the number 2 ^ 32 - 1 means a reserve of half of the codewords of each block that may be lost
 abbrev pub wanted : Version → EcLevel → Wish → asked.Wish
 wanted v l w = record {
   across = w.across;
@@ -89,7 +89,7 @@ wanted v l w = record {
   kept = if w.keep_alignment == 0 then ButAlignment else AllPatterns;
 }
 
--- the largest rectangle in the middle of a symbol that is asked for
+-- the largest rectangle in the middle of a symbol that satisfies the wish
 pub record IsLargestNamed (version level : ℕ) (w : Wish) (r : Rectangle) : Type 0 where
   pub v : Version
   pub l : EcLevel
@@ -108,17 +108,17 @@ IsLargestCause version level w refusal = (w.size ≡ 20) × IsPairCause version 
 abbrev pub TellsLargest : ℕ → ℕ → Wish → Result Rectangle Refusal → Type 0
 TellsLargest version level w result = Tells (IsLargestNamed version level w) (IsLargestCause version level w) result
 
-abbrev pub covered_byte : ℕ → (ℕ → ℕ → Bool) → List ℕ → ℕ → ℕ  -- the module with an index, light where it lies in the area
+abbrev pub covered_byte : ℕ → (ℕ → ℕ → Bool) → List ℕ → ℕ → ℕ  -- the module at index i: light if it lies in the area, else unchanged
 covered_byte width area modules i = if area (i % width) (i / width) then 0 else slice_index modules i
 
--- a square names a version and level by its side and its format word
+-- the side of a square and its format information name this version and level
 pub record IsOfLevel (s : List Color) (v : Version) (l : EcLevel) : Type 0 where
   pub square : length s ≡ side v * side v
   pub mask : MaskPattern
   pub format : HasFormat v s l mask
 
--- An area of a square of modules is light and may show anything: where they are the symbol of bytes, each square that agrees with it outside the area is read as
--- the bytes alone.
+-- An area of a square of modules is light and may show anything: if the modules were the symbol of bytes, each square that agrees with the result outside the
+-- area decodes to these bytes alone.
 pub record IsCovered (rectangles : List Rectangle) (old new : List ℕ) : Type 0 where
   pub v : Version
   pub l : EcLevel
@@ -130,12 +130,12 @@ pub record IsCovered (rectangles : List Rectangle) (old new : List ℕ) : Type 0
   pub read : (bits : List Bool) (bytes : List ℕ) (other : List Color) → EncodesBytes v l bits bytes (colors_of old)
       → AgreesOutside v (covers rectangles) (colors_of new) other → ReadsOnly other bytes
 
--- an area inside a square of a version and level
+-- the area lies inside the square, which has this version and level
 pub record IsAreaIn (rectangles : List Rectangle) (modules : List ℕ) (v : Version) (l : EcLevel) : Type 0 where
   pub named : IsOfLevel (colors_of modules) v l
   pub inside : IsTrue (is_inside (side v) rectangles)
 
--- why an area is not covered: the first of these causes that applies
+-- why an area is not covered, other than a block that would lose too much: the first of these causes that applies
 abbrev pub IsUncoveredCause : List Rectangle → List ℕ → Refusal → Type 0
 IsUncoveredCause rectangles modules NoSuchArea =
     (v : Version) × ((l : EcLevel) × (IsOfLevel (colors_of modules) v l × (is_inside (side v) rectangles ≡ false)))
@@ -149,15 +149,15 @@ IsUncovered rectangles modules (Block b) =
     × IsLostBlock v l (covers rectangles) b (touched v l (covers rectangles) b) (ec_length v l / 2)))
 IsUncovered rectangles modules (Other refusal) = IsUncoveredCause rectangles modules refusal
 
-abbrev pub refusal_reported : Uncovered → Refusal  -- what C gets of it
+abbrev pub refusal_reported : Uncovered → Refusal  -- the error that C gets
 refusal_reported (Block b) = AreaBlock
 refusal_reported (Other refusal) = refusal
 
-abbrev pub place_reported : Uncovered → ℕ → ℕ  -- the place that C gets: that of the block, and otherwise the one before
+abbrev pub place_reported : Uncovered → ℕ → ℕ  -- the `place` that C gets: the block, if one is to blame; else as it was
 place_reported (Block b) before = b
 place_reported (Other refusal) before = before
 
--- an answer, and the place that replaces the one before, are those of a refusal that has its cause
+-- an answer, and `place` after the call, report an error whose cause applies
 pub record IsCoverRefusal (rectangles : List Rectangle) (modules : List ℕ) (answer before after : ℕ) : Type 0 where
   pub why : Uncovered
   pub cause : IsUncovered rectangles modules why

@@ -19,89 +19,89 @@ use Rattle.goqlanis_buffers.specs.declared.reading.Reading.{Reading}
 use Rattle.goqlanis_buffers.specs.declared.segments.Segment.{Segment}
 use Rattle.goqlanis_buffers.specs.declared.symbols.Symbol.{Symbol}
 
--- what C gets of a result, whose value goes to an output: 0, and the value; or the number of the refusal, and the output as it was
+-- what C gets of a result whose value goes to an output: 0 and the value, or the number of the error and the output unchanged
 pub record IsAnswer {T : Type 0} (result : Result T Refusal) (number : ℕ) (old new : T) : Type 0 where
   pub ok : IfOk result (λ value. (number ≡ 0) × (new ≡ value))
   pub err : IfErr result (λ refusal. (refusal_of number ≡ Some refusal) × (new ≡ old))
 
--- what a call does that answers C: by 0, and a value in an output; or by the number of a refusal, with the output as it was
+-- a call for C does this: it returns 0 and a value in an output, or the number of an error and the output unchanged
 pub record IsReported {T : Type 0} (Does : Result T Refusal → Type 0) (number : ℕ) (old new : T) : Type 0 where
   pub made : number ≡ 0 → Does (Ok new)
   pub refused : number ≢ 0 → IsSomeAnd (refusal_of number) (λ refusal. Does (Err refusal))
   pub unchanged : number ≢ 0 → new ≡ old
 
--- a call that answers something, or refuses for a cause
+-- a call that returns a value, or fails for a cause
 pub record Tells {T : Type 0} (Made : T → Type 0) (Cause : Refusal → Type 0) (result : Result T Refusal) : Type 0 where
   pub made : IfOk result Made
   pub causes : IfErr result Cause
 
--- a call that also writes into a buffer, which is as it was where the call refuses
+-- a call that also writes to a buffer, which is unchanged after an error
 pub record Writes {T : Type 0} (Made : List ℕ → T → Type 0) (Cause : Refusal → Type 0) (old new : List ℕ) (result : Result T Refusal) : Type 0 where
   pub made : IfOk result (Made new)
   pub unchanged : OnErr result (new ≡ old)
   pub causes : IfErr result Cause
 
--- it writes the symbol that is chosen for bytes at a level of a number
+-- writes the symbol of bytes at the level of a number, in the smallest Normal version that holds them
 abbrev pub WritesAutomatic : ℕ → List ℕ → List ℕ → List ℕ → Result Symbol Refusal → Type 0
 WritesAutomatic level bytes old new result =
     Writes (IsWrittenAs (IsAutomaticSymbol level bytes) old) (IsAutomaticCause level bytes (length old)) old new result
 
--- it writes the symbol of bytes, of a version and level of these numbers
+-- writes the symbol of bytes in the version and at the level with these numbers
 abbrev pub WritesIn : ℕ → ℕ → List ℕ → List ℕ → List ℕ → Result Symbol Refusal → Type 0
 WritesIn version level bytes old new result =
     Writes (IsWrittenAs (IsSymbolIn version level bytes) old) (IsCauseIn version level bytes (length old)) old new result
 
--- it writes the symbol that is chosen for a text at a level of a number
+-- writes the symbol of a text at the level of a number, in the smallest Normal version that holds it
 abbrev pub WritesText : Manner → ℕ → List ℕ → List ℕ → List ℕ → Result Symbol Refusal → Type 0
 WritesText m level text old new result =
     Writes (IsWrittenAs (IsTextSymbol m level text) old) (IsTextCause m level text (length old)) old new result
 
--- it writes the symbol of data that options ask for
+-- writes the symbol of data that options ask for
 abbrev pub WritesWith : Options → List ℕ → List ℕ → List ℕ → Result Symbol Refusal → Type 0
 WritesWith o bytes old new result = Writes (IsWrittenAs (IsSymbolWith o bytes) old) (IsOptionsCause o bytes (length old)) old new result
 
--- it writes the symbol of segments, of a version and level of these numbers
+-- writes the symbol of segments in the version and at the level with these numbers
 abbrev pub WritesSegments : ℕ → ℕ → List Segment → List ℕ → List ℕ → Result Symbol Refusal → Type 0
 WritesSegments version level segments old new result =
     Writes (IsWrittenAs (IsSegmentsSymbol version level segments) old) (IsSegmentsCause version level segments (length old)) old new result
 
--- it writes the picture of modules, and answers its length
+-- writes the picture of modules, and returns its length
 abbrev pub WritesPicture : List ℕ → ℕ → Drawing → List ℕ → List ℕ → Result ℕ Refusal → Type 0
 WritesPicture modules width d old new result =
     Writes (λ new count. (bytes : List ℕ) × (IsPicture modules width d bytes × (IsFilled old new bytes × (count ≡ length bytes))))
     (IsDrawingCause modules width d (length old)) old new result
 
--- it writes the bytes of the only reading of a square of modules, and answers what that is beside them
+-- writes the bytes of the only reading of a square of modules, and returns the rest of it
 abbrev pub WritesReading : List ℕ → List ℕ → List ℕ → Result Reading Refusal → Type 0
 WritesReading modules old new result = Writes (IsReadInto modules old) (IsReadingCause modules (length old)) old new result
 
--- it writes the bytes of a square in any position, and answers what is read beside them
+-- writes the bytes of a square in any position, and returns the rest of its reading
 abbrev pub WritesAnyReading : List ℕ → List ℕ → List ℕ → Result AnyReading Refusal → Type 0
 WritesAnyReading modules old new result = Writes (IsAnyReadInto modules old) (IsAnyReadingCause modules (length old)) old new result
 
--- it writes the text that readers show of a square, and answers what is read beside it
+-- writes the text that readers show of a square, and returns the rest of its reading
 abbrev pub WritesTextReading : List ℕ → List ℕ → List ℕ → Result Reading Refusal → Type 0
 WritesTextReading modules old new result = Writes (IsTextReadInto modules old) (IsTextReadingCause modules (length old)) old new result
 
-abbrev pub TellsMask : List ℕ → Result ℕ Refusal → Type 0  -- it answers the number of the mask of a square
+abbrev pub TellsMask : List ℕ → Result ℕ Refusal → Type 0  -- returns the number of the mask of a square
 TellsMask modules result = Tells (IsMaskNumber modules) (IsMaskCause modules) result
 
--- it answers the length of that picture, and refuses whatever room a buffer would have
+-- returns the length of the picture; its errors do not depend on a buffer
 abbrev pub TellsLength : List ℕ → ℕ → Drawing → Result ℕ Refusal → Type 0
 TellsLength modules width d result =
     Tells (λ count. (bytes : List ℕ) × (IsPicture modules width d bytes × (count ≡ length bytes))) (λ refusal. (room : ℕ) → IsDrawingCause modules width d room refusal) result
 
--- it answers how many bytes a square of modules is read as, and refuses whatever room a buffer would have
+-- returns how many bytes a square of modules decodes to; its errors do not depend on a buffer
 abbrev pub TellsReadLength : List ℕ → Result ℕ Refusal → Type 0
 TellsReadLength modules result =
     Tells (λ count. (bytes : List ℕ) × (ReadsOnly (colors_of modules) bytes × (count ≡ length bytes)))
     (λ refusal. (room : ℕ) → IsReadingCause modules room refusal) result
 
--- it answers the number of the least Normal version that holds bytes at a level of a number, and refuses whatever room a buffer would have
+-- returns the number of the smallest Normal version that holds bytes at the level of a number; its errors do not depend on a buffer
 abbrev pub TellsLeast : ℕ → List ℕ → Result ℕ Refusal → Type 0
 TellsLeast level bytes result =
     Tells (IsVersionAt (λ l v. IsLeastHolding l bytes v) level) (λ refusal. (room : ℕ) → IsAutomaticCause level bytes room refusal) result
 
--- it answers the number of the least Normal version that holds segments at a level of a number
+-- returns the number of the smallest Normal version that holds segments at the level of a number
 abbrev pub TellsLeastOfSegments : ℕ → List Segment → Result ℕ Refusal → Type 0
 TellsLeastOfSegments level segments result = Tells (IsVersionAt (λ l v. IsLeastHeld l segments v) level) (IsLeastCause level segments) result

@@ -1,4 +1,4 @@
--- What the calls for C say of codes that are checked.
+-- What the calls for C report of codes that are checked.
 use Rattle.std.specs.Prelude.{◌≡◌, ◌⊎◌, ◌<◌, ◌≤◌, ⊤, ℕ, Bool, List, flat_map, length, Option, Some, None, Result, IfOk, IfErr, OnErr, IsTrue, if◌then◌else◌}
 use Rattle.std.specs.List.{AllZip}
 use Rattle.qrcode_types.specs.Versions.{has_level}
@@ -27,24 +27,24 @@ use Rattle.goqlanis_buffers.specs.declared.checking.DataBits.{DataBits}
 abbrev pub HasLevel : Check → Type 0  -- the version has the level
 HasLevel check = IsTrue (has_level check.version check.ec_level)
 
-abbrev pub flag : Bool → ℕ  -- one where something holds
+abbrev pub flag : Bool → ℕ  -- 1 for true, 0 for false
 flag holds = if holds then 1 else 0
 
-abbrev pub letter_of : Grade → ℕ  -- the letter of a grade
+abbrev pub letter_of : Grade → ℕ  -- the letter of a grade in ASCII
 letter_of A = 65
 letter_of B = 66
 letter_of C = 67
 letter_of D = 68
 letter_of F = 70
 
-abbrev pub with_taken : Option Taken → DataBits → DataBits  -- the bits of segments, and the fewest, where they are known
+abbrev pub with_taken : Option Taken → DataBits → DataBits  -- the bits of segments, and the fewest, if they are known
 with_taken None d = d
 with_taken (Some t) d = record d { compared = 1; bits = t.bits; fewest = t.least }
 
-abbrev pub nothing : DataBits  -- what is said of data bits that are no segments and an end
+abbrev pub nothing : DataBits  -- the findings on data bits that are not segments and a terminator
 nothing = record { segments = 0; compared = 0; bits = 0; fewest = 0; terminator = 0; padding = 0; guessed = 0; are_utf8 = 0 }
 
-abbrev pub told_content : Option Content → DataBits  -- what C gets of data bits
+abbrev pub told_content : Option Content → DataBits  -- the findings on data bits, in the form that C gets
 told_content None = nothing
 told_content (Some c) = with_taken c.taken (record nothing {
   segments = 1;
@@ -54,7 +54,7 @@ told_content (Some c) = with_taken c.taken (record nothing {
   are_utf8 = flag c.guesses.are_utf8;
 })
 
--- what C gets of a check beside the wrong codewords of its blocks
+-- a check in the form that C gets, except the wrong codewords of its blocks
 pub record IsToldCheck (check : Check) (told : Checked) : Type 0 where
   pub version : version_named told.version ≡ Some check.version
   pub level : level_named told.level ≡ Some check.ec_level
@@ -69,13 +69,13 @@ pub record IsToldCheck (check : Check) (told : Checked) : Type 0 where
   pub masks : told.masks ≡ check.stepped
   pub masks_here : told.masks_here ≡ check.own
 
-abbrev pub wrong_in : Check → List ℕ  -- the wrong codewords of each block
+abbrev pub wrong_in : Check → List ℕ  -- the number of wrong codewords of each block
 wrong_in check = check.wrong.items
 
 abbrev pub AreToldChecks : List Check → List Checked → Type 0
 AreToldChecks checks told = AllZip IsToldCheck checks told
 
--- what C gets of the codes of a picture, for a struct of this size: what is said of each, and the wrong codewords of the blocks of all
+-- what C gets of the codes in a picture, for a struct of this size: the findings on each, and the wrong codewords of all blocks
 pub record IsChecked (picture : List ℕ) (size : ℕ) (told : List Checked) (wrong : List ℕ) : Type 0 where
   pub sized : size ≡ 24
   pub limited : length picture ≤ most
@@ -89,7 +89,7 @@ pub record IsChecked (picture : List ℕ) (size : ℕ) (told : List Checked) (wr
 abbrev pub IsUncheckedFor : List ℕ → ℕ → Refusal → Type 0  -- why they are not checked, for a struct of this size
 IsUncheckedFor picture size refusal = IsPictureCause 24 (IsUncheckedPicture picture) picture size refusal
 
--- the same at the beginnings of buffers, which are otherwise as they were
+-- the findings are at the start of buffers, which are otherwise unchanged
 pub record IsCheckedInto (picture : List ℕ) (size : ℕ) (checks new_checks : List Checked) (wrong new_wrong : List ℕ) (counts : Checks) : Type 0 where
   pub told : List Checked
   pub numbers : List ℕ
@@ -98,35 +98,35 @@ pub record IsCheckedInto (picture : List ℕ) (size : ℕ) (checks new_checks : 
   pub wrong_filled : IsFilled wrong new_wrong numbers
   pub counted : counts ≡ record { size = 24; codes = length told; blocks = length numbers }
 
--- why they are not, in buffers of so much room: they are not checked, or one of the buffers is too small
+-- why they are not written to buffers of these lengths: they are not checked, or a buffer is too small
 abbrev pub IsCheckCause : List ℕ → ℕ → ℕ → ℕ → Refusal → Type 0
 IsCheckCause picture size checks wrong refusal =
     IsUncheckedFor picture size refusal
     ⊎ ((refusal ≡ refusals.SmallBuffer)
     × ((told : List Checked) × ((numbers : List ℕ) × (IsChecked picture size told numbers × ((checks < length told) ⊎ (wrong < length numbers))))))
 
--- a call checks the codes of a picture, or refuses for a cause and leaves the buffers as they were
+-- a call checks the codes in a picture, or fails for a cause and leaves the buffers unchanged
 pub record ChecksPicture (picture : List ℕ) (size : ℕ) (checks new_checks : List Checked) (wrong new_wrong : List ℕ) (result : Result Checks Refusal) : Type 0 where
   pub made : IfOk result (IsCheckedInto picture size checks new_checks wrong new_wrong)
   pub checks_unchanged : OnErr result (new_checks ≡ checks)
   pub wrong_unchanged : OnErr result (new_wrong ≡ wrong)
   pub causes : IfErr result (IsCheckCause picture size (length checks) (length wrong))
 
--- what is said of a square of modules, in buffers
+-- the findings on a square of modules; the wrong codewords of its blocks are at the start of a buffer
 pub record IsSquareCheckInto (modules wrong new_wrong : List ℕ) (told : Checked) : Type 0 where
   pub check : Check
   pub said : IsCheck (colors_of modules) check
   pub filled : IsFilled wrong new_wrong check.wrong.items
   pub told_of : IsToldCheck check told
 
-abbrev pub IsSquareRefusal : List ℕ → Refusal → Type 0  -- why nothing is said of a square
+abbrev pub IsSquareRefusal : List ℕ → Refusal → Type 0  -- why a square is not checked
 IsSquareRefusal modules refusals.NoSuchSide = HasNoVersion (colors_of modules)
 IsSquareRefusal modules refusals.NoFormat = HasNoFormat (colors_of modules)
 IsSquareRefusal modules refusals.Damaged = (block : ℕ) × HasDamagedBlock (colors_of modules) block
 IsSquareRefusal modules refusals.OutOfMemory = ⊤
 IsSquareRefusal modules refusal = ⊥
 
--- or why it is not written into a buffer of so much room
+-- why a square is not checked, or the result not written to a buffer of `room` items
 abbrev pub IsSquareCheckCause : List ℕ → ℕ → Refusal → Type 0
 IsSquareCheckCause modules room refusal =
     IsSquareRefusal modules refusal ⊎ ((refusal ≡ refusals.SmallBuffer) × ((check : Check) × (IsCheck (colors_of modules) check × (room < length check.wrong.items))))

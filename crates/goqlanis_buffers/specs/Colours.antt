@@ -1,4 +1,4 @@
--- Colours of drawings: transparency, red, green and blue in the four bytes of a number.
+-- Colours of pictures: transparency, red, green and blue in the four bytes of a number.
 use Rattle.std.specs.Prelude.{ℕ, ◌-◌, ◌/◌, ◌%◌, ◌^◌, ◌==◌, nat_lt, ◌&&◌, Bool, true, false, List, [], ◌∷◌, ◌++◌, codes, if◌then◌else◌}
 use Rattle.std.specs.Fmt.{digit_glyph}
 use Rattle.goqlanis_core.specs.Formats.{Shade}
@@ -17,13 +17,13 @@ blue_of colour = colour % 256
 abbrev pub opacity_of : ℕ → ℕ
 opacity_of colour = 255 - colour / 16777216
 
-abbrev pub hex_text : ℕ → List ℕ  -- a byte to the base 16, in two digits
+abbrev pub hex_text : ℕ → List ℕ  -- a byte as two hexadecimal digits
 hex_text n = digit_glyph false (n / 16) ∷ digit_glyph false (n % 16) ∷ []
 
-abbrev pub digits_of : ℕ → List ℕ  -- red, green and blue to the base 16
+abbrev pub digits_of : ℕ → List ℕ  -- `#` and red, green and blue in hexadecimal
 digits_of colour = codes "#" ++ hex_text (red_of colour) ++ hex_text (green_of colour) ++ hex_text (blue_of colour)
 
--- what SVG writes for a colour: how opaque it is stands behind where it is so in part
+-- the name of a colour in SVG; the opacity follows if it is partial
 abbrev pub colour_name : ℕ → List ℕ
 colour_name colour =
     if colour == 0 then codes "#000"
@@ -40,7 +40,7 @@ colour_shade colour = record {
   opacity = opacity_of colour;
 }
 
-abbrev pub has_colours : Format → ℕ → ℕ → Bool  -- the format has these colours of dark and light modules
+abbrev pub has_colours : Format → ℕ → ℕ → Bool  -- the format supports these colours of dark and light modules
 has_colours Png dark light = true
 has_colours Svg dark light = true
 has_colours SvgPath dark light = true

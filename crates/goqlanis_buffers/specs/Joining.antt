@@ -37,7 +37,7 @@ part_of p = record { place = p.place; last = p.last; parity = p.parity; bytes = 
 abbrev pub found_part : Found → Share
 found_part f = record { place = f.place; last = f.last; parity = f.parity; bytes = f.bytes.items }
 
--- the square is read as a part and as nothing else: a header of one of several symbols stands in front
+-- the square decodes to this part and to nothing else: its first part is a structured append header
 pub record IsPartOf (s : List Color) (p : Share) : Type 0 where
   pub version : Version
   pub level : EcLevel
@@ -46,10 +46,10 @@ pub record IsPartOf (s : List Color) (p : Share) : Type 0 where
   pub wrong : List WrongCodeword
   pub read : IsPartsReading s version level mask p.bytes (Front (StructuredAppend p.place p.last p.parity) ∷ behind) wrong
 
-abbrev pub ArePartsOf : List Square → List Share → Type 0  -- squares are read as these parts, one for one
+abbrev pub ArePartsOf : List Square → List Share → Type 0  -- squares decode to these parts, one by one
 ArePartsOf squares shares = AllZip (λ s p. IsPartOf (colors_of s.modules.now) p) squares shares
 
--- the square is read as headers and segments, and no header of one of several symbols stands in front
+-- the square decodes to headers and segments, of which the first is not a structured append header
 pub record HasNoHeader (s : List Color) : Type 0 where
   pub version : Version
   pub level : EcLevel
@@ -60,7 +60,7 @@ pub record HasNoHeader (s : List Color) : Type 0 where
   pub read : IsPartsReading s version level mask bytes parts wrong
   pub none : (place last parity : ℕ) → slice_get parts 0 ≢ Some (Front (StructuredAppend place last parity))
 
-abbrev pub IsNoPart : List Color → Refusal → Type 0  -- why a square is no part
+abbrev pub IsNoPart : List Color → Refusal → Type 0  -- why a square is not a part
 IsNoPart s refusals.NoSuchSide = HasNoVersion s
 IsNoPart s refusals.NoFormat = HasNoFormat s
 IsNoPart s refusals.Damaged = (block : ℕ) × HasDamagedBlock s block
@@ -68,7 +68,7 @@ IsNoPart s refusals.NotSpelled = HoldsNoParts s
 IsNoPart s refusals.NotSeveral = HasNoHeader s
 IsNoPart s other = ⊥
 
--- the square at a place is the first that is no part
+-- the square at this index is the first that is not a part
 pub record IsFirstNoPart (squares : List Square) (place : ℕ) (refusal : Refusal) : Type 0 where
   pub square : Square
   pub at : slice_get squares place ≡ Some square
@@ -76,27 +76,27 @@ pub record IsFirstNoPart (squares : List Square) (place : ℕ) (refusal : Refusa
   pub parts : ArePartsOf (take place squares) before
   pub wrong : IsNoPart (colors_of square.modules.now) refusal
 
--- the data of parts that squares are read as
+-- the data of the parts that squares decode to
 pub record IsDataOf (squares : List Square) (bytes : List ℕ) : Type 0 where
   pub parts : List Part
   pub read : ArePartsOf squares (map part_of parts)
   pub joined : IsJoined parts bytes
 
--- such data at the beginning of a buffer, and its length
+-- such data at the start of a buffer, and its length
 pub record IsJoinedInto (squares : List Square) (old new : List ℕ) (count : ℕ) : Type 0 where
   pub bytes : List ℕ
   pub joined : IsDataOf squares bytes
   pub filled : IsFilled old new bytes
   pub counted : count ≡ length bytes
 
--- why squares are not joined into a buffer of so much room
+-- why squares are not joined into a buffer of `room` bytes
 abbrev pub IsUnjoined : List Square → ℕ → Unjoined → Type 0
 IsUnjoined squares room (unjoined.Square place refusal) = IsFirstNoPart squares place refusal
 IsUnjoined squares room (unjoined.Parts e) = (parts : List Part) × (ArePartsOf squares (map part_of parts) × IsJoinRefused parts e)
 IsUnjoined squares room SmallBuffer = (bytes : List ℕ) × (IsDataOf squares bytes × (room < length bytes))
 IsUnjoined squares room OutOfMemory = ⊤
 
-abbrev pub refusal_reported : Unjoined → Refusal  -- what C gets of it
+abbrev pub refusal_reported : Unjoined → Refusal  -- the error that C gets
 refusal_reported (unjoined.Square place refusal) = refusal
 refusal_reported (unjoined.Parts (join.Stranger place)) = refusals.Stranger
 refusal_reported (unjoined.Parts (join.Missing place)) = refusals.Missing
@@ -106,7 +106,7 @@ refusal_reported (unjoined.Parts join.OutOfMemory) = refusals.OutOfMemory
 refusal_reported SmallBuffer = refusals.SmallBuffer
 refusal_reported OutOfMemory = refusals.OutOfMemory
 
--- the place that C gets: that of the square or the part, and otherwise the one before
+-- the `place` that C gets: that of the wrong square or part, if there is one; else as it was
 abbrev pub place_reported : Unjoined → ℕ → ℕ
 place_reported (unjoined.Square place refusal) before = place
 place_reported (unjoined.Parts (join.Stranger place)) before = place
@@ -117,7 +117,7 @@ place_reported (unjoined.Parts join.OutOfMemory) before = before
 place_reported SmallBuffer before = before
 place_reported OutOfMemory before = before
 
--- an answer, and the place that replaces the one before, are those of a refusal that has its cause
+-- an answer, and `place` after the call, report an error whose cause applies
 pub record IsJoinRefusal (squares : List Square) (room answer before after : ℕ) : Type 0 where
   pub why : Unjoined
   pub cause : IsUnjoined squares room why

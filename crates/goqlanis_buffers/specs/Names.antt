@@ -1,4 +1,4 @@
--- The numbers that stand for levels, versions and formats in C.
+-- The numbers of levels and versions in C.
 use Rattle.std.specs.Prelude.{ℕ, ◌-◌, ◌==◌, nat_le, ◌&&◌, pos, Option, Some, None, if◌then◌else◌}
 use Rattle.qrcode_types.specs.declared.types.EcLevel.{EcLevel}
 use Rattle.qrcode_types.specs.declared.types.EcLevel.TheVariants.{L, M, Q, H}

@@ -1,4 +1,4 @@
--- Symbols by options.
+-- Encoding with options.
 use Rattle.std.specs.Prelude.{◌≡◌, ◌≢◌, ◌-◌, ℕ, List, [], ◌∷◌, ◌==◌, IsTrue, IsUtf8, Option, Some, None, slice_get, if◌then◌else◌}
 use Rattle.std.specs.Option.{option_map}
 use Rattle.qrcode_types.specs.declared.types.QrError.{QrError}
@@ -22,16 +22,16 @@ use Rattle.goqlanis_buffers.specs.declared.options.Options.{Options}
 abbrev pub manner_named : ℕ → Option Manner  -- the manner of a number, in this order from 0 on
 manner_named n = slice_get (Bytes ∷ Text ∷ MarkedText ∷ []) n
 
-abbrev pub from_on : ℕ → Version → Choice  -- the least version from one on, at the highest level where that is asked for
+abbrev pub from_on : ℕ → Version → Choice  -- the smallest version from v on, at the highest level if `boost` asks for that
 from_on boost v = if boost == 0 then From v else Boosted v
 
-abbrev pub choice_named : Options → Option Choice  -- which symbol options ask for
+abbrev pub choice_named : Options → Option Choice  -- the choice of a version that options make
 choice_named o = if o.version == 0 then option_map (from_on o.boost) (version_named o.least_version) else option_map At (version_named o.version)
 
-abbrev pub mask_named : ℕ → Option ℕ  -- the number of a mask that options name
+abbrev pub mask_named : ℕ → Option ℕ  -- the number of the mask that options ask for, if any
 mask_named n = if n == 0 then None else Some (n - 1)
 
--- what options name
+-- what options ask for
 pub record IsAsked (o : Options) (a : Asked) : Type 0 where
   pub size : o.size ≡ 28
   pub level : level_named o.level ≡ Some a.level
@@ -39,7 +39,7 @@ pub record IsAsked (o : Options) (a : Asked) : Type 0 where
   pub manner : manner_named o.manner ≡ Some a.manner
   pub mask : mask_named o.mask ≡ a.mask
 
--- the symbol of data that is asked for, under the mask of least penalty; a text is UTF-8
+-- the symbol of data that is asked for, under the mask of the lowest penalty; a text is UTF-8
 pub record IsMadeAs (a : Asked) (bytes : List ℕ) (code : Code) : Type 0 where
   pub text : IsTrue (is_text a.manner) → IsUtf8 bytes
   pub made : IsSymbolIn a.choice a.manner a.level bytes code
@@ -58,7 +58,7 @@ pub record HasNoMask (o : Options) (bytes : List ℕ) : Type 0 where
   pub named : IsAsked o asked
   pub lacks : IsMaskless asked.mask (IsMadeAs asked bytes)
 
--- what is asked for has no symbol, and where it is a text it is UTF-8
+-- there is no symbol of what is asked for, though a text is UTF-8
 pub record HasNoSymbol (o : Options) (bytes : List ℕ) (refusal : Refusal) : Type 0 where
   pub asked : Asked
   pub named : IsAsked o asked
@@ -67,22 +67,22 @@ pub record HasNoSymbol (o : Options) (bytes : List ℕ) (refusal : Refusal) : Ty
   pub reported : refusal ≡ refusal_in error
   pub cause : IsRefusedFor asked.choice asked.manner asked.level bytes error
 
--- a text is asked for, and the data is none
+-- a text is asked for, but the data is not UTF-8
 pub record IsNoText (o : Options) (bytes : List ℕ) : Type 0 where
   pub asked : Asked
   pub named : IsAsked o asked
   pub text : IsTrue (is_text asked.manner)
   pub none : ¬ IsUtf8 bytes
 
--- the struct is one of this library, with the number of a level, and with that of a version too
+-- the struct has the right size, and there is a level with its number; `HasChoice`: and a version
 abbrev pub HasLevel : Options → Type 0
 HasLevel o = (o.size ≡ 28) × (level_named o.level ≢ None)
 
 abbrev pub HasChoice : Options → Type 0
 HasChoice o = HasLevel o × (choice_named o ≢ None)
 
--- Why data has no symbol that options ask for, where the buffer has so much room: the first of these causes that applies. Those of `HasNoSymbol` are in the order of
--- the constructors.
+-- Why there is no symbol of data that options ask for, in a buffer of `room` items: the first of these causes that applies. Those of `HasNoSymbol` are in the
+-- order of the constructors.
 abbrev pub IsOptionsCause : Options → List ℕ → ℕ → Refusal → Type 0
 IsOptionsCause o bytes room NoSuchStruct = o.size ≢ 28
 IsOptionsCause o bytes room NoSuchLevel = (o.size ≡ 28) × (level_named o.level ≡ None)

@@ -21,7 +21,7 @@ use Rattle.goqlanis_buffers.specs.Outputs.{IsFilled}
 use Rattle.goqlanis_buffers.specs.declared.reading.AnyReading.{AnyReading}
 use Rattle.goqlanis_buffers.specs.declared.reading.Reading.{Reading}
 
-abbrev pub mask_number_in : Version → MaskPattern → ℕ  -- the number that a mask has in versions of its kind
+abbrev pub mask_number_in : Version → MaskPattern → ℕ  -- the number of a mask in a version: 0 to 7, in Micro 0 to 3
 mask_number_in (Normal v) mask = mask_number mask
 mask_number_in (Micro v) mask = micro_mask_number mask
 
@@ -35,10 +35,10 @@ place_of Flipped = 5
 place_of Transposed = 6
 place_of Antitransposed = 7
 
-abbrev pub position_number : Position → Bool → ℕ  -- the same, and 8 more where colours are exchanged
+abbrev pub position_number : Position → Bool → ℕ  -- the number of a position, plus 8 if inverted
 position_number p is_inverted = if is_inverted then place_of p + 8 else place_of p
 
--- what C gets of a reading beside its bytes
+-- a reading in the form that C gets, except its bytes
 pub record IsReported (v : Version) (l : EcLevel) (mask : MaskPattern) (wrong count : ℕ) (reading : Reading) : Type 0 where
   pub version : version_named reading.version ≡ Some v
   pub level : level_named reading.level ≡ Some l
@@ -46,7 +46,7 @@ pub record IsReported (v : Version) (l : EcLevel) (mask : MaskPattern) (wrong co
   pub wrong_reported : reading.wrong ≡ wrong
   pub counted : reading.length ≡ count
 
--- the only reading of a square of modules, in buffers: its bytes at the beginning of one, and what it is beside them
+-- the only reading of a square of modules: its bytes at the start of a buffer, and the rest of it
 pub record IsReadInto (modules old new : List ℕ) (reading : Reading) : Type 0 where
   pub version : Version
   pub level : EcLevel
@@ -57,11 +57,11 @@ pub record IsReadInto (modules old new : List ℕ) (reading : Reading) : Type 0 
   pub filled : IsFilled old new bytes
   pub reported : IsReported version level mask (length wrong) (length bytes) reading
 
--- a square is read in no position
+-- a square does not decode in any position
 pub record IsReadNowhere (s : List Color) : Type 0 where
   pub none : (side : ℕ) → side * side ≡ length s → (p : Position) (is_inverted : Bool) (bytes : List ℕ) → ¬ Reads (seen side p is_inverted s) bytes
 
--- what is read of a square in a position
+-- the reading of a square in a position
 pub record Anywhere : Type 0 where
   pub position : Position
   pub is_inverted : Bool
@@ -82,13 +82,13 @@ found_anywhere any = record {
   wrong = any.reading.wrong.items;
 }
 
--- the reading of a square in the first position in which it is read
+-- the reading of a square in the first position in which it decodes
 pub record IsReadAnywhere (s : List Color) (any : Anywhere) : Type 0 where
   pub side : ℕ
   pub square : side * side ≡ length s
   pub read : IsFirstReading side s any.position any.is_inverted any.version any.level any.mask any.bytes any.wrong
 
--- the same in buffers
+-- this reading with its bytes at the start of a buffer
 pub record IsAnyReadInto (modules old new : List ℕ) (any : AnyReading) : Type 0 where
   pub found : Anywhere
   pub read : IsReadAnywhere (colors_of modules) found
@@ -96,7 +96,7 @@ pub record IsAnyReadInto (modules old new : List ℕ) (any : AnyReading) : Type 
   pub reported : IsReported found.version found.level found.mask (length found.wrong) (length found.bytes) any.reading
   pub position_reported : any.position ≡ position_number found.position found.is_inverted
 
--- the text that readers show of a square of modules, and no other, in buffers
+-- the only text that readers show of a square of modules, at the start of a buffer, and the rest of its reading
 pub record IsTextReadInto (modules old new : List ℕ) (reading : Reading) : Type 0 where
   pub version : Version
   pub level : EcLevel
@@ -107,7 +107,7 @@ pub record IsTextReadInto (modules old new : List ℕ) (reading : Reading) : Typ
   pub filled : IsFilled old new bytes
   pub reported : IsReported version level mask (length wrong) (length bytes) reading
 
--- the mask that the format word of a square of modules names, by its number
+-- the number of the mask that the format information of a square of modules names
 pub record IsMaskNumber (modules : List ℕ) (number : ℕ) : Type 0 where
   pub version : Version
   pub level : EcLevel

@@ -1,4 +1,4 @@
--- What the calls for C read of pictures.
+-- What the calls for C read from pictures.
 use Rattle.std.specs.Prelude.{◌≡◌, ◌≢◌, ◌⊎◌, ◌+◌, ◌<◌, ◌≤◌, ⊤, ℕ, Bool, not, List, All, flat_map, length, map, if◌then◌else◌}
 use Rattle.std.specs.List.{AllZip}
 use Rattle.qrcode_types.specs.declared.types.Mode.{Mode}
@@ -22,20 +22,20 @@ use Rattle.goqlanis_buffers.specs.declared.scanning.Part.{Part}
 use Rattle.goqlanis_buffers.specs.declared.scanning.Scan.{Scan}
 use Rattle.goqlanis_buffers.specs.declared.scanning.Told.{Told}
 
-abbrev pub mode_kind : Mode → ℕ  -- the number of the kind of a segment in a mode
+abbrev pub mode_kind : Mode → ℕ  -- the kind of a segment in a mode
 mode_kind Numeric = 0
 mode_kind Alphanumeric = 1
 mode_kind Byte = 2
 mode_kind Kanji = 3
 
-abbrev pub told_part : piece.Part → Part  -- what C gets of a header or a segment
+abbrev pub told_part : piece.Part → Part  -- a header or a segment in the form that C gets
 told_part (Front (Eci n)) = record { kind = 4; number = n; place = 0; symbols = 0; length = 0 }
 told_part (Front Fnc1First) = record { kind = 5; number = 0; place = 0; symbols = 0; length = 0 }
 told_part (Front (Fnc1Second n)) = record { kind = 6; number = n; place = 0; symbols = 0; length = 0 }
 told_part (Front (StructuredAppend place last parity)) = record { kind = 7; number = parity; place = place; symbols = last + 1; length = 0 }
 told_part (Bytes m n) = record { kind = mode_kind m; number = 0; place = 0; symbols = 0; length = n }
 
-abbrev pub parts_in : found.Scan → List Part  -- what it gets of those of a code
+abbrev pub parts_in : found.Scan → List Part  -- the headers and segments of a code in this form
 parts_in scan = map told_part scan.parts.items
 
 abbrev pub bytes_in : found.Scan → List ℕ
@@ -44,7 +44,7 @@ bytes_in scan = scan.any.reading.data.items
 abbrev pub differ : Bool → Bool → Bool
 differ a b = if a then not b else b
 
--- what C gets of a code beside its parts and bytes
+-- a code in the form that C gets, except its parts and bytes
 pub record IsToldOf (scan : found.Scan) (code : Code) : Type 0 where
   pub reported : IsReported scan.any.reading.version scan.any.reading.ec_level scan.any.reading.mask (length scan.any.reading.wrong.items)
       (length scan.any.reading.data.items) code.reading
@@ -54,13 +54,13 @@ pub record IsToldOf (scan : found.Scan) (code : Code) : Type 0 where
 abbrev pub AreCodesOf : List found.Scan → List Code → Type 0
 AreCodesOf scans codes = AllZip IsToldOf scans codes
 
--- what C gets of codes: one behind the other, as their parts and their bytes
+-- codes in the form that C gets: the codes, and the parts and the bytes of all, code after code
 pub record AreTold (scans : List found.Scan) (told : Told) : Type 0 where
   pub codes : AreCodesOf scans told.codes.items
   pub parts : told.parts.items ≡ flat_map parts_in scans
   pub bytes : told.bytes.items ≡ flat_map bytes_in scans
 
-abbrev pub most : ℕ  -- the bytes of the greatest picture
+abbrev pub most : ℕ  -- the size of the largest picture, in bytes
 most = 67108864
 
 -- what C gets of a picture, for a struct of this size
@@ -72,7 +72,7 @@ pub record IsToldIn (picture : List ℕ) (size : ℕ) (told : Told) : Type 0 whe
   pub some : 1 ≤ length scans
   pub codes : AreTold scans told
 
--- the same at the beginnings of buffers, which are otherwise as they were
+-- the codes, parts and bytes are at the start of buffers, which are otherwise unchanged
 pub record IsPut (told : Told) (codes new_codes : List Code) (parts new_parts : List Part) (bytes new_bytes : List ℕ) (scan : Scan) : Type 0 where
   pub codes_filled : IsFilled codes new_codes told.codes.items
   pub parts_filled : IsFilled parts new_parts told.parts.items
@@ -89,7 +89,7 @@ square_refusal (square.TheVariants.Damaged b) = refusals.Damaged
 square_refusal square.TheVariants.NotSpelled = refusals.NotSpelled
 square_refusal square.TheVariants.OutOfMemory = refusals.OutOfMemory
 
-abbrev pub picture_refusal : Unread → Refusal  -- what C gets of a picture that is not read
+abbrev pub picture_refusal : Unread → Refusal  -- the error that C gets of a picture that does not decode
 picture_refusal (Unscanned pixels.TheVariants.NotPicture) = refusals.NotPicture
 picture_refusal (Unscanned pixels.TheVariants.OutOfMemory) = refusals.OutOfMemory
 picture_refusal (Unscanned e) = refusals.BrokenPicture
@@ -100,14 +100,14 @@ picture_refusal NoSquare = refusals.NoSquare
 picture_refusal (NoSymbol count e) = square_refusal e
 picture_refusal OutOfMemory = refusals.OutOfMemory
 
--- why codes of a picture are not told, for a struct of this size that is to have another, where these are the causes of the reader: the first that applies
+-- why codes of a picture are not reported, for a struct of size `size` that must have size `own`; `Cause` are the causes of the reader; the first that applies
 abbrev pub IsPictureCause : ℕ → (Unread → Type 0) → List ℕ → ℕ → Refusal → Type 0
 IsPictureCause own Cause picture size refusals.NoSuchStruct = size ≢ own
 IsPictureCause own Cause picture size refusals.LargePicture = (size ≡ own) × (most < length picture)
 IsPictureCause own Cause picture size refusals.OutOfMemory = ⊤
 IsPictureCause own Cause picture size refusal = (e : Unread) × ((size ≡ own) × ((length picture ≤ most) × (Cause e × (refusal ≡ picture_refusal e))))
 
-abbrev pub IsUnreadFor : List ℕ → ℕ → Refusal → Type 0  -- why a picture is not read, for a struct of this size
+abbrev pub IsUnreadFor : List ℕ → ℕ → Refusal → Type 0  -- why a picture does not decode, for a struct of this size
 IsUnreadFor picture size refusal = IsPictureCause 32 (IsUnreadPicture picture) picture size refusal
 
 -- the codes of a picture in buffers
@@ -116,7 +116,7 @@ pub record IsScanned (picture : List ℕ) (size : ℕ) (codes new_codes : List C
   pub read : IsToldIn picture size told
   pub put : IsPut told codes new_codes parts new_parts bytes new_bytes scan
 
--- why they are not written into buffers of so much room: they are not read, or one of the buffers is too small
+-- why they are not written to buffers of these lengths: they do not decode, or a buffer is too small
 abbrev pub IsScanCause : List ℕ → ℕ → ℕ → ℕ → ℕ → Refusal → Type 0
 IsScanCause picture size codes parts bytes refusal =
     IsUnreadFor picture size refusal

@@ -1,4 +1,4 @@
--- Several symbols between which data is parted.
+-- Data split over several symbols (structured append).
 use Rattle.std.specs.Prelude.{◌≡◌, ◌≢◌, ◌≤◌, ◌<◌, ⊤, ℕ, zero, suc, pos, List, [], ◌∷◌, length, flat_map, IsTrue, IsUtf8, Option, Some, None, slice_get}
 use Rattle.qrcode_types.specs.declared.types.Version.TheVariants.{Normal}
 use Rattle.qrcode_bits.specs.Manners.{is_text}
@@ -18,13 +18,13 @@ use Rattle.goqlanis_buffers.specs.declared.symbols.Symbol.{Symbol}
 abbrev pub manner_of : ℕ → Option Manner  -- the manner of a number, in this order from 0 on
 manner_of n = slice_get (Bytes ∷ Text ∷ []) n
 
--- there are versions of Normal from one number to another
+-- the two numbers are a range of Normal versions
 pub record IsRange (s : Several) : Type 0 where
   pub some : 1 ≤ s.least_version
   pub ordered : s.least_version ≤ s.greatest_version
   pub most : s.greatest_version ≤ 40
 
--- what is asked for
+-- what options ask for, besides the count
 pub record AreAsked (s : Several) (a : Named) : Type 0 where
   pub size : s.size ≡ 24
   pub level : level_named s.level ≡ Some a.level
@@ -33,7 +33,7 @@ pub record AreAsked (s : Several) (a : Named) : Type 0 where
   pub versions : a.versions ≡ record { least = s.least_version; greatest = s.greatest_version }
   pub count : s.count ≤ 16
 
--- the symbols of as few parts as there can be, or of a count
+-- the symbols of as few parts as possible if the count is 0, else of this count
 abbrev pub AreOf : ℕ → Named → List ℕ → List Code → Type 0
 AreOf zero a bytes codes = AreFewest a.manner a.versions a.level bytes codes
 AreOf (suc n) a bytes codes = AreCounted a.manner a.versions a.level bytes (suc n) codes
@@ -45,10 +45,10 @@ pub record AreSymbolsWith (s : Several) (bytes : List ℕ) (codes : List Code) :
   pub text : IsTrue (is_text asked.manner) → IsUtf8 bytes
   pub made : AreOf s.count asked bytes codes
 
-abbrev pub modules_of : List Code → List ℕ  -- the modules of symbols as bytes, one behind the other
+abbrev pub modules_of : List Code → List ℕ  -- the modules of symbols as bytes, symbol after symbol
 modules_of codes = flat_map (λ c. module_bytes c.modules) codes
 
--- symbols that are asked for in a buffer, what the first of them, and so each, is beside its modules, and how many there are
+-- symbols that are asked for in a buffer; version, level and width of the first, and so of each; and how many there are
 pub record AreWritten (Asked : List Code → Type 0) (old new : List ℕ) (symbol : Symbol) (count : ℕ) : Type 0 where
   pub codes : List Code
   pub asked : Asked codes
@@ -58,29 +58,29 @@ pub record AreWritten (Asked : List Code → Type 0) (old new : List ℕ) (symbo
   pub described : IsDescribed first symbol
   pub counted : count ≡ length codes
 
-abbrev pub IsCount : ℕ → ℕ → Type 0  -- the count is the one that is asked for, where one is
+abbrev pub IsCount : ℕ → ℕ → Type 0  -- the count is the requested one, unless that is 0
 IsCount zero count = ⊤
 IsCount (suc n) count = count ≡ suc n
 
--- none of the versions holds the data in as many symbols
+-- none of the versions holds the data in this many symbols
 abbrev pub AreUnheld : ℕ → Named → List ℕ → Type 0
 AreUnheld wanted a bytes = (n count : ℕ) → IsAmong a.versions n → IsCount wanted count → ¬ HoldSeveral a.manner (Normal (pos n)) a.level bytes count
 
--- the same of what is asked for; a text is UTF-8
+-- none of the versions that are asked for holds the data; a text is UTF-8
 pub record HaveNoRoom (s : Several) (bytes : List ℕ) : Type 0 where
   pub asked : Named
   pub named : AreAsked s asked
   pub text : IsTrue (is_text asked.manner) → IsUtf8 bytes
   pub none : AreUnheld s.count asked bytes
 
--- a text is asked for, and the data is none
+-- a text is asked for, but the data is not UTF-8
 pub record IsNoText (s : Several) (bytes : List ℕ) : Type 0 where
   pub asked : Named
   pub named : AreAsked s asked
   pub text : IsTrue (is_text asked.manner)
   pub none : ¬ IsUtf8 bytes
 
--- the struct is one of this library, with the number of a level, with versions, and with the number of a manner
+-- the struct has the right size, and there is a level with its number; `HasVersions`: and a range of versions; `HasManner`: and a manner
 abbrev pub HasLevel : Several → Type 0
 HasLevel s = (s.size ≡ 24) × (level_named s.level ≢ None)
 
@@ -90,7 +90,7 @@ HasVersions s = HasLevel s × IsRange s
 abbrev pub HasManner : Several → Type 0
 HasManner s = HasVersions s × (manner_of s.manner ≢ None)
 
--- why data has no symbols that are asked for, where the buffer has so much room: the first of these causes that applies
+-- why data has no symbols that are asked for, in a buffer of `room` items: the first of these causes that applies
 abbrev pub IsSeveralCause : Several → List ℕ → ℕ → Refusal → Type 0
 IsSeveralCause s bytes room NoSuchStruct = s.size ≢ 24
 IsSeveralCause s bytes room NoSuchLevel = (s.size ≡ 24) × (level_named s.level ≡ None)

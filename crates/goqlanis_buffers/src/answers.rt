@@ -1,4 +1,4 @@
-//! What the calls for C answer.
+//! The errors of the calls for C, and their numbers.
 
 ghost use Rattle.std.specs.Prelude.{◌≡◌, ◌≤◌, Some};
 ghost use Rattle.goqlanis_buffers.specs.Answers.{refusal_of};
@@ -7,90 +7,90 @@ ghost use Rattle.goqlanis_buffers.specs.Segments.{refusal_in};
 
 use qrcode::types::QrError;
 
-/// Why a call refuses, by the number that C sees. Each refusal has one cause.
+/// Why a call fails, with the number that C gets. Each error has one cause.
 #[derive(Clone, Copy, Drop, PartialEq, Eq)]
 pub enum Refusal {
-    /// No level has the number.
+    /// No error correction level has this number.
     NoSuchLevel = 1,
-    /// No version has the number.
+    /// No version has this number.
     NoSuchVersion = 2,
     /// The version lacks the level.
     LevelNotInVersion = 3,
-    /// The bytes are more than 1,048,576.
+    /// There are more than 1,048,576 bytes.
     TooLong = 4,
     /// The bytes need a mode that the version lacks.
     NoMode = 5,
-    /// No symbol of the asked kind holds the bytes.
+    /// No symbol of the requested kind holds the bytes.
     NoRoom = 6,
-    /// The buffer is too small for what would be written.
+    /// The output buffer is too small.
     SmallBuffer = 7,
-    /// Memory was refused.
+    /// Memory ran out.
     OutOfMemory = 8,
-    /// No format has the number.
+    /// No picture format has this number.
     NoSuchFormat = 9,
-    /// The modules are not as many as the square of their width.
+    /// The number of modules is not the square of their width.
     NotSquare = 10,
-    /// A module would have no pixel, or the picture more than 65,535 modules along a side, or a
-    /// module more pixels.
+    /// The scale is 0 or above 65,535, a side with the quiet zone has more than 65,535 modules, or
+    /// the picture has more pixels a side than the format allows (in PNG also none).
     NoSuchSize = 11,
     /// The bytes are not UTF-8.
     NotText = 12,
-    /// No kind of segment has the number.
+    /// No kind of segment has this number.
     NoSuchKind = 13,
-    /// A segment's mode lacks one of its bytes.
+    /// A segment has bytes that its mode cannot encode.
     NotInMode = 14,
-    /// A character set above 999,999, an application above 255, or a count above 16.
+    /// An ECI designator is above 999,999, an application indicator above 255, or a count above 16.
     NoSuchNumber = 15,
-    /// No version has so many modules.
+    /// No version has that many modules.
     NoSuchSide = 16,
-    /// No level and mask are within three bits of each copy of the format word.
+    /// No level and mask have format information within three wrong bits of each copy.
     NoFormat = 17,
     /// A block has too many wrong codewords.
     Damaged = 18,
-    /// The data bits are not segments and an end.
+    /// The data bits are not segments and a terminator.
     NotSpelled = 19,
-    /// The size that a struct names is not its own.
+    /// The `size` field of a struct is not its size.
     NoSuchStruct = 20,
-    /// No manner has the number.
+    /// No manner of writing data has this number.
     NoSuchManner = 21,
-    /// The version has no mask of the number.
+    /// The version has no mask of this number.
     NoSuchMask = 22,
-    /// The format has no such colours, or names no dots per inch.
+    /// The format does not support these colours, or dots per inch.
     NotInFormat = 23,
     /// The data bits are not a text that readers show.
     NotShown = 24,
-    /// The square has no header of one of several symbols.
+    /// The square has no structured append header.
     NotSeveral = 25,
-    /// The square is a part of other data than the first.
+    /// The square is a part of other data than the first one.
     Stranger = 26,
-    /// No square has a part.
+    /// A part is missing.
     Missing = 27,
-    /// More than one square has a part.
+    /// A part is there more than once.
     Twice = 28,
-    /// The parts are not those of the data that their headers name.
+    /// The parts do not have the parity that their headers name.
     Parity = 29,
-    /// The square is read in no position.
+    /// The square does not decode in any position.
     NotRead = 30,
-    /// An area has no rectangle, or one without a module or not inside the symbol.
+    /// An area has no rectangle, or one that is empty or not inside the symbol.
     NoSuchArea = 31,
-    /// No rectangle in the middle leaves what is asked.
+    /// No rectangle in the middle leaves what is asked for.
     NoArea = 46,
     /// The area touches more codewords of a block than may be lost.
     AreaBlock = 47,
-    /// The area has more than three modules of a copy of the format word.
+    /// The area has more than three modules of a copy of the format information.
     AreaFormat = 48,
-    /// The bytes are no picture that is read.
+    /// The bytes are not a picture of a supported kind.
     NotPicture = 49,
-    /// The picture is broken, has too many pixels, or is of a kind that is not read.
+    /// The picture is broken, has too many pixels, or uses an unsupported feature.
     BrokenPicture = 50,
-    /// The picture shows no square of modules.
+    /// No square of modules was found in the picture.
     NoSquare = 51,
-    /// The picture is more than 67,108,864 bytes.
+    /// The picture is larger than 67,108,864 bytes.
     LargePicture = 52,
 }
 
 impl Refusal {
-    /// The number that C sees.
+    /// Returns the number that C gets.
     pub fn number(self) -> u32
         ensures value { refusal_of result ≡ Some self }
         ensures at_least { 1 ≤ result }
@@ -99,8 +99,8 @@ impl Refusal {
     }
 }
 
-/// What an error is reported as: of a push, or of a constructor whose version is valid and whose
-/// bytes are within the limit.
+/// Maps an error of a push, or of a constructor whose version is valid and whose bytes are within
+/// the limit.
 impl From<QrError> for Refusal {
     ghost from_gives = { λ e refusal. refusal ≡ refusal_in e };
 
@@ -116,8 +116,8 @@ impl From<QrError> for Refusal {
     }
 }
 
-/// What C gets of a result: 0, and its value in an output; or the number of the refusal, with the
-/// output as it was.
+/// Turns a result into what C gets: 0, with the value in `output`; or the number of the error, with
+/// `output` unchanged.
 pub fn answer<T: Copy>(made: Result<T, Refusal>, output: &mut T) -> u32
     ensures { IsAnswer made result output.old output.new }
 {

@@ -22,7 +22,7 @@ use qrcode_reader::walk::side;
 use qrcode_types::tables::Blocks;
 use std::alloc::Global;
 
-/// What an area takes of a symbol, and what it leaves.
+/// What an area takes of a symbol, and how much error correction it leaves.
 #[repr(C)]
 #[derive(Clone, Copy)]
 pub struct Taken {
@@ -32,13 +32,14 @@ pub struct Taken {
     pub allowed: usize,
     /// A block of which the area touches the most codewords.
     pub worst: usize,
-    /// How many modules of the first copy of the format word lie in the area. Three may be lost.
+    /// How many modules of the first copy of the format information lie in the area. Three may be
+    /// lost.
     pub first: usize,
-    /// How many modules of the last copy, which in Micro is the first.
+    /// How many modules of the last copy. In Micro the first copy is also the last.
     pub last: usize,
-    /// How many more codewords of each block may be lost beside the area, or 0.
+    /// How many more codewords of each block may be lost outside the area, or 0.
     pub least: usize,
-    /// 1 where the area may show anything, and else 0.
+    /// 1 if the area may show anything, else 0.
     pub may_show_anything: u32,
 }
 
@@ -46,35 +47,35 @@ pub struct Taken {
 #[repr(C)]
 #[derive(Clone, Copy)]
 pub struct Wish {
-    /// The bytes of this.
+    /// The size of this struct in bytes.
     pub size: u32,
-    /// How wide it is beside its height.
+    /// The width of the rectangle, in proportion to `down`.
     pub across: u32,
-    /// How high it is beside its width.
+    /// The height of the rectangle, in proportion to `across`.
     pub down: u32,
-    /// How many wrong codewords of each block are corrected beside it, or `HALF`.
+    /// How many wrong codewords of each block can be corrected outside the rectangle, or `HALF`.
     pub reserve: u32,
-    /// Other than 0 to leave alignment patterns alone too.
+    /// Not 0 to avoid alignment patterns too.
     pub keep_alignment: u32,
 }
 
-// The bytes of a wish.
+// The size of a `Wish` in bytes.
 const SIZE: u32 = 20;
 
-// A reserve of half of what may be lost.
+// A reserve of half of the codewords that may be lost.
 const HALF: u32 = 0xffff_ffff;
 
-/// Why an area is not covered.
+/// Why an area cannot be covered.
 #[derive(Clone, Copy, Drop)]
 pub enum Uncovered {
     /// It touches more codewords of this block than may be lost.
     Block(usize),
-    /// It is not covered for another cause.
+    /// Another cause.
     Other(Refusal),
 }
 
 impl Uncovered {
-    /// The number that C sees.
+    /// Returns the number that C gets.
     pub fn number(self) -> u32
         ensures value { refusal_of result ≡ Some (refusal_reported self) }
         ensures not_made { result ≢ 0 }
@@ -86,7 +87,7 @@ impl Uncovered {
         refusal.number()
     }
 
-    /// The block, or else the place before.
+    /// Returns the block, or `before` if no block is to blame.
     pub fn place(self, before: usize) -> usize
         ensures value { result ≡ place_reported self before }
     {
@@ -97,11 +98,11 @@ impl Uncovered {
     }
 }
 
-/// Writes how many codewords of each block an area touches at the beginning of a buffer, and
-/// answers what it takes beside them.
+/// Writes how many codewords of each block have modules in an area to the start of `touched`, and
+/// returns what else the area takes.
 ///
-/// An error is the first that applies of `NoSuchLevel`, `NoSuchVersion`, `LevelNotInVersion`,
-/// `NoSuchArea` and `SmallBuffer`, or `OutOfMemory`; then the buffer is as it was.
+/// Errors, the first that applies: `NoSuchLevel`, `NoSuchVersion`, `LevelNotInVersion`,
+/// `NoSuchArea`, `SmallBuffer`; or `OutOfMemory`. After an error `touched` is unchanged.
 pub fn reserve_into(
     alloc: Global,
     version: u32,
@@ -129,7 +130,7 @@ pub fn reserve_into(
     Ok(made_of(&reserve))
 }
 
-// What C gets of a reserve beside the counts of its blocks.
+// Converts a reserve, except the counts of its blocks.
 fn made_of(reserve: &Reserve) -> Taken
     ensures { (version : Version) (level : EcLevel) (area : ℕ → ℕ → Bool)
         → IsReserve version level area reserve.now
@@ -147,7 +148,7 @@ fn made_of(reserve: &Reserve) -> Taken
     }
 }
 
-// What C gets of a number that may be there: the number or 0, and 1 where it is there.
+// Converts a number that may be missing: the number and 1, or 0 and 0.
 fn told(number: Option<usize>) -> (usize, u32)
     ensures { told result.1 result.0 ≡ number }
 {
@@ -157,10 +158,10 @@ fn told(number: Option<usize>) -> (usize, u32)
     }
 }
 
-/// The largest rectangle in the middle of a symbol that C asks for.
+/// Finds the largest rectangle in the middle of a symbol that satisfies `wish`.
 ///
-/// An error is the first that applies of `NoSuchStruct`, `NoSuchLevel`, `NoSuchVersion`,
-/// `LevelNotInVersion` and `NoArea`, or `OutOfMemory`.
+/// Errors, the first that applies: `NoSuchStruct`, `NoSuchLevel`, `NoSuchVersion`,
+/// `LevelNotInVersion`, `NoArea`; or `OutOfMemory`.
 pub fn largest(alloc: Global, version: u32, level: u32, wish: &Wish) -> Result<Rectangle, Refusal>
     ensures { TellsLargest version level wish.now result }
 {
@@ -178,7 +179,7 @@ pub fn largest(alloc: Global, version: u32, level: u32, wish: &Wish) -> Result<R
     }
 }
 
-// What is asked of a rectangle in a symbol of a version and level.
+// Converts a wish; the version and level give the number for `HALF`.
 fn wish_of(version: Version, level: EcLevel, wish: &Wish) -> Wanted
     requires { IsTrue (has_level version level) }
     ensures { result ≡ wanted version level wish.now }
@@ -200,7 +201,7 @@ fn wish_of(version: Version, level: EcLevel, wish: &Wish) -> Wanted
     }
 }
 
-// The version and level of these numbers.
+// The version and level of these numbers, if the version has the level.
 fn pair_named(version: u32, level: u32) -> Result<(Version, EcLevel), Refusal>
     ensures named { IfOk result (λ pair. IsLevelNamed version level pair.0 pair.1) }
     ensures causes { IfErr result (IsPairCause version level) }
@@ -217,8 +218,11 @@ fn pair_named(version: u32, level: u32) -> Result<(Version, EcLevel), Refusal>
     }
 }
 
-/// Makes the modules of an area of a symbol light, which then may show anything. After an error
-/// they are as they were.
+/// Makes the modules of an area of a symbol light. The area may then show anything. After an error
+/// `modules` is unchanged.
+///
+/// Errors, the first that applies: `NoSuchSide`, `NoFormat`, `NoSuchArea`, `Uncovered::Block`,
+/// `AreaFormat`; or `OutOfMemory`.
 pub fn cover(alloc: Global, modules: &mut [u8], rectangles: &[Rectangle]) -> Result<(), Uncovered>
     ensures made { OnOk result (IsCovered rectangles.now modules.old modules.new) }
     ensures unchanged { OnErr result (modules.new ≡ modules.old) }
@@ -244,7 +248,7 @@ pub fn cover(alloc: Global, modules: &mut [u8], rectangles: &[Rectangle]) -> Res
     Ok(())
 }
 
-// Makes the modules of an area light, in rows of so many.
+// Makes the modules of an area light, in rows of `width`.
 fn lighten(modules: &mut [u8], width: usize, area: &Area<'_>)
     requires { 0 < width }
     ensures length { length modules.new ≡ length modules.old }

@@ -1,4 +1,4 @@
-//! Codes of pictures, and squares of modules, checked.
+//! Reports where codes of pictures, and squares of modules, depart from the standard.
 
 ghost use Rattle.std.specs.Prelude.{◌≡◌, All, flat_map, IfErr, IfOk};
 ghost use Rattle.qrcode_render.specs.Shades.{colors_of};
@@ -18,7 +18,7 @@ use qrcode_check::{Check, Content, check_square};
 use qrcode_reader::{Unread, version_of};
 use std::alloc::{AllocError, Global};
 
-/// What is said of a code beside the wrong codewords of its blocks.
+/// The findings on a code, besides the wrong codewords of its blocks.
 #[repr(C)]
 #[derive(Clone, Copy)]
 pub struct Checked {
@@ -26,55 +26,55 @@ pub struct Checked {
     pub version: u32,
     /// 0 for `L`, 1 for `M`, 2 for `Q`, 3 for `H`.
     pub level: u32,
-    /// The number of the mask, 0 to 7, in Micro 0 to 3.
+    /// The number of the mask: 0 to 7, in Micro 0 to 3.
     pub mask: u32,
-    /// 1 where nothing departs from the standard, and else 0.
+    /// 1 if nothing departs from the standard, else 0.
     pub standard: u32,
-    /// The letter of the grade of the unused error correction.
+    /// The letter (ASCII) of the grade of the unused error correction.
     pub grade: u32,
     /// How many blocks there are.
     pub blocks: usize,
-    /// How many codewords of each may be wrong by the standard.
+    /// How many wrong codewords of each block the standard lets readers correct.
     pub allowed: usize,
-    /// The unused error correction in hundredths.
+    /// The unused error correction of the worst block, in hundredths.
     pub unused: usize,
     /// How many modules of patterns are wrong.
     pub wrong: WrongModules,
-    /// What is said of the data bits.
+    /// The findings on the data bits.
     pub content: DataBits,
-    /// How the mask stands among all by the balance of the standard.
+    /// The rank of the mask, by the balance of the standard.
     pub masks: Rank,
-    /// How it stands by that of this project.
+    /// The rank of the mask, by the balance of this project.
     pub masks_here: Rank,
 }
 
-/// What is said of data bits. Where they are no segments and an end, all is 0.
+/// The findings on data bits. All are 0 if the bits are not segments and a terminator.
 #[repr(C)]
 #[derive(Clone, Copy)]
 pub struct DataBits {
-    /// 1 where they are segments and an end.
+    /// 1 if the bits are segments and a terminator.
     pub segments: u32,
-    /// 1 where the next two are known.
+    /// 1 if `bits` and `fewest` are known.
     pub compared: u32,
-    /// The bits of the segments.
+    /// How many bits the segments take.
     pub bits: usize,
-    /// Those of a least cut of their bytes.
+    /// The fewest bits that their bytes need.
     pub fewest: usize,
-    /// How many of the terminator, and of the zeros behind it, are wrong.
+    /// How many bits of the terminator, and of the zeros after it, are wrong.
     pub terminator: usize,
-    /// How many of the padding are.
+    /// How many bits of the padding are wrong.
     pub padding: usize,
-    /// How many segments have a character set that readers guess.
+    /// How many segments have a character set that readers must guess.
     pub guessed: usize,
-    /// 1 where each of these is UTF-8.
+    /// 1 if each of these is UTF-8.
     pub are_utf8: u32,
 }
 
-/// How much is said of a picture: how many items are at the beginning of each buffer.
+/// How many items have been written to the start of each buffer.
 #[repr(C)]
 #[derive(Clone, Copy)]
 pub struct Checks {
-    /// The bytes of this.
+    /// The size of this struct in bytes.
     pub size: u32,
     /// The codes.
     pub codes: usize,
@@ -82,23 +82,23 @@ pub struct Checks {
     pub blocks: usize,
 }
 
-// What C gets of codes: what is said of each, and the wrong codewords of the blocks of all.
+// The findings on each code, and the wrong codewords of all blocks, code after code.
 #[derive(Drop)]
 struct Told {
     checks: Vec<Checked>,
     wrong: Vec<usize>,
 }
 
-// The bytes of `Checks`.
+// The size of `Checks` in bytes.
 const SIZE: u32 = 24;
 
-/// Writes what is said of the codes of a picture at the beginning of a buffer, and how many
-/// codewords of each of their blocks are wrong at that of another; for `Checks` of this size, which
-/// say how many there are.
+/// Checks the codes in a picture, for a `Checks` of this size. Writes the findings on each to the
+/// start of `checks`, and how many codewords of each block are wrong to the start of `wrong`;
+/// returns how many of both there are.
 ///
-/// An error is the first that applies of `NoSuchStruct`, `LargePicture`, `NotPicture` or
-/// `BrokenPicture`, `NoSquare`, `NoSuchSide`, `NoFormat` or `Damaged`, and `SmallBuffer`; or it is
-/// `OutOfMemory`. Then the buffers are as they were.
+/// Errors, the first that applies: `NoSuchStruct`, `LargePicture`, `NotPicture` or `BrokenPicture`,
+/// `NoSquare`, `NoSuchSide`, `NoFormat` or `Damaged`, `SmallBuffer`; or `OutOfMemory`. After an
+/// error the buffers are unchanged.
 pub fn check_into(
     alloc: Global,
     picture: &[u8],
@@ -121,7 +121,7 @@ pub fn check_into(
     })
 }
 
-// What is said of a picture.
+// Checks the codes in a picture.
 fn told_in(alloc: Global, picture: &[u8], size: u32) -> Result<Told, Refusal>
     ensures told { IfOk result (λ told.
         IsChecked picture.now size told.checks.items told.wrong.items) }
@@ -146,7 +146,7 @@ fn told_in(alloc: Global, picture: &[u8], size: u32) -> Result<Told, Refusal>
     }
 }
 
-// What is said of each.
+// Converts each check.
 fn checks_in(alloc: Global, checks: &[Check]) -> Result<Vec<Checked>, AllocError>
     requires { All HasLevel checks.now }
     ensures { IfOk result (λ all. AreToldChecks checks.now all.items) }
@@ -158,7 +158,7 @@ fn checks_in(alloc: Global, checks: &[Check]) -> Result<Vec<Checked>, AllocError
     Ok(all)
 }
 
-// The wrong codewords of the blocks of all.
+// The wrong codewords of the blocks, code after code.
 #[tactic(auto, using(crate::proofs::Joined::flat_map_more))]
 fn wrong_in(alloc: Global, checks: &[Check]) -> Result<Vec<usize>, AllocError>
     ensures { IfOk result (λ wrong. wrong.items ≡ flat_map wrong_in checks.now) }
@@ -170,7 +170,7 @@ fn wrong_in(alloc: Global, checks: &[Check]) -> Result<Vec<usize>, AllocError>
     Ok(all)
 }
 
-// What C gets of a check beside its blocks.
+// Converts a check, except the wrong codewords of its blocks.
 fn told_check(check: &Check) -> Checked
     requires { HasLevel check.now }
     ensures { IsToldCheck check.now result }
@@ -191,14 +191,14 @@ fn told_check(check: &Check) -> Checked
     }
 }
 
-// 1 where something holds, and else 0.
+// 1 for `true`, 0 for `false`.
 fn flag(holds: bool) -> u32
     ensures { result ≡ flag holds }
 {
     if holds { 1 } else { 0 }
 }
 
-// The letter of a grade.
+// The letter of a grade in ASCII.
 fn letter_of(grade: Grade) -> u32
     ensures { result ≡ letter_of grade }
 {
@@ -211,7 +211,7 @@ fn letter_of(grade: Grade) -> u32
     }
 }
 
-// What C gets of data bits.
+// Converts the findings on data bits.
 fn told_content(content: Option<Content>) -> DataBits
     ensures { result ≡ told_content content }
 {
@@ -247,12 +247,11 @@ fn told_content(content: Option<Content>) -> DataBits
     }
 }
 
-/// Writes how many codewords of each block of a square of modules are wrong at the beginning of a
-/// buffer, and answers what is said of the square beside them. Modules are bytes in row order, dark
-/// where they are not zero.
+/// Checks a square of modules: bytes, row by row, dark if not zero. Writes how many codewords of
+/// each block are wrong to the start of `wrong`, and returns the other findings.
 ///
-/// An error is `NoSuchSide`, `NoFormat`, `Damaged`, `SmallBuffer` or `OutOfMemory`; then the buffer
-/// is as it was.
+/// Errors: `NoSuchSide`, `NoFormat`, `Damaged`, `SmallBuffer` or `OutOfMemory`. After an error
+/// `wrong` is unchanged.
 #[tactic(auto, using(crate::proofs::Checked::level_exists, crate::proofs::Known::no_side))]
 pub fn check_square_into(
     alloc: Global,

@@ -1,5 +1,5 @@
-//! Colours of drawings: transparency, red, green and blue, each from 0 to 255, in the four bytes of
-//! a number, the highest first.
+//! Colours of pictures as numbers: transparency, red, green and blue, 0 to 255 each, from the
+//! highest byte down.
 
 ghost use Rattle.std.specs.Prelude.{◌≡◌, ◌++◌, string_bytes, IfOk, OnOk, IsOkUnless};
 ghost use Rattle.qrcode_types.specs.declared.types.QrError.TheVariants.{OutOfMemory};
@@ -16,10 +16,10 @@ pub(crate) const BLACK: u32 = 0;
 
 pub(crate) const WHITE: u32 = 0x00ff_ffff;
 
-// A colour from here on is not opaque.
+// The first colour that is not opaque.
 const CLEAR: u32 = 1 << 24;
 
-/// Whether a format has the colours of dark and light modules.
+/// Returns whether a format supports these colours of dark and light modules.
 pub(crate) fn has_colours(format: Format, dark: u32, light: u32) -> bool
     ensures value { result ≡ has_colours format dark light }
 {
@@ -30,7 +30,7 @@ pub(crate) fn has_colours(format: Format, dark: u32, light: u32) -> bool
     }
 }
 
-/// A colour and its name.
+/// Returns the parts of a colour, with its name.
 pub(crate) fn ink_of<'a>(name: &'a str, colour: u32) -> Ink<'a>
     ensures value { name.now ≡ colour_name colour → shade_of result ≡ colour_shade colour }
     ensures red { result.red ≡ red_of colour }
@@ -47,7 +47,7 @@ pub(crate) fn ink_of<'a>(name: &'a str, colour: u32) -> Ink<'a>
     }
 }
 
-/// What SVG writes for a colour.
+/// Returns the name of a colour in SVG. Errors: only `OutOfMemory`.
 pub(crate) fn name_of(alloc: Global, colour: u32) -> QrResult<String>
     ensures value { IfOk result (λ name. string_bytes name ≡ colour_name colour) }
     ensures memory { IsOkUnless result OutOfMemory }
@@ -72,7 +72,7 @@ pub(crate) fn name_of(alloc: Global, colour: u32) -> QrResult<String>
     Ok(text)
 }
 
-// Appends a byte to the base 16, in two digits.
+// Appends a byte as two hexadecimal digits.
 #[tactic(auto, using(std::proofs::lemmas::Fmt::hex_byte))]
 fn push_byte(text: &mut String, byte: u8) -> QrResult<()>
     ensures appends { OnOk result (string_bytes text.new ≡ string_bytes text.old ++ hex_text byte) }

@@ -1,5 +1,5 @@
-//! The texts of networks, contacts, payments and their kin, and element strings of GS1, in the
-//! buffers of a caller who numbers their kinds.
+//! The texts of payloads (networks, contacts, payments and so on) and GS1 element strings, in
+//! buffers of a caller who numbers the kinds.
 
 pub mod answers;
 mod checks;

@@ -1,4 +1,4 @@
-//! Symbols of bytes.
+//! Encodes bytes into buffers.
 
 ghost use Rattle.goqlanis_buffers.specs.Calls.{TellsLeast, WritesAutomatic, WritesIn};
 
@@ -10,11 +10,11 @@ use qrcode::bits::{DATA_LIMIT, encode_auto};
 use qrcode::types::QrError;
 use std::alloc::Global;
 
-/// Writes the symbol of bytes at the level of a number, of the least Normal version that holds
-/// them, at the beginning of a buffer, and answers what it is beside its modules.
+/// Encodes `bytes` at the level numbered `level`, in the smallest Normal version that holds them.
+/// Writes the modules to the start of `modules`, and returns version, level and width.
 ///
-/// An error is `NoSuchLevel`, `NoRoom`, `SmallBuffer` or `OutOfMemory`; then the buffer is as it
-/// was.
+/// Errors: `NoSuchLevel`, `NoRoom`, `SmallBuffer` or `OutOfMemory`. After an error `modules` is
+/// unchanged.
 pub fn encode(
     alloc: Global,
     bytes: &[u8],
@@ -33,10 +33,11 @@ pub fn encode(
     }
 }
 
-/// The same of a version and level of these numbers.
+/// Encodes `bytes` like `encode`, but in the version numbered `version`.
 ///
-/// An error is the first that applies of `NoSuchLevel`, `NoSuchVersion`, `TooLong`, `NoMode`,
-/// `LevelNotInVersion`, `NoRoom` and `SmallBuffer`, or `OutOfMemory`; then the buffer is as it was.
+/// Errors, the first that applies: `NoSuchLevel`, `NoSuchVersion`, `TooLong`, `NoMode`,
+/// `LevelNotInVersion`, `NoRoom`, `SmallBuffer`; or `OutOfMemory`. After an error `modules` is
+/// unchanged.
 #[tactic(auto, using(crate::proofs::Refused::refused_in))]
 pub fn encode_in(
     alloc: Global,
@@ -62,9 +63,10 @@ pub fn encode_in(
     }
 }
 
-/// The number of the least Normal version that holds bytes at the level of a number.
+/// Returns the number of the smallest Normal version that holds `bytes` at the level numbered
+/// `level`.
 ///
-/// An error is `NoSuchLevel`, `NoRoom` or `OutOfMemory`.
+/// Errors: `NoSuchLevel`, `NoRoom` or `OutOfMemory`.
 pub fn least_version(alloc: Global, bytes: &[u8], level: u32) -> Result<u32, Refusal>
     ensures { TellsLeast level bytes.now result }
 {

@@ -1,4 +1,4 @@
-//! The data of several symbols, read from squares.
+//! Joins the data of several symbols (structured append), given as squares of modules.
 
 ghost use Rattle.std.specs.Prelude.{◌≡◌, ◌≢◌, ℕ, Some, length, map, IfOk, IfErr, IfSome, OnErr};
 ghost use Rattle.qrcode_render.specs.Shades.{colors_of};
@@ -13,14 +13,14 @@ use qrcode_reader::spell::{Header, Part as Piece};
 use qrcode_reader::{Unread, read_parts, version_of};
 use std::alloc::{AllocError, Global};
 
-/// A square of modules, which are bytes in row order, dark where they are not zero.
+/// A square of modules: bytes, row by row, dark if not zero.
 #[repr(C)]
 #[derive(Clone, Copy)]
 pub struct Square<'a> {
     pub modules: &'a [u8],
 }
 
-/// What a square is read as.
+/// The part of the data that a square decodes to.
 #[derive(Drop)]
 pub struct Found {
     pub place: u8,
@@ -29,21 +29,21 @@ pub struct Found {
     pub bytes: Vec<u8>,
 }
 
-/// Why squares are not joined.
+/// Why squares cannot be joined.
 #[derive(Clone, Copy, Drop)]
 pub enum Unjoined {
-    /// The square at this place is the first that is no part.
+    /// The square at this index is the first that is not a part.
     Square(usize, Refusal),
-    /// The parts are not all those of the same data.
+    /// The parts are not all the parts of the same data.
     Parts(JoinError),
     /// The buffer is too small for the data.
     SmallBuffer,
-    /// Memory was refused.
+    /// Memory ran out.
     OutOfMemory,
 }
 
 impl Unjoined {
-    /// The number that C sees.
+    /// Returns the number that C gets.
     pub fn number(self) -> u32
         ensures value { refusal_of result ≡ Some (refusal_reported self) }
         ensures not_made { result ≢ 0 }
@@ -60,7 +60,8 @@ impl Unjoined {
         refusal.number()
     }
 
-    /// The place of the square or of the part, or else the one before.
+    /// Returns the index of the wrong square, or the number of the wrong part; `before` if there is
+    /// none.
     pub fn place(self, before: usize) -> usize
         ensures value { result ≡ place_reported self before }
     {
@@ -74,8 +75,8 @@ impl Unjoined {
     }
 }
 
-/// Writes the data of several symbols, whose squares come in any order, at the beginning of a
-/// buffer, and answers its length. After an error the buffer is as it was.
+/// Joins the data of several symbols, whose squares may come in any order. Writes it to the start
+/// of `out`, and returns its length. After an error `out` is unchanged.
 pub fn join_into(alloc: Global, squares: &[Square<'_>], out: &mut [u8]) -> Result<usize, Unjoined>
     ensures made { IfOk result (IsJoinedInto squares.now out.old out.new) }
     ensures unchanged { OnErr result (out.new ≡ out.old) }
@@ -99,7 +100,7 @@ pub fn join_into(alloc: Global, squares: &[Square<'_>], out: &mut [u8]) -> Resul
     Ok(bytes.len())
 }
 
-// What squares are read as.
+// Decodes each square.
 fn found_in(alloc: Global, squares: &[Square<'_>]) -> Result<Vec<Found>, Unjoined>
     ensures read { IfOk result (λ found. ArePartsOf squares.now (map found_part found.items)) }
     ensures causes { (room : ℕ) → IfErr result (IsUnjoined squares.now room) }
@@ -118,7 +119,7 @@ fn found_in(alloc: Global, squares: &[Square<'_>]) -> Result<Vec<Found>, Unjoine
     Ok(all)
 }
 
-// What a square is read as, or why it is no part; `None` where memory was refused.
+// Decodes a square. Errors: why it is not a part, or `None` if memory runs out.
 #[tactic(auto, using(crate::proofs::Known::no_side))]
 fn found_of(alloc: Global, modules: &[u8]) -> Result<Found, Option<Refusal>>
     ensures read { IfOk result (λ found. IsPartOf (colors_of modules.now) (found_part found)) }
@@ -158,7 +159,7 @@ fn found_of(alloc: Global, modules: &[u8]) -> Result<Found, Option<Refusal>>
     }
 }
 
-// The same, whose bytes are lent.
+// The same parts, with borrowed bytes.
 fn lent<'a>(alloc: Global, found: &'a [Found]) -> Result<Vec<Part<'a>>, AllocError>
     ensures same { IfOk result (λ parts. map part_of parts.items ≡ map found_part found.now) }
 {

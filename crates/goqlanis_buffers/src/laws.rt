@@ -1,4 +1,4 @@
-//! The laws of the types that no call stands for, on the contract of a function that does nothing.
+//! Theorems that no other call states, as contracts of functions that do nothing.
 
 ghost use Rattle.std.specs.Prelude.{◌≡◌, ◌≢◌, ◌↔◌, ℕ, List, IsTrue};
 ghost use Rattle.qrcode_types.specs.declared.types.Color.{Color};
@@ -12,15 +12,15 @@ ghost use Rattle.goqlanis_buffers.specs.declared.contents.answers.Refusal as of_
 use crate::answers::Refusal;
 use crate::contents::answers::Refusal as ContentRefusal;
 
-/// A theorem: two refusals are equal by `==` exactly when they are the same.
+/// Theorem: two errors are equal by `==` exactly if they are the same.
 pub fn equality()
     ensures refusals { (a b : Refusal) → IsTrue (⟦<Refusal as PartialEq>⟧.eq a b) ↔ (a ≡ b) }
     ensures of_contents { (a b : of_contents.Refusal)
         → IsTrue (⟦<ContentRefusal as PartialEq>⟧.eq a b) ↔ (a ≡ b) }
 {}
 
-/// A drawing has one picture in a format other than PNG, PDF, ZPL and SVG of one path, which are
-/// defined by what they show: its length is that of whatever call draws it.
+/// Theorem: a drawing has only one picture in each format, except PNG, PDF, ZPL and SVG of one
+/// path, which are defined by what they show. So its length is the same whichever call draws it.
 #[tactic(auto, using(crate::proofs::OnePicture::one_picture))]
 pub fn pictures()
     ensures one { (f : Format) (v : View) (at : Layout) (s : List Color) (a b : List ℕ)

@@ -1,4 +1,4 @@
-//! How long pictures are whose length follows from their side, before they are drawn.
+//! Computes the lengths of pictures that follow from their side, without drawing them.
 
 ghost use Rattle.std.specs.Prelude.{◌≡◌, ◌<◌, ◌^◌, IfOk, IfSome, IsOkUnless};
 ghost use Rattle.qrcode_types.specs.declared.types.QrError.TheVariants.{OutOfMemory};
@@ -9,8 +9,9 @@ use goqlanis_core::formats::Format;
 use qrcode::types::{QrError, QrResult};
 use std::alloc::Global;
 
-/// The length of a picture in a format whose pictures have bytes for each pixel or for each eight;
-/// `None` in others, which have few bytes for each module, or few pixels.
+/// Returns the length of a picture in a format that stores each pixel or each eight. `None` for
+/// other formats: their pictures take few bytes per module, or have few pixels. Errors: only
+/// `OutOfMemory`.
 pub(crate) fn known_length(
     alloc: Global,
     asked: &Asked<'_>,
@@ -33,7 +34,7 @@ pub(crate) fn known_length(
     }
 }
 
-// The pixels along a side.
+// The number of pixels along a side.
 fn side_of(asked: &Asked<'_>, format: Format) -> usize
     requires drawable { IsDrawable asked.now format }
     ensures value { result ≡ side_of asked.now }
@@ -43,7 +44,7 @@ fn side_of(asked: &Asked<'_>, format: Format) -> usize
     (asked.width as usize + 2 * drawing.zone as usize) * drawing.scale as usize
 }
 
-// The length of a PBM file of so many pixels a side.
+// The length of a PBM file of `side` by `side` pixels.
 fn pbm_length(alloc: Global, side: usize) -> QrResult<usize>
     requires at_most { side < 2 ^ 32 }
     ensures value { IfOk result (λ length. length ≡ pbm_length side) }
@@ -53,7 +54,7 @@ fn pbm_length(alloc: Global, side: usize) -> QrResult<usize>
     Ok(head.len() + side * ((side + 7) / 8))
 }
 
-// The length of a PGM file of so many pixels a side.
+// The length of a PGM file of `side` by `side` pixels.
 fn pgm_length(alloc: Global, side: usize) -> QrResult<usize>
     requires at_most { side < 2 ^ 32 }
     ensures value { IfOk result (λ length. length ≡ pgm_length side) }
@@ -65,7 +66,7 @@ fn pgm_length(alloc: Global, side: usize) -> QrResult<usize>
         .ok_or(QrError::OutOfMemory)
 }
 
-// The length of a PPM file of so many pixels a side.
+// The length of a PPM file of `side` by `side` pixels.
 fn ppm_length(alloc: Global, side: usize) -> QrResult<usize>
     requires at_most { side < 2 ^ 32 }
     ensures value { IfOk result (λ length. length ≡ ppm_length side) }
@@ -76,7 +77,7 @@ fn ppm_length(alloc: Global, side: usize) -> QrResult<usize>
     head.len().checked_add(bytes).ok_or(QrError::OutOfMemory)
 }
 
-// The length of a raster for receipt printers of so many dots a side.
+// The length of an ESC/POS raster of `side` by `side` dots.
 fn escpos_length(side: usize) -> usize
     requires at_most { side < 2 ^ 32 }
     ensures value { result ≡ escpos_length side }
@@ -84,7 +85,7 @@ fn escpos_length(side: usize) -> usize
     8 + side * ((side + 7) / 8)
 }
 
-// The length of a label of so many dots a side.
+// The length of a TSPL label of `side` by `side` dots.
 fn tspl_length(alloc: Global, side: usize) -> QrResult<usize>
     requires at_most { side < 2 ^ 32 }
     ensures value { IfOk result (λ length. length ≡ tspl_length side) }
@@ -97,7 +98,7 @@ fn tspl_length(alloc: Global, side: usize) -> QrResult<usize>
     Ok(head.len() + side * bytes + 11)
 }
 
-// The length of an XBM text of so many pixels a side.
+// The length of an XBM text of `side` by `side` pixels.
 fn xbm_length(alloc: Global, side: usize) -> QrResult<usize>
     requires at_most { side < 2 ^ 32 }
     ensures value { IfOk result (λ length. length ≡ xbm_length side) }

@@ -1,5 +1,5 @@
-//! Symbols, pictures and readings in the buffers of a caller, who names versions, levels and
-//! formats by numbers, as programs in C do. Where a call refuses, all its outputs are as they were.
+//! Encodes, draws, reads and checks symbols in buffers of a caller who names versions, levels and
+//! formats by numbers, as C programs do. After an error all outputs are unchanged.
 #![tactic(auto)]
 
 pub mod answers;

@@ -1,4 +1,4 @@
-//! The numbers that stand for levels and versions in C.
+//! The numbers of levels and versions in C.
 
 ghost use Rattle.std.specs.Prelude.{◌≡◌, Some, IfSome, IsTrue};
 ghost use Rattle.qrcode_types.specs.Versions.{is_valid};
@@ -6,7 +6,7 @@ ghost use Rattle.goqlanis_buffers.specs.Names.{level_named, version_named};
 
 use qrcode::types::{EcLevel, Version};
 
-/// The level of a number: 0 for `L`, 1 for `M`, 2 for `Q`, 3 for `H`.
+/// Returns the level of a number: 0 for `L`, 1 for `M`, 2 for `Q`, 3 for `H`.
 pub fn level_named(number: u32) -> Option<EcLevel>
     ensures value { result ≡ level_named number }
 {
@@ -19,14 +19,14 @@ pub fn level_named(number: u32) -> Option<EcLevel>
     }
 }
 
-/// The number of a level.
+/// Returns the number of a level.
 pub(crate) fn level_number(level: EcLevel) -> u32
     ensures value { level_named result ≡ Some level }
 {
     level as u32
 }
 
-/// The version of a number: 1 to 40 for Normal, 41 to 44 for Micro.
+/// Returns the version of a number: 1 to 40 for Normal, 41 to 44 for Micro.
 pub fn version_named(number: u32) -> Option<Version>
     ensures value { result ≡ version_named number }
     ensures valid { IfSome result (λ version. IsTrue (is_valid version)) }
@@ -38,7 +38,7 @@ pub fn version_named(number: u32) -> Option<Version>
     }
 }
 
-/// The number of a version, which is one that exists.
+/// Returns the number of a valid version.
 pub fn version_number(version: Version) -> u32
     requires { IsTrue (is_valid version) }
     ensures value { version_named result ≡ Some version }

@@ -1,4 +1,4 @@
-//! Symbols by options.
+//! Encodes data with options.
 
 ghost use Rattle.std.specs.Prelude.{◌≡◌, ℕ, List, false, IfOk, IfErr, IsTrue, IsUtf8};
 ghost use Rattle.qrcode_bits.specs.Manners.{is_text};
@@ -13,31 +13,30 @@ use qrcode::bits::Manner;
 use qrcode::types::EcLevel;
 use std::alloc::Global;
 
-/// What C asks of a symbol.
+/// The options of C for encoding.
 #[repr(C)]
 #[derive(Clone, Copy)]
 pub struct Options {
-    /// The bytes of this.
+    /// The size of this struct in bytes.
     pub size: u32,
     /// 0 for `L`, 1 for `M`, 2 for `Q`, 3 for `H`.
     pub level: u32,
     /// 0 for `Bytes`, 1 for `Text`, 2 for `MarkedText`.
     pub manner: u32,
-    /// 1 to 40 for Normal, 41 to 44 for Micro; or 0 for the least that holds the data.
+    /// 1 to 40 for Normal, 41 to 44 for Micro; or 0 for the smallest that holds the data.
     pub version: u32,
-    /// The first version that is tried then.
+    /// If `version` is 0, the smallest version to try.
     pub least_version: u32,
-    /// Other than 0 for the highest level at which that version holds the data.
+    /// If `version` is 0: not 0 to raise the level as far as that version still holds the data.
     pub boost: u32,
-    /// One more than the number of a mask, which the version of the symbol has; or 0 for the first
-    /// of least penalty.
+    /// The number of a mask of the version, plus 1; or 0 for the first mask of the lowest penalty.
     pub mask: u32,
 }
 
-// The bytes of options.
+// The size of `Options` in bytes.
 const SIZE: u32 = 28;
 
-/// What options name.
+/// What options ask for.
 #[derive(Clone, Copy)]
 pub struct Asked {
     pub choice: Choice,
@@ -47,12 +46,12 @@ pub struct Asked {
     pub mask: Option<usize>,
 }
 
-/// Writes the symbol of data that options ask for at the beginning of a buffer, and answers what it
-/// is beside its modules.
+/// Encodes `bytes` as `options` ask. Writes the modules to the start of `modules`, and returns
+/// version, level and width.
 ///
-/// An error is the first that applies of `NoSuchStruct`, `NoSuchLevel`, `NoSuchVersion`,
-/// `NoSuchManner`, `NotText`, `NoMode`, `LevelNotInVersion`, `NoRoom`, `NoSuchMask` and
-/// `SmallBuffer`, or `OutOfMemory`; then the buffer is as it was.
+/// Errors, the first that applies: `NoSuchStruct`, `NoSuchLevel`, `NoSuchVersion`, `NoSuchManner`,
+/// `NotText`, `NoMode`, `LevelNotInVersion`, `NoRoom`, `NoSuchMask`, `SmallBuffer`; or
+/// `OutOfMemory`. After an error `modules` is unchanged.
 #[tactic(auto, using(crate::proofs::Refused::masked_as, crate::proofs::Refused::refused_as))]
 pub fn encode_with(
     alloc: Global,
@@ -75,10 +74,9 @@ pub fn encode_with(
     }
 }
 
-/// What options name.
+/// Looks up the numbers in options.
 ///
-/// An error is the first that applies of `NoSuchStruct`, `NoSuchLevel`, `NoSuchVersion` and
-/// `NoSuchManner`.
+/// Errors, the first that applies: `NoSuchStruct`, `NoSuchLevel`, `NoSuchVersion`, `NoSuchManner`.
 pub(crate) fn asked_by(options: &Options) -> Result<Asked, Refusal>
     ensures made { IfOk result (IsAsked options.now) }
     ensures causes { (bytes : List ℕ) (room : ℕ)
@@ -104,7 +102,7 @@ pub(crate) fn asked_by(options: &Options) -> Result<Asked, Refusal>
     })
 }
 
-/// Whether bytes that are to be a text are UTF-8.
+/// Returns whether `bytes` are UTF-8, if `manner` needs that; else `true`.
 pub(crate) fn is_sound(manner: Manner, bytes: &[u8]) -> bool
     ensures text { IsTrue result → IsTrue (is_text manner) → IsUtf8 bytes.now }
     ensures other { result ≡ false → ¬ IsUtf8 bytes.now }
@@ -119,7 +117,7 @@ pub(crate) fn is_sound(manner: Manner, bytes: &[u8]) -> bool
     }
 }
 
-// Which symbol options ask for.
+// The choice of a version that options make.
 fn choice_named(options: &Options) -> Option<Choice>
     ensures value { result ≡ choice_named options.now }
 {

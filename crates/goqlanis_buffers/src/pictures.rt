@@ -1,4 +1,4 @@
-//! Pictures in buffers.
+//! Draws pictures into buffers.
 
 ghost use Rattle.std.specs.Prelude.{◌≡◌, ◌<◌, ◌≤◌, ◌↔◌, ◌^◌, ℕ, length, IfOk, IfErr, IsOkUnless, IsTrue};
 ghost use Rattle.std.specs.Bool.{OnTrue};
@@ -20,31 +20,31 @@ use goqlanis_core::render::draw_in;
 use qrcode::types::{Color, QrResult};
 use std::alloc::Global;
 
-/// How C wants modules drawn. A colour has its transparency, red, green and blue in its four bytes,
-/// the highest first.
+/// How C wants modules drawn. A colour is transparency, red, green and blue in its four bytes, from
+/// the highest down.
 #[repr(C)]
 #[derive(Clone, Copy)]
 pub struct Drawing {
-    /// The bytes of this.
+    /// The size of this struct in bytes.
     pub size: u32,
     /// The number of a format.
     pub format: u32,
-    /// The modules of the quiet zone at each side.
+    /// The width of the quiet zone in modules.
     pub zone: u32,
-    /// The pixels of a module, across and down.
+    /// The pixels per module, across and down.
     pub scale: u32,
     /// The colour of dark modules.
     pub dark: u32,
-    /// That of light ones.
+    /// The colour of light modules and the quiet zone.
     pub light: u32,
-    /// The dots per inch that a PNG file names, or 0 for none.
+    /// The dots per inch to store in a PNG file, or 0 for none.
     pub dpi: u32,
 }
 
-// The bytes of a drawing.
+// The size of a `Drawing` in bytes.
 const SIZE: u32 = 28;
 
-/// A drawing in black on white.
+/// Returns a drawing in black on white.
 pub fn plain(zone: u32, scale: u32, format: u32) -> Drawing
     ensures value { result ≡ plain zone scale format }
 {
@@ -59,21 +59,21 @@ pub fn plain(zone: u32, scale: u32, format: u32) -> Drawing
     }
 }
 
-/// What is asked to be drawn, as C says it.
+/// What is to be drawn, as C gives it.
 #[derive(Clone, Copy)]
 pub struct Asked<'a> {
-    /// The modules, row by row, dark where a byte is not zero.
+    /// The modules, row by row, dark if not zero.
     pub modules: &'a [u8],
-    /// The modules along a side.
+    /// The number of modules along a side.
     pub width: u32,
     pub drawing: &'a Drawing,
 }
 
-/// Writes a picture at the beginning of a buffer, and answers its length.
+/// Draws a picture to the start of `out`, and returns its length.
 ///
-/// An error is the first that applies of `NoSuchStruct`, `NoSuchFormat`, `NotSquare`, `NoSuchSize`,
-/// `NotInFormat` and `SmallBuffer`, or `OutOfMemory`; then the buffer is as it was. Where the
-/// length follows from the side, nothing is drawn that has no room.
+/// Errors, the first that applies: `NoSuchStruct`, `NoSuchFormat`, `NotSquare`, `NoSuchSize`,
+/// `NotInFormat`, `SmallBuffer`; or `OutOfMemory`. After an error `out` is unchanged. If the length
+/// follows from the side, a picture that does not fit is not drawn.
 pub fn put_picture(alloc: Global, asked: &Asked<'_>, out: &mut [u8]) -> Result<usize, Refusal>
     ensures { WritesPicture asked.now.modules.now asked.now.width asked.now.drawing.now
         out.old out.new result }
@@ -97,10 +97,10 @@ pub fn put_picture(alloc: Global, asked: &Asked<'_>, out: &mut [u8]) -> Result<u
     Ok(bytes.len())
 }
 
-/// The length of a picture.
+/// Returns the length of a picture.
 ///
-/// An error is the first that applies of `NoSuchStruct`, `NoSuchFormat`, `NotSquare`, `NoSuchSize`
-/// and `NotInFormat`, or `OutOfMemory`.
+/// Errors, the first that applies: `NoSuchStruct`, `NoSuchFormat`, `NotSquare`, `NoSuchSize`,
+/// `NotInFormat`; or `OutOfMemory`.
 pub fn length_of(alloc: Global, asked: &Asked<'_>) -> Result<usize, Refusal>
     ensures { TellsLength asked.now.modules.now asked.now.width asked.now.drawing.now result }
 {
@@ -119,7 +119,7 @@ pub fn length_of(alloc: Global, asked: &Asked<'_>) -> Result<usize, Refusal>
     }
 }
 
-// The format of a number, where nothing but memory refuses the picture.
+// The format, if the picture can be drawn in it.
 fn format_of(asked: &Asked<'_>) -> Result<Format, Refusal>
     ensures drawable { IfOk result (IsDrawable asked.now) }
     ensures causes { (room : ℕ) → IfErr result (IsCauseFor asked.now room) }
@@ -143,7 +143,7 @@ fn format_of(asked: &Asked<'_>) -> Result<Format, Refusal>
     Ok(format)
 }
 
-// Whether a picture of modules of this width may have its size.
+// Whether the scale, the side in modules and the side in pixels are within their limits.
 fn has_size(format: Format, width: u32, drawing: &Drawing) -> bool
     ensures size { IsTrue result ↔ HasSize width drawing.now format }
 {
@@ -154,7 +154,7 @@ fn has_size(format: Format, width: u32, drawing: &Drawing) -> bool
     has_side(format, side * u64::from(drawing.scale))
 }
 
-// Whether a picture in a format may have so many pixels a side.
+// Whether a picture in a format may have this many pixels a side.
 fn has_side(format: Format, pixels: u64) -> bool
     ensures value { result ≡ has_side format pixels }
 {
@@ -162,7 +162,7 @@ fn has_side(format: Format, pixels: u64) -> bool
     !(is_png && pixels == 0) && pixels <= u64::from(format.greatest_side())
 }
 
-// Whether a format has the colours, and names dots per inch where they are given.
+// Whether a format supports the colours, and the dots per inch if any.
 fn is_sayable(format: Format, drawing: &Drawing) -> bool
     ensures value { result ≡ is_sayable format drawing.now }
     ensures dpi_at_most { OnTrue result (drawing.now.dpi < 2 ^ 16) }
@@ -175,7 +175,7 @@ fn is_sayable(format: Format, drawing: &Drawing) -> bool
     drawing.dpi <= most && has_colours(format, drawing.dark, drawing.light)
 }
 
-// A picture in a format, as many bytes as `length_by_side` says. Refuses with `OutOfMemory` alone.
+// Draws a picture. Errors: only `OutOfMemory`.
 fn drawn(alloc: Global, asked: &Asked<'_>, format: Format) -> QrResult<Vec<u8>>
     requires drawable { IsDrawable asked.now format }
     ensures picture { IfOk result (λ bytes. IsPictureFor asked.now bytes.items) }
@@ -187,7 +187,7 @@ fn drawn(alloc: Global, asked: &Asked<'_>, format: Format) -> QrResult<Vec<u8>>
     draw_named(alloc, asked, format, &colors, (&dark, &light))
 }
 
-// The same, of these modules and names of dark and light.
+// Draws a picture with these modules and names of the dark and the light colour.
 fn draw_named<'a>(
     alloc: Global,
     asked: &Asked<'_>,
@@ -220,7 +220,7 @@ fn draw_named<'a>(
     draw_in(alloc, format, &picture)
 }
 
-// The dots per inch, where they are given.
+// The dots per inch; `None` for 0.
 fn density(dpi: u32) -> Option<u16>
     requires at_most { dpi < 2 ^ 16 }
     ensures value { result ≡ density dpi }

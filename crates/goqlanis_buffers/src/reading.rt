@@ -1,4 +1,4 @@
-//! Squares of modules read back.
+//! Decodes squares of modules into buffers.
 
 ghost use Rattle.std.specs.Prelude.{◌≡◌, ◌*◌, ℕ, length, IsTrue, IfOk, IfErr};
 ghost use Rattle.qrcode_types.specs.Versions.{has_level, side};
@@ -21,7 +21,7 @@ use qrcode_reader::{
 };
 use std::alloc::Global;
 
-/// What is read of a square beside its bytes.
+/// What a square decodes to, besides its bytes.
 #[repr(C)]
 #[derive(Clone, Copy)]
 pub struct Reading {
@@ -29,7 +29,7 @@ pub struct Reading {
     pub version: u32,
     /// 0 for `L`, 1 for `M`, 2 for `Q`, 3 for `H`.
     pub level: u32,
-    /// The number of the mask, 0 to 7, in Micro 0 to 3.
+    /// The number of the mask: 0 to 7, in Micro 0 to 3.
     pub mask: u32,
     /// How many codewords were wrong.
     pub wrong: usize,
@@ -37,20 +37,20 @@ pub struct Reading {
     pub length: usize,
 }
 
-/// What is read of a square in any position beside its bytes.
+/// What a square in any position decodes to, besides its bytes.
 #[repr(C)]
 #[derive(Clone, Copy)]
 pub struct AnyReading {
     pub reading: Reading,
-    /// The number of the position, and 8 more where dark and light are exchanged.
+    /// The number of the position, plus 8 if dark and light are swapped.
     pub position: u32,
 }
 
-/// Writes the bytes of a square of modules, which are bytes in row order, dark where they are not
-/// zero, at the beginning of a buffer, and answers what is read beside them.
+/// Decodes a square of modules: bytes, row by row, dark if not zero. Writes its data to the start
+/// of `bytes`, and returns what else it decodes to.
 ///
-/// An error is `NoSuchSide`, `NoFormat`, `Damaged`, `NotSpelled`, `SmallBuffer` or `OutOfMemory`;
-/// then the buffer is as it was.
+/// Errors: `NoSuchSide`, `NoFormat`, `Damaged`, `NotSpelled`, `SmallBuffer` or `OutOfMemory`. After
+/// an error `bytes` is unchanged.
 pub fn read_into(alloc: Global, modules: &[u8], bytes: &mut [u8]) -> Result<Reading, Refusal>
     ensures { WritesReading modules.now bytes.old bytes.new result }
 {
@@ -71,9 +71,10 @@ pub fn read_into(alloc: Global, modules: &[u8], bytes: &mut [u8]) -> Result<Read
     ))
 }
 
-/// The same of a square in any position, in the first of the sixteen in which it is read.
+/// Decodes like `read_into`, but a square in any position: in the first of the sixteen in which it
+/// decodes.
 ///
-/// An error is `NotRead`, `SmallBuffer` or `OutOfMemory`; then the buffer is as it was.
+/// Errors: `NotRead`, `SmallBuffer` or `OutOfMemory`. After an error `bytes` is unchanged.
 #[tactic(auto, using(crate::proofs::Known::existing, crate::proofs::Known::nowhere))]
 pub fn read_any_into(alloc: Global, modules: &[u8], bytes: &mut [u8]) -> Result<AnyReading, Refusal>
     ensures { WritesAnyReading modules.now bytes.old bytes.new result }
@@ -104,11 +105,11 @@ pub fn read_any_into(alloc: Global, modules: &[u8], bytes: &mut [u8]) -> Result<
     })
 }
 
-/// Writes the text that readers show of a square of modules at the beginning of a buffer, and
-/// answers what is read beside it.
+/// Decodes a square of modules into the text that readers show. Writes it to the start of `text`,
+/// and returns what else the square decodes to.
 ///
-/// An error is `NoSuchSide`, `NoFormat`, `Damaged`, `NotShown`, `SmallBuffer` or `OutOfMemory`;
-/// then the buffer is as it was.
+/// Errors: `NoSuchSide`, `NoFormat`, `Damaged`, `NotShown`, `SmallBuffer` or `OutOfMemory`. After
+/// an error `text` is unchanged.
 #[tactic(auto, using(crate::proofs::Known::shown_existing, crate::proofs::Known::only_shown, crate::proofs::Known::no_side))]
 pub fn read_text_into(alloc: Global, modules: &[u8], text: &mut [u8]) -> Result<Reading, Refusal>
     ensures { WritesTextReading modules.now text.old text.new result }
@@ -139,9 +140,9 @@ pub fn read_text_into(alloc: Global, modules: &[u8], text: &mut [u8]) -> Result<
     ))
 }
 
-/// The number of the mask of a square of modules.
+/// Returns the number of the mask of a square of modules.
 ///
-/// An error is `NoSuchSide`, `NoFormat` or `OutOfMemory`.
+/// Errors: `NoSuchSide`, `NoFormat` or `OutOfMemory`.
 pub fn mask_of(alloc: Global, modules: &[u8]) -> Result<u32, Refusal>
     ensures { TellsMask modules.now result }
 {
@@ -149,9 +150,9 @@ pub fn mask_of(alloc: Global, modules: &[u8]) -> Result<u32, Refusal>
     Ok(mask_number(format.version, format.mask))
 }
 
-/// How many bytes a square of modules is read as.
+/// Returns how many bytes a square of modules decodes to.
 ///
-/// An error is `NoSuchSide`, `NoFormat`, `Damaged`, `NotSpelled` or `OutOfMemory`.
+/// Errors: `NoSuchSide`, `NoFormat`, `Damaged`, `NotSpelled` or `OutOfMemory`.
 pub fn read_length(alloc: Global, modules: &[u8]) -> Result<usize, Refusal>
     ensures { TellsReadLength modules.now result }
 {
@@ -161,7 +162,7 @@ pub fn read_length(alloc: Global, modules: &[u8]) -> Result<usize, Refusal>
     }
 }
 
-// What is read of a square.
+// Decodes a square.
 #[tactic(auto, using(crate::proofs::Known::only_these, crate::proofs::Known::existing, crate::proofs::Known::no_side))]
 fn read_square(alloc: Global, modules: &[u8]) -> Result<Found, Refusal>
     ensures reading { IfOk result (λ read. IsReading (colors_of modules.now)
@@ -184,7 +185,7 @@ fn read_square(alloc: Global, modules: &[u8]) -> Result<Found, Refusal>
     }
 }
 
-// What the format word of a square names.
+// The version of a square, and what its format information names.
 #[derive(Clone, Copy)]
 pub(crate) struct Format {
     pub(crate) version: Version,
@@ -192,7 +193,7 @@ pub(crate) struct Format {
     pub(crate) mask: MaskPattern,
 }
 
-// The format word of a square of modules.
+// Reads the format information of a square of modules.
 #[tactic(auto, using(crate::proofs::Known::no_side))]
 pub(crate) fn format_of(alloc: Global, modules: &[u8]) -> Result<Format, Refusal>
     ensures square { IfOk result (λ f.
@@ -214,7 +215,7 @@ pub(crate) fn format_of(alloc: Global, modules: &[u8]) -> Result<Format, Refusal
     }
 }
 
-// What C gets of a reading beside its bytes.
+// Converts a reading, except its bytes.
 pub(crate) fn reported(
     version: Version,
     ec_level: EcLevel,
@@ -234,7 +235,7 @@ pub(crate) fn reported(
     }
 }
 
-// The number of a position, and 8 more where colours are exchanged.
+// The number of a position, plus 8 if inverted.
 pub(crate) fn position_number(position: Position, is_inverted: bool) -> u32
     ensures value { result ≡ position_number position is_inverted }
 {
@@ -242,7 +243,7 @@ pub(crate) fn position_number(position: Position, is_inverted: bool) -> u32
     if is_inverted { number + 8 } else { number }
 }
 
-// The number of a mask of a version.
+// The number of a mask in a version: 0 to 7, in Micro 0 to 3.
 pub(crate) fn mask_number(version: Version, mask: MaskPattern) -> u32
     ensures { result ≡ mask_number_in version mask }
 {

@@ -1,4 +1,4 @@
-//! Pictures read back.
+//! Decodes the codes in pictures.
 
 ghost use Rattle.std.specs.Prelude.{◌≡◌, ◌++◌, All, flat_map, length, map, IfErr, IfNone, IfOk, IfSome, OnOk};
 ghost use Rattle.goqlanis_core.specs.Scans.{IsReadAs};
@@ -13,11 +13,11 @@ use qrcode_reader::scan::Unscanned;
 use qrcode_reader::spell::{Header, Part as Piece};
 use std::alloc::{AllocError, Global};
 
-/// What is read of a picture: how many items are at the beginning of each buffer.
+/// How many items have been written to the start of each buffer.
 #[repr(C)]
 #[derive(Clone, Copy)]
 pub struct Scan {
-    /// The bytes of this.
+    /// The size of this struct in bytes.
     pub size: u32,
     /// The codes.
     pub codes: usize,
@@ -27,35 +27,34 @@ pub struct Scan {
     pub length: usize,
 }
 
-/// What a code is beside its parts and bytes.
+/// A code, besides its parts and bytes.
 #[repr(C)]
 #[derive(Clone, Copy)]
 pub struct Code {
     pub reading: Reading,
-    /// The number of the position in which it stands, and 8 more where its dark modules are light.
+    /// The number of its position in the picture, plus 8 if dark and light are swapped.
     pub position: u32,
     /// How many parts it has.
     pub parts: usize,
 }
 
-/// A header or a segment of a code. What it does not have is 0.
+/// A header or a segment of a code. Fields that its kind does not have are 0.
 #[repr(C)]
 #[derive(Clone, Copy)]
 pub struct Part {
-    /// The number of its kind, as a segment has it; 7 for the header of one of several symbols.
+    /// The number of its kind, as in a `Segment`; 7 for the structured append header.
     pub kind: u32,
-    /// The number of a character set, the indicator of an application, or the parity of the data of
-    /// several symbols.
+    /// The ECI designator, the application indicator, or the parity of the data of several symbols.
     pub number: u32,
-    /// The place of one of several symbols, from 0 on.
+    /// For structured append: which symbol this is, counted from 0.
     pub place: u32,
-    /// How many they are.
+    /// For structured append: how many symbols there are.
     pub symbols: u32,
-    /// How many bytes a segment has.
+    /// How many bytes a segment encodes.
     pub length: usize,
 }
 
-/// What is read of a picture: the codes, the parts of all, and the bytes of all, each in order.
+/// What a picture decodes to: the codes, and the parts and bytes of all, code after code.
 #[derive(Drop)]
 pub struct Told {
     pub codes: Vec<Code>,
@@ -63,17 +62,16 @@ pub struct Told {
     pub bytes: Vec<u8>,
 }
 
-// The bytes of a scan.
+// The size of a `Scan` in bytes.
 const SIZE: u32 = 32;
 
-// The greatest picture, in bytes.
+// The size of the largest picture, in bytes.
 pub(crate) const MOST: usize = 67_108_864;
 
-/// Reads the codes of a picture, for a `Scan` of this size.
+/// Decodes the codes in a picture, for a `Scan` of this size.
 ///
-/// An error is the first that applies of `NoSuchStruct`, `LargePicture`, `NotPicture` or
-/// `BrokenPicture`, `NoSquare`, and `NoSuchSide`, `NoFormat`, `Damaged` or `NotSpelled`; or it is
-/// `OutOfMemory`.
+/// Errors, the first that applies: `NoSuchStruct`, `LargePicture`, `NotPicture` or `BrokenPicture`,
+/// `NoSquare`, `NoSuchSide`, `NoFormat`, `Damaged` or `NotSpelled`; or `OutOfMemory`.
 #[tactic(auto, using(crate::proofs::Told::all_read))]
 pub fn codes_of(alloc: Global, picture: &[u8], size: u32) -> Result<Told, Refusal>
     ensures told { IfOk result (IsToldIn picture.now size) }
@@ -105,8 +103,8 @@ pub fn codes_of(alloc: Global, picture: &[u8], size: u32) -> Result<Told, Refusa
 }
 
 impl Told {
-    /// Writes the codes, their parts and their bytes at the beginnings of buffers. `None` where one
-    /// of them is too small; then they are as they were.
+    /// Writes the codes, parts and bytes to the start of the buffers, and returns how many there
+    /// are. `None` if a buffer is too small; then all are unchanged.
     pub fn put(&self, codes: &mut [Code], parts: &mut [Part], bytes: &mut [u8]) -> Option<Scan>
         ensures put { IfSome result (IsPut self.now codes.old codes.new parts.old parts.new
             bytes.old bytes.new) }
@@ -134,7 +132,7 @@ impl Told {
     }
 }
 
-// What C gets of a picture that is not read.
+// Converts the error of a picture that does not decode.
 pub(crate) fn picture_refusal(unread: Unread) -> Refusal
     ensures { result ≡ picture_refusal unread }
 {
@@ -153,7 +151,7 @@ pub(crate) fn picture_refusal(unread: Unread) -> Refusal
     }
 }
 
-// What each is beside its parts and bytes.
+// Converts each code, except its parts and bytes.
 fn codes_in(alloc: Global, scans: &[Found]) -> Result<Vec<Code>, AllocError>
     requires { All IsReadAs scans.now }
     ensures { IfOk result (λ codes. AreCodesOf scans.now codes.items) }
@@ -165,7 +163,7 @@ fn codes_in(alloc: Global, scans: &[Found]) -> Result<Vec<Code>, AllocError>
     Ok(all)
 }
 
-// The parts of all.
+// The parts of all codes, in order.
 #[tactic(auto, using(crate::proofs::Joined::flat_map_more))]
 fn parts_in(alloc: Global, scans: &[Found]) -> Result<Vec<Part>, AllocError>
     ensures { IfOk result (λ parts. parts.items ≡ flat_map parts_in scans.now) }
@@ -177,7 +175,7 @@ fn parts_in(alloc: Global, scans: &[Found]) -> Result<Vec<Part>, AllocError>
     Ok(all)
 }
 
-// The bytes of all.
+// The bytes of all codes, in order.
 #[tactic(auto, using(crate::proofs::Joined::flat_map_more))]
 fn bytes_in(alloc: Global, scans: &[Found]) -> Result<Vec<u8>, AllocError>
     ensures { IfOk result (λ bytes. bytes.items ≡ flat_map bytes_in scans.now) }
@@ -189,7 +187,7 @@ fn bytes_in(alloc: Global, scans: &[Found]) -> Result<Vec<u8>, AllocError>
     Ok(all)
 }
 
-// What a code is beside its parts and bytes.
+// Converts a code, except its parts and bytes.
 #[tactic(auto, using(crate::proofs::Told::read_existing))]
 fn told_code(scan: &Found) -> Code
     requires { IsReadAs scan.now }
@@ -210,15 +208,15 @@ fn told_code(scan: &Found) -> Code
     }
 }
 
-// Whether dark modules are light in a picture, which may be read with its colours exchanged, and
-// its square again.
+// Whether dark modules are light in a picture: the picture may be read inverted, and the square in
+// it inverted again.
 fn differ(a: bool, b: bool) -> bool
     ensures { result ≡ differ a b }
 {
     if a { !b } else { b }
 }
 
-// Appends parts as C gets them.
+// Appends parts in the form that C gets.
 fn push_parts(all: &mut Vec<Part>, parts: &[Piece]) -> Result<(), AllocError>
     ensures { OnOk result (all.new.items ≡ all.old.items ++ map told_part parts.now) }
 {
@@ -228,7 +226,7 @@ fn push_parts(all: &mut Vec<Part>, parts: &[Piece]) -> Result<(), AllocError>
     Ok(())
 }
 
-// What C gets of a header or a segment.
+// Converts a header or a segment.
 fn told_part(part: Piece) -> Part
     ensures { result ≡ told_part part }
 {
@@ -272,7 +270,7 @@ fn told_part(part: Piece) -> Part
     }
 }
 
-// The number of the kind of a segment in a mode.
+// The kind of a segment in a mode.
 fn mode_kind(mode: Mode) -> u32
     ensures { result ≡ mode_kind mode }
 {

@@ -1,4 +1,4 @@
-//! Symbols of segments whose modes the caller names, and of headers.
+//! Encodes segments whose modes the caller chooses, and headers.
 
 ghost use Rattle.std.specs.Prelude.{◌≡◌, ◌⊎◌, ◌++◌, ◌≤◌, ℕ, [], length, Some, None, IfOk, IfErr, OnOk, IsTrue};
 ghost use Rattle.qrcode_types.specs.Versions.{is_valid, has_level, capacity};
@@ -18,34 +18,34 @@ use qrcode::types::{EcLevel, Mode, QrResult, Version};
 use qrcode_types::characters::can_write;
 use std::alloc::Global;
 
-/// A segment: bytes in a mode, or a header for what stands behind it.
+/// A segment: bytes in a mode, or a header for what follows.
 #[repr(C)]
 #[derive(Clone, Copy)]
 pub struct Segment<'a> {
-    /// What it is, by the number of a `Kind`.
+    /// The number of a `Kind`.
     pub kind: u32,
-    /// The number of a character set or of an application. It means nothing in other kinds.
+    /// The ECI designator or application indicator; ignored for other kinds.
     pub number: u32,
-    /// The bytes. They mean nothing in headers.
+    /// The bytes; ignored for headers.
     pub bytes: &'a [u8],
 }
 
-/// What a segment is.
+/// The kind of a segment.
 #[derive(Clone, Copy)]
 pub enum Kind {
-    /// Bytes in a mode. Without bytes the segment is left out, since digits without any are the
-    /// terminator of Micro.
+    /// Bytes in a mode. Without bytes the segment is left out, since an empty numeric segment is
+    /// the terminator of Micro.
     Data(Mode),
-    /// The number of a character set, below 1,000,000 (ECI).
+    /// A header: the ECI designator of a character set, below 1,000,000.
     CharacterSet,
-    /// FNC1 in the first position.
+    /// A header: FNC1 in the first position.
     FirstPosition,
-    /// FNC1 in the second position, with the indicator of an application, below 256.
+    /// A header: FNC1 in the second position, with an application indicator below 256.
     SecondPosition,
 }
 
-// The kind of a number: 0 for digits, 1 for the alphabet of 45 characters, 2 for bytes, 3 for pairs
-// of Shift JIS, 4 for a character set, 5 and 6 for FNC1 in the first and in the second position.
+// The kind of a number: 0 for numeric, 1 for alphanumeric, 2 for bytes, 3 for Kanji, 4 for ECI, 5
+// and 6 for FNC1 in the first and in the second position.
 fn kind_named(number: u32) -> Option<Kind>
     ensures value { result ≡ kind_named number }
 {
@@ -61,12 +61,13 @@ fn kind_named(number: u32) -> Option<Kind>
     }
 }
 
-/// Writes the symbol of segments, one behind the other, of a version and level of these numbers, at
-/// the beginning of a buffer, and answers what it is beside its modules.
+/// Encodes `segments`, one after the other, in the version and at the level of these numbers.
+/// Writes the modules to the start of `modules`, and returns version, level and width.
 ///
-/// An error is the first that applies of `NoSuchLevel`, `NoSuchVersion`, `LevelNotInVersion`; of
-/// each segment in order `NoSuchKind`, `NotInMode`, `NoMode`, `NoSuchNumber`, `NoRoom`; then
-/// `NoRoom`, `SmallBuffer`; or `OutOfMemory`. Then the buffer is as it was.
+/// Errors, the first that applies: `NoSuchLevel`, `NoSuchVersion`, `LevelNotInVersion`; for the
+/// first segment with an error `NoSuchKind`, `NotInMode`, `NoMode`, `NoSuchNumber` (for FNC1 in the
+/// second position before `NoMode`), `NoRoom`; then `NoRoom`, `SmallBuffer`; or `OutOfMemory`.
+/// After an error `modules` is unchanged.
 pub fn encode_segments(
     alloc: Global,
     segments: &[Segment<'_>],
@@ -82,7 +83,7 @@ pub fn encode_segments(
     }
 }
 
-// The symbol of segments, of a version and level of these numbers.
+// Encodes segments in the version and at the level of these numbers.
 fn of_segments(
     alloc: Global,
     segments: &[Segment<'_>],
@@ -108,10 +109,11 @@ fn of_segments(
     Ok(QrCode::with_bits(alloc, bits, ec_level)?)
 }
 
-/// The number of the least Normal version that holds segments at the level of a number.
+/// Returns the number of the smallest Normal version that holds `segments` at the level numbered
+/// `level`.
 ///
-/// An error is `NoSuchLevel`; of each segment in order `NoSuchKind`, `NotInMode`, `NoSuchNumber`;
-/// `NoRoom`; or `OutOfMemory`.
+/// Errors: `NoSuchLevel`; for the first segment with an error `NoSuchKind`, `NotInMode`,
+/// `NoSuchNumber`; `NoRoom`; or `OutOfMemory`.
 pub fn least_version(alloc: Global, segments: &[Segment<'_>], level: u32) -> Result<u32, Refusal>
     ensures { TellsLeastOfSegments level segments.now result }
 {
@@ -128,7 +130,7 @@ pub fn least_version(alloc: Global, segments: &[Segment<'_>], level: u32) -> Res
     Err(Refusal::NoRoom)
 }
 
-// The bits of segments, where a version holds them at a level.
+// The bits of segments, if the version holds them at the level.
 fn held(
     alloc: Global,
     segments: &[Segment<'_>],
@@ -151,7 +153,7 @@ fn held(
     Ok(bits)
 }
 
-// Appends segments one behind the other to an empty list.
+// Appends segments in order to an empty list of bits.
 fn push_all(bits: &mut Bits, segments: &[Segment<'_>]) -> Result<(), Refusal>
     requires empty { bits.old.bits ≡ [] }
     ensures version { bits.new.version ≡ bits.old.version }
@@ -167,7 +169,7 @@ fn push_all(bits: &mut Bits, segments: &[Segment<'_>]) -> Result<(), Refusal>
     Ok(())
 }
 
-// Appends a segment, which is left out where it has no bytes.
+// Appends a segment; one of a mode without bytes is left out.
 fn push(bits: &mut Bits, segment: &Segment<'_>) -> Result<(), Refusal>
     ensures version { bits.new.version ≡ bits.old.version }
     ensures appends { OnOk result (bits.new.bits
@@ -198,7 +200,7 @@ fn push(bits: &mut Bits, segment: &Segment<'_>) -> Result<(), Refusal>
     Ok(())
 }
 
-// Appends bytes in a mode.
+// Appends a segment of bytes in a mode.
 fn push_data(bits: &mut Bits, mode: Mode, bytes: &[u8]) -> QrResult<()>
     ensures { PushesPiece mode bytes.now bits.old bits.new result }
 {

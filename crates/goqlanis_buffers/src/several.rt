@@ -1,4 +1,4 @@
-//! Several symbols between which data is parted, in a buffer.
+//! Splits data over several symbols (structured append), in a buffer.
 
 ghost use Rattle.std.specs.Prelude.{◌≡◌, ◌⊎◌, ◌<◌, ◌++◌, ℕ, List, length, IfOk, IfErr, OnOk, OnErr, IsOkUnless};
 ghost use Rattle.qrcode_types.specs.declared.types.QrError.TheVariants.{OutOfMemory};
@@ -15,27 +15,27 @@ use qrcode::types::{Color, EcLevel, QrError, QrResult};
 use qrcode_append::{Versions, encode_among, encode_counted};
 use std::alloc::Global;
 
-/// What C asks of several symbols.
+/// The options of C for several symbols.
 #[repr(C)]
 #[derive(Clone, Copy)]
 pub struct Several {
-    /// The bytes of this.
+    /// The size of this struct in bytes.
     pub size: u32,
     /// 0 for `L`, 1 for `M`, 2 for `Q`, 3 for `H`.
     pub level: u32,
     /// 0 for `Bytes`, 1 for `Text`.
     pub manner: u32,
-    /// The versions that may be taken, of Normal, from one to another.
+    /// The smallest and the largest Normal version to use.
     pub least_version: u32,
     pub greatest_version: u32,
-    /// How many symbols, or 0 for as few as there can be.
+    /// How many symbols, or 0 for as few as possible.
     pub count: u32,
 }
 
-// The bytes of that.
+// The size of `Several` in bytes.
 const SIZE: u32 = 24;
 
-// What it names.
+// What the options ask for, besides the count.
 #[derive(Clone, Copy)]
 pub struct Named {
     pub level: EcLevel,
@@ -43,19 +43,19 @@ pub struct Named {
     pub versions: Versions,
 }
 
-/// What symbols are beside their modules, and how many there are.
+/// Version, level and width of each symbol, and how many symbols there are.
 #[derive(Clone, Copy)]
 pub struct Made {
     pub symbol: Symbol,
     pub count: usize,
 }
 
-/// Writes the symbols between which data is parted at the beginning of a buffer, one behind the
-/// other, and answers what each is beside its modules, and how many there are.
+/// Splits `bytes` over several symbols as `options` ask. Writes their modules, symbol after symbol,
+/// to the start of `modules`; returns version, level and width of each, and how many there are.
 ///
-/// An error is the first that applies of `NoSuchStruct`, `NoSuchLevel`, `NoSuchVersion`,
-/// `NoSuchManner`, `NoSuchNumber`, `NotText`, `NoRoom` and `SmallBuffer`, or `OutOfMemory`; then
-/// the buffer is as it was.
+/// Errors, the first that applies: `NoSuchStruct`, `NoSuchLevel`, `NoSuchVersion`, `NoSuchManner`,
+/// `NoSuchNumber`, `NotText`, `NoRoom`, `SmallBuffer`; or `OutOfMemory`. After an error `modules`
+/// is unchanged.
 pub fn encode_several(
     alloc: Global,
     bytes: &[u8],
@@ -90,7 +90,7 @@ pub fn encode_several(
     })
 }
 
-// The symbols of so many parts, or of as few as there can be where that is 0.
+// Encodes `bytes` in `count` symbols, or in as few as possible if that is 0.
 fn symbols_of(alloc: Global, bytes: &[u8], asked: Named, count: u32) -> QrResult<Vec<QrCode>>
     ensures made { IfOk result (λ codes. AreOf count asked bytes.now codes.items) }
     ensures some { IfOk result (λ codes. 0 < length codes.items) }
@@ -107,7 +107,7 @@ fn symbols_of(alloc: Global, bytes: &[u8], asked: Named, count: u32) -> QrResult
     encode_counted(alloc, bytes, manner, versions, level, count as usize)
 }
 
-// What is asked for.
+// Looks up the numbers in options.
 fn named_by(options: &Several) -> Result<Named, Refusal>
     ensures made { IfOk result (AreAsked options.now) }
     ensures causes { (bytes : List ℕ) (room : ℕ)
@@ -142,7 +142,7 @@ fn named_by(options: &Several) -> Result<Named, Refusal>
     })
 }
 
-// The modules of symbols as bytes, one behind the other.
+// The modules of all symbols as bytes, symbol after symbol.
 #[tactic(auto, using(crate::proofs::Joined::flat_map_more))]
 fn modules_of(alloc: Global, codes: &[QrCode]) -> QrResult<Vec<u8>>
     ensures value { IfOk result (λ all. all.items ≡ modules_of codes.now) }

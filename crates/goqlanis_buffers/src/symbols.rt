@@ -1,4 +1,4 @@
-//! Symbols in buffers.
+//! Copies symbols and other items into buffers.
 
 ghost use Rattle.std.specs.Prelude.{◌≡◌, ◌<◌, ◌≤◌, length, IfOk, IfErr, IsOkUnless, OnErr};
 ghost use Rattle.qrcode_types.specs.declared.types.QrError.TheVariants.{OutOfMemory};
@@ -14,7 +14,7 @@ use qrcode::QrCode;
 use qrcode::types::{Color, QrError, QrResult};
 use std::alloc::Global;
 
-/// What a symbol is beside its modules.
+/// What a symbol is, besides its modules.
 #[repr(C)]
 #[derive(Clone, Copy)]
 pub struct Symbol {
@@ -22,12 +22,13 @@ pub struct Symbol {
     pub version: u32,
     /// 0 for `L`, 1 for `M`, 2 for `Q`, 3 for `H`.
     pub level: u32,
-    /// The modules along a side.
+    /// The number of modules along a side.
     pub width: u32,
 }
 
-/// Writes a symbol at the beginning of a buffer, and answers what it is beside its modules; or says
-/// that the buffer is too small (`SmallBuffer`), and leaves it as it was.
+/// Writes the modules of a symbol to the start of `modules`, and returns version, level and width.
+///
+/// Errors: `SmallBuffer`; then `modules` is unchanged.
 pub(crate) fn write_symbol(code: QrCode, modules: &mut [u8]) -> Result<Symbol, Refusal>
     ensures written { IfOk result (IsWritten code modules.old modules.new) }
     ensures unchanged { OnErr result (modules.new ≡ modules.old) }
@@ -43,11 +44,11 @@ pub(crate) fn write_symbol(code: QrCode, modules: &mut [u8]) -> Result<Symbol, R
     Ok(symbol)
 }
 
-/// Writes a symbol under the mask of a number, where one is given, at the beginning of a buffer,
-/// and answers what it is beside its modules.
+/// Writes the modules of a symbol to the start of `modules`, under the mask of this number if one
+/// is given. Returns version, level and width.
 ///
-/// An error is `NoSuchMask`, where the version has none of the number, `SmallBuffer` or
-/// `OutOfMemory`; then the buffer is as it was.
+/// Errors: `NoSuchMask` if the version has no mask of this number, `SmallBuffer` or `OutOfMemory`.
+/// After an error `modules` is unchanged.
 #[tactic(auto, using(crate::proofs::Masked::written))]
 pub(crate) fn write_masked(
     alloc: Global,
@@ -72,7 +73,7 @@ pub(crate) fn write_masked(
     Ok(described(code))
 }
 
-/// What a symbol is beside its modules.
+/// Returns version, level and width of a symbol.
 pub(crate) fn described(code: &QrCode) -> Symbol
     ensures value { IsDescribed code.now result }
 {
@@ -83,7 +84,7 @@ pub(crate) fn described(code: &QrCode) -> Symbol
     }
 }
 
-// Writes modules at the beginning of a buffer that has room for them.
+// Writes modules as bytes to the start of a buffer that has room for them.
 fn fill_modules(out: &mut [u8], colors: &[Color])
     requires room { length colors.now ≤ length out.old }
     ensures filled { IsFilled out.old out.new (module_bytes colors.now) }
@@ -93,7 +94,7 @@ fn fill_modules(out: &mut [u8], colors: &[Color])
     }
 }
 
-/// Bytes as modules.
+/// Returns the modules that bytes stand for: dark if not zero. Errors: only `OutOfMemory`.
 pub(crate) fn colors_of(alloc: Global, modules: &[u8]) -> QrResult<Vec<Color>>
     ensures value { IfOk result (λ colors. colors.items ≡ colors_of modules.now) }
     ensures memory { IsOkUnless result OutOfMemory }
@@ -103,8 +104,8 @@ pub(crate) fn colors_of(alloc: Global, modules: &[u8]) -> QrResult<Vec<Color>>
     Ok(colors)
 }
 
-// Writes modules that bytes stand for. A loop over places, since the compiler then takes sixteen at
-// once.
+// Writes the modules that bytes stand for. The loop counts indices, so that the compiler handles
+// sixteen at once.
 fn color_all(colors: &mut [Color], modules: &[u8])
     requires room { length colors.old ≡ length modules.now }
     ensures value { colors.new ≡ colors_of modules.now }
@@ -118,7 +119,7 @@ fn color_all(colors: &mut [Color], modules: &[u8])
     }
 }
 
-/// Writes items at the beginning of a buffer that has room for them.
+/// Copies items to the start of a buffer that has room for them.
 pub(crate) fn fill<T: Copy>(out: &mut [T], items: &[T])
     requires room { length items.now ≤ length out.old }
     ensures filled { IsFilled out.old out.new items.now }

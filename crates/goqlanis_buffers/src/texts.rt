@@ -1,4 +1,4 @@
-//! Symbols of texts.
+//! Encodes text into buffers.
 
 ghost use Rattle.goqlanis_buffers.specs.Calls.{WritesText};
 
@@ -10,11 +10,11 @@ use qrcode::bits::Manner;
 use qrcode::types::{QrError, Version};
 use std::alloc::Global;
 
-/// Writes the symbol of a text in a manner, at the level of a number, of the least Normal version
-/// that holds it, at the beginning of a buffer, and answers what it is beside its modules.
+/// Encodes `text` in a manner, at the level numbered `level`, in the smallest Normal version that
+/// holds it. Writes the modules to the start of `modules`, and returns version, level and width.
 ///
-/// An error is the first that applies of `NoSuchLevel`, `NotText`, `NoRoom` and `SmallBuffer`, or
-/// `OutOfMemory`; then the buffer is as it was.
+/// Errors, the first that applies: `NoSuchLevel`, `NotText`, `NoRoom`, `SmallBuffer`; or
+/// `OutOfMemory`. After an error `modules` is unchanged.
 pub fn encode_text(
     alloc: Global,
     text: &[u8],

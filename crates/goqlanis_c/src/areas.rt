@@ -1,4 +1,4 @@
-//! Areas of symbols that may show anything.
+//! Calls for areas of a symbol that may show anything, such as a logo.
 
 ghost use Rattle.std.specs.Prelude.{◌≡◌, ◌≢◌};
 ghost use Rattle.goqlanis_buffers.specs.Areas.{IsCovered, IsCoverRefusal, TellsLargest, WritesReserve};
@@ -9,13 +9,13 @@ use goqlanis_buffers::areas::{Taken, Wish, cover, largest, reserve_into};
 use qrcode_area::areas::Rectangle;
 use std::alloc::Global;
 
-/// What an area takes of a symbol of a version and level of these numbers: how many codewords of
-/// each block it touches, at the beginning of `touched`, for which 81 always have room; and the
-/// rest.
+/// Reports what an area takes of a symbol of this version and level. Writes how many codewords of
+/// each block have modules in it to the start of `touched` (81 items are always enough), and the
+/// rest to `taken`.
 ///
-/// 0, or the number of a `Refusal`, of which the first that applies is reported: `NoSuchLevel`,
-/// `NoSuchVersion`, `LevelNotInVersion`, `NoSuchArea`, `SmallBuffer`; or `OutOfMemory`. Then the
-/// outputs are as they were.
+/// Returns 0, or the number of the first `Refusal` that applies: `NoSuchLevel`, `NoSuchVersion`,
+/// `LevelNotInVersion`, `NoSuchArea`, `SmallBuffer`; or of `OutOfMemory`. After an error the
+/// outputs are unchanged.
 #[unsafe(no_mangle)]
 pub extern "C" fn goq_reserve(
     alloc: Global,
@@ -32,12 +32,12 @@ pub extern "C" fn goq_reserve(
     answer(written, taken)
 }
 
-/// The largest rectangle in the middle of a symbol of a version and level of these numbers that
-/// leaves what is wished, to `rectangle`.
+/// Finds the largest rectangle in the middle of a symbol of this version and level that leaves what
+/// `wish` asks for, and writes it to `rectangle`.
 ///
-/// 0, or the number of a `Refusal`, of which the first that applies is reported: `NoSuchStruct`,
-/// `NoSuchLevel`, `NoSuchVersion`, `LevelNotInVersion`, `NoArea`; or `OutOfMemory`. Then
-/// `rectangle` is as it was.
+/// Returns 0, or the number of the first `Refusal` that applies: `NoSuchStruct`, `NoSuchLevel`,
+/// `NoSuchVersion`, `LevelNotInVersion`, `NoArea`; or of `OutOfMemory`. After an error `rectangle`
+/// is unchanged.
 #[unsafe(no_mangle)]
 pub extern "C" fn goq_largest_area(
     alloc: Global,
@@ -52,12 +52,13 @@ pub extern "C" fn goq_largest_area(
     answer(largest(alloc, version, level, wish), rectangle)
 }
 
-/// Makes the modules of an area of a symbol light. The area then may show anything: each square
-/// that agrees outside it is read as the bytes of the symbol, and as nothing else.
+/// Makes the modules of an area of a symbol light. The area may then show anything: every square
+/// that agrees with the result outside the area decodes to the bytes of the symbol, and to nothing
+/// else.
 ///
-/// 0, or the number of a `Refusal`, of which the first that applies is reported: `NoSuchSide`,
-/// `NoFormat`, `NoSuchArea`, `AreaBlock`, `AreaFormat`; or `OutOfMemory`. Then the modules are as
-/// they were, and for `AreaBlock` the block goes to `place`.
+/// Returns 0, or the number of the first `Refusal` that applies: `NoSuchSide`, `NoFormat`,
+/// `NoSuchArea`, `AreaBlock` (with the block in `place`), `AreaFormat`; or of `OutOfMemory`. After
+/// an error `modules` is unchanged.
 #[unsafe(no_mangle)]
 pub extern "C" fn goq_cover(
     alloc: Global,

@@ -1,4 +1,4 @@
-//! Codes of pictures, and squares of modules, checked.
+//! Calls that report where codes depart from the standard.
 
 ghost use Rattle.goqlanis_buffers.specs.Calls.{IsReported};
 ghost use Rattle.goqlanis_buffers.specs.Checking.{ChecksPicture, ChecksSquare};
@@ -7,15 +7,15 @@ use goqlanis_buffers::answers::answer;
 use goqlanis_buffers::checking::{Checked, Checks, check_into, check_square_into};
 use std::alloc::Global;
 
-/// What of the codes of a picture, in the order of `goq_read_picture`, departs from the standard:
-/// what is said of each, at the beginning of `checks`; how many codewords of each of its blocks are
-/// wrong, behind those of the code before, at the beginning of `wrong`; and how many of these there
-/// are, to `counts`, of which only its size is read. Where no code is read, and the bits of a
-/// square in a margin are no headers and segments, that square is checked.
+/// Reports where the codes in a picture depart from the standard, in the order of
+/// `goq_read_picture`. Writes one item per code to the start of `checks`; how many codewords of
+/// each block are wrong, code after code, to the start of `wrong`; and the numbers of codes and
+/// blocks to `counts`, of which only the size is read. If no code decodes, and the bits of a square
+/// in a margin are not headers and segments, that square is checked.
 ///
-/// 0, or the number of a `Refusal`, of which the first that applies is reported: `NoSuchStruct`;
-/// `LargePicture`; `NotPicture` or `BrokenPicture`; `NoSquare`; `NoSuchSide`, `NoFormat` or
-/// `Damaged`; `SmallBuffer`; or `OutOfMemory`. Then the outputs are as they were.
+/// Returns 0, or the number of the first `Refusal` that applies: `NoSuchStruct`; `LargePicture`;
+/// `NotPicture` or `BrokenPicture`; `NoSquare`; `NoSuchSide`, `NoFormat` or `Damaged`;
+/// `SmallBuffer`; or of `OutOfMemory`. After an error the outputs are unchanged.
 #[unsafe(no_mangle)]
 pub extern "C" fn goq_check(
     alloc: Global,
@@ -31,12 +31,12 @@ pub extern "C" fn goq_check(
     answer(written, counts)
 }
 
-/// What of a square of modules, as `goq_read` takes them, departs from the standard: how many
-/// codewords of each block are wrong, at the beginning of `wrong`, for which 81 always have room;
-/// and the rest.
+/// Reports where a square of modules, given as to `goq_read`, departs from the standard. Writes how
+/// many codewords of each block are wrong to the start of `wrong` (81 items are always enough), and
+/// the rest to `check`.
 ///
-/// 0, or the number of a `Refusal`: `NoSuchSide`, `NoFormat`, `Damaged`, `SmallBuffer` or
-/// `OutOfMemory`. Then the outputs are as they were.
+/// Returns 0, or the number of a `Refusal`: `NoSuchSide`, `NoFormat`, `Damaged`, `SmallBuffer` or
+/// `OutOfMemory`. After an error the outputs are unchanged.
 #[unsafe(no_mangle)]
 pub extern "C" fn goq_check_square(
     alloc: Global,

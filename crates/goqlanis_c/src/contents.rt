@@ -1,4 +1,4 @@
-//! The texts of networks, contacts, payments and their kin.
+//! The call that writes the text of a payload: a network, a contact, a payment and so on.
 
 ghost use Rattle.std.specs.Prelude.{◌≡◌, ◌≢◌, length};
 ghost use Rattle.goqlanis_buffers.specs.contents.Contents.{IsContentIn, IsRefused};
@@ -7,12 +7,13 @@ use goqlanis_buffers::contents::given::Item;
 use goqlanis_buffers::contents::writing::write;
 use std::alloc::Global;
 
-/// The text of fields of a kind, at the beginning of `out`, and its length to `count`.
+/// Writes the text of a payload of the kind numbered `kind`, with the fields `given`, to the start
+/// of `out`, and its length to `count`.
 ///
-/// 0, or the number of a `Refusal`, of which the first that applies is reported: `NoSuchContent`;
-/// of each field in order `NoSuchField`, `NotText`, `Wrong`; what the format refuses (`Wrong`);
-/// `SmallBuffer`; or `OutOfMemory`. Then `out` and `count` are as they were. Where a field is wrong
-/// its place goes to `place`, and where the text is as a whole, how many fields the kind has.
+/// Returns 0, or the number of the first `Refusal` that applies: `NoSuchContent`; for the first
+/// field with an error `NoSuchField` or `NotText`; `Wrong` if the format rejects a field;
+/// `SmallBuffer`; or of `OutOfMemory`. After an error `out` and `count` are unchanged. If a field
+/// is wrong, `place` gets its index; if the text as a whole is, the number of fields of the kind.
 #[unsafe(no_mangle)]
 pub extern "C" fn goq_content(
     alloc: Global,

@@ -1,4 +1,4 @@
-//! Element strings of GS1.
+//! Calls for GS1 elements.
 
 ghost use Rattle.std.specs.Prelude.{◌≡◌, ◌≢◌, length};
 ghost use Rattle.goqlanis_buffers.specs.contents.Elements.{IsStringIn, AreElementsRefused, IsElementsSymbol, IsElementsSymbolRefused};
@@ -9,12 +9,13 @@ use goqlanis_buffers::options::Options;
 use goqlanis_buffers::symbols::Symbol;
 use std::alloc::Global;
 
-/// The element string, which stands behind FNC1 in first position, at the beginning of `out`, and
-/// its length to `count`: with a separator (byte 29) behind each element whose length is not
-/// predefined and that another one follows.
+/// Writes the GS1 element string of `parts`, which follows FNC1 in the first position, to the start
+/// of `out`, and its length to `count`. A separator (byte 29) stands between an element without a
+/// predefined length and the next one.
 ///
-/// 0, or the number of a `Refusal`: `NotText`, `NotElement`, `SmallBuffer` or `OutOfMemory`. Then
-/// `out` and `count` are as they were, and the place of an element that is wrong goes to `place`.
+/// Returns 0, or the number of a `Refusal`: `NotText`, `NotElement`, `SmallBuffer` or
+/// `OutOfMemory`. After an error `out` and `count` are unchanged, and `place` gets the index of the
+/// wrong element, if one is wrong.
 #[unsafe(no_mangle)]
 pub extern "C" fn goq_gs1(
     alloc: Global,
@@ -41,13 +42,13 @@ pub extern "C" fn goq_gs1(
     refusal.number()
 }
 
-/// The symbol of elements of GS1 that options ask for, in segments of the fewest bits: its modules
-/// row by row, 1 for a dark one, at the beginning of `modules`, and what it is beside them. Manner
-/// and boost are not looked at.
+/// Encodes GS1 elements as `options` ask, in segments of the fewest bits. Writes the modules row by
+/// row, 1 for a dark one, to the start of `modules`, and the rest to `symbol`. The options' manner
+/// and boost are ignored.
 ///
-/// 0, or the number of a `Refusal`: `NoSymbol`, `NotText`, `NotElement` or `OutOfMemory`. Then
-/// `modules` and `symbol` are as they were, and the place of an element that is wrong goes to
-/// `place`.
+/// Returns 0, or the number of a `Refusal`: `NoSymbol`, `NotText`, `NotElement` or `OutOfMemory`.
+/// After an error `modules` and `symbol` are unchanged, and `place` gets the index of the wrong
+/// element, if one is wrong.
 #[unsafe(no_mangle)]
 pub extern "C" fn goq_encode_gs1(
     alloc: Global,

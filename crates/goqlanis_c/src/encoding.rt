@@ -1,4 +1,4 @@
-//! Symbols of bytes.
+//! Calls that encode bytes.
 
 ghost use Rattle.goqlanis_buffers.specs.Calls.{IsReported, WritesAutomatic, WritesIn, WritesWith};
 
@@ -8,12 +8,12 @@ use goqlanis_buffers::options::{Options, encode_with};
 use goqlanis_buffers::symbols::Symbol;
 use std::alloc::Global;
 
-/// The symbol of bytes at a level, of the least Normal version that holds them: its modules row by
-/// row, 1 for a dark one, at the beginning of `modules`, which always has room with 31,329 bytes;
-/// and what it is beside them.
+/// Encodes `bytes` at the level numbered `level`, in the smallest Normal version that holds them.
+/// Writes the modules row by row, 1 for a dark one, to the start of `modules` (31,329 bytes are
+/// always enough), and version, level and width to `symbol`.
 ///
-/// 0, or the number of a `Refusal`: `NoSuchLevel`, `NoRoom`, `SmallBuffer` or `OutOfMemory`. Then
-/// the outputs are as they were.
+/// Returns 0, or the number of a `Refusal`: `NoSuchLevel`, `NoRoom`, `SmallBuffer` or
+/// `OutOfMemory`. After an error the outputs are unchanged.
 #[unsafe(no_mangle)]
 pub extern "C" fn goq_encode(
     alloc: Global,
@@ -28,12 +28,12 @@ pub extern "C" fn goq_encode(
     answer(encode(alloc, bytes, level, modules), symbol)
 }
 
-/// The symbol of bytes, of a version and level of these numbers: its modules row by row, 1 for a
-/// dark one, at the beginning of `modules`, and what it is beside them.
+/// Encodes `bytes` in the version and at the level of these numbers. Writes the modules row by row,
+/// 1 for a dark one, to the start of `modules`, and version, level and width to `symbol`.
 ///
-/// 0, or the number of a `Refusal`, of which the first that applies is reported: `NoSuchLevel`,
-/// `NoSuchVersion`, `TooLong`, `NoMode`, `LevelNotInVersion`, `NoRoom`, `SmallBuffer`; or
-/// `OutOfMemory`. Then the outputs are as they were.
+/// Returns 0, or the number of the first `Refusal` that applies: `NoSuchLevel`, `NoSuchVersion`,
+/// `TooLong`, `NoMode`, `LevelNotInVersion`, `NoRoom`, `SmallBuffer`; or of `OutOfMemory`. After an
+/// error the outputs are unchanged.
 #[unsafe(no_mangle)]
 pub extern "C" fn goq_encode_in(
     alloc: Global,
@@ -49,12 +49,12 @@ pub extern "C" fn goq_encode_in(
     answer(encode_in(alloc, bytes, version, level, modules), symbol)
 }
 
-/// The symbol of data that options ask for: its modules row by row, 1 for a dark one, at the
-/// beginning of `modules`, and what it is beside them.
+/// Encodes `bytes` as `options` ask. Writes the modules row by row, 1 for a dark one, to the start
+/// of `modules`, and version, level and width to `symbol`.
 ///
-/// 0, or the number of a `Refusal`, of which the first that applies is reported: `NoSuchStruct`,
-/// `NoSuchLevel`, `NoSuchVersion`, `NoSuchManner`, `NotText`, `NoMode`, `LevelNotInVersion`,
-/// `NoRoom`, `SmallBuffer`; or `OutOfMemory`. Then the outputs are as they were.
+/// Returns 0, or the number of the first `Refusal` that applies: `NoSuchStruct`, `NoSuchLevel`,
+/// `NoSuchVersion`, `NoSuchManner`, `NotText`, `NoMode`, `LevelNotInVersion`, `NoRoom`,
+/// `NoSuchMask`, `SmallBuffer`; or of `OutOfMemory`. After an error the outputs are unchanged.
 #[unsafe(no_mangle)]
 pub extern "C" fn goq_encode_with(
     alloc: Global,

@@ -1,6 +1,5 @@
-//! Symbols, and the texts that they carry, for programs in C: the exported functions alone. Each
-//! call works in buffers that its caller gives; where it refuses, all its outputs are as they were,
-//! except for the place of what is wrong.
+//! The exported functions of the library for C, and nothing else. Each call works in buffers of the
+//! caller. After an error all its outputs are unchanged, except the place of what is wrong.
 #![tactic(auto, using(goqlanis_buffers::proofs::Reported::reported))]
 
 mod areas;

@@ -1,4 +1,4 @@
-//! Pictures in buffers.
+//! Calls that draw pictures.
 
 ghost use Rattle.goqlanis_buffers.specs.Calls.{IsReported, TellsLength, WritesPicture};
 ghost use Rattle.goqlanis_buffers.specs.Drawings.{plain};
@@ -7,12 +7,13 @@ use goqlanis_buffers::answers::answer;
 use goqlanis_buffers::pictures::{Asked, Drawing, length_of, plain, put_picture};
 use std::alloc::Global;
 
-/// The picture of modules in a format: at the beginning of `out`, and its length to `count`. The
-/// modules are bytes in row order, dark where they are not zero; the quiet zone is `zone` modules
-/// at each side; a module has `scale` pixels across and down. A text ends without a zero.
+/// Draws `modules` in black on white, in the format numbered `format`. Writes the picture to the
+/// start of `out`, and its length to `count`. The modules are bytes, row by row, dark if not zero;
+/// the quiet zone is `zone` modules wide, and a module `scale` pixels wide and high. Text does not
+/// end with a zero.
 ///
-/// 0, or the number of a `Refusal`: `NoSuchFormat`, `NotSquare`, `NoSuchSize`, `SmallBuffer` or
-/// `OutOfMemory`. Then the outputs are as they were.
+/// Returns 0, or the number of the first `Refusal` that applies: `NoSuchFormat`, `NotSquare`,
+/// `NoSuchSize`, `SmallBuffer`; or of `OutOfMemory`. After an error the outputs are unchanged.
 #[unsafe(no_mangle)]
 pub extern "C" fn goq_draw(
     alloc: Global,
@@ -31,10 +32,10 @@ pub extern "C" fn goq_draw(
     goq_draw_with(alloc, modules, width, &drawing, out, count)
 }
 
-/// The length of the picture that `goq_draw` would write, to `count`.
+/// Writes the length of the picture that `goq_draw` would write to `count`.
 ///
-/// 0, or the number of a `Refusal`: `NoSuchFormat`, `NotSquare`, `NoSuchSize` or `OutOfMemory`.
-/// Then `count` is as it was.
+/// Returns 0, or the number of the first `Refusal` that applies: `NoSuchFormat`, `NotSquare`,
+/// `NoSuchSize`; or of `OutOfMemory`. After an error `count` is unchanged.
 #[unsafe(no_mangle)]
 pub extern "C" fn goq_draw_length(
     alloc: Global,
@@ -51,10 +52,11 @@ pub extern "C" fn goq_draw_length(
     goq_draw_with_length(alloc, modules, width, &plain(zone, scale, format), count)
 }
 
-/// The same of a drawing with colours and dots per inch.
+/// Draws like `goq_draw`, but as `drawing` asks, with its colours and dots per inch.
 ///
-/// 0, or the number of a `Refusal`: `NoSuchStruct`, `NoSuchFormat`, `NotSquare`, `NoSuchSize`,
-/// `NotInFormat`, `SmallBuffer` or `OutOfMemory`. Then the outputs are as they were.
+/// Returns 0, or the number of the first `Refusal` that applies: `NoSuchStruct`, `NoSuchFormat`,
+/// `NotSquare`, `NoSuchSize`, `NotInFormat`, `SmallBuffer`; or of `OutOfMemory`. After an error the
+/// outputs are unchanged.
 #[unsafe(no_mangle)]
 pub extern "C" fn goq_draw_with(
     alloc: Global,
@@ -75,9 +77,10 @@ pub extern "C" fn goq_draw_with(
     answer(put_picture(alloc, &asked, out), count)
 }
 
-/// The length of the picture that `goq_draw_with` would write, to `count`.
+/// Writes the length of the picture that `goq_draw_with` would write to `count`.
 ///
-/// 0, or the number of a `Refusal`: the same but `SmallBuffer`. Then `count` is as it was.
+/// Returns 0, or the number of a `Refusal`: those of `goq_draw_with` except `SmallBuffer`. After an
+/// error `count` is unchanged.
 #[unsafe(no_mangle)]
 pub extern "C" fn goq_draw_with_length(
     alloc: Global,

@@ -1,4 +1,4 @@
-//! Squares of modules read back.
+//! Calls that decode squares of modules and pictures.
 
 ghost use Rattle.std.specs.Prelude.{◌≡◌, ◌≢◌, length, IsSomeAnd};
 ghost use Rattle.goqlanis_buffers.specs.Answers.{refusal_of};
@@ -12,13 +12,13 @@ use goqlanis_buffers::reading::{
 use goqlanis_buffers::scanning::{Code, Part, Scan, codes_of};
 use std::alloc::Global;
 
-/// The bytes of a square of modules, which are bytes in row order, dark where they are not zero,
-/// without a quiet zone: at the beginning of `bytes`, for which 7,089 bytes always have room; and
-/// what it is beside them. Each copy of the format word may have three wrong bits, and each block
-/// half as many wrong codewords as it has error correction codewords.
+/// Decodes a square of modules: bytes, row by row, dark if not zero, without a quiet zone. Writes
+/// its data to the start of `bytes` (7,089 bytes are always enough), and the rest to `reading`.
+/// Each copy of the format information may have three wrong bits, and each block half as many wrong
+/// codewords as it has error correction codewords.
 ///
-/// 0, or the number of a `Refusal`: `NoSuchSide`, `NoFormat`, `Damaged`, `NotSpelled`,
-/// `SmallBuffer` or `OutOfMemory`. Then the outputs are as they were.
+/// Returns 0, or the number of a `Refusal`: `NoSuchSide`, `NoFormat`, `Damaged`, `NotSpelled`,
+/// `SmallBuffer` or `OutOfMemory`. After an error the outputs are unchanged.
 #[unsafe(no_mangle)]
 pub extern "C" fn goq_read(
     alloc: Global,
@@ -32,10 +32,10 @@ pub extern "C" fn goq_read(
     answer(read_into(alloc, modules, bytes), reading)
 }
 
-/// How many bytes `goq_read` would write, to `count`.
+/// Writes how many bytes `goq_read` would write to `count`.
 ///
-/// 0, or the number of a `Refusal`: `NoSuchSide`, `NoFormat`, `Damaged`, `NotSpelled` or
-/// `OutOfMemory`. Then `count` is as it was.
+/// Returns 0, or the number of a `Refusal`: `NoSuchSide`, `NoFormat`, `Damaged`, `NotSpelled` or
+/// `OutOfMemory`. After an error `count` is unchanged.
 #[unsafe(no_mangle)]
 pub extern "C" fn goq_read_length(alloc: Global, modules: &[u8], count: &mut usize) -> u32
     ensures { IsReported (TellsReadLength modules.now) result count.old count.new }
@@ -43,10 +43,11 @@ pub extern "C" fn goq_read_length(alloc: Global, modules: &[u8], count: &mut usi
     answer(read_length(alloc, modules), count)
 }
 
-/// The same of a square in any position, in the first of the sixteen in which it is read.
+/// Decodes like `goq_read`, but a square in any position: in the first of the sixteen in which it
+/// decodes.
 ///
-/// 0, or the number of a `Refusal`: `NotRead`, `SmallBuffer` or `OutOfMemory`. Then the outputs are
-/// as they were.
+/// Returns 0, or the number of a `Refusal`: `NotRead`, `SmallBuffer` or `OutOfMemory`. After an
+/// error the outputs are unchanged.
 #[unsafe(no_mangle)]
 pub extern "C" fn goq_read_any(
     alloc: Global,
@@ -60,10 +61,11 @@ pub extern "C" fn goq_read_any(
     answer(read_any_into(alloc, modules, bytes), reading)
 }
 
-/// The text that readers show of a square: at the beginning of `text`, and what is read beside it.
+/// Decodes a square into the text that readers show. Writes it to the start of `text`, and the rest
+/// to `reading`.
 ///
-/// 0, or the number of a `Refusal`: `NoSuchSide`, `NoFormat`, `Damaged`, `NotShown`, `SmallBuffer`
-/// or `OutOfMemory`. Then the outputs are as they were.
+/// Returns 0, or the number of a `Refusal`: `NoSuchSide`, `NoFormat`, `Damaged`, `NotShown`,
+/// `SmallBuffer` or `OutOfMemory`. After an error the outputs are unchanged.
 #[unsafe(no_mangle)]
 pub extern "C" fn goq_read_text(
     alloc: Global,
@@ -77,10 +79,10 @@ pub extern "C" fn goq_read_text(
     answer(read_text_into(alloc, modules, text), reading)
 }
 
-/// The number of the mask that the format word of a square names, to `mask`.
+/// Writes the number of the mask that the format information of a square names to `mask`.
 ///
-/// 0, or the number of a `Refusal`: `NoSuchSide`, `NoFormat` or `OutOfMemory`. Then `mask` is as it
-/// was.
+/// Returns 0, or the number of a `Refusal`: `NoSuchSide`, `NoFormat` or `OutOfMemory`. After an
+/// error `mask` is unchanged.
 #[unsafe(no_mangle)]
 pub extern "C" fn goq_mask(alloc: Global, modules: &[u8], mask: &mut u32) -> u32
     ensures { IsReported (TellsMask modules.now) result mask.old mask.new }
@@ -88,15 +90,15 @@ pub extern "C" fn goq_mask(alloc: Global, modules: &[u8], mask: &mut u32) -> u32
     answer(mask_of(alloc, modules), mask)
 }
 
-/// The codes of a picture, which is a PNG, PBM or PGM file or half blocks, from the top down, and
-/// from the left where they stand side by side: what each is, at the beginning of `codes`; the
-/// headers and segments of each behind those of the one before, at the beginning of `parts`; the
-/// bytes of each behind those of the one before, at the beginning of `bytes`; and how many of these
-/// there are, to `scan`, of which only its size is read.
+/// Decodes the codes in a picture (a PNG, PBM or PGM file, or half blocks), from top to bottom, and
+/// from left to right if side by side. Writes one item per code to the start of `codes`; the
+/// headers and segments of all codes, code after code, to the start of `parts`; their bytes, code
+/// after code, to the start of `bytes`; and the numbers of these to `scan`, of which only the size
+/// is read.
 ///
-/// 0, or the number of a `Refusal`, of which the first that applies is reported: `NoSuchStruct`;
-/// `LargePicture`; `NotPicture` or `BrokenPicture`; `NoSquare`; `NoSuchSide`, `NoFormat`, `Damaged`
-/// or `NotSpelled`; `SmallBuffer`; or `OutOfMemory`. Then the outputs are as they were.
+/// Returns 0, or the number of the first `Refusal` that applies: `NoSuchStruct`; `LargePicture`;
+/// `NotPicture` or `BrokenPicture`; `NoSquare`; `NoSuchSide`, `NoFormat`, `Damaged` or
+/// `NotSpelled`; `SmallBuffer`; or of `OutOfMemory`. After an error the outputs are unchanged.
 #[unsafe(no_mangle)]
 pub extern "C" fn goq_read_picture(
     alloc: Global,

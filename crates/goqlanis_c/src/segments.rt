@@ -1,4 +1,4 @@
-//! Symbols of segments whose modes the caller names, and of headers.
+//! Calls that encode segments whose modes the caller chooses, and headers.
 
 ghost use Rattle.goqlanis_buffers.specs.Calls.{IsReported, TellsLeastOfSegments, WritesSegments};
 
@@ -7,13 +7,14 @@ use goqlanis_buffers::segments::{Segment, encode_segments, least_version};
 use goqlanis_buffers::symbols::Symbol;
 use std::alloc::Global;
 
-/// The symbol of segments, one behind the other, of a version and level of these numbers: its
-/// modules row by row, 1 for a dark one, at the beginning of `modules`, and what it is beside them.
+/// Encodes `segments`, one after the other, in the version and at the level of these numbers.
+/// Writes the modules row by row, 1 for a dark one, to the start of `modules`, and version, level
+/// and width to `symbol`.
 ///
-/// 0, or the number of a `Refusal`, of which the first that applies is reported: `NoSuchLevel`,
-/// `NoSuchVersion`, `LevelNotInVersion`; of each segment in order `NoSuchKind`, `NotInMode`,
-/// `NoMode`, `NoSuchNumber`, `NoRoom`; then `NoRoom`, `SmallBuffer`; or `OutOfMemory`. Then the
-/// outputs are as they were.
+/// Returns 0, or the number of the first `Refusal` that applies: `NoSuchLevel`, `NoSuchVersion`,
+/// `LevelNotInVersion`; for the first segment with an error `NoSuchKind`, `NotInMode`, `NoMode`,
+/// `NoSuchNumber` (for FNC1 in the second position before `NoMode`), `NoRoom`; then `NoRoom`,
+/// `SmallBuffer`; or of `OutOfMemory`. After an error the outputs are unchanged.
 #[unsafe(no_mangle)]
 pub extern "C" fn goq_encode_segments(
     alloc: Global,
@@ -30,11 +31,12 @@ pub extern "C" fn goq_encode_segments(
     answer(written, symbol)
 }
 
-/// The number of the least Normal version that holds segments, one behind the other, at a level, to
+/// Writes the number of the smallest Normal version that holds `segments` at this level to
 /// `version`.
 ///
-/// 0, or the number of a `Refusal`: `NoSuchLevel`; of each segment in order `NoSuchKind`,
-/// `NotInMode`, `NoSuchNumber`; `NoRoom`; or `OutOfMemory`. Then `version` is as it was.
+/// Returns 0, or the number of a `Refusal`: `NoSuchLevel`; for the first segment with an error
+/// `NoSuchKind`, `NotInMode`, `NoSuchNumber`; `NoRoom`; or `OutOfMemory`. After an error `version`
+/// is unchanged.
 #[unsafe(no_mangle)]
 pub extern "C" fn goq_least_version_of_segments(
     alloc: Global,

@@ -1,4 +1,4 @@
-//! Several symbols between which data is parted, and joined again.
+//! Calls that split data over several symbols (structured append), and join it again.
 
 ghost use Rattle.std.specs.Prelude.{◌≡◌, ◌≢◌, length, IsSomeAnd};
 ghost use Rattle.goqlanis_buffers.specs.Answers.{refusal_of};
@@ -10,13 +10,13 @@ use goqlanis_buffers::several::{Several, encode_several};
 use goqlanis_buffers::symbols::Symbol;
 use std::alloc::Global;
 
-/// The symbols between which data is parted (structured append), in order: the modules of each
-/// behind those of the one before, at the beginning of `modules`; what each is beside them; and how
-/// many there are, to `count`.
+/// Splits `bytes` over several symbols (structured append) as `options` ask. Writes their modules,
+/// symbol after symbol, to the start of `modules`; version, level and width of each to `symbol`;
+/// and their number to `count`.
 ///
-/// 0, or the number of a `Refusal`, of which the first that applies is reported: `NoSuchStruct`,
-/// `NoSuchLevel`, `NoSuchVersion`, `NoSuchManner`, `NoSuchNumber`, `NotText`, `NoRoom`,
-/// `SmallBuffer`; or `OutOfMemory`. Then the outputs are as they were.
+/// Returns 0, or the number of the first `Refusal` that applies: `NoSuchStruct`, `NoSuchLevel`,
+/// `NoSuchVersion`, `NoSuchManner`, `NoSuchNumber`, `NotText`, `NoRoom`, `SmallBuffer`; or of
+/// `OutOfMemory`. After an error the outputs are unchanged.
 #[unsafe(no_mangle)]
 pub extern "C" fn goq_encode_several(
     alloc: Global,
@@ -44,13 +44,14 @@ pub extern "C" fn goq_encode_several(
     }
 }
 
-/// The data of several symbols, whose squares come in any order: at the beginning of `out`, and its
-/// length to `count`.
+/// Joins the data of several symbols, whose squares may come in any order. Writes it to the start
+/// of `out`, and its length to `count`.
 ///
-/// 0, or the number of a `Refusal`: of the first square that is no part `NoSuchSide`, `NoFormat`,
-/// `Damaged`, `NotSpelled` or `NotSeveral`; then `Stranger`, `Missing`, `Twice`, `Parity`,
-/// `SmallBuffer`; or `OutOfMemory`. Then `out` and `count` are as they were, and the place of a
-/// square that is wrong, or of a part that is missing or there twice, goes to `place`.
+/// Returns 0, or the number of the first `Refusal` that applies: for the first square that is not a
+/// part `NoSuchSide`, `NoFormat`, `Damaged`, `NotSpelled` or `NotSeveral`; then `Stranger`,
+/// `Missing`, `Twice`, `Parity`, `SmallBuffer`; or of `OutOfMemory`. After an error `out` and
+/// `count` are unchanged; `place` gets the index of a wrong square, or the number of a part that is
+/// missing or there twice.
 #[unsafe(no_mangle)]
 pub extern "C" fn goq_join(
     alloc: Global,

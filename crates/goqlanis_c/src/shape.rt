@@ -1,4 +1,4 @@
-//! What versions look like, and which one holds bytes.
+//! Calls that tell the sizes and patterns of versions, and the version that holds bytes.
 
 ghost use Rattle.std.specs.Prelude.{◌≡◌, ◌&&◌, nat_lt, false, None, IfSome};
 ghost use Rattle.qrcode_types.specs.Versions.{side};
@@ -12,8 +12,8 @@ use goqlanis_buffers::names::version_named;
 use qrcode::canvas;
 use std::alloc::Global;
 
-/// The modules along a side of a version of a number, 1 to 40 for Normal, 41 to 44 for Micro; 0
-/// where there is no such version.
+/// Returns how many modules a side of the version of this number has: 1 to 40 are Normal, 41 to 44
+/// Micro. 0 if there is no such version.
 #[unsafe(no_mangle)]
 pub extern "C" fn goq_width(version: u32) -> u32
     ensures value { IfSome (version_named version) (λ v. result ≡ side v) }
@@ -25,8 +25,8 @@ pub extern "C" fn goq_width(version: u32) -> u32
     }
 }
 
-/// Whether the module in column `x` and row `y` of a version of a number belongs to a pattern or to
-/// the format word. It does not where there is no such version or module.
+/// Returns whether the module in column `x` and row `y` of the version of this number belongs to a
+/// pattern or to format information. `false` if there is no such version or module.
 #[unsafe(no_mangle)]
 pub extern "C" fn goq_is_functional(version: u32, x: u32, y: u32) -> bool
     ensures place { IfSome (version_named version) (λ v. result
@@ -44,10 +44,10 @@ pub extern "C" fn goq_is_functional(version: u32, x: u32, y: u32) -> bool
     }
 }
 
-/// The number of the least Normal version that holds bytes at a level, to `version`.
+/// Writes the number of the smallest Normal version that holds `bytes` at this level to `version`.
 ///
-/// 0, or the number of a `Refusal`: `NoSuchLevel`, `NoRoom` or `OutOfMemory`. Then `version` is as
-/// it was.
+/// Returns 0, or the number of a `Refusal`: `NoSuchLevel`, `NoRoom` or `OutOfMemory`. After an
+/// error `version` is unchanged.
 #[unsafe(no_mangle)]
 pub extern "C" fn goq_least_version(
     alloc: Global,

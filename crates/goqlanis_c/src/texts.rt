@@ -1,4 +1,4 @@
-//! Symbols of texts.
+//! Calls that encode text.
 
 ghost use Rattle.qrcode_bits.specs.declared.bits.manner.Manner.TheVariants.{MarkedText, Text};
 ghost use Rattle.goqlanis_buffers.specs.Calls.{IsReported, WritesText};
@@ -9,12 +9,12 @@ use goqlanis_buffers::texts::encode_text;
 use qrcode::bits::Manner;
 use std::alloc::Global;
 
-/// The symbol of a text in UTF-8 at a level, of the least Normal version that holds it: its modules
-/// as `goq_encode` writes them. Readers show the text, where they take bytes for UTF-8; for readers
-/// that guess there is `goq_encode_marked_text`.
+/// Encodes UTF-8 text at this level, in the smallest Normal version that holds it. Writes `modules`
+/// and `symbol` as `goq_encode` does. Readers that take bytes for UTF-8 show the text; for those
+/// that guess, use `goq_encode_marked_text`.
 ///
-/// 0, or the number of a `Refusal`, of which the first that applies is reported: `NoSuchLevel`,
-/// `NotText`, `NoRoom`, `SmallBuffer`; or `OutOfMemory`. Then the outputs are as they were.
+/// Returns 0, or the number of the first `Refusal` that applies: `NoSuchLevel`, `NotText`,
+/// `NoRoom`, `SmallBuffer`; or of `OutOfMemory`. After an error the outputs are unchanged.
 #[unsafe(no_mangle)]
 pub extern "C" fn goq_encode_text(
     alloc: Global,
@@ -30,7 +30,8 @@ pub extern "C" fn goq_encode_text(
     answer(written, symbol)
 }
 
-/// The same with the number 26 of UTF-8 (ECI) in front, which takes 12 bits.
+/// Encodes like `goq_encode_text`, after a header that marks the text as UTF-8 (ECI 26), which
+/// takes 12 bits.
 #[unsafe(no_mangle)]
 pub extern "C" fn goq_encode_marked_text(
     alloc: Global,

@@ -407,7 +407,7 @@ impl QrCode {
         let mut mask = 0;
         let (modules, length) = (self.modules.as_ptr(), self.modules.len());
         let answer = unsafe { sys::goq_mask(modules, length, &mut mask) };
-        assert_eq!(answer, sys::GOQ_OK, "memory was refused");
+        assert_eq!(answer, sys::GOQ_OK, "out of memory");
         mask
     }
 

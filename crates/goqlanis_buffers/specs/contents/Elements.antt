@@ -1,4 +1,4 @@
--- Elements of GS1 that C gives, and their string.
+-- GS1 elements that C gives, and their element string.
 use Rattle.std.specs.Prelude.{◌≡◌, ◌⊎◌, ◌<◌, ◌++◌, ⊤, ℕ, List, map, drop, length, slice_get, IsUtf8, Some, None}
 use Rattle.qrcode_gs1.specs.Elements.{Item, element_string, read_elements}
 use Rattle.qrcode_gs1.specs.Refusals.{refusal_from}
@@ -21,36 +21,36 @@ use Rattle.goqlanis_buffers.specs.declared.contents.elements.Part.{Part}
 abbrev pub item_of : Part → Item  -- the identifier and the value of an element
 item_of p = (p.identifier.now, p.value.now)
 
-abbrev pub items_of : List Part → List Item  -- what is said of elements
+abbrev pub items_of : List Part → List Item  -- the identifiers and values of elements
 items_of parts = map item_of parts
 
-abbrev pub IsText : Part → Type 0  -- both are UTF-8
+abbrev pub IsText : Part → Type 0  -- identifier and value are UTF-8
 IsText p = IsUtf8 p.identifier.now × IsUtf8 p.value.now
 
-abbrev pub AreTexts : List Part → ℕ → Type 0  -- so many elements are UTF-8
+abbrev pub AreTexts : List Part → ℕ → Type 0  -- the first `count` elements are UTF-8
 AreTexts parts count = (i : ℕ) → i < count → (p : Part) → slice_get parts i ≡ Some p → IsText p
 
--- the element at a place is the first that is not UTF-8
+-- the element at this index is the first that is not UTF-8
 pub record IsFirstNoText (parts : List Part) (place : ℕ) : Type 0 where
   pub part : Part
   pub at : slice_get parts place ≡ Some part
   pub before : AreTexts parts place
   pub wrong : ¬ IsText part
 
--- the string of elements, none of which is refused; it is read as exactly these
+-- the element string of elements without errors; it reads back as exactly these
 pub record IsString (parts : List Part) (bytes : List ℕ) : Type 0 where
   pub accepted : refusal_from 0 (items_of parts) ≡ None
   pub reads : read_elements bytes ≡ items_of parts
   pub value : bytes ≡ element_string (items_of parts)
 
--- such a string at the beginning of a buffer, which is otherwise as it was, and its length
+-- such a string at the start of a buffer, which is otherwise unchanged, and its length
 pub record IsStringIn (parts : List Part) (old new : List ℕ) (count : ℕ) : Type 0 where
   pub bytes : List ℕ
   pub string : IsString parts bytes
   pub filled : new ≡ bytes ++ drop (length bytes) old
   pub counted : count ≡ length bytes
 
--- why elements have no string in a buffer of so much room
+-- why elements have no element string in a buffer of `room` bytes
 abbrev pub IsElementsCause : List Part → ℕ → Refusal → Type 0
 IsElementsCause parts room (NotText place) = IsFirstNoText parts place
 IsElementsCause parts room (NotElement place cause) =
@@ -59,7 +59,7 @@ IsElementsCause parts room SmallBuffer = (bytes : List ℕ) × (IsString parts b
 IsElementsCause parts room OutOfMemory = ⊤
 IsElementsCause parts room refusal = ⊥
 
--- the symbol of elements that is asked for, under the mask of least penalty
+-- the symbol of elements that is asked for, under the mask of the lowest penalty
 pub record AreMadeAs (a : Asked) (parts : List Part) (code : Code) : Type 0 where
   pub texts : AreTexts parts (length parts)
   pub made : IsElementsIn a.choice a.level (items_of parts) code
@@ -72,7 +72,7 @@ pub record IsElementsSymbol (o : Options) (parts : List Part) (code : Code) : Ty
   pub made : AreMadeAs asked parts own
   pub masked : IsMasked asked.mask own code
 
--- it is not written under the mask that they ask for, into a buffer of so much room
+-- the symbol is not written under the mask that options ask for, into a buffer of `room` items
 pub record AreNotWritten (o : Options) (parts : List Part) (room : ℕ) (refusal : of_symbols.Refusal) : Type 0 where
   pub asked : Asked
   pub named : IsAsked o asked
@@ -80,17 +80,17 @@ pub record AreNotWritten (o : Options) (parts : List Part) (room : ℕ) (refusal
   pub made : AreMadeAs asked parts own
   pub cause : IsMaskingCause asked.mask own room refusal
 
--- no version that options allow holds elements
+-- no version that options allow holds the elements
 pub record HaveNoVersion (o : Options) (parts : List Part) : Type 0 where
   pub asked : Asked
   pub named : IsAsked o asked
   pub refused : IsElementsRefused asked.choice asked.level (items_of parts) (Symbol DataTooLong)
 
--- options ask for something
+-- the options are valid
 abbrev pub AskFor : Options → Type 0
 AskFor o = (a : Asked) × IsAsked o a
 
--- why elements have no symbol in a buffer of so much room: elements are looked at where options ask for something
+-- why there is no symbol of elements in a buffer of `room` items; elements are checked only if the options are valid
 abbrev pub IsElementsSymbolCause : Options → List Part → ℕ → Refusal → Type 0
 IsElementsSymbolCause o parts room (NoSymbol refusal) =
     ((refusal ≡ NoRoom) × HaveNoVersion o parts) ⊎ (AreNotWritten o parts room refusal
@@ -101,14 +101,14 @@ IsElementsSymbolCause o parts room (NotElement place cause) =
 IsElementsSymbolCause o parts room OutOfMemory = ⊤
 IsElementsSymbolCause o parts room refusal = ⊥
 
--- an answer, and the place that replaces the one before, are those of a refusal that has its cause
+-- an answer, and `place` after the call, report an error whose cause applies
 pub record IsElementsSymbolRefused (o : Options) (parts : List Part) (room answer before after : ℕ) : Type 0 where
   pub refusal : Refusal
   pub cause : IsElementsSymbolCause o parts room refusal
   pub answered : IsNumberOf refusal answer
   pub reported : after ≡ place_reported refusal before
 
--- an answer, and the place that replaces the one before, are those of a refusal that has its cause
+-- an answer, and `place` after the call, report an error whose cause applies
 pub record AreElementsRefused (parts : List Part) (room answer before after : ℕ) : Type 0 where
   pub refusal : Refusal
   pub cause : IsElementsCause parts room refusal

@@ -9,27 +9,27 @@ use Rattle.goqlanis_buffers.specs.declared.contents.answers.Refusal.{Refusal}
 use Rattle.goqlanis_buffers.specs.declared.contents.answers.Refusal.TheVariants.{NotText, NoSuchField}
 use Rattle.goqlanis_buffers.specs.declared.contents.given.Item.{Item}
 
-abbrev pub text_at : List Item → ℕ → List ℕ  -- the bytes at a place, none where none are given
+abbrev pub text_at : List Item → ℕ → List ℕ  -- the bytes of the field at index i; empty if there is none
 text_at given i = unwrap_or (option_map (λ g. g.bytes.now) (slice_get given i)) []
 
-abbrev pub valid_text : List ℕ → List ℕ  -- bytes that are UTF-8, and nothing of others
+abbrev pub valid_text : List ℕ → List ℕ  -- the bytes if they are UTF-8, else nothing
 valid_text bytes = if is_utf8 bytes then bytes else []
 
-abbrev pub texts_of : Kind → List Item → Field → List ℕ  -- the text of each field of a kind, by its place
+abbrev pub texts_of : Kind → List Item → Field → List ℕ  -- the text of each field of a kind, by its index
 texts_of kind given field = valid_text (text_at given (place_of (fields_of kind) field))
 
--- what refuses a field by itself, at a place of a kind with so many
+-- the error of a field by its own check, at index `place` of a kind with `count` fields
 abbrev pub field_refusal : ℕ → ℕ → Item → Option Refusal
 field_refusal count place g = if nat_lt place count then (if is_utf8 g.bytes.now then None else Some (NotText place)) else Some (NoSuchField place)
 
-abbrev pub passed : Option Refusal → Result (Unit {0}) Refusal  -- the answer of a check that refuses so
+abbrev pub passed : Option Refusal → Result (Unit {0}) Refusal  -- the result of a check with this error
 passed None = Ok tt
 passed (Some refusal) = Err refusal
 
-abbrev pub AreTaken : ℕ → List Item → ℕ → Type 0  -- nothing refuses so many fields by themselves
+abbrev pub AreTaken : ℕ → List Item → ℕ → Type 0  -- the first n fields pass their own check
 AreTaken count given n = (i : ℕ) → i < n → (g : Item) → slice_get given i ≡ Some g → field_refusal count i g ≡ None
 
--- the first field that is wrong by itself, and how
+-- the first field that fails its own check, and its error
 pub record IsFirstWrong (count : ℕ) (given : List Item) (refusal : Refusal) : Type 0 where
   pub place : ℕ
   pub field : Item

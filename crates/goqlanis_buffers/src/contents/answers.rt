@@ -1,4 +1,4 @@
-//! What the call answers.
+//! The errors of the calls for contents, and their numbers.
 
 ghost use Rattle.std.specs.Prelude.{◌≡◌, ◌≢◌};
 ghost use Rattle.goqlanis_buffers.specs.contents.Answers.{cause_number, element_number, place_reported, IsNumberOf};
@@ -7,28 +7,28 @@ use crate::answers::Refusal as OfSymbols;
 use qrcode_contents::fields::errors::Cause;
 use qrcode_gs1::errors::Cause as ElementCause;
 
-/// Why a call refuses, and at which place its fields are wrong.
+/// Why a call fails, and which field or element is wrong.
 #[derive(Clone, Copy, Drop, PartialEq, Eq)]
 pub enum Refusal {
     /// The buffer is too small for the text.
     SmallBuffer,
-    /// Memory was refused.
+    /// Memory ran out.
     OutOfMemory,
-    /// The field at this place is not UTF-8.
+    /// The field at this index is not UTF-8.
     NotText(usize),
-    /// No kind of content has the number.
+    /// No kind of payload has this number.
     NoSuchContent,
-    /// The kind has no field at this place.
+    /// The kind has no field at this index.
     NoSuchField(usize),
-    /// The format cannot say the field at this place, for this cause.
+    /// The format rejects the field at this index, for this cause.
     Wrong(usize, Cause),
-    /// The element of GS1 at this place is refused, for this cause.
+    /// The GS1 element at this index is wrong, for this cause.
     NotElement(usize, ElementCause),
-    /// No symbol is asked for, or none holds the elements, or it is not written.
+    /// The options are wrong, no version holds the elements, or the symbol cannot be written.
     NoSymbol(OfSymbols),
 }
 
-// The number of a cause.
+// The number of the cause of a wrong field.
 fn cause_number(cause: Cause) -> u32
     ensures value { result ≡ cause_number cause }
     ensures not_made { result ≢ 0 }
@@ -47,7 +47,7 @@ fn cause_number(cause: Cause) -> u32
     }
 }
 
-// The number of a cause of an element.
+// The number of the cause of a wrong element.
 fn element_number(cause: ElementCause) -> u32
     ensures value { result ≡ element_number cause }
     ensures not_made { result ≢ 0 }
@@ -62,7 +62,7 @@ fn element_number(cause: ElementCause) -> u32
 }
 
 impl Refusal {
-    /// The number that C sees.
+    /// Returns the number that C gets.
     pub fn number(self) -> u32
         ensures value { IsNumberOf self result }
         ensures not_made { result ≢ 0 }
@@ -79,7 +79,7 @@ impl Refusal {
         }
     }
 
-    /// The place of the field that is wrong, or else the one before.
+    /// Returns the index of the field or element that is wrong, or `before` if none is.
     pub fn place(self, before: usize) -> usize
         ensures value { result ≡ place_reported self before }
     {

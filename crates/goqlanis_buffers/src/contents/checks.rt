@@ -1,4 +1,4 @@
-//! What is wrong with fields by themselves.
+//! Checks fields before the format does: their number, and that they are UTF-8.
 
 ghost use Rattle.std.specs.Prelude.{◌≡◌, length, IfErr, OnOk};
 ghost use Rattle.std.specs.Str.{is_utf8};
@@ -7,7 +7,6 @@ ghost use Rattle.goqlanis_buffers.specs.contents.Given.{field_refusal, passed, I
 use crate::contents::answers::Refusal;
 use crate::contents::given::Item;
 
-// Whether bytes are UTF-8.
 fn is_text(bytes: &[u8]) -> bool
     ensures { result ≡ is_utf8 bytes.now }
 {
@@ -17,7 +16,7 @@ fn is_text(bytes: &[u8]) -> bool
     }
 }
 
-// Refuses what no field at a place can be, where the kind has this many.
+// Checks the field at an index, for a kind with `count` fields.
 fn check_field(count: usize, place: usize, field: &Item<'_>) -> Result<(), Refusal>
     ensures { result ≡ passed (field_refusal count place field.now) }
 {
@@ -30,7 +29,9 @@ fn check_field(count: usize, place: usize, field: &Item<'_>) -> Result<(), Refus
     Ok(())
 }
 
-/// Refuses the first field that is wrong by itself, where the kind has this many.
+/// Checks fields for a kind with `count` fields.
+///
+/// Errors, for the first wrong field: `NoSuchField`, `NotText`.
 pub(crate) fn check(count: usize, given: &[Item<'_>]) -> Result<(), Refusal>
     ensures taken { OnOk result (AreTaken count given.now (length given.now)) }
     ensures refused { IfErr result (IsFirstWrong count given.now) }

@@ -1,4 +1,4 @@
-//! Elements of GS1, in a buffer.
+//! GS1 elements in buffers.
 
 ghost use Rattle.std.specs.Prelude.{◌≡◌, length, map, IfOk, IfErr, OnOk, OnErr, OnSome, IfSome, IfNone};
 ghost use Rattle.qrcode_gs1.specs.Items.{item};
@@ -17,20 +17,20 @@ use qrcode_gs1::errors::Gs1Error;
 use qrcode_gs1::symbol::errors::SymbolError;
 use std::alloc::Global;
 
-/// An element of GS1.
+/// A GS1 element.
 #[repr(C)]
 #[derive(Clone, Copy)]
 pub struct Part<'a> {
     /// The digits of its application identifier, without parentheses.
     pub identifier: &'a [u8],
-    /// Its value, with the check digit where it has one.
+    /// Its value, with the check digit if it has one.
     pub value: &'a [u8],
 }
 
-/// Writes the string of elements at the beginning of a buffer, and answers its length.
+/// Writes the GS1 element string of `parts` to the start of `out`, and returns its length.
 ///
-/// An error is `NotText`, `NotElement`, `SmallBuffer` or `OutOfMemory`. Then the buffer is as it
-/// was.
+/// Errors, the first that applies: `NotText`, `NotElement`, `SmallBuffer`; or `OutOfMemory`. After
+/// an error `out` is unchanged.
 pub fn write_elements(alloc: Global, parts: &[Part<'_>], out: &mut [u8]) -> Result<usize, Refusal>
     ensures made { IfOk result (IsStringIn parts.now out.old out.new) }
     ensures unchanged { OnErr result (out.new ≡ out.old) }
@@ -53,10 +53,11 @@ pub fn write_elements(alloc: Global, parts: &[Part<'_>], out: &mut [u8]) -> Resu
     Ok(bytes.len())
 }
 
-/// Writes the symbol of elements that options ask for at the beginning of a buffer, and answers
-/// what it is beside its modules. Manner and boost are not looked at.
+/// Encodes GS1 elements as `options` ask. Writes the modules to the start of `modules`, and returns
+/// version, level and width. The options' manner and boost are ignored.
 ///
-/// An error is `NoSymbol`, `NotText`, `NotElement` or `OutOfMemory`. Then the buffer is as it was.
+/// Errors: `NoSymbol`, `NotText`, `NotElement` or `OutOfMemory`. After an error `modules` is
+/// unchanged.
 pub fn encode_elements(
     alloc: Global,
     parts: &[Part<'_>],
@@ -94,7 +95,8 @@ pub fn encode_elements(
     }
 }
 
-// The elements, or the place of the first that is not UTF-8; none where memory was refused.
+// Borrows the elements as text. Errors: the index of the first that is not UTF-8, or `None` if
+// memory runs out.
 fn elements_of<'a>(alloc: Global, parts: &[Part<'a>]) -> Result<Vec<Element<'a>>, Option<usize>>
     ensures value { IfOk result (λ elements. map item elements.items ≡ items_of parts.now) }
     ensures texts { OnOk result (AreTexts parts.now (length parts.now)) }
@@ -112,7 +114,7 @@ fn elements_of<'a>(alloc: Global, parts: &[Part<'a>]) -> Result<Vec<Element<'a>>
     Ok(elements)
 }
 
-// An element, where it is UTF-8.
+// Borrows an element as text; `None` if it is not UTF-8.
 fn element_of<'a>(part: &Part<'a>) -> Option<Element<'a>>
     ensures value { IfSome result (λ element. item element ≡ item_of part.now) }
     ensures text { OnSome result (IsText part.now) }

@@ -11,11 +11,11 @@ use qrcode_payloads::kinds::{Kind, fields_of, place_of};
 #[repr(C)]
 #[derive(Clone, Copy)]
 pub struct Item<'a> {
-    /// The text, in UTF-8; empty where none is given.
+    /// The text in UTF-8, or nothing.
     pub bytes: &'a [u8],
 }
 
-// Bytes that are UTF-8, and nothing of others.
+// The bytes as text, or nothing if they are not UTF-8.
 fn valid_text(bytes: &[u8]) -> &str
     ensures { result.now ≡ valid_text bytes.now }
 {
@@ -25,7 +25,7 @@ fn valid_text(bytes: &[u8]) -> &str
     }
 }
 
-// The text at a place; empty where none is given, or where it is not UTF-8.
+// The text of the field at an index; empty if there is none, or it is not UTF-8.
 fn valid_at<'a>(given: &[Item<'a>], place: usize) -> &'a str
     ensures { result.now ≡ valid_text (text_at given.now place) }
 {
@@ -35,12 +35,12 @@ fn valid_at<'a>(given: &[Item<'a>], place: usize) -> &'a str
     }
 }
 
-/// Fields, each at its place.
+/// The fields of a kind, each found by its index.
 #[derive(Drop)]
 pub(crate) struct Placed<'g, 'a> {
-    /// The kind whose fields they are.
+    /// The kind of payload.
     pub(crate) kind: Kind,
-    /// What is given for them.
+    /// The fields in order.
     pub(crate) given: &'g [Item<'a>],
 }
 

@@ -1,4 +1,4 @@
-//! The text of fields, in a buffer.
+//! Writes the text of a payload to a buffer.
 
 ghost use Rattle.std.specs.Prelude.{◌≡◌, length, string_bytes, IfOk, IfErr, OnErr};
 ghost use Rattle.qrcode_contents.specs.fields.Refusals.{Answers};
@@ -15,12 +15,12 @@ use qrcode_payloads::kinds::{Kind, fields_of, kind_named, place_of};
 use qrcode_payloads::texts::text_of;
 use std::alloc::Global;
 
-/// Writes the text of fields of the kind of a number at the beginning of a buffer, and answers its
-/// length.
+/// Writes the text of a payload of the kind numbered `kind`, with the fields `given`, to the start
+/// of `out`, and returns its length.
 ///
-/// An error is the first that applies of `NoSuchContent`; of each field in order `NoSuchField`,
-/// `NotText`, `Wrong`; what the format refuses (`Wrong`); `SmallBuffer`; or `OutOfMemory`. Then the
-/// buffer is as it was.
+/// Errors, the first that applies: `NoSuchContent`; for the first field with an error `NoSuchField`
+/// or `NotText`; `Wrong` if the format rejects a field; `SmallBuffer`; or `OutOfMemory`. After an
+/// error `out` is unchanged.
 pub fn write(alloc: Global, kind: u32, given: &[Item<'_>], out: &mut [u8]) -> Result<usize, Refusal>
     ensures made { IfOk result (IsContentIn kind given.now out.old out.new) }
     ensures unchanged { OnErr result (out.new ≡ out.old) }
@@ -46,7 +46,7 @@ pub fn write(alloc: Global, kind: u32, given: &[Item<'_>], out: &mut [u8]) -> Re
     Ok(bytes.len())
 }
 
-// The text of fields of a kind, where each is right by itself.
+// The text of fields that passed `check`.
 #[tactic(auto, unfolding(crate::specs::contents::Contents::refusal_for))]
 fn payload(alloc: Global, kind: Kind, given: &[Item<'_>]) -> ContentResult<String>
     ensures reads { Answers (refusal_for kind given.now) result (IsReadAs kind

@@ -3,7 +3,7 @@ use Rattle.qrcode_area.specs.Areas.{covers}
 use Rattle.goqlanis_buffers.specs.Areas.{covered_byte}
 use Rattle.goqlanis_buffers.proofs.areas.lighten.Given as goal
 
--- so many modules are light where they lie in the area, and the rest are as they were
+-- the modules so far are light if they lie in the area; the rest is unchanged
 abbrev pub invariant-loop-i : goal.invariant-loop-i
 invariant-loop-i l =
     (length l.modules ≡ length l.initial.modules)

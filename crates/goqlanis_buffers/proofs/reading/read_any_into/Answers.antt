@@ -5,7 +5,7 @@ use Rattle.goqlanis_buffers.specs.Outputs.{IsFilled}
 use Rattle.goqlanis_buffers.specs.Readings.{found_anywhere, IsReadAnywhere, IsReadNowhere}
 use Rattle.goqlanis_buffers.proofs.reading.read_any_into.Goals as goal
 
--- what is said where there is nothing, or something
+-- unpacks `IfNone` of a None, and `IfSome` of a Some
 of_none : {A : Type 0} (P : Type 0) (o : Option A) → o ≡ None → IfNone o P → P
 of_none P o is h = subst (λ o. IfNone o P) is h
 

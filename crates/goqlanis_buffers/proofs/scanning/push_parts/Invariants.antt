@@ -2,6 +2,6 @@ use Rattle.std.proofs.Common.{◌≡◌, ◌++◌, map, take}
 use Rattle.goqlanis_buffers.specs.Scanning.{told_part}
 use Rattle.goqlanis_buffers.proofs.scanning.push_parts.Given as goal
 
--- so many parts are told
+-- the parts so far are appended
 abbrev pub invariant-loop-part : goal.invariant-loop-part
 invariant-loop-part l = l.all.items ≡ l.initial.all.items ++ map told_part (take l.part-index l.fn.parts)

@@ -2,7 +2,7 @@ use Rattle.std.proofs.Common.{◌≡◌, take}
 use Rattle.goqlanis_buffers.specs.Segments.{written_segments, AreTaken}
 use Rattle.goqlanis_buffers.proofs.segments.push_all.Given as goal
 
--- so many segments are taken and written
+-- the segments so far have no error and are appended
 abbrev pub invariant-loop-i : goal.invariant-loop-i
 invariant-loop-i l =
     (l.bits.version ≡ l.initial.bits.version)

@@ -2,6 +2,6 @@ use Rattle.std.proofs.Common.{◌≡◌, ◌++◌, take}
 use Rattle.goqlanis_buffers.specs.Outputs.{module_bytes}
 use Rattle.goqlanis_buffers.proofs.several.push_modules.Given as goal
 
--- so many modules are written
+-- the modules so far are appended
 abbrev pub invariant-loop-color : goal.invariant-loop-color
 invariant-loop-color l = l.all.items ≡ l.initial.all.items ++ module_bytes (take l.color-index l.fn.colors)

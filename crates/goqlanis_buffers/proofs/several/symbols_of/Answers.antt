@@ -7,7 +7,7 @@ use Rattle.goqlanis_buffers.specs.Several.{AreUnheld}
 use Rattle.goqlanis_buffers.specs.declared.several.Named.{Named}
 use Rattle.goqlanis_buffers.proofs.several.symbols_of.Goals as goal
 
--- where no count holds the data, the one that is asked for does not
+-- if no number of symbols holds the data, the requested number does not
 unheld : (wanted : ℕ) (a : Named) (bytes : List ℕ) (e : QrError) → AreNotHeld a.manner a.versions a.level bytes e → (e ≡ OutOfMemory) ⊎ AreUnheld wanted a bytes
 unheld wanted a bytes e (inl memory) = inl memory
 unheld wanted a bytes e (inr (inl (_, none))) = inr (λ n count among counted held. none n among held.exists)

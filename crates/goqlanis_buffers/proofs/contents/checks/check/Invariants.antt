@@ -1,6 +1,6 @@
 use Rattle.goqlanis_buffers.specs.contents.Given.{AreTaken}
 use Rattle.goqlanis_buffers.proofs.contents.checks.check.Given as goal
 
--- so many fields are taken
+-- the fields so far pass their check
 abbrev pub invariant-loop-place : goal.invariant-loop-place
 invariant-loop-place l = AreTaken l.fn.count l.fn.given l.place

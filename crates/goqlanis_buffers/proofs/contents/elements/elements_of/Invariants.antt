@@ -3,6 +3,6 @@ use Rattle.qrcode_gs1.specs.Items.{item}
 use Rattle.goqlanis_buffers.specs.contents.Elements.{items_of, AreTexts}
 use Rattle.goqlanis_buffers.proofs.contents.elements.elements_of.Given as goal
 
--- so many elements are made, and are UTF-8
+-- the elements so far are borrowed, and are UTF-8
 abbrev pub invariant-loop-place : goal.invariant-loop-place
 invariant-loop-place l = record { made : map item l.elements.items ≡ items_of (take l.place l.fn.parts); texts : AreTexts l.fn.parts l.place }
