@@ -51,7 +51,7 @@ HasNoFeed-amount n fits =
     HasNoFeed-append (decimal (n / 100)) (46 ∷ (decimal (n / 10 % 10) ++ decimal (n % 10))) (HasNoFeed-decimal (n / 100) (omega arith))
     (HasNoFeed-append (decimal (n / 10 % 10)) (decimal (n % 10)) (HasNoFeed-decimal (n / 10 % 10) (omega arith)) (HasNoFeed-decimal (n % 10) (omega arith)))
 
--- an amount has few digits
+-- an amount has fewer than 100 bytes
 pub amount_short : (n : ℕ) → n < 2 ^ 64 → length (amount_text n) < 100
 unfolding amount_text
 amount_short n fits =

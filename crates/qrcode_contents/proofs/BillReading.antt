@@ -22,7 +22,7 @@ use Rattle.qrcode_contents.proofs.EntryReading.{neither}
 use Rattle.qrcode_contents.proofs.LineReading.{HasNoFeed, HaveNoFeeds, HasNoFeed-from_control, lines_read}
 use Rattle.qrcode_contents.proofs.Passing.{all_pass, test_passes}
 
--- a line that is said has no line feed
+-- a text with only allowed characters has no line feed
 said : (text : List ℕ) → is_unsaid text ≡ false → HasNoFeed text
 said text is = HasNoFeed-from_control text (neither (list_any is_control text) _ is).0
 
@@ -96,7 +96,7 @@ amount_filled : (n : ℕ) → n < 2 ^ 64 → is_filled (amount_text n) ≡ true
 unfolding amount_text
 amount_filled n fits = some_first (decimal (n / 100)) _ (decimal_nonempty (n / 100) (omega arith))
 
--- an amount that may be left open has few digits
+-- an amount that may be left open has fewer than 100 bytes
 pub cents_short : (cents : Option ℕ) → is_out_of_range cents ≡ false → length (amount_line cents) < 100
 cents_short None is = omega arith
 cents_short (Some n) is = amount_short n (amount_below n is)
@@ -108,7 +108,7 @@ cents_read (Some n) is =
     let fits = amount_below n is in
     rw (amount_filled n fits) (ap Some (amount_read n fits))
 
--- what the refusals say of a bill that has none
+-- what holds of a bill that passes all checks
 record AreBillLines (b : Invoice) : Type 0 where
   iban : HasNoFeed b.iban
   cents : is_out_of_range b.cents ≡ false
@@ -133,7 +133,7 @@ bill_said b is =
       message = said b.message (test_passes (is_unsaid b.message) Message Character message.1.0);
     }
 
--- the lines behind the first
+-- the lines after the first
 abbrev tail_of : Invoice → List (List ℕ)
 tail_of b =
     codes "0200" ∷ codes "1" ∷ b.iban
@@ -232,13 +232,13 @@ lines_plain b are =
 same_bill : (b : Invoice) (cents : Option ℕ) → cents ≡ b.cents → (let s : Invoice = record b { cents = cents } in s) ≡ b
 same_bill b cents is = rw is refl
 
--- the lines say the bill
+-- the lines give the bill
 lines_say : (b : Invoice) → AreBillLines b → invoice_in (line_at (bill_lines b)) ≡ Some b
 lines_say b are =
     rw (kind_named b.creditor (is_nobody b.creditor) refl, kind_named b.debtor (is_nobody b.debtor) refl, reference_named b.reference (is_filled b.reference) (is_creditor_reference b.reference) refl refl, currency_read b.currency)
     (ap Some (same_bill b (read_cents (amount_line b.cents)) (cents_read b.cents are.cents)))
 
--- what is read is what was said
+-- reading the text gives back the fields
 pub bill_read : (b : Invoice) → bill_refusal b ≡ None → read_bill (bill_text b) ≡ Some b
 unfolding bill_text read_bill
 bill_read b is =
@@ -250,7 +250,7 @@ last_refusal : (o : Option ContentError) → first_refusal (o ∷ []) ≡ o
 last_refusal None = refl
 last_refusal (Some e) = refl
 
--- somebody who is named, and whose texts are said
+-- the check of a party who is named, and whose texts pass
 pub party_checked : (p : Addressee) (texts : Result (Unit {0}) ContentError) (x : Unit {0}) → texts ≡ checked (text_refusal p) → texts ≡ Ok x → is_nobody p ≡ false → checked (named_refusal p) ≡ checked (party_refusal p)
 unfolding party_refusal
 party_checked p texts x is ok somebody =

@@ -25,7 +25,7 @@ use Rattle.qrcode_contents.proofs.TimeReading.{date_or_none_read, IsPlain-date}
 no_feed_of : (b : ℕ) → is_control b ≡ false → (b == 10) ≡ false
 no_feed_of b is = grind (arith, nat_tests)
 
--- fields that are not refused
+-- texts that pass their checks have no carriage returns
 no_strays : (fields : List (Field × List ℕ)) → AllPass (stray_checks fields) → HaveNoReturns (map (λ field. field.1) fields)
 no_strays [] pass = tt
 no_strays (field ∷ fields) pass = (
@@ -43,7 +43,7 @@ are_numbers (field ∷ fields) pass = (
   are_numbers fields pass.1,
 )
 
--- what no refusal says of the fields
+-- what holds of fields that pass all checks
 record AreTexts (c : Contact) : Type 0 where
   first : HaveNoReturns (map (λ field. field.1) (first_fields c))
   numbers : HaveNoReturns (map (λ field. field.1) (numbers_of c))
@@ -72,7 +72,7 @@ word_plain = record { no_return = refl; no_feed = refl }
 version_plain : IsPlain (codes "3.0")
 version_plain = record { no_return = refl; no_feed = refl }
 
--- the lines behind the first texts
+-- the lines after the first texts
 abbrev later_lines : Contact → List Parameter
 later_lines c =
     (codes "URL", c.person.url) ∷ (codes "ADR", structured ([] ∷ [] ∷ c.person.street ∷ c.person.city ∷ c.person.region ∷ c.person.code ∷ c.person.country ∷ []))
@@ -112,11 +112,11 @@ same_contact : (c : Contact) (name family given organisation title phone mobile 
 same_contact c name family given organisation title phone mobile work_phone home_phone email street city region code country note h₁ h₂ h₃ h₄ h₅ h₆ h₇ h₈ h₉ h₁₀ h₁₁ h₁₂ h₁₃ h₁₄ h₁₅ h₁₆ =
     rw (h₁, h₂, h₃, h₄, h₅, h₆, h₇, h₈, h₉, h₁₀, h₁₁, h₁₂, h₁₃, h₁₄, h₁₅, h₁₆) refl
 
--- the lines have the values of those of the card
+-- lines with the values of the card's lines
 abbrev Says : Contact → List Entry → Type 0
 Says c lines = (key : List ℕ) → bytes_eq key [] ≡ false → value_of key lines ≡ value_of key (entries_of (card_lines c))
 
--- such lines say the contact, with its birthday
+-- such lines give the contact, with its birthday
 with_said : (c : Contact) (lines : List Entry) → Says c lines → contact_with lines c.person.birthday ≡ c
 with_said c lines says =
     let address : List (List ℕ) = [] ∷ c.person.street ∷ c.person.city ∷ c.person.region ∷ c.person.code ∷ c.person.country ∷ [] in
@@ -138,7 +138,7 @@ contact_said c lines says is =
     ∙ ap (option_map (contact_with lines)) (date_or_none_read c.person.birthday is)
     ∙ ap Some (with_said c lines says))
 
--- what is read is what was said
+-- reading the text gives back the fields
 pub card_read : (c : Contact) → card_refusal c ≡ None → read_card (card_text c) ≡ Some c
 unfolding card_text read_card
 card_read c is =

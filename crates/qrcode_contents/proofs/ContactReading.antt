@@ -26,7 +26,7 @@ person_from-filled es are =
     ap (λ text. option_map (person_with (filled es)) (read_or_none read_day text)) (kept (codes "BDAY") 0)
     ∙ mapped (person_with (filled es)) (person_with es) same (read_or_none read_day (part_of (codes "BDAY") 0 es))
 
--- a birthday that is not refused
+-- a birthday that passes its check
 right_day : (p : Person) → contact_refusal p ≡ None → wrong_day p.birthday ≡ false
 unfolding person_checks
 right_day p is =
@@ -34,7 +34,7 @@ right_day p is =
     test_passes (wrong_day p.birthday) Birthday Range
     (all_pass (refused_if (is_empty p.family) Family Empty ∷ refused_if (wrong_day p.birthday) Birthday Range ∷ refused_if (is_no_number p.phone) Phone Character ∷ []) checks).1.0
 
--- what is read is what was said
+-- reading the text gives back the fields
 pub mecard_read : (p : Person) → contact_refusal p ≡ None → read_mecard (mecard_text p) ≡ Some p
 unfolding mecard_text read_mecard
 mecard_read p is =

@@ -1,4 +1,4 @@
--- Values of content lines, of parts, are read back.
+-- Values of content lines, which consist of parts, are read back.
 use Rattle.std.proofs.Common.{◌≡◌, ℕ, zero, suc, ◌==◌, ◌||◌, List, [], ◌∷◌, ◌++◌, Bool, true, false, flat_map, map, get_or, refl, ap, sym}
 use Rattle.std.specs.List.{list_any}
 use Rattle.qrcode_contents.specs.declared.fields.escapes.Escapes.TheVariants.{Lines}
@@ -11,19 +11,19 @@ use Rattle.qrcode_contents.proofs.EntryReading.{neither, parts_read, no_part, Ha
 use Rattle.qrcode_contents.proofs.LinkReading.{HasNo-append}
 use Rattle.qrcode_contents.proofs.Pieces.{semicolon_escaped}
 
--- what a value of lines may have: no carriage return, and no line feed
+-- a value that a line may have: without carriage returns and line feeds
 pub record IsPlain (bytes : List ℕ) : Type 0 where
   pub no_return : HasNo 13 bytes
   pub no_feed : HasNo 10 bytes
 
--- some bytes before others
+-- two such values, one after the other
 pub IsPlain-append : (xs ys : List ℕ) → IsPlain xs → IsPlain ys → IsPlain (xs ++ ys)
 IsPlain-append xs ys x y = record {
   no_return = HasNo-append 13 xs ys x.no_return y.no_return;
   no_feed = HasNo-append 10 xs ys x.no_feed y.no_feed;
 }
 
--- no bytes
+-- an empty value
 pub plain_nothing : IsPlain []
 plain_nothing = record { no_return = refl; no_feed = refl }
 
@@ -39,7 +39,7 @@ IsPlain-escaped (b ∷ bytes) none =
     let parts = neither (b == 13) (list_any (λ x. x == 13) bytes) none in
     IsPlain-append (with_letter b (letter_of Lines b)) (escaped Lines bytes) (escaped_feed b (b == 10) (b == 92 || b == 59 || b == 44) refl refl parts.0) (IsPlain-escaped bytes parts.1)
 
--- parts with no carriage return
+-- parts without carriage returns
 abbrev pub HaveNoReturns : List (List ℕ) → Type 0
 HaveNoReturns [] = Unit {0}
 HaveNoReturns (part ∷ parts) = HasNo 13 part × HaveNoReturns parts
@@ -55,7 +55,7 @@ structured_by part parts true is none =
     rw is (IsPlain-append (escaped Lines part) (flat_map (λ later. 59 ∷ escaped Lines later) parts) (IsPlain-escaped part none.0) (IsPlain-later parts none.1))
 structured_by part parts false is none = rw is plain_nothing
 
--- the value of parts
+-- the value of such parts may be in a line
 pub IsPlain-structured : (part : List ℕ) (parts : List (List ℕ)) → HaveNoReturns (part ∷ parts) → IsPlain (structured (part ∷ parts))
 IsPlain-structured part parts none = structured_by part parts (list_any is_filled (part ∷ parts)) refl none
 
@@ -69,11 +69,11 @@ part_by (suc i) part parts false is = rw is (sym (no_part (part ∷ parts) (suc 
 pub part_read : (i : ℕ) (part : List ℕ) (parts : List (List ℕ)) → part_in i (structured (part ∷ parts)) ≡ get_or (part ∷ parts) i []
 part_read i part parts = part_by i part parts (list_any is_filled (part ∷ parts)) refl
 
--- a text
+-- the value of a text may be in a line
 pub one_plain : (text : List ℕ) → HasNo 13 text → IsPlain (structured (text ∷ []))
 one_plain text none = IsPlain-structured text [] (none, tt)
 
--- a key with a value
+-- a key and a value that can be read back
 pub line_with : (key value : List ℕ) → begins_blank (key ++ 58 ∷ value) ≡ false → HasNo 58 key → HasNo 13 key → HasNo 10 key → IsPlain value → IsContent (key, value)
 line_with key value starts no_colon no_return_key no_feed_key is = record {
   starts = starts;
@@ -82,7 +82,7 @@ line_with key value starts no_colon no_return_key no_feed_key is = record {
   no_feed = HasNo-append 10 key (58 ∷ value) no_feed_key is.no_feed;
 }
 
--- the key may not begin a line, or would end
+-- an unfit key: it starts with a space or a tab, or has a colon, a carriage return or a line feed
 abbrev is_unfit : Parameter → Bool
 is_unfit text =
     begins_blank (text.0 ++ 58 ∷ []) || (list_any (λ b. b == 58) text.0 || (list_any (λ b. b == 13) text.0 || list_any (λ b. b == 10) text.0))
@@ -91,7 +91,7 @@ key_starts : (key value : List ℕ) → begins_blank (key ++ 58 ∷ []) ≡ fals
 key_starts [] value is = is
 key_starts (b ∷ key) value is = is
 
--- lines of texts before others
+-- lines of texts, before other lines that can be read back
 pub text_content : (texts later : List Parameter) → list_any is_unfit texts ≡ false → HaveNoReturns (map (λ text. text.1) texts) → AreContent later → AreContent (text_lines texts ++ later)
 text_content [] later fit none are = are
 text_content (text ∷ texts) later fit none are =

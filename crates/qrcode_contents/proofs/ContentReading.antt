@@ -13,7 +13,7 @@ use Rattle.qrcode_contents.specs.fields.Links.{Parameter}
 use Rattle.qrcode_contents.proofs.EntryReading.{neither, part_of-filled, HasNo, before-at, after-at}
 use Rattle.qrcode_contents.proofs.LinkReading.{entries_of}
 
--- an octet that begins no break stands for itself
+-- an octet that is no carriage return is kept
 kept_octet : (b : ℕ) (rest : List ℕ) → (b == 13) ≡ false → unfolded (b ∷ rest) ≡ b ∷ unfolded rest
 unfolding unfolded
 kept_octet b [] is = refl
@@ -41,12 +41,12 @@ unfolded-folded zero column (b ∷ bytes) rest none =
     ∙ kept_octet b (later ++ rest) parts.0
     ∙ ap (λ xs. b ∷ xs) (unfolded-folded (continuation_len b) (next_column column width) bytes rest parts.1)
 
--- the text begins with a space or a tab
+-- the text starts with a space or a tab
 abbrev pub begins_blank : List ℕ → Bool
 begins_blank [] = false
 begins_blank (b ∷ rest) = b == 32 || b == 9
 
--- the end of a line that no blank follows
+-- a line break that no space or tab follows is kept
 end_kept : (rest : List ℕ) → begins_blank rest ≡ false → unfolded (13 ∷ 10 ∷ rest) ≡ 13 ∷ 10 ∷ unfolded rest
 unfolding unfolded
 end_kept [] is = refl
@@ -63,7 +63,7 @@ abbrev pub AreContent : List Parameter → Type 0
 AreContent [] = Unit {0}
 AreContent (p ∷ ps) = IsContent p × AreContent ps
 
--- some of them before others
+-- such keys and values before others
 pub AreContent-append : (ps qs : List Parameter) → AreContent ps → AreContent qs → AreContent (ps ++ qs)
 AreContent-append [] qs x y = y
 AreContent-append (p ∷ ps) qs x y = (x.0, AreContent-append ps qs x.1 y)
@@ -125,7 +125,7 @@ first_read key value rest is starts =
     ∙ ap (map read_line) (slice_split_at is_feed line 10 (filter is_kept (unfolded rest)) (all_no_feed line is.no_feed) refl)
     ∙ ap₂ (λ k v. single k v ∷ read_lines (filter is_kept (unfolded rest))) (before-at 58 key value is.no_colon) (after-at 58 key value is.no_colon)
 
--- what stands behind the end of the last line
+-- the empty line after the end of the last line
 abbrev pub behind_last : List Entry
 behind_last = single [] [] ∷ []
 

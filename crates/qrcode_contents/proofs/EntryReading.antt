@@ -14,53 +14,53 @@ use Rattle.qrcode_contents.specs.fields.Entries.{Entry, filled, is_filled, parts
 use Rattle.qrcode_contents.specs.fields.EntryTests.{is_key, are_entries, are_distinct}
 use Rattle.qrcode_contents.proofs.Pieces.{IsPiece, IsEscaped, comma_escaped, semicolon_escaped, IsPiece-nil, IsPiece-cons, IsPiece-escaped, IsPiece-value, unescaped-escaped}
 
--- an entry that says nothing
+-- an entry whose parts are all empty
 marked_text-empty : (key : List ℕ) (parts : List (List ℕ)) → list_any is_filled parts ≡ false → marked_text (key, parts) ≡ []
 marked_text-empty key parts is = rw is refl
 
--- an entry that says something
+-- an entry with a part that is not empty
 marked_text-filled : (key : List ℕ) (parts : List (List ℕ)) → list_any is_filled parts ≡ true → marked_text (key, parts) ≡ entry_text Marks 44 (key, parts) ++ 59 ∷ []
 marked_text-filled key parts is = rw is refl
 
--- two tests that hold
+-- if `a && b` holds, both do
 pub both : (a b : Bool) → (a && b) ≡ true → (a ≡ true) × (b ≡ true)
 both true b is = (refl, is)
 both false b is = cc
 
--- a test whose denial holds
+-- if `not a` holds, a fails
 pub denied : (a : Bool) → not a ≡ true → a ≡ false
 denied true is = cc
 denied false is = refl
 
--- two tests of which the first holds, and not both
+-- if a holds but not `a && b`, b fails
 pub second_fails : (a b : Bool) → a ≡ true → (a && b) ≡ false → b ≡ false
 second_fails true b is none = none
 second_fails false b is none = cc
 
--- two tests of which neither holds
+-- if `a || b` fails, both do
 pub neither : (a b : Bool) → (a || b) ≡ false → (a ≡ false) × (b ≡ false)
 neither true b is = cc
 neither false b is = (refl, is)
 
--- no byte is c
+-- the bytes have no c
 abbrev pub HasNo : ℕ → List ℕ → Type 0
 HasNo c bytes = list_any (λ b. b == c) bytes ≡ false
 
--- what stands before a mark
+-- the bytes before the first c
 pub before-at : (c : ℕ) (xs ys : List ℕ) → HasNo c xs → before c (xs ++ c ∷ ys) ≡ xs
 before-at c [] ys is = let same : (c == c) ≡ true = grind (arith, nat_tests) in rw same refl
 before-at c (x ∷ xs) ys is =
     let parts = neither (x == c) (list_any (λ b. b == c) xs) is in
     rw (parts.0) (ap (λ l. x ∷ l) (before-at c xs ys parts.1))
 
--- what stands behind a mark
+-- the bytes after the first c
 pub after-at : (c : ℕ) (xs ys : List ℕ) → HasNo c xs → after c (xs ++ c ∷ ys) ≡ ys
 after-at c [] ys is = let same : (c == c) ≡ true = grind (arith, nat_tests) in rw same refl
 after-at c (x ∷ xs) ys is =
     let parts = neither (x == c) (list_any (λ b. b == c) xs) is in
     rw (parts.0) (after-at c xs ys parts.1)
 
--- with no mark
+-- without a c
 pub before-none : (c : ℕ) (xs : List ℕ) → HasNo c xs → before c xs ≡ xs
 before-none c [] is = refl
 before-none c (x ∷ xs) is =
@@ -73,7 +73,7 @@ after-none c (x ∷ xs) is =
     let parts = neither (x == c) (list_any (λ b. b == c) xs) is in
     rw (parts.0) (after-none c xs parts.1)
 
--- what the test of one byte of a key says
+-- a byte that a key may have
 record EndsNothing (b : ℕ) : Type 0 where
   no_backslash : (b == 92) ≡ false
   no_colon : (b == 58) ≡ false
@@ -86,7 +86,7 @@ ends_nothing b key is =
     let first = both (not (b == 92)) _ marks.0 in
     (record { no_backslash = denied _ first.0; no_colon = denied _ first.1; no_semicolon = denied _ marks.1 }, parts.1)
 
--- further parts before a semicolon
+-- the parts after the first end at the semicolon
 IsPiece-later : (parts : List (List ℕ)) → IsPiece 59 (flat_map (λ later. 44 ∷ escaped Marks later) parts)
 IsPiece-later [] = IsPiece-nil 59 semicolon_escaped
 IsPiece-later (part ∷ parts) =
@@ -145,7 +145,7 @@ entry_or_not key part parts entries false is key_is later =
     ∙ later
     ∙ ap Some (sym (cond-false _ _ _ is))
 
--- entries up to an empty one are read back, without those that say nothing
+-- entries up to an empty one are read back, without those whose parts are all empty
 pub entries_read : (entries : List Entry) → are_entries entries ≡ true → read_until_empty (pieces 59 (flat_map marked_text entries ++ 59 ∷ [])) ≡ Some (filled entries)
 entries_read [] are = ap read_until_empty ((IsPiece-nil 59 semicolon_escaped).before [])
 entries_read ((key, []) ∷ entries) are =
@@ -157,7 +157,7 @@ entries_read ((key, part ∷ parts) ∷ entries) are =
     let key_is = (both (is_key key) true tests.0).0 in
     entry_or_not key part parts entries (list_any is_filled (part ∷ parts)) refl key_is (entries_read entries tests.1)
 
--- what stands behind a beginning
+-- the bytes after a start
 behind_start : (start rest : List ℕ) → behind start (start ++ rest) ≡ Some rest
 behind_start [] rest = refl
 behind_start (a ∷ start) rest = rw (eq-eqb a a refl) (behind_start start rest)
@@ -170,7 +170,7 @@ read_entries-text start entries are =
 
 -- ---- parts of entries
 
--- where no part has bytes each is empty
+-- if no part has bytes, each is empty
 pub no_part : (parts : List (List ℕ)) (i : ℕ) → list_any is_filled parts ≡ false → get_or parts i [] ≡ []
 no_part [] i is = refl
 no_part ([] ∷ parts) zero is = refl
@@ -192,7 +192,7 @@ part_or_not key i entry entries false true says is others later =
     rw (says, is) (later ∙ no_entry key i entries none ∙ sym (no_part entry.1 i says))
 part_or_not key i entry entries false false says is others later = rw (says, is) later
 
--- entries that say nothing may be left out
+-- entries whose parts are all empty may be left out
 pub part_of-filled : (key : List ℕ) (i : ℕ) (entries : List Entry) → are_distinct entries ≡ true → part_of key i (filled entries) ≡ part_of key i entries
 part_of-filled key i [] are = refl
 part_of-filled key i (entry ∷ entries) are =

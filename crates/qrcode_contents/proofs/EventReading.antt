@@ -22,7 +22,7 @@ use Rattle.qrcode_contents.specs.Event.{Happening, wrong_stamp, stamp_text, read
 use Rattle.qrcode_contents.specs.Times.{is_day, is_moment, day_text, moment_text}
 use Rattle.qrcode_contents.proofs.TimeReading.{allowed, day_read, moment_read, IsPlain-day, IsPlain-moment, filled_day, filled_moment}
 
--- what no refusal says of the fields
+-- what holds of fields that pass all checks
 record IsSayable (h : Happening) : Type 0 where
   uid : HasNo 13 h.uid
   stamp : wrong_stamp h.stamp ≡ false
@@ -117,7 +117,7 @@ kept_by : (name key value : List ℕ) (ps : List Parameter) (rest later : List E
 kept_by name key value ps rest later true is other kept = rw (is, other) (ap (option_map (λ xs. single key value ∷ xs)) kept)
 kept_by name key value ps rest later false is other kept = rw is kept
 
--- lines that end no component are kept
+-- lines that end no component are kept by `before_end`
 kept_lines : (name : List ℕ) (ps : List Parameter) (rest later : List Entry) → list_any is_end ps ≡ false → before_end name rest ≡ Some later → before_end name (filled (entries_of ps) ++ rest) ≡ Some (filled (entries_of ps) ++ later)
 kept_lines name [] rest later none is = is
 kept_lines name ((key, value) ∷ ps) rest later none is =
@@ -138,11 +138,11 @@ inside ps =
     single (codes "VERSION") (codes "2.0") ∷ single (codes "PRODID") (codes "-//Goqlanis//Contents//EN")
     ∷ single (codes "BEGIN") (codes "VEVENT") ∷ (filled (entries_of ps) ++ single (codes "END") (codes "VEVENT") ∷ [])
 
--- the lines behind those of the event
+-- the lines after those of the event
 abbrev ends : List Entry
 ends = single (codes "END") (codes "VEVENT") ∷ single (codes "END") (codes "VCALENDAR") ∷ behind_last
 
--- the lines before them
+-- the lines before those of the event, and then `lines`
 abbrev opened : List Entry → List Entry
 opened lines =
     single (codes "BEGIN") (codes "VCALENDAR") ∷ single (codes "VERSION") (codes "2.0")
@@ -160,7 +160,7 @@ calendar_found ps none =
     ap (λ o. option_map (λ xs. single (codes "VERSION") (codes "2.0") ∷ xs) (option_map (λ xs. single (codes "PRODID") (codes "-//Goqlanis//Contents//EN") ∷ xs) (option_map (λ xs. single (codes "BEGIN") (codes "VEVENT") ∷ xs) o)))
     (kept_lines (codes "VCALENDAR") ps ends (single (codes "END") (codes "VEVENT") ∷ []) none refl)
 
--- and in it the event
+-- the event is found in it
 event_found : (ps : List Parameter) → list_any is_end ps ≡ false → component (codes "VEVENT") (inside ps) ≡ Some (filled (entries_of ps))
 event_found ps none =
     kept_lines (codes "VEVENT") ps (single (codes "END") (codes "VEVENT") ∷ []) [] none refl
@@ -171,7 +171,7 @@ event_found ps none =
 same_happening : (h : Happening) (uid summary location description : List ℕ) → uid ≡ h.uid → summary ≡ h.summary → location ≡ h.location → description ≡ h.description → (let x : Happening = record { uid = uid; stamp = h.stamp; span = h.span; summary = summary; location = location; description = description } in x) ≡ h
 same_happening h uid summary location description h₁ h₂ h₃ h₄ = rw (h₁, h₂, h₃, h₄) refl
 
--- the values that lines have
+-- the lines have the values of the event
 record Says (h : Happening) (lines : List Entry) : Type 0 where
   uid : value_of (codes "UID") lines ≡ structured (h.uid ∷ [])
   stamp : read_stamp (value_of (codes "DTSTAMP") lines) ≡ Some h.stamp
@@ -223,7 +223,7 @@ no_ends : (h : Happening) (span : Span) → h.span ≡ span → list_any is_end 
 no_ends h (Days first end) is = rw is refl
 no_ends h (Times begin end) is = rw is refl
 
--- what is read is what was said
+-- reading the text gives back the fields
 pub event_read : (h : Happening) → event_refusal h ≡ None → read_event (event_text h) ≡ Some h
 unfolding event_text read_event
 event_read h is =

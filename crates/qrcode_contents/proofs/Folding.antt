@@ -27,7 +27,7 @@ lead_four c =
     let high : nat_lt (240 + c / 262144) 240 ≡ false = grind (arith, nat_tests) in
     rw (low, middle, high) refl
 
--- a first byte and the bytes that it says follow it
+-- the bytes of a character after its first are not folded
 folded_bytes : (column n b : ℕ) (tail rest : List ℕ) → continuation_len b ≡ n → folded_from n (next_column column (1 + n)) (tail ++ rest) ≡ tail ++ folded_from 0 (next_column column (1 + n)) rest → folded_from 0 column (b ∷ (tail ++ rest)) ≡ fold_break column (1 + n) ++ b ∷ (tail ++ folded_from 0 (next_column column (1 + n)) rest)
 unfolding folded_from
 folded_bytes column n b tail rest is kept =
@@ -46,11 +46,11 @@ folded_by c column rest false false true is₁ is₂ is₃ =
 folded_by c column rest false false false is₁ is₂ is₃ =
     rw (is₁, is₂, is₃) (folded_bytes column 3 (240 + c / 262144) ((128 + c / 4096 % 64) ∷ (128 + c / 64 % 64) ∷ (128 + c % 64) ∷ []) rest (lead_four c) refl)
 
--- a character is not divided
+-- a character is not split by a fold
 folded_character : (c column : ℕ) (rest : List ℕ) → folded_from 0 column (encode_utf8 c ++ rest) ≡ fold_break column (len_utf8 c) ++ (encode_utf8 c ++ folded_from 0 (next_column column (len_utf8 c)) rest)
 folded_character c column rest = folded_by c column rest (nat_lt c 128) (nat_lt c 2048) (nat_lt c 65536) refl refl refl
 
--- the octets of the line behind some characters
+-- the octets of the line after some characters
 abbrev pub column_after : ℕ → List ℕ → ℕ
 column_after column [] = column
 column_after column (c ∷ cs) = column_after (next_column column (len_utf8 c)) cs

@@ -16,7 +16,7 @@ use Rattle.qrcode_contents.proofs.EntryReading.{neither, HasNo, before-at, after
 use Rattle.qrcode_contents.proofs.LinkReading.{HasNo-append, none_of}
 use Rattle.qrcode_contents.proofs.Passing.{all_pass, test_passes}
 
--- powers of ten below the sixth
+-- powers of ten up to the fifth fit 32 bits
 pub power_bounds : (k : ℕ) → k < 6 → (0 < 10 ^ k) × (10 ^ k < 2 ^ 32)
 power_bounds zero is = (lit< tt, lit< tt)
 power_bounds (suc zero) is = (lit< tt, lit< tt)
@@ -30,7 +30,7 @@ power_positive : (k : ℕ) → 0 < 10 ^ k
 power_positive zero = lit< tt
 power_positive (suc k) = let later = power_positive k in rw (pow-suc 10 k) (omega arith)
 
--- a digit before a place
+-- n / place is a digit
 pub digit_below : (n place : ℕ) → 0 < place → n < place * 10 → n / place < 10
 digit_below n place some small =
     ⊎_elim
@@ -49,7 +49,7 @@ fraction_step i rest place later text more inside is left pushed =
     let next : 6 - (i + 1) ≡ 5 - i = omega arith in
     rw (now, next, pushed, left, is) (append_assoc text (first_digit rest (10 ^ (5 - i))) (fraction_digits (5 - i) (rest % 10 ^ (5 - i))))
 
--- what is left behind a digit
+-- the remainder after a digit is small enough for the next one
 pub below_step : (i rest place later : ℕ) → i < 6 → place ≡ 10 ^ (5 - i) → later ≡ rest % place → later < 10 ^ (6 - (i + 1))
 below_step i rest place later inside is left =
     let next : 6 - (i + 1) ≡ 5 - i = omega arith in
@@ -86,7 +86,7 @@ fraction_read (suc k) n small =
     let p = power_positive k in
     value_by k n (n == 0) refl (fraction_read k (n % 10 ^ k) (omega arith))
 
--- no byte below the digits
+-- a byte below the digits, such as a comma, point or sign
 abbrev is_low : ℕ → Bool
 is_low b = nat_lt b 48
 
@@ -115,7 +115,7 @@ IsHigh-fraction (suc k) n =
 low_no : (c b : ℕ) → c < 48 → is_low b ≡ false → (b == c) ≡ false
 low_no c b low is = grind (arith, nat_tests)
 
--- digits are no marks
+-- bytes that are not below the digits are no such characters
 HasNo-high : (c : ℕ) (bytes : List ℕ) → c < 48 → IsHigh bytes → HasNo c bytes
 HasNo-high c bytes low is = none_of is_low (λ b. b == c) (λ b above. low_no c b low above) bytes is
 
@@ -189,7 +189,7 @@ below_word most n small is = grind (arith, nat_tests)
 same_place : (p : Place) (latitude longitude : ℤ) → latitude ≡ p.latitude → longitude ≡ p.longitude → (let q : Place = record { latitude = latitude; longitude = longitude } in q) ≡ p
 same_place p latitude longitude a b = rw (a, b) refl
 
--- what is read is what was said
+-- reading the text gives back the fields
 pub place_read : (p : Place) → place_refusal p ≡ None → read_place (place_text p) ≡ Some p
 unfolding place_text read_place
 place_read p is =

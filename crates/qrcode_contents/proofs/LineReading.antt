@@ -13,16 +13,16 @@ use Rattle.qrcode_contents.proofs.EntryReading.{neither}
 abbrev pub is_feed : ℕ → Bool
 is_feed b = b == 10
 
--- no line feed
+-- the bytes have no line feed
 abbrev pub HasNoFeed : List ℕ → Type 0
 HasNoFeed line = list_any is_feed line ≡ false
 
--- lines of which none has a line feed
+-- lines without line feeds
 abbrev pub HaveNoFeeds : List (List ℕ) → Type 0
 HaveNoFeeds [] = Unit {0}
 HaveNoFeeds (line ∷ lines) = HasNoFeed line × HaveNoFeeds lines
 
--- the first lines of such lines
+-- the first n of such lines
 pub HaveNoFeeds-take : (n : ℕ) (lines : List (List ℕ)) → HaveNoFeeds lines → HaveNoFeeds (take n lines)
 HaveNoFeeds-take zero lines have = tt
 HaveNoFeeds-take (suc n) [] have = tt
@@ -44,7 +44,7 @@ HasNoFeed-append xs ys x y = list_any-append is_feed xs ys ∙ ap₂ (λ a b. a 
 digit_no_feed : (n : ℕ) → n < 10 → HasNoFeed ((48 + n) ∷ [])
 digit_no_feed n small = let no : is_feed (48 + n) ≡ false = grind (arith, nat_tests) in ap (λ x. x || false) no
 
--- digits
+-- a decimal number has no line feed
 pub HasNoFeed-decimal : (n : ℕ) → n < 2 ^ 64 → HasNoFeed (decimal n)
 HasNoFeed-decimal n fits = decimal_by_steps (λ m ds. HasNoFeed ds) digit_no_feed
     (λ m ds low is. HasNoFeed-append ds ((48 + m % 10) ∷ []) is (digit_no_feed (m % 10) (omega arith))) n fits

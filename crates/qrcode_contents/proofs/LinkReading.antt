@@ -19,7 +19,7 @@ use Rattle.qrcode_contents.proofs.PercentReading.{decoded_byte, kept_byte}
 pub HasNo-append : (c : ℕ) (xs ys : List ℕ) → HasNo c xs → HasNo c ys → HasNo c (xs ++ ys)
 HasNo-append c xs ys x y = list_any-append (λ b. b == c) xs ys ∙ ap₂ (λ a b. a || b) x y
 
--- the marks that end parts of links, none of which an encoded part has
+-- the characters that end parts of links (&/:=?), none of which an encoded part has
 abbrev pub is_mark : ℕ → Bool
 is_mark c = c == 38 || c == 47 || c == 58 || c == 61 || c == 63
 
@@ -55,7 +55,7 @@ HasNo-part_byte : (c : ℕ) (part : Part) (b : ℕ) → is_mark c ≡ true → H
 HasNo-part_byte c Path b mark = HasNo-path_byte c b (b == 64) refl mark
 HasNo-part_byte c Value b mark = HasNo-value_byte c b (b == 10) refl mark
 
--- an encoded part has no mark
+-- an encoded part has none of these characters
 pub HasNo-part : (c : ℕ) (part : Part) (bytes : List ℕ) → is_mark c ≡ true → HasNo c (part_text part bytes)
 unfolding part_text
 HasNo-part c part [] mark = refl
@@ -80,7 +80,7 @@ pub path_decoded : (bytes : List ℕ) → decoded (part_text Path bytes) ≡ byt
 unfolding decoded
 path_decoded bytes = ap decoded (sym (append-nil (part_text Path bytes))) ∙ decoded-path bytes [] ∙ append-nil bytes
 
--- carriage returns are left out
+-- a byte that is kept: no carriage return
 abbrev pub is_kept : ℕ → Bool
 is_kept b = not (b == 13)
 
@@ -148,7 +148,7 @@ later_by : (piece key value : List ℕ) (ps : List Parameter) (some : Bool) → 
 later_by piece key value ps true is none name no_return with_it without = rw is (later_filled piece key value ps none name no_return with_it)
 later_by piece key value ps false is none name no_return with_it without = rw is without
 
--- parameters behind a piece are read back, without those that have no value
+-- parameters after a piece are read back, without those that have no value
 pub later_read : (piece : List ℕ) (ps : List Parameter) → HasNo 38 piece → AreParameters ps → read_pieces (piece ++ and_text ps) ≡ read_parameter piece ∷ filled (entries_of ps)
 later_read piece [] none are =
     ap read_pieces (append-nil piece) ∙ ap (map read_parameter) (slice_split_none is_and piece (all_no_and piece none))
@@ -157,7 +157,7 @@ later_read piece ((key, value) ∷ ps) none are =
     (later_read (parameter_text (key, value)) ps (HasNo-parameter key value are.1) are.3)
     (later_read piece ps none are.3)
 
--- parameters behind a path
+-- a path, and parameters after it
 abbrev link_text : List ℕ → List Parameter → List ℕ
 link_text path ps = path ++ query_text (63 ∷ []) ps
 
@@ -190,14 +190,14 @@ pub path_read : (path : List ℕ) (ps : List Parameter) → HasNo 63 path → be
 path_read path [] none = ap (before 63) (append-nil path) ∙ before-none 63 path none
 path_read path ((name, value) ∷ ps) none = path_by path name value ps (is_filled value) refl none (path_read path ps none)
 
--- a weaker test holds of no byte either
+-- if a test holds of no byte, neither does a stronger one
 pub none_of : (p q : ℕ → Bool) → ((b : ℕ) → p b ≡ false → q b ≡ false) → (bytes : List ℕ) → list_any p bytes ≡ false → list_any q bytes ≡ false
 none_of p q implies [] is = refl
 none_of p q implies (b ∷ bytes) is =
     let parts = neither (p b) (list_any p bytes) is in
     ap₂ (λ x y. x || y) (implies b parts.0) (none_of p q implies bytes parts.1)
 
--- a test that fails where another holds fails of all bytes of which that holds
+-- if p holds of all bytes, and q fails where p holds, q holds of none
 pub all_without : (p q : ℕ → Bool) → ((b : ℕ) → p b ≡ true → q b ≡ false) → (bytes : List ℕ) → list_all p bytes ≡ true → list_any q bytes ≡ false
 all_without p q implies [] are = refl
 all_without p q implies (b ∷ bytes) are =
@@ -214,6 +214,6 @@ stray_no_return b is = grind (arith, nat_tests)
 pub no_return : (bytes : List ℕ) → list_any is_control bytes ≡ false → HasNo 13 bytes
 no_return bytes is = none_of is_control (λ b. b == 13) control_no_return bytes is
 
--- nor has one whose only control characters are tabs and line feeds
+-- a text without control characters other than tabs and line feeds has no carriage return
 pub no_stray_return : (bytes : List ℕ) → list_any is_stray bytes ≡ false → HasNo 13 bytes
 no_stray_return bytes is = none_of is_stray (λ b. b == 13) stray_no_return bytes is

@@ -1,4 +1,4 @@
--- The text of a mail is read back.
+-- The link of an e-mail is read back.
 use Rattle.std.proofs.Common.{◌≡◌, ℕ, List, None, Some, codes, refl, ap, ◌∙◌}
 use Rattle.std.specs.List.{list_any}
 use Rattle.qrcode_contents.specs.declared.fields.errors.Field.TheVariants.{Subject, Message}
@@ -14,7 +14,7 @@ use Rattle.qrcode_contents.proofs.Passing.{all_pass, test_passes}
 same_letter : (m : Letter) (address subject body : List ℕ) → address ≡ m.address → subject ≡ m.subject → body ≡ m.body → (let l : Letter = record { address = address; subject = subject; body = body } in l) ≡ m
 same_letter m address subject body a s b = rw (a, s, b) refl
 
--- what is read is what was said
+-- reading the text gives back the fields
 pub mail_read : (m : Letter) → mail_refusal m ≡ None → read_mail (mail_text m) ≡ Some m
 unfolding mail_refusal
 mail_read m is =

@@ -1,4 +1,4 @@
--- Objects are read back, and their check.
+-- Objects and their checksum are read back.
 use Rattle.std.proofs.Common.{◌≡◌, ℕ, zero, suc, nat_le, ◌+◌, ◌-◌, ◌/◌, ◌%◌, ◌<◌, ◌≤◌, ◌||◌, List, [], ◌∷◌, ◌++◌, Bool, true, false, Some, length, take, drop, flat_map, codes, refl, ap, ap₂, ◌∙◌, sym, arith, append_assoc, append-nil}
 use Rattle.std.specs.Option.{option_map}
 use Rattle.std.specs.Str.{bytes_eq}
@@ -15,7 +15,7 @@ use Rattle.qrcode_contents.specs.fields.Objects.{object_text, objects_text, pair
 use Rattle.qrcode_contents.proofs.LinkReading.{entries_of}
 use Rattle.qrcode_contents.proofs.TimeReading.{pair_digits}
 
--- objects that can be read back: two bytes of tag, and at most 99 of a value
+-- objects that can be read back: a tag of two bytes, and a value of at most 99
 abbrev pub AreObjects : List Parameter → Type 0
 AreObjects [] = Unit {0}
 AreObjects (o ∷ os) = (length o.0 ≡ 2) × (length o.1 < 100) × AreObjects os
@@ -29,13 +29,13 @@ pair_is n = omega arith
 value_inside : (value rest : List ℕ) → nat_le (length value) (length (value ++ rest)) ≡ true
 value_inside value rest = let sum = length-append value rest in grind (arith, nat_tests)
 
--- an object with these digits of length
+-- an object is read, given the digits of its length
 object_with : (n a b tens ones : ℕ) (value rest : List ℕ) → is_digit tens ≡ true → is_digit ones ≡ true → pair_value tens ones ≡ length value → read_at_most (suc n) (a ∷ b ∷ tens ∷ ones ∷ (value ++ rest)) ≡ option_map (λ later. single (a ∷ b ∷ []) value ∷ later) (read_at_most n rest)
 unfolding read_at_most
 object_with n a b tens ones value rest first second count =
     rw (first, second, count, value_inside value rest, take-append_seam value rest, drop-append_seam value rest) refl
 
--- an object is read, and then those behind it
+-- an object is read, and then those after it
 object_then : (n : ℕ) (tag value rest : List ℕ) → length tag ≡ 2 → length value < 100 → read_at_most (suc n) (tag ++ (pair_text (length value) ++ (value ++ rest))) ≡ option_map (λ later. single tag value ∷ later) (read_at_most n rest)
 object_then n [] value rest two small = absurd (omega (arith, two))
 object_then n (a ∷ []) value rest two small = absurd (omega (arith, two))
@@ -54,7 +54,7 @@ object_empty : (tag value : List ℕ) (os : List Parameter) → is_filled value 
 unfolding objects_text
 object_empty tag value os is = rw is refl
 
--- how long an object is
+-- the length of objects that begin with this one
 pub length_filled : (tag value : List ℕ) (os : List Parameter) → length tag ≡ 2 → length value < 100 → is_filled value ≡ true → length (objects_text ((tag, value) ∷ os)) ≡ 4 + length value + length (objects_text os)
 length_filled tag value os two small is =
     let digits : length (pair_text (length value)) ≡ 2 = ap length (pair_digits (length value) small) in
@@ -93,7 +93,7 @@ no_objects : objects_text [] ≡ []
 unfolding objects_text
 no_objects = refl
 
--- no object has no length
+-- no objects have length 0
 pub no_length : length (objects_text []) ≡ 0
 no_length = ap length no_objects
 
@@ -105,7 +105,7 @@ objects_within ((tag, value) ∷ os) are n room = object_by n tag value os (is_f
 pub objects_read : (os : List Parameter) → AreObjects os → read_objects (objects_text os) ≡ Some (filled (entries_of os))
 objects_read os are = objects_within os are (length (objects_text os)) (omega arith)
 
--- objects, and their check as the last of them
+-- objects, with their checksum as the last of them
 abbrev pub with_check : List Parameter → List Parameter
 with_check os = os ++ (codes "63", crc_text (crc_of (objects_text os ++ codes "6304"))) ∷ []
 
@@ -123,7 +123,7 @@ checked_objects os =
     flat_map-append object_text os ((codes "63", crc_text (crc_of (objects_text os ++ codes "6304"))) ∷ [])
     ∙ ap (λ x. objects_text os ++ x) (last_object (crc_of (objects_text os ++ codes "6304")))
 
--- four bytes behind others
+-- dropping the four bytes of the checksum gives the length before them
 four_behind : (start : List ℕ) (check : ℕ) → length (start ++ crc_text check) - 4 ≡ length start
 four_behind start check = let sum = length-append start (crc_text check) in omega (arith, sum)
 
@@ -136,7 +136,7 @@ check_passes start =
     let check = crc_text (crc_of start) in
     rw (four_behind start (crc_of start), take-append_seam start check, drop-append_seam start check, same_bytes check) refl
 
--- objects with their check are read back
+-- objects with their checksum are read back
 pub checked_read : (os : List Parameter) → AreObjects os → read_checked (checked_text (objects_text os)) ≡ Some (filled (entries_of (with_check os)))
 checked_read os are =
     let start = objects_text os ++ codes "6304" in
@@ -148,10 +148,10 @@ object_last : (os : List Parameter) (o : Parameter) → objects_text os ++ objec
 unfolding objects_text
 object_last os o = ap (λ x. flat_map object_text os ++ x) (sym (append-nil (object_text o))) ∙ sym (flat_map-append object_text os (o ∷ []))
 
--- an object appended to others, of a tag and what its value is
+-- an object is appended to others, given its tag and value
 pub one_more : {t value new : List ℕ} (os : List Parameter) (tag said : List ℕ) → t ≡ objects_text os → value ≡ said → new ≡ t ++ object_text (tag, value) → new ≡ objects_text (os ++ (tag, said) ∷ [])
 one_more {t} {value} {new} os tag said is same pushed = pushed ∙ ap₂ (λ x v. x ++ object_text (tag, v)) is same ∙ object_last os (tag, said)
 
--- no object is appended yet
+-- an empty text has no objects yet
 pub none_yet : {t : List ℕ} → t ≡ [] → t ≡ objects_text []
 none_yet is = is ∙ sym no_objects

@@ -113,7 +113,7 @@ label_plain k true is =
     (HasNo-append 63 (part_text Path k.issuer) (58 ∷ []) (HasNo-part 63 Path k.issuer refl) refl) (HasNo-part 63 Path k.account refl))
 label_plain k false is = rw is (HasNo-part 63 Path k.account refl)
 
--- the fields that the parameters and the label of a link say
+-- the fields are those of the parameters and the label of a link
 record Says (k : Key) (link : List ℕ) : Type 0 where
   issuer : value_in (codes "issuer") link ≡ k.issuer
   account : read_account (decoded (before 63 link)) ≡ k.account
@@ -154,7 +154,7 @@ parameters_plain k is no_equals no_and number =
     let last : AreParameters (factor_parameter k.factor ∷ []) = (no_equals, no_and, number, tt) in
     (refl, refl, all_without is_base32 (λ b. b == 13) secret_no_return k.secret all, (refl, refl, issuer, (refl, refl, algorithm_plain k.algorithm, (refl, refl, digits_plain k.digits, last))))
 
--- what is read is what was said, by what the passwords change with
+-- reading the link gives back the fields, for each type
 key_by : (factor : Factor) (issuer account secret : List ℕ) (algorithm : Algorithm) (digits : Digits) → let k : Key = record { factor = factor; issuer = issuer; account = account; secret = secret; algorithm = algorithm; digits = digits } in key_refusal k ≡ None → is_a_word factor → read_key (key_text k) ≡ Some k
 key_by (Time period) issuer account secret algorithm digits is fits =
     let k : Key = record { factor = Time period; issuer = issuer; account = account; secret = secret; algorithm = algorithm; digits = digits } in
@@ -169,6 +169,6 @@ key_by (Counter count) issuer account secret algorithm digits is fits =
     key_said k (codes "hotp") (link_of k) (link_says k is are refl)
     (ap (λ v. Some (Counter (digits_value 10 v))) number ∙ ap (λ n. Some (Counter n)) (decimal_is_IsNumeral count fits).1)
 
--- what is read is what was said
+-- reading the text gives back the fields
 pub key_read : (k : Key) → key_refusal k ≡ None → is_a_word k.factor → read_key (key_text k) ≡ Some k
 key_read k is fits = key_by k.factor k.issuer k.account k.secret k.algorithm k.digits is fits

@@ -1,26 +1,26 @@
--- Checks that refuse nothing.
+-- Checks that pass.
 use Rattle.std.proofs.Common.{◌≡◌, Bool, true, false, List, [], ◌∷◌, Option, Some, None, refl}
 use Rattle.qrcode_contents.specs.declared.fields.errors.ContentError.{ContentError}
 use Rattle.qrcode_contents.specs.declared.fields.errors.Field.{Field}
 use Rattle.qrcode_contents.specs.declared.fields.errors.Cause.{Cause}
 use Rattle.qrcode_contents.specs.fields.Refusals.{refused_if, first_refusal}
 
--- where the first of some checks refuses nothing, neither does each
+-- if no check rejects, neither the first nor the later ones do
 pub passes : (first : Option ContentError) (later : List (Option ContentError)) → first_refusal (first ∷ later) ≡ None → (first ≡ None) × (first_refusal later ≡ None)
 passes None later is = (refl, is)
 passes (Some e) later is = cc
 
--- none of some checks refuses
+-- all checks pass
 abbrev pub AllPass : List (Option ContentError) → Type 0
 AllPass [] = Unit {0}
 AllPass (check ∷ checks) = (check ≡ None) × AllPass checks
 
--- where no check refuses, none of them does
+-- if there is no first error, all checks pass
 pub all_pass : (checks : List (Option ContentError)) → first_refusal checks ≡ None → AllPass checks
 all_pass [] is = tt
 all_pass (check ∷ checks) is = let first = passes check checks is in (first.0, all_pass checks first.1)
 
--- a test that refuses nothing does not hold
+-- if a check passes, its test fails
 pub test_passes : (test : Bool) (field : Field) (cause : Cause) → refused_if test field cause ≡ None → test ≡ false
 test_passes true field cause is = cc
 test_passes false field cause is = refl

@@ -24,7 +24,7 @@ empty_from : (bytes : List ℕ) → is_filled bytes ≡ false → bytes ≡ []
 empty_from [] is = refl
 empty_from (b ∷ bytes) is = let some : is_filled (b ∷ bytes) ≡ true = grind (arith, nat_tests) in cc
 
--- lines of which empty ones at the end may be left out
+-- empty lines at the end may be left out
 record Kept (count : ℕ) (a b c d : List ℕ) : Type 0 where
   first : get_or (take count (a ∷ b ∷ c ∷ d ∷ [])) 0 [] ≡ a
   second : get_or (take count (a ∷ b ∷ c ∷ d ∷ [])) 1 [] ≡ b
@@ -41,7 +41,7 @@ kept_by a b c d true false false false at bt ct dt =
 kept_by a b c d false false false false at bt ct dt =
     record { first = sym (empty_from a at); second = sym (empty_from b bt); third = sym (empty_from c ct); fourth = sym (empty_from d dt) }
 
--- fields that have no control character have no line feed
+-- fields without control characters have no line feeds
 pub controls_pass : (fields : List (Field × List ℕ)) → control_refusal fields ≡ None → HaveNoFeeds (map (λ field. field.1) fields)
 controls_pass [] is = tt
 controls_pass (field ∷ fields) is =
@@ -61,7 +61,7 @@ lines_have_none t fits is =
     let later = HaveNoFeeds-take (later_count t) (t.purpose ∷ t.reference ∷ t.message ∷ t.information ∷ []) have.1.1.1 in
     (refl, (version_none t.version, (refl, (refl, (have.0, (have.1.0, (have.1.1.0, (HasNoFeed-amount t.cents fits, later))))))))
 
--- an amount that is not refused fits
+-- an amount that passes its check fits 64 bits
 amount_fits : (t : Transfer) → bank_refusal t ≡ None → t.cents < 2 ^ 64
 unfolding bank_refusal
 amount_fits t is =
@@ -78,7 +78,7 @@ named : (v : PaymentVersion) → named_version (version_name v) ≡ Some v
 named One = refl
 named Two = refl
 
--- the lines say the transfer
+-- the lines give the transfer
 lines_say : (t : Transfer) → t.cents < 2 ^ 64 → transfer_of (line_at (payment_lines t)) ≡ Some t
 lines_say t fits =
     let line = line_at (payment_lines t) in
@@ -87,7 +87,7 @@ lines_say t fits =
     ap (option_and_then (λ version. option_map (transfer_from line version) (behind (codes "EUR") (line 7)))) (named t.version)
     ∙ ap Some same
 
--- what is read is what was said
+-- reading the text gives back the fields
 pub payment_read : (t : Transfer) → field_checks t ≡ None → read_payment (payment_text t) ≡ Some t
 unfolding payment_text read_payment field_checks
 payment_read t is =

@@ -9,7 +9,7 @@ hex_back n = grind (arith, nat_tests)
 no_percent : (b : ℕ) → is_unreserved b ≡ true → (b == 37) ≡ false
 no_percent b is = grind (arith, nat_tests)
 
--- a byte that is no percent sign stands for itself
+-- a byte that is no percent sign is decoded as it is
 pub kept_byte : (b : ℕ) (rest : List ℕ) → (b == 37) ≡ false → decoded (b ∷ rest) ≡ b ∷ decoded rest
 unfolding decoded
 kept_byte b [] is = refl
@@ -28,7 +28,7 @@ unfolding decoded
 decoded_byte b rest true is = rw is (kept_byte b rest (no_percent b is))
 decoded_byte b rest false is = rw is (ap (λ x. x ∷ decoded rest) (split_byte b))
 
--- what was encoded is decoded
+-- decoding gives back the encoded bytes
 pub decoded-encoded : (bytes : List ℕ) → decoded (encoded bytes) ≡ bytes
 unfolding encoded decoded
 decoded-encoded [] = refl

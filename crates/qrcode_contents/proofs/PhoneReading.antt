@@ -13,7 +13,7 @@ use Rattle.qrcode_contents.proofs.EntryReading.{both, second_fails, before-at, a
 use Rattle.qrcode_contents.proofs.LinkReading.{all_without}
 use Rattle.qrcode_contents.proofs.Passing.{all_pass, test_passes}
 
--- a test whose denial does not hold
+-- if `not a` fails, a holds
 pub holds : (b : Bool) → not b ≡ false → b ≡ true
 holds true is = refl
 holds false is = cc
@@ -21,7 +21,7 @@ holds false is = cc
 no_query : (b : ℕ) → is_dialled b ≡ true → (b == 63) ≡ false
 no_query b is = grind (arith, nat_tests)
 
--- a text that is not refused as a number has the bytes of one
+-- a text that passes the check for numbers has only bytes of numbers
 pub all_dialled : (text : List ℕ) → is_no_number text ≡ false → list_all is_dialled text ≡ true
 all_dialled [] is = refl
 all_dialled (b ∷ text) is =
@@ -35,7 +35,7 @@ dialled number is =
     let none = all_pass (phone_checks number) is in
     all_dialled number (test_passes (is_no_number number) Phone Character none.1.0)
 
--- what is read is what was said
+-- reading the text gives back the fields
 pub message_read : (number body : List ℕ) → phone_refusal number ≡ None → decoded (encoded body) ≡ body → read_message (message_text number body) ≡ Some (number, body)
 message_read number body none decodes =
     let is = all_without is_dialled (λ b. b == 63) no_query number (dialled number none) in

@@ -1,4 +1,4 @@
--- Lines that are appended part by part.
+-- Lines that are appended one after another.
 use Rattle.std.proofs.Common.{◌≡◌, ℕ, List, [], ◌∷◌, ◌++◌, ap, ◌∙◌, sym, append_assoc, append-nil}
 use Rattle.std.proofs.lemmas.List.Concat.{flat_map-append}
 use Rattle.qrcode_contents.specs.fields.ContentLines.{content_line, content_text}
@@ -12,7 +12,7 @@ two_lines text first end = simp (append_assoc, append-nil)
 grouped : (start a b c d finish : List ℕ) → ((((start ++ (a ++ [])) ++ b) ++ c) ++ d) ++ finish ≡ start ++ (a ++ (b ++ (c ++ (d ++ finish))))
 grouped start a b c d finish = simp (append_assoc, append-nil)
 
--- the lines of an event between those of its calendar
+-- the lines of an event, appended between those of its calendar
 pub event_pushed : (uid stamp : Parameter) (span texts : List Parameter) (t₀ t₁ t₂ t₃ t₄ t₅ : List ℕ) → t₀ ≡ content_text first_lines → t₁ ≡ t₀ ++ content_text (uid ∷ []) → t₂ ≡ t₁ ++ content_line stamp → t₃ ≡ t₂ ++ content_text span → t₄ ≡ t₃ ++ content_text texts → t₅ ≡ t₄ ++ content_text last_lines → t₅ ≡ content_text (first_lines ++ ((uid ∷ stamp ∷ (span ++ texts)) ++ last_lines))
 event_pushed uid stamp span texts t₀ t₁ t₂ t₃ t₄ t₅ h₀ h₁ h₂ h₃ h₄ h₅ =
     rw (h₅, h₄, h₃, h₂, h₁, h₀)

@@ -13,7 +13,7 @@ use Rattle.qrcode_contents.specs.declared.times.Day.{Day}
 use Rattle.qrcode_contents.specs.declared.times.Moment.{Moment}
 use Rattle.qrcode_contents.specs.Times.{is_leap, days_in, is_day, wrong_day, is_moment, pair_text, day_text, date_text, said_or_none, moment_text, day_in, read_day, read_date, read_or_none, read_moment}
 
--- two digits, one by one
+-- a number below 100 has two digits
 pub pair_digits : (n : ℕ) → n < 100 → pair_text n ≡ (48 + n / 10) ∷ (48 + n % 10) ∷ []
 pair_digits n small =
     ap₂ (λ xs ys. xs ++ ys) (decimal_digit (n / 10) (omega arith)) (decimal_digit (n % 10) (omega arith))
@@ -37,7 +37,7 @@ days_at_most year month = by_tests (month == 2) (is_leap year) (month == 4 || mo
     by_tests false leap true = omega arith
     by_tests false leap false = omega arith
 
--- numbers of two digits
+-- the numbers of a day fit their digits
 record IsSmall (d : Day) : Type 0 where
   year : d.year < 10000
   month : d.month < 100
@@ -52,7 +52,7 @@ small_day d is =
     let years = both (nat_lt d.year 10000) (nat_lt 0 d.month) months.0 in
     record { year = grind (arith, nat_tests, years.0); month = grind (arith, nat_tests, months.1); day = grind (arith, nat_tests, last.1, most) }
 
--- the digits of a day before other bytes
+-- the digits of a day, before other bytes
 abbrev pub digits_then : Day → List ℕ → List ℕ
 digits_then d rest =
     (48 + d.year / 100 / 10) ∷ (48 + d.year / 100 % 10) ∷ (48 + d.year % 100 / 10) ∷ (48 + d.year % 100 % 10)
@@ -80,7 +80,7 @@ day_read d is =
     let small = small_day d is in
     ap read_day (day_digits d small) ∙ ap Some (day_begins d [] small)
 
--- what stands behind the day of a moment
+-- the text after the day of a moment
 abbrev clock_digits : Moment → List ℕ
 clock_digits m =
     84 ∷ (48 + m.hour / 10) ∷ (48 + m.hour % 10) ∷ (48 + m.minute / 10) ∷ (48 + m.minute % 10) ∷ (48 + m.second / 10) ∷ (48 + m.second % 10) ∷ 90 ∷ []
@@ -89,7 +89,7 @@ clock_digits m =
 abbrev moment_digits : Moment → List ℕ
 moment_digits m = digits_then m.day (clock_digits m)
 
--- numbers of two digits of a moment
+-- the numbers of a moment fit their digits
 record IsShort (m : Moment) : Type 0 where
   day : IsSmall m.day
   hour : m.hour < 100
@@ -144,7 +144,7 @@ plain_day d rest is =
 pub IsPlain-day : (d : Day) → is_day d ≡ true → IsPlain (day_text d)
 IsPlain-day d is = subst IsPlain (sym (day_digits d (small_day d is))) (plain_day d [] plain_nothing)
 
--- nor has that of a moment
+-- the text of a moment has no line break
 pub IsPlain-moment : (m : Moment) → is_moment m ≡ true → IsPlain (moment_text m)
 IsPlain-moment m is =
     let zone : IsPlain (90 ∷ []) = record { no_return = refl; no_feed = refl } in
@@ -155,16 +155,16 @@ IsPlain-moment m is =
 pub filled_moment : (m : Moment) → is_moment m ≡ true → is_filled (moment_text m) ≡ true
 filled_moment m is = ap is_filled (moment_written m (short_moment m is))
 
--- it says something
+-- the text of a day is not empty
 pub filled_day : (d : Day) → is_day d ≡ true → is_filled (day_text d) ≡ true
 filled_day d is = ap is_filled (day_digits d (small_day d is))
 
--- a test whose denial does not hold
+-- if `not a` fails, a holds
 pub allowed : (a : Bool) → not a ≡ false → a ≡ true
 allowed true is = refl
 allowed false is = cc
 
--- a day that is left out, or that is said
+-- a day that is given or left out is read back
 pub day_or_none_read : (day : Option Day) → wrong_day day ≡ false → read_or_none read_day (said_or_none day_text day) ≡ Some day
 day_or_none_read None is = refl
 day_or_none_read (Some d) is = let valid = allowed (is_day d) is in rw (filled_day d valid, day_read d valid) refl
@@ -185,7 +185,7 @@ date_written d is =
 digit_no_hyphen : (n : ℕ) → ((48 + n) == 45) ≡ false
 digit_no_hyphen n = grind (arith, nat_tests)
 
--- the digits alone
+-- without hyphens, the digits of the day remain
 kept_digits : (d : Day) → filter (λ b. not (b == 45)) (date_digits d) ≡ digits_then d []
 kept_digits d =
     rw (digit_no_hyphen (d.year / 100 / 10), digit_no_hyphen (d.year / 100 % 10), digit_no_hyphen (d.year % 100 / 10), digit_no_hyphen (d.year % 100 % 10), digit_no_hyphen (d.month / 10), digit_no_hyphen (d.month % 10), digit_no_hyphen (d.day / 10), digit_no_hyphen (d.day % 10)) refl
@@ -198,7 +198,7 @@ date_read d is =
     ∙ ap read_day (kept_digits d ∙ sym (day_digits d small))
     ∙ day_read d is
 
--- a day with hyphens that is left out, or that is said
+-- a day with hyphens that is given or left out is read back
 pub date_or_none_read : (day : Option Day) → wrong_day day ≡ false → read_or_none read_date (said_or_none date_text day) ≡ Some day
 date_or_none_read None is = refl
 date_or_none_read (Some d) is =
@@ -209,7 +209,7 @@ date_or_none_read (Some d) is =
 plain_hyphen : (rest : List ℕ) → IsPlain rest → IsPlain (45 ∷ rest)
 plain_hyphen rest is = record { no_return = is.no_return; no_feed = is.no_feed }
 
--- and its text has no line break
+-- the text of a day with hyphens has no line break
 pub IsPlain-date : (day : Option Day) → wrong_day day ≡ false → IsPlain (said_or_none date_text day)
 IsPlain-date None is = plain_nothing
 IsPlain-date (Some d) is =

@@ -22,7 +22,7 @@ network_said Wpa ssid password false = refl
 network_said Wpa3 ssid password true = refl
 network_said Wpa3 ssid password false = refl
 
--- what is read is what was said
+-- reading the text gives back the fields
 pub wifi_read : (n : Network) → read_wifi (wifi_text n) ≡ Some n
 wifi_read n =
     ap (option_and_then network_of) (read_entries-text (codes "WIFI:") (wifi_entries n) refl)

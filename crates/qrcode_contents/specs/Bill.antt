@@ -1,4 +1,4 @@
--- Texts of Swiss QR bills, line by line, by the Swiss Implementation Guidelines QR-bill of SIX, version 2.
+-- Swiss QR-bills, line by line, by the Swiss Implementation Guidelines QR-bill of SIX, version 2.
 use Rattle.std.specs.Prelude.{ℕ, nat_lt, ◌+◌, ◌==◌, ◌&&◌, ◌||◌, not, Bool, false, List, [], ◌∷◌, ◌++◌, length, take, drop, count_by, slice_index_or, Option, Some, None, codes, if◌then◌else◌}
 use Rattle.std.specs.Str.{bytes_eq, chars}
 use Rattle.std.specs.List.{list_all, list_any, starts_with}
@@ -20,7 +20,7 @@ use Rattle.qrcode_contents.specs.fields.Lines.{lines_text, read_lines, line_at}
 use Rattle.qrcode_contents.specs.fields.Numbers.{carry_of}
 use Rattle.qrcode_contents.specs.fields.Refusals.{refused_if, first_refusal}
 
-pub record Addressee : Type 0 where  -- a name with its address
+pub record Addressee : Type 0 where  -- the fields of a name with its address, as bytes
   pub name : List ℕ
   pub street : List ℕ
   pub number : List ℕ
@@ -28,7 +28,7 @@ pub record Addressee : Type 0 where  -- a name with its address
   pub city : List ℕ
   pub country : List ℕ
 
-pub record Invoice : Type 0 where  -- a bill as its text says it
+pub record Invoice : Type 0 where  -- the fields of a bill, with texts as bytes
   pub iban : List ℕ
   pub creditor : Addressee
   pub cents : Option ℕ
@@ -47,7 +47,7 @@ addressee_of p = record {
   country = p.country.now;
 }
 
-abbrev pub invoice_of : Bill → Invoice  -- what is said of a bill
+abbrev pub invoice_of : Bill → Invoice  -- the fields of a `Bill`
 invoice_of b = record {
   iban = b.iban.now;
   creditor = addressee_of b.creditor;
@@ -62,28 +62,28 @@ invoice_of b = record {
 abbrev pub is_latin : ℕ → Bool
 is_latin c = (nat_lt 31 c && nat_lt c 127) || (nat_lt 159 c && nat_lt c 384) || (nat_lt 535 c && nat_lt c 540) || c == 8364
 
-abbrev pub foreign_count : List ℕ → ℕ  -- how many characters are others
+abbrev pub foreign_count : List ℕ → ℕ  -- how many characters are none of these
 foreign_count text = count_by (λ c. not (is_latin c)) (chars text)
 
-abbrev pub is_unsaid : List ℕ → Bool  -- what no line says: a line break, or a character that the guidelines do not have
+abbrev pub is_unsaid : List ℕ → Bool  -- a text with a character that no line may have: a control character, or one that the guidelines exclude
 is_unsaid text = list_any is_control text || not (foreign_count text == 0)
 
-abbrev pub is_country : List ℕ → Bool  -- a code of ISO 3166-1
+abbrev pub is_country : List ℕ → Bool  -- the form of a country code (ISO 3166-1): two capitals
 is_country text = length text == 2 && list_all is_capital text
 
-abbrev pub begins_with : List ℕ → List ℕ → Bool  -- a text with this beginning
+abbrev pub begins_with : List ℕ → List ℕ → Bool  -- the text starts with this
 begins_with start text = starts_with (λ a b. a == b) text start
 
--- an account of Switzerland or Liechtenstein: behind the check digits five digits of the institution and twelve letters and digits
+-- the form of an IBAN of Switzerland or Liechtenstein: after the check digits five digits of the institution and twelve capitals and digits
 abbrev pub is_account : List ℕ → Bool
 is_account text =
     length text == 21 && has_form text && (begins_with (codes "CH") text || begins_with (codes "LI") text) && list_all is_digit (take 5 (drop 4 text))
 
--- an account whose institution has a number from 30000 to 31999, to which QR references belong
+-- a QR-IBAN: the number of its institution is 30000 to 31999, and it goes with QR references
 abbrev pub is_qr_account : List ℕ → Bool
 is_qr_account text = nat_lt 5 (length text) && slice_index_or text 4 0 == 51 && (slice_index_or text 5 0 == 48 || slice_index_or text 5 0 == 49)
 
-abbrev pub is_creditor_reference : List ℕ → Bool  -- the kinds of references: none, one of ISO 11649, and a QR reference
+abbrev pub is_creditor_reference : List ℕ → Bool  -- the types of references: none, one of ISO 11649 (it starts with RF), and a QR reference (any other)
 is_creditor_reference text = begins_with (codes "RF") text
 
 abbrev pub is_qr_reference : List ℕ → Bool
@@ -93,7 +93,7 @@ abbrev pub reference_kind : List ℕ → List ℕ
 reference_kind text =
     if not (is_filled text) then codes "NON" else (if is_creditor_reference text then codes "SCOR" else codes "QRR")
 
-abbrev pub text_checks : Addressee → List (Option ContentError)  -- texts with what no line says
+abbrev pub text_checks : Addressee → List (Option ContentError)  -- the checks for texts with a character that no line may have
 text_checks p =
     refused_if (is_unsaid p.name) Name Character
     ∷ refused_if (is_unsaid p.street) Street Character
@@ -103,7 +103,7 @@ text_checks p =
     ∷ refused_if (is_unsaid p.country) Country Character
     ∷ []
 
-abbrev pub length_checks : Addressee → List (Option ContentError)  -- what is too long
+abbrev pub length_checks : Addressee → List (Option ContentError)  -- the checks for long texts
 length_checks p =
     refused_if (nat_lt 70 (length (chars p.name))) Name TooLong
     ∷ refused_if (nat_lt 70 (length (chars p.street))) Street TooLong
@@ -112,7 +112,7 @@ length_checks p =
     ∷ refused_if (nat_lt 35 (length (chars p.city))) City TooLong
     ∷ []
 
-abbrev pub form_checks : Addressee → List (Option ContentError)  -- what is missing, and what is no country
+abbrev pub form_checks : Addressee → List (Option ContentError)  -- the checks for missing fields and a wrong country code
 form_checks p =
     refused_if (is_empty p.name) Name Empty
     ∷ refused_if (is_empty p.code) PostalCode Empty
@@ -132,15 +132,15 @@ length_refusal p = first_refusal (length_checks p)
 unfoldable pub form_refusal : Addressee → Option ContentError
 form_refusal p = first_refusal (form_checks p)
 
-unfoldable pub named_refusal : Addressee → Option ContentError  -- what is refused of somebody who is named
+unfoldable pub named_refusal : Addressee → Option ContentError  -- the error of the first wrong field of a party who is named
 named_refusal p = first_refusal (form_refusal p ∷ length_refusal p ∷ [])
 
-abbrev pub is_nobody : Addressee → Bool  -- nobody is named
+abbrev pub is_nobody : Addressee → Bool  -- all fields are empty: nobody is named
 is_nobody p =
     not (is_filled p.name) && not (is_filled p.street) && not (is_filled p.number) && not (is_filled p.code)
     && not (is_filled p.city) && not (is_filled p.country)
 
-abbrev pub debtor_field : Field → Field  -- the debtor's field that this one of an address is
+abbrev pub debtor_field : Field → Field  -- the debtor's field for this field of an address
 debtor_field Name = DebtorName
 debtor_field Street = DebtorStreet
 debtor_field Number = DebtorNumber
@@ -149,21 +149,21 @@ debtor_field City = DebtorCity
 debtor_field Country = DebtorCountry
 debtor_field field = field
 
-abbrev pub of_debtor : ContentError → ContentError  -- the same refusal, of the debtor's field
+abbrev pub of_debtor : ContentError → ContentError  -- the same error, of the debtor's field
 of_debtor (Refused field cause) = Refused (debtor_field field) cause
 of_debtor OutOfMemory = OutOfMemory
 
-unfoldable pub party_refusal : Addressee → Option ContentError  -- what is refused of somebody, or of nobody
+unfoldable pub party_refusal : Addressee → Option ContentError  -- the error of the first wrong field of a party who need not be named
 party_refusal p = first_refusal (text_refusal p ∷ (if is_nobody p then None else named_refusal p) ∷ [])
 
-unfoldable pub debtor_refusal : Addressee → Option ContentError  -- the same of the debtor
+unfoldable pub debtor_refusal : Addressee → Option ContentError  -- the error of the first wrong field of a debtor, who need not be named
 debtor_refusal p = option_map of_debtor (party_refusal p)
 
-abbrev pub is_out_of_range : Option ℕ → Bool  -- an amount that is no amount of a bill
+abbrev pub is_out_of_range : Option ℕ → Bool  -- an amount is given, but not 0.01 to 999999999.99
 is_out_of_range None = false
 is_out_of_range (Some cents) = nat_lt cents 1 || nat_lt 99999999999 cents
 
-abbrev pub account_checks : Invoice → List (Option ContentError)  -- what is no account, and an amount out of range
+abbrev pub account_checks : Invoice → List (Option ContentError)  -- the checks for a wrong IBAN and an amount out of range
 account_checks b =
     refused_if (is_unsaid b.iban) Iban Character
     ∷ refused_if (is_empty b.iban) Iban Empty
@@ -177,7 +177,7 @@ account_checks b =
 unfoldable pub account_refusal : Invoice → Option ContentError
 account_refusal b = first_refusal (account_checks b)
 
-abbrev pub message_checks : Invoice → List (Option ContentError)  -- a message with what no line says, or a long one
+abbrev pub message_checks : Invoice → List (Option ContentError)  -- the checks for characters that no line may have in reference and message, and for a long message
 message_checks b =
     refused_if (is_unsaid b.reference) Reference Character
     ∷ refused_if (is_unsaid b.message) Message Character
@@ -187,8 +187,8 @@ message_checks b =
 unfoldable pub message_refusal : Invoice → Option ContentError
 message_refusal b = first_refusal (message_checks b)
 
--- what is wrong with a reference: a QR reference has 27 digits, of which the last is the check digit; then what is to be one of ISO 11649, and is none;
--- then no reference to an account that wants a QR reference, and one that does not belong to the account
+-- the checks of the reference, in order: a QR reference has 27 digits, of which the last is the check digit; one that starts with RF is right by ISO
+-- 11649; a QR-IBAN has a reference; the types of IBAN and reference match
 abbrev pub reference_checks : Invoice → List (Option ContentError)
 reference_checks b =
     refused_if (is_qr_reference b.reference && not (list_all is_digit b.reference)) Reference Character
@@ -207,7 +207,7 @@ reference_checks b =
 unfoldable pub reference_refusal : Invoice → Option ContentError
 reference_refusal b = first_refusal (reference_checks b)
 
-abbrev pub bill_checks : Invoice → List (Option ContentError)  -- what the text cannot say
+abbrev pub bill_checks : Invoice → List (Option ContentError)  -- the checks of a bill, in order
 bill_checks b =
     account_refusal b ∷ text_refusal b.creditor ∷ named_refusal b.creditor ∷ debtor_refusal b.debtor ∷ message_refusal b
     ∷ reference_refusal b ∷ []
@@ -219,20 +219,20 @@ abbrev pub currency_name : Currency → List ℕ  -- the line of a currency
 currency_name Franc = codes "CHF"
 currency_name Euro = codes "EUR"
 
-abbrev pub address_kind : Addressee → List ℕ  -- the kind of an address: structured, or none
+abbrev pub address_kind : Addressee → List ℕ  -- the type of an address: S (structured), or empty if nobody is named
 address_kind p = if is_nobody p then [] else codes "S"
 
 abbrev pub address_lines : Addressee → List (List ℕ)  -- the lines of an address
 address_lines p = address_kind p ∷ p.name ∷ p.street ∷ p.number ∷ p.code ∷ p.city ∷ p.country ∷ []
 
-abbrev pub unused_lines : List (List ℕ)  -- the lines of somebody who is never named: the ultimate creditor
+abbrev pub unused_lines : List (List ℕ)  -- the empty lines of the ultimate creditor, who is never named
 unused_lines = [] ∷ [] ∷ [] ∷ [] ∷ [] ∷ [] ∷ [] ∷ []
 
-abbrev pub amount_line : Option ℕ → List ℕ  -- the line of an amount, which may be left open
+abbrev pub amount_line : Option ℕ → List ℕ  -- the line of an amount; empty if it is left open
 amount_line None = []
 amount_line (Some cents) = amount_text cents
 
-abbrev pub end_lines : Invoice → List (List ℕ)  -- the lines of the reference, the message, and the end
+abbrev pub end_lines : Invoice → List (List ℕ)  -- the lines of the reference with its type, the message, and the end
 end_lines b = reference_kind b.reference ∷ b.reference ∷ b.message ∷ codes "EPD" ∷ []
 
 -- the lines: kind of text, version, character set (UTF-8), and the fields
@@ -245,14 +245,14 @@ bill_lines b =
 unfoldable pub bill_text : Invoice → List ℕ  -- the text of a bill
 bill_text b = lines_text (bill_lines b)
 
-abbrev pub read_cents : List ℕ → Option ℕ  -- the amount that a line says
+abbrev pub read_cents : List ℕ → Option ℕ  -- the amount of a line; None, left open, if it is empty
 read_cents line = if is_filled line then Some (read_amount line) else None
 
-abbrev pub read_currency : List ℕ → Option Currency  -- the currency that a line says
+abbrev pub read_currency : List ℕ → Option Currency  -- the currency of a line; None if it is unknown
 read_currency line =
     if bytes_eq line (codes "CHF") then Some Franc else (if bytes_eq line (codes "EUR") then Some Euro else None)
 
-abbrev pub addressee_at : (ℕ → List ℕ) → ℕ → Addressee  -- the address that lines say
+abbrev pub addressee_at : (ℕ → List ℕ) → ℕ → Addressee  -- the address in the six lines from this one on
 addressee_at line first = record {
   name = line first;
   street = line (first + 1);
@@ -262,10 +262,10 @@ addressee_at line first = record {
   country = line (first + 5);
 }
 
-abbrev pub has_kind : (ℕ → List ℕ) → ℕ → Bool  -- the line before an address says its kind
+abbrev pub has_kind : (ℕ → List ℕ) → ℕ → Bool  -- the line before an address is its type
 has_kind line kind = bytes_eq (line kind) (address_kind (addressee_at line (kind + 1)))
 
-abbrev pub invoice_in : (ℕ → List ℕ) → Option Invoice  -- the bill that lines say
+abbrev pub invoice_in : (ℕ → List ℕ) → Option Invoice  -- the bill of these lines; None if they cannot be read
 invoice_in line =
     if bytes_eq (line 0) (codes "SPC") && bytes_eq (line 1) (codes "0200") && bytes_eq (line 2) (codes "1") && has_kind line 4 && has_kind line 20 && bytes_eq (line 27) (reference_kind (line 28)) && bytes_eq (line 30) (codes "EPD")
     then option_map (λ currency. record {
@@ -279,5 +279,5 @@ invoice_in line =
     }) (read_currency (line 19))
     else None
 
-unfoldable pub read_bill : List ℕ → Option Invoice  -- the bill that a text says
+unfoldable pub read_bill : List ℕ → Option Invoice  -- the bill of a text; None if it cannot be read
 read_bill text = invoice_in (line_at (read_lines text))

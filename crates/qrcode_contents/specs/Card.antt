@@ -1,4 +1,4 @@
--- Texts of contacts as vCard 3.0 (RFC 2426).
+-- Contacts as vCard 3.0 (RFC 2426).
 use Rattle.std.specs.Prelude.{◌≡◌, ℕ, ◌&&◌, List, [], ◌∷◌, ◌++◌, map, Option, Some, None, codes, if◌then◌else◌, refl}
 use Rattle.std.specs.Str.{bytes_eq}
 use Rattle.std.specs.List.{list_any}
@@ -19,7 +19,7 @@ use Rattle.qrcode_contents.specs.fields.Refusals.{refused_if, first_refusal}
 use Rattle.qrcode_contents.specs.Phone.{is_no_number}
 use Rattle.qrcode_contents.specs.Times.{wrong_day, date_text, said_or_none, read_day, read_date, read_or_none}
 
-pub record Contact : Type 0 where  -- a contact as its card says it
+pub record Contact : Type 0 where  -- the fields of a card, with texts as bytes
   pub person : Person
   pub name : List ℕ
   pub organisation : List ℕ
@@ -28,7 +28,7 @@ pub record Contact : Type 0 where  -- a contact as its card says it
   pub work_phone : List ℕ
   pub home_phone : List ℕ
 
-abbrev pub contact_of : Card → Contact  -- what is said of a contact
+abbrev pub contact_of : Card → Contact  -- the fields of a `Card`
 contact_of c = record {
   person = person_of c.contact;
   name = c.name.now;
@@ -39,25 +39,25 @@ contact_of c = record {
   home_phone = c.home_phone.now;
 }
 
-abbrev pub first_fields : Contact → List (Field × List ℕ)  -- fields of texts, in which tabs and line feeds may stand
+abbrev pub first_fields : Contact → List (Field × List ℕ)  -- texts that may have tabs and line feeds
 first_fields c =
     (Name, c.name) ∷ (Family, c.person.family) ∷ (Given, c.person.given) ∷ (Organisation, c.organisation) ∷ (Title, c.title) ∷ []
 
-abbrev pub last_fields : Contact → List (Field × List ℕ)  -- more of these
+abbrev pub last_fields : Contact → List (Field × List ℕ)  -- more texts that may have tabs and line feeds
 last_fields c =
     (Email, c.person.email) ∷ (Note, c.person.note) ∷ (Street, c.person.street) ∷ (City, c.person.city) ∷ (Region, c.person.region) ∷ (PostalCode, c.person.code) ∷ (Country, c.person.country) ∷ []
 
-abbrev pub numbers_of : Contact → List (Field × List ℕ)  -- telephone numbers
+abbrev pub numbers_of : Contact → List (Field × List ℕ)  -- the telephone numbers
 numbers_of c = (Phone, c.person.phone) ∷ (Mobile, c.mobile) ∷ (WorkPhone, c.work_phone) ∷ (HomePhone, c.home_phone) ∷ []
 
-abbrev pub number_checks : List (Field × List ℕ) → List (Option ContentError)  -- of each field, what is no telephone number
+abbrev pub number_checks : List (Field × List ℕ) → List (Option ContentError)  -- for each field, the check that it is empty or a telephone number
 number_checks fields = map (λ field. refused_if (is_no_number field.1) field.0 Character) fields
 
-abbrev pub first_checks : Contact → List (Option ContentError)  -- missing names, and control characters
+abbrev pub first_checks : Contact → List (Option ContentError)  -- the checks for missing names and control characters
 first_checks c =
     refused_if (is_empty c.name) Name Empty ∷ refused_if (is_empty c.person.family) Family Empty ∷ stray_checks (first_fields c)
 
--- control characters, of which none may stand in an address of the web, and a birthday that the calendar has not
+-- the checks for control characters (in the web address tabs and line feeds too) and for a birthday that does not exist
 abbrev pub last_checks : Contact → List (Option ContentError)
 last_checks c =
     refused_if (list_any is_control c.person.url) Url ControlCharacter ∷ refused_if (wrong_day c.person.birthday) Birthday Range
@@ -72,17 +72,17 @@ numbers_refused c = first_refusal (number_checks (numbers_of c))
 unfoldable pub last_refused : Contact → Option ContentError
 last_refused c = first_refusal (last_checks c)
 
-abbrev pub card_refusal : Contact → Option ContentError  -- what the card cannot say
+abbrev pub card_refusal : Contact → Option ContentError  -- the error of the first wrong field
 card_refusal c = first_refusal (first_refused c ∷ numbers_refused c ∷ last_refused c ∷ [])
 
--- lines of one text before the addresses; a number may be that of a mobile telephone, at work or at home
+-- lines of one text before the addresses (URL, ADR); a telephone number may be mobile, at work or at home
 abbrev pub first_texts : Contact → List Parameter
 first_texts c =
     (codes "FN", c.name) ∷ (codes "ORG", c.organisation) ∷ (codes "TITLE", c.title) ∷ (codes "TEL", c.person.phone)
     ∷ (codes "TEL;TYPE=CELL", c.mobile) ∷ (codes "TEL;TYPE=WORK", c.work_phone) ∷ (codes "TEL;TYPE=HOME", c.home_phone)
     ∷ (codes "EMAIL", c.person.email) ∷ []
 
-abbrev pub last_texts : Contact → List Parameter  -- those behind the addresses
+abbrev pub last_texts : Contact → List Parameter  -- lines of one text after the addresses
 last_texts c = (codes "BDAY", said_or_none date_text c.person.birthday) ∷ (codes "NOTE", c.person.note) ∷ []
 
 abbrev pub name_lines : Contact → List Parameter  -- the lines of the name and of the first texts
@@ -102,7 +102,7 @@ card_text c = content_text (card_lines c)
 abbrev pub text_in : List ℕ → List Entry → List ℕ  -- the text of the line with this key
 text_in key lines = part_in 0 (value_of key lines)
 
-abbrev pub contact_with : List Entry → Option Day → Contact  -- the contact that lines say, with this birthday
+abbrev pub contact_with : List Entry → Option Day → Contact  -- the contact of these lines, with this birthday
 contact_with lines birthday = record {
   person = record {
     family = text_in (codes "N") lines;
@@ -126,13 +126,13 @@ contact_with lines birthday = record {
   home_phone = text_in (codes "TEL;TYPE=HOME") lines;
 }
 
-abbrev pub contact_in : List Entry → Option Contact  -- the contact that lines say
+abbrev pub contact_in : List Entry → Option Contact  -- the contact of these lines; None if they are no vCard 3.0, or the birthday cannot be read
 contact_in lines =
     if bytes_eq (value_of (codes "BEGIN") lines) (codes "VCARD") && bytes_eq (value_of (codes "VERSION") lines) (codes "3.0") && bytes_eq (value_of (codes "END") lines) (codes "VCARD")
     then option_map (contact_with lines) (read_or_none read_date (text_in (codes "BDAY") lines))
     else None
 
-unfoldable pub read_card : List ℕ → Option Contact  -- the contact that a text says
+unfoldable pub read_card : List ℕ → Option Contact  -- the contact of a text; None if it cannot be read
 read_card text = contact_in (read_content text)
 
 -- a card of printed examples of RFC 2426: names of section 3.1.2, a birthday of 3.1.5, a number of 3.3.1 with one of its types, and a title of 3.5.1

@@ -1,4 +1,4 @@
--- Texts of contacts as MECARD: entries, of which a name and an address have parts.
+-- Contacts as MECARD: entries, of which name and address have several parts.
 use Rattle.std.specs.Prelude.{◌≡◌, ℕ, List, [], ◌∷◌, ◌++◌, Option, Some, None, flat_map, codes, refl}
 use Rattle.std.specs.Option.{option_map, option_and_then}
 use Rattle.qrcode_contents.specs.declared.contact.Contact.{Contact}
@@ -13,7 +13,7 @@ use Rattle.qrcode_contents.specs.Phone.{is_no_number}
 use Rattle.qrcode_contents.specs.declared.times.Day.{Day}
 use Rattle.qrcode_contents.specs.Times.{wrong_day, day_text, said_or_none, read_day, read_or_none}
 
-pub record Person : Type 0 where  -- a contact as its text says it
+pub record Person : Type 0 where  -- the fields of a contact, with texts as bytes
   pub family : List ℕ
   pub given : List ℕ
   pub phone : List ℕ
@@ -27,7 +27,7 @@ pub record Person : Type 0 where  -- a contact as its text says it
   pub code : List ℕ
   pub country : List ℕ
 
-abbrev pub person_of : Contact → Person  -- what is said of a contact
+abbrev pub person_of : Contact → Person  -- the fields of a `Contact`
 person_of c = record {
   family = c.family.now;
   given = c.given.now;
@@ -43,21 +43,21 @@ person_of c = record {
   country = c.country.now;
 }
 
-unfoldable pub person_controls : Person → Option ContentError  -- line breaks and other control characters
+unfoldable pub person_controls : Person → Option ContentError  -- the error of the first text with a line break or another control character
 person_controls p = control_refusal (
     (Family, p.family) ∷ (Given, p.given) ∷ (Email, p.email) ∷ (Url, p.url) ∷ (Note, p.note)
     ∷ (Street, p.street) ∷ (City, p.city) ∷ (Region, p.region) ∷ (PostalCode, p.code) ∷ (Country, p.country) ∷ [])
 
--- a missing name, a birthday that the calendar has not, and what is no telephone number
+-- the first error of these: an empty family name, a birthday that does not exist, a wrong telephone number
 unfoldable pub person_checks : Person → Option ContentError
 person_checks p = first_refusal (
     refused_if (is_empty p.family) Family Empty ∷ refused_if (wrong_day p.birthday) Birthday Range
     ∷ refused_if (is_no_number p.phone) Phone Character ∷ [])
 
-abbrev pub contact_refusal : Person → Option ContentError  -- what the text cannot say
+abbrev pub contact_refusal : Person → Option ContentError  -- the error of the first wrong field
 contact_refusal p = first_refusal (person_controls p ∷ person_checks p ∷ [])
 
--- the entries of the text; an address has a box and a room before the street
+-- the entries of the text; an address has two empty parts before the street, for a post office box and a room
 abbrev pub mecard_entries : Person → List Entry
 mecard_entries p =
     (codes "N", p.family ∷ p.given ∷ []) ∷ single (codes "TEL") p.phone ∷ single (codes "EMAIL") p.email
@@ -67,7 +67,7 @@ mecard_entries p =
 unfoldable pub mecard_text : Person → List ℕ  -- the text of a contact
 mecard_text p = codes "MECARD:" ++ (flat_map marked_text (mecard_entries p) ++ 59 ∷ [])
 
-abbrev pub person_with : List Entry → Option Day → Person  -- the contact that entries say, with this birthday
+abbrev pub person_with : List Entry → Option Day → Person  -- the contact of these entries, with this birthday
 person_with entries birthday = record {
   family = part_of (codes "N") 0 entries;
   given = part_of (codes "N") 1 entries;
@@ -83,13 +83,13 @@ person_with entries birthday = record {
   country = part_of (codes "ADR") 6 entries;
 }
 
-abbrev pub person_from : List Entry → Option Person  -- the contact that entries say
+abbrev pub person_from : List Entry → Option Person  -- the contact of these entries; None if the birthday cannot be read
 person_from entries = option_map (person_with entries) (read_or_none read_day (value_of (codes "BDAY") entries))
 
-unfoldable pub read_mecard : List ℕ → Option Person  -- the contact that a text says
+unfoldable pub read_mecard : List ℕ → Option Person  -- the contact of a text; None if it cannot be read
 read_mecard text = option_and_then person_from (read_entries (codes "MECARD:") text)
 
--- the example that the page "Barcode Contents" of the ZXing project prints; its address has four parts, which are read in the order of MECARD's
+-- the printed example of the page "Barcode Contents" of the ZXing project; its address has four parts, which are read in MECARD's order
 printed_row : read_mecard (codes "MECARD:N:Owen,Sean;ADR:76 9th Avenue, 4th Floor, New York, NY 10011;TEL:12125551212;EMAIL:srowen@example.com;;")
     ≡ Some (let p : Person = record {
       family = codes "Owen";

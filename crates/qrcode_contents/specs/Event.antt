@@ -1,4 +1,4 @@
--- Texts of events as iCalendar (RFC 5545): one event in a calendar object.
+-- Events as iCalendar (RFC 5545): one event in a calendar object.
 use Rattle.std.specs.Prelude.{◌≡◌, ℕ, ◌&&◌, not, nat_le, Bool, false, List, [], ◌∷◌, ◌++◌, Option, Some, None, slice_index_or, codes, if◌then◌else◌, refl}
 use Rattle.std.specs.Str.{bytes_eq}
 use Rattle.std.specs.List.{list_any}
@@ -18,7 +18,7 @@ use Rattle.qrcode_contents.specs.declared.event.Span.TheVariants.{Days, Times}
 use Rattle.qrcode_contents.specs.declared.event.Event.{Event}
 use Rattle.qrcode_contents.specs.Times.{is_day, is_moment, day_number, moment_number, day_text, moment_text, read_day, read_moment}
 
-pub record Happening : Type 0 where  -- an event as its text says it
+pub record Happening : Type 0 where  -- the fields of an event, with texts as bytes
   pub uid : List ℕ
   pub stamp : Option Moment
   pub span : Span
@@ -26,7 +26,7 @@ pub record Happening : Type 0 where  -- an event as its text says it
   pub location : List ℕ
   pub description : List ℕ
 
-abbrev pub happening_of : Event → Happening  -- what is said of an event
+abbrev pub happening_of : Event → Happening  -- the fields of an `Event`
 happening_of e = record {
   uid = e.uid.now;
   stamp = e.stamp;
@@ -36,23 +36,23 @@ happening_of e = record {
   description = e.description.now;
 }
 
-abbrev pub wrong_stamp : Option Moment → Bool  -- the calendar has no such moment
+abbrev pub wrong_stamp : Option Moment → Bool  -- a time is given that does not exist
 wrong_stamp None = false
 wrong_stamp (Some m) = not (is_moment m)
 
-abbrev pub begins_never : Span → Bool  -- the calendar has no such beginning
+abbrev pub begins_never : Span → Bool  -- the beginning does not exist
 begins_never (Days first end) = not (is_day first)
 begins_never (Times begin end) = not (is_moment begin)
 
-abbrev pub ends_never : Span → Bool  -- the calendar has no such end
+abbrev pub ends_never : Span → Bool  -- the end does not exist
 ends_never (Days first end) = not (is_day end)
 ends_never (Times begin end) = not (is_moment end)
 
-abbrev pub ends_early : Span → Bool  -- the end is not behind the beginning
+abbrev pub ends_early : Span → Bool  -- the end is not after the beginning
 ends_early (Days first end) = nat_le (day_number end) (day_number first)
 ends_early (Times begin end) = nat_le (moment_number end) (moment_number begin)
 
--- what the text cannot say: in texts tabs and line feeds may stand, in the identifier no control character
+-- the checks of the fields, in order: texts may have tabs and line feeds, the identifier no control character
 abbrev pub event_checks : Happening → List (Option ContentError)
 event_checks h =
     refused_if (list_any is_control h.uid) Uid ControlCharacter
@@ -65,15 +65,15 @@ event_checks h =
     ∷ refused_if (list_any is_stray h.description) Description ControlCharacter
     ∷ []
 
-unfoldable pub event_refusal : Happening → Option ContentError  -- the first of these refusals
+unfoldable pub event_refusal : Happening → Option ContentError  -- the error of the first check that fails
 event_refusal h = first_refusal (event_checks h)
 
-abbrev pub span_lines : Span → List Parameter  -- the lines of beginning and end
+abbrev pub span_lines : Span → List Parameter  -- the lines of the beginning and the end
 span_lines (Days first end) =
     (codes "DTSTART;VALUE=DATE", day_text first) ∷ (codes "DTEND;VALUE=DATE", day_text end) ∷ []
 span_lines (Times begin end) = (codes "DTSTART", moment_text begin) ∷ (codes "DTEND", moment_text end) ∷ []
 
-abbrev pub stamp_text : Option Moment → List ℕ  -- the moment when an event was written, and nothing where it is left out
+abbrev pub stamp_text : Option Moment → List ℕ  -- the text of the time when an event was written; empty for None
 stamp_text None = []
 stamp_text (Some m) = moment_text m
 
@@ -89,26 +89,26 @@ first_lines =
     (codes "BEGIN", codes "VCALENDAR") ∷ (codes "VERSION", codes "2.0")
     ∷ (codes "PRODID", codes "-//Goqlanis//Contents//EN") ∷ (codes "BEGIN", codes "VEVENT") ∷ []
 
-abbrev pub last_lines : List Parameter  -- the lines behind them
+abbrev pub last_lines : List Parameter  -- the lines after those of the event
 last_lines = (codes "END", codes "VEVENT") ∷ (codes "END", codes "VCALENDAR") ∷ []
 
 unfoldable pub event_text : Happening → List ℕ  -- the text of an event
 event_text h = content_text (first_lines ++ (event_lines h ++ last_lines))
 
-abbrev pub is_line : List ℕ → List ℕ → Entry → Bool  -- a line of this key and this value
+abbrev pub is_line : List ℕ → List ℕ → Entry → Bool  -- a line with this key and this value
 is_line key value line = bytes_eq key line.0 && bytes_eq value (slice_index_or line.1 0 [])
 
--- the lines before the end of a component; none where it has no end
+-- the lines before the end of a component; None if it has no end
 abbrev pub before_end : List ℕ → List Entry → Option (List Entry)
 before_end name [] = None
 before_end name (line ∷ lines) =
     if is_line (codes "END") name line then Some [] else option_map (λ later. line ∷ later) (before_end name lines)
 
-abbrev pub component : List ℕ → List Entry → Option (List Entry)  -- the lines of the first component of this name
+abbrev pub component : List ℕ → List Entry → Option (List Entry)  -- the lines of the first component with this name; None if there is none
 component name [] = None
 component name (line ∷ lines) = if is_line (codes "BEGIN") name line then before_end name lines else component name lines
 
-abbrev pub span_in : List Entry → Option Span  -- beginning and end, which both are days or both moments
+abbrev pub span_in : List Entry → Option Span  -- the beginning and the end: both are days, or both are times
 span_in lines =
     if is_filled (value_of (codes "DTSTART;VALUE=DATE") lines)
     then option_and_then (λ first. option_map (λ end. Days first end) (read_day (value_of (codes "DTEND;VALUE=DATE") lines)))
@@ -116,11 +116,11 @@ span_in lines =
     else option_and_then (λ begin. option_map (λ end. Times begin end) (read_moment (value_of (codes "DTEND") lines)))
     (read_moment (value_of (codes "DTSTART") lines))
 
--- the moment when an event was written, where a text says one, or that it is left out
+-- the time when an event was written, or no time if the text is empty; None if it cannot be read
 abbrev pub read_stamp : List ℕ → Option (Option Moment)
 read_stamp text = if is_filled text then option_map (λ m. Some m) (read_moment text) else Some None
 
-abbrev pub happening_in : List Entry → Option Happening  -- the event that lines say
+abbrev pub happening_in : List Entry → Option Happening  -- the event of these lines; None if it cannot be read
 happening_in lines =
     option_and_then (λ stamp. option_map (λ span. record {
       uid = part_in 0 (value_of (codes "UID") lines);
@@ -137,7 +137,7 @@ calendar_event calendar =
     then option_and_then happening_in (component (codes "VEVENT") calendar)
     else None
 
-unfoldable pub read_event : List ℕ → Option Happening  -- the event that a text says
+unfoldable pub read_event : List ℕ → Option Happening  -- the event of a text; None if it cannot be read
 read_event text = option_and_then calendar_event (component (codes "VCALENDAR") (read_content text))
 
 -- the first example of RFC 5545, section 4, a Bastille Day party, in UTC

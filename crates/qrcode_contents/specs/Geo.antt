@@ -1,4 +1,4 @@
--- Links to places: `geo:` (RFC 5870), degrees north and degrees east, with up to six digits behind a point.
+-- Links to places: `geo:` (RFC 5870), degrees north and degrees east, with up to six digits after the point.
 use Rattle.std.specs.Prelude.{◌≡◌, ℕ, zero, suc, nat_lt, ◌+◌, ◌-◌, ◌*◌, ◌/◌, ◌%◌, ◌^◌, ◌==◌, List, [], ◌∷◌, ◌++◌, Option, Some, codes, decimal, ℤ, pos, negsuc, unsigned_abs, if◌then◌else◌, refl}
 use Rattle.std.specs.Int.{is_negative}
 use Rattle.std.specs.Option.{option_map}
@@ -11,55 +11,55 @@ use Rattle.qrcode_contents.specs.fields.Entries.{behind}
 use Rattle.qrcode_contents.specs.fields.Characters.{before, after}
 use Rattle.qrcode_contents.specs.fields.Refusals.{refused_if, first_refusal}
 
-abbrev pub place_checks : Place → List (Option ContentError)  -- what the link cannot say
+abbrev pub place_checks : Place → List (Option ContentError)  -- the checks of the fields, in order
 place_checks p =
     refused_if (nat_lt 90000000 (unsigned_abs p.latitude)) Latitude Range
     ∷ refused_if (nat_lt 180000000 (unsigned_abs p.longitude)) Longitude Range
     ∷ []
 
-abbrev pub place_refusal : Place → Option ContentError  -- the first of these refusals
+abbrev pub place_refusal : Place → Option ContentError  -- the error of the first check that fails
 place_refusal p = first_refusal (place_checks p)
 
-abbrev pub first_digit : ℕ → ℕ → List ℕ  -- the digit before a place, and nothing where the number is zero
+abbrev pub first_digit : ℕ → ℕ → List ℕ  -- the digit n / place; nothing if n is zero
 first_digit n place = if n == 0 then [] else (48 + n / place) ∷ []
 
--- the digits of a fraction, of which this many may have to be written; zeros at the end are left out
+-- the digits of a fraction, at most this many, without zeros at the end
 abbrev pub fraction_digits : ℕ → ℕ → List ℕ
 fraction_digits zero n = []
 fraction_digits (suc k) n = first_digit n (10 ^ k) ++ fraction_digits k (n % 10 ^ k)
 
-abbrev pub fraction_text : ℕ → List ℕ  -- a fraction in millionths with a point before it, and nothing where it is zero
+abbrev pub fraction_text : ℕ → List ℕ  -- a point and a fraction in millionths; nothing if it is zero
 fraction_text n = if n == 0 then [] else 46 ∷ fraction_digits 6 n
 
-abbrev pub degrees_text : ℕ → List ℕ  -- degrees that are given in millionths
+abbrev pub degrees_text : ℕ → List ℕ  -- millionths of a degree as degrees, without a sign
 degrees_text n = decimal (n / 1000000) ++ fraction_text (n % 1000000)
 
-abbrev pub sign_text : ℤ → List ℕ  -- the sign of a number below zero
+abbrev pub sign_text : ℤ → List ℕ  -- a minus sign for a negative number, else empty
 sign_text z = if is_negative z then codes "-" else []
 
-unfoldable pub coordinate_text : ℤ → List ℕ  -- degrees with their sign
+unfoldable pub coordinate_text : ℤ → List ℕ  -- millionths of a degree as degrees, with their sign
 coordinate_text z = sign_text z ++ degrees_text (unsigned_abs z)
 
-unfoldable pub place_text : Place → List ℕ  -- the text of a place
+unfoldable pub place_text : Place → List ℕ  -- the link to a place
 place_text p = codes "geo:" ++ (coordinate_text p.latitude ++ 44 ∷ coordinate_text p.longitude)
 
-abbrev pub fraction_value : ℕ → List ℕ → ℕ  -- what this many digits behind a point say, where the last counts one
+abbrev pub fraction_value : ℕ → List ℕ → ℕ  -- the value of the first digits after a point, this many of them, in units of the last
 fraction_value zero ds = 0
 fraction_value (suc k) [] = 0
 fraction_value (suc k) (d ∷ ds) = (d - 48) * 10 ^ k + fraction_value k ds
 
-unfoldable pub read_degrees : List ℕ → ℕ  -- the millionths that degrees say
+unfoldable pub read_degrees : List ℕ → ℕ  -- the millionths of degrees without a sign
 read_degrees text = digits_value 10 (before 46 text) * 1000000 + fraction_value 6 (after 46 text)
 
-abbrev pub negative : ℕ → ℤ  -- a number below zero
+abbrev pub negative : ℕ → ℤ  -- the negative of a number
 negative zero = pos zero
 negative (suc n) = negsuc n
 
-unfoldable pub read_coordinate : List ℕ → ℤ  -- the millionths that degrees with their sign say
+unfoldable pub read_coordinate : List ℕ → ℤ  -- the millionths of degrees with their sign
 read_coordinate [] = pos 0
 read_coordinate (b ∷ rest) = if b == 45 then negative (read_degrees rest) else pos (read_degrees (b ∷ rest))
 
-unfoldable pub read_place : List ℕ → Option Place  -- the place that a text says
+unfoldable pub read_place : List ℕ → Option Place  -- the place of a link; None if it does not start with `geo:`
 read_place text = option_map (λ rest. record { latitude = read_coordinate (before 44 rest); longitude = read_coordinate (after 44 rest) }) (behind (codes "geo:") text)
 
 -- printed examples of RFC 5870, sections 6.1 and 6.4, and one with a sign

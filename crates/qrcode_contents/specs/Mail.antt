@@ -1,4 +1,4 @@
--- Links that write a mail: `mailto:` (RFC 6068), the address, and the parameters `subject` and `body`.
+-- Links that open a new e-mail: `mailto:` (RFC 6068), the address, and the parameters `subject` and `body`.
 use Rattle.std.specs.Prelude.{◌≡◌, ℕ, ◌==◌, not, List, [], ◌∷◌, ◌++◌, Option, Some, codes, count_by, refl}
 use Rattle.std.specs.List.{list_any}
 use Rattle.std.specs.Option.{option_map}
@@ -13,15 +13,15 @@ use Rattle.qrcode_contents.specs.fields.Links.{Parameter, part_text, query_text,
 use Rattle.qrcode_contents.specs.fields.Percents.{decoded}
 use Rattle.qrcode_contents.specs.fields.Refusals.{refused_if, first_refusal}
 
-pub record Letter : Type 0 where  -- a mail as its text says it
+pub record Letter : Type 0 where  -- the fields of an e-mail, with texts as bytes
   pub address : List ℕ
   pub subject : List ℕ
   pub body : List ℕ
 
-abbrev pub letter_of : Mail → Letter  -- what is said of a mail
+abbrev pub letter_of : Mail → Letter  -- the fields of a `Mail`
 letter_of m = record { address = m.address.now; subject = m.subject.now; body = m.body.now }
 
--- what the link cannot say: an address has one `@`, and a body no control character but tabs and line feeds
+-- the checks of the fields, in order: the address has one `@`, and the body no control characters except tabs and line feeds
 abbrev pub mail_checks : Letter → List (Option ContentError)
 mail_checks m =
     refused_if (is_empty m.address) Email Empty
@@ -31,23 +31,23 @@ mail_checks m =
     ∷ refused_if (list_any is_stray m.body) Message ControlCharacter
     ∷ []
 
-unfoldable pub mail_refusal : Letter → Option ContentError  -- the first of these refusals
+unfoldable pub mail_refusal : Letter → Option ContentError  -- the error of the first check that fails
 mail_refusal m = first_refusal (mail_checks m)
 
 abbrev pub mail_parameters : Letter → List Parameter  -- the parameters of the link
 mail_parameters m = (codes "subject", m.subject) ∷ (codes "body", m.body) ∷ []
 
-abbrev pub mail_text : Letter → List ℕ  -- the text of a mail
+abbrev pub mail_text : Letter → List ℕ  -- the link of an e-mail
 mail_text m = codes "mailto:" ++ (part_text Path m.address ++ query_text (codes "?") (mail_parameters m))
 
-abbrev pub letter_in : List ℕ → Letter  -- the mail that a link says behind its scheme
+abbrev pub letter_in : List ℕ → Letter  -- the e-mail of a link without its scheme
 letter_in link = record {
   address = decoded (before 63 link);
   subject = value_in (codes "subject") link;
   body = value_in (codes "body") link;
 }
 
-abbrev pub read_mail : List ℕ → Option Letter  -- the mail that a text says
+abbrev pub read_mail : List ℕ → Option Letter  -- the e-mail of a link; None if it does not start with `mailto:`
 read_mail text = option_map letter_in (behind (codes "mailto:") text)
 
 -- a printed example of RFC 6068, section 6.1

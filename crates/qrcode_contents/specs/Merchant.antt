@@ -1,5 +1,5 @@
--- Codes that merchants present, of objects of EMVCo: for Pix in Brazil, as the central bank's manual of the BR Code has them, and for PromptPay in
--- Thailand, as the Bank of Thailand's standard for QR payments has them.
+-- Merchant-presented codes of EMVCo objects: Pix in Brazil, by the central bank's manual of the BR Code, and PromptPay in Thailand, by the Bank of
+-- Thailand's standard for QR payments.
 use Rattle.std.specs.Prelude.{◌≡◌, ℕ, nat_lt, ◌-◌, ◌==◌, ◌&&◌, ◌||◌, not, Bool, List, [], ◌∷◌, ◌++◌, length, drop, slice_index_or, Option, Some, None, codes, if◌then◌else◌, refl}
 use Rattle.std.specs.Str.{bytes_eq}
 use Rattle.std.specs.List.{after_first, list_all}
@@ -19,7 +19,7 @@ use Rattle.qrcode_contents.specs.fields.Refusals.{refused_if, first_refusal}
 
 -- ---- Pix
 
-pub record Charge : Type 0 where  -- what a code asks for; an amount may be left open
+pub record Charge : Type 0 where  -- the fields of a payment, with texts as bytes; the amount may be left open
   pub key : List ℕ
   pub name : List ℕ
   pub city : List ℕ
@@ -27,7 +27,7 @@ pub record Charge : Type 0 where  -- what a code asks for; an amount may be left
   pub reference : List ℕ
   pub description : List ℕ
 
-abbrev pub charge_of : Pix → Charge  -- what is said of a payment
+abbrev pub charge_of : Pix → Charge  -- the fields of a `Pix`
 charge_of p = record {
   key = p.key.now;
   name = p.name.now;
@@ -37,16 +37,16 @@ charge_of p = record {
   description = p.description.now;
 }
 
-abbrev pub is_printed : ℕ → Bool  -- a character that these objects may have: one of ASCII that is no control character
+abbrev pub is_printed : ℕ → Bool  -- a character that these objects may have: ASCII, and no control character
 is_printed b = nat_lt 31 b && nat_lt b 127
 
-abbrev pub is_key_byte : ℕ → Bool  -- a character of a key: no space
+abbrev pub is_key_byte : ℕ → Bool  -- a character that a key may have: such a character, but no space
 is_key_byte b = nat_lt 32 b && nat_lt b 127
 
 abbrev pub is_reference_byte : ℕ → Bool  -- a letter or a digit
 is_reference_byte b = is_digit b || is_capital b || (nat_lt 96 b && nat_lt b 123)
 
--- what is wrong of the key and of the description: both stand in one object of 99 bytes, of which 26 are for tags, lengths and `br.gov.bcb.pix`
+-- the checks of key and description: both are in one object of at most 99 bytes, of which 26 are tags, lengths and `br.gov.bcb.pix`
 abbrev pub account_checks : Charge → List (Option ContentError)
 account_checks p =
     refused_if (is_empty p.key) Payee Empty
@@ -59,7 +59,7 @@ account_checks p =
 unfoldable pub account_refusal : Charge → Option ContentError
 account_refusal p = first_refusal (account_checks p)
 
--- what is wrong of the other fields
+-- the checks of the other fields
 abbrev pub receiver_checks : Charge → List (Option ContentError)
 receiver_checks p =
     refused_if (is_empty p.name) Name Empty
@@ -76,16 +76,16 @@ receiver_checks p =
 unfoldable pub receiver_refusal : Charge → Option ContentError
 receiver_refusal p = first_refusal (receiver_checks p)
 
-unfoldable pub pix_refusal : Charge → Option ContentError  -- what the code cannot say
+unfoldable pub pix_refusal : Charge → Option ContentError  -- the error of the first wrong field
 pix_refusal p = first_refusal (account_refusal p ∷ receiver_refusal p ∷ [])
 
-abbrev pub key_objects : Charge → List Parameter  -- the objects in that of the account
+abbrev pub key_objects : Charge → List Parameter  -- the objects inside the account object (26)
 key_objects p = (codes "00", codes "br.gov.bcb.pix") ∷ (codes "01", p.key) ∷ (codes "02", p.description) ∷ []
 
-abbrev pub reference_text : List ℕ → List ℕ  -- the reference, or three asterisks where there is none
+abbrev pub reference_text : List ℕ → List ℕ  -- the reference, or three asterisks if there is none
 reference_text reference = if is_filled reference then reference else codes "***"
 
-abbrev pub pix_objects : Charge → List Parameter  -- the objects of a code, without its check
+abbrev pub pix_objects : Charge → List Parameter  -- the objects of a code, without its checksum
 pix_objects p =
     (codes "00", codes "01") ∷ (codes "26", objects_text (key_objects p)) ∷ (codes "52", codes "0000") ∷ (codes "53", codes "986")
     ∷ (codes "54", amount_line p.cents) ∷ (codes "58", codes "BR") ∷ (codes "59", p.name) ∷ (codes "60", p.city)
@@ -94,16 +94,16 @@ pix_objects p =
 abbrev pub pix_text : Charge → List ℕ  -- the text of a code
 pix_text p = checked_text (objects_text (pix_objects p))
 
-abbrev pub read_reference : List ℕ → List ℕ  -- the reference, which three asterisks are not
+abbrev pub read_reference : List ℕ → List ℕ  -- the reference; three asterisks mean none
 read_reference reference = if bytes_eq reference (codes "***") then [] else reference
 
--- a code of the first version, in reais, to an account of Pix in Brazil
+-- a code of version 01, in reais, for Brazil, with an account of Pix
 abbrev pub is_pix : List Entry → List Entry → Bool
 is_pix objects account =
     bytes_eq (value_of (codes "00") objects) (codes "01") && bytes_eq (value_of (codes "53") objects) (codes "986")
     && bytes_eq (value_of (codes "58") objects) (codes "BR") && bytes_eq (value_of (codes "00") account) (codes "br.gov.bcb.pix")
 
-abbrev pub charge_in : List Entry → List Entry → List Entry → Option Charge  -- the payment that objects say, with those of the account and of the reference
+abbrev pub charge_in : List Entry → List Entry → List Entry → Option Charge  -- the payment of these objects, with those inside the account object and the one of the reference; None if this is not Pix
 charge_in objects account more =
     if is_pix objects account then Some (record {
       key = value_of (codes "01") account;
@@ -114,12 +114,12 @@ charge_in objects account more =
       description = value_of (codes "02") account;
     }) else None
 
-abbrev pub pix_in : List Entry → Option Charge  -- the payment that objects say
+abbrev pub pix_in : List Entry → Option Charge  -- the payment of these objects; None if it cannot be read
 pix_in objects =
     option_and_then (λ account. option_and_then (charge_in objects account) (read_objects (value_of (codes "62") objects)))
     (read_objects (value_of (codes "26") objects))
 
-abbrev pub read_pix : List ℕ → Option Charge  -- the payment that a text says
+abbrev pub read_pix : List ℕ → Option Charge  -- the payment of a text; None if it cannot be read
 read_pix text = option_and_then pix_in (read_checked text)
 
 -- the printed example of the central bank's manual
@@ -130,23 +130,23 @@ printed_row = refl
 
 -- ---- PromptPay
 
-pub record Claim : Type 0 where  -- what a code asks for; an amount may be left open
+pub record Claim : Type 0 where  -- the fields of a payment, with texts as bytes; the amount may be left open
   pub payee : List ℕ
   pub cents : Option ℕ
 
-abbrev pub claim_of : PromptPay → Claim  -- what is said of a payment
+abbrev pub claim_of : PromptPay → Claim  -- the fields of a `PromptPay`
 claim_of p = record { payee = p.payee.now; cents = p.cents }
 
 abbrev pub is_phone : List ℕ → Bool  -- ten digits, a telephone number
 is_phone payee = length payee == 10
 
-abbrev pub is_identity : List ℕ → Bool  -- thirteen digits, of a person or for taxes
+abbrev pub is_identity : List ℕ → Bool  -- thirteen digits, a national or tax ID
 is_identity payee = length payee == 13
 
-abbrev pub is_wallet : List ℕ → Bool  -- fifteen digits, an electronic wallet
+abbrev pub is_wallet : List ℕ → Bool  -- fifteen digits, an e-wallet
 is_wallet payee = length payee == 15
 
-abbrev pub promptpay_checks : Claim → List (Option ContentError)  -- what the code cannot say
+abbrev pub promptpay_checks : Claim → List (Option ContentError)  -- the checks of the fields, in order
 promptpay_checks p =
     refused_if (is_empty p.payee) Payee Empty
     ∷ refused_if (not (list_all is_digit p.payee)) Payee Character
@@ -156,26 +156,26 @@ promptpay_checks p =
     ∷ refused_if (is_out_of_range p.cents) Amount Range
     ∷ []
 
-unfoldable pub promptpay_refusal : Claim → Option ContentError  -- the first of these refusals
+unfoldable pub promptpay_refusal : Claim → Option ContentError  -- the error of the first check that fails
 promptpay_refusal p = first_refusal (promptpay_checks p)
 
-abbrev pub payee_tag : List ℕ → List ℕ  -- the tag of who is paid
+abbrev pub payee_tag : List ℕ → List ℕ  -- the tag of the payee's object
 payee_tag payee = if is_phone payee then codes "01" else (if is_identity payee then codes "02" else codes "03")
 
 abbrev pub is_zero : ℕ → Bool  -- a zero
 is_zero b = b == 48
 
-abbrev pub payee_text : List ℕ → List ℕ  -- the value of who is paid: a telephone number has the code of the country in place of its first zero
+abbrev pub payee_text : List ℕ → List ℕ  -- the value of the payee's object: in a telephone number the country code replaces the first zero
 payee_text payee = if is_phone payee then codes "0066" ++ after_first is_zero payee else payee
 
-abbrev pub payee_objects : List ℕ → List Parameter  -- the objects in that of the account
+abbrev pub payee_objects : List ℕ → List Parameter  -- the objects inside the account object (29)
 payee_objects payee = (codes "00", codes "A000000677010111") ∷ (payee_tag payee, payee_text payee) ∷ []
 
-abbrev pub initiation : Option ℕ → List ℕ  -- a code for many payments, or for one of an amount
+abbrev pub initiation : Option ℕ → List ℕ  -- the point of initiation: static (11) if the amount is open, else dynamic (12)
 initiation None = codes "11"
 initiation (Some cents) = codes "12"
 
-abbrev pub promptpay_objects : Claim → List Parameter  -- the objects of a code, without its check
+abbrev pub promptpay_objects : Claim → List Parameter  -- the objects of a code, without its checksum
 promptpay_objects p =
     (codes "00", codes "01") ∷ (codes "01", initiation p.cents) ∷ (codes "29", objects_text (payee_objects p.payee)) ∷ (codes "58", codes "TH")
     ∷ (codes "53", codes "764") ∷ (codes "54", amount_line p.cents) ∷ []
@@ -183,31 +183,31 @@ promptpay_objects p =
 abbrev pub promptpay_text : Claim → List ℕ  -- the text of a code
 promptpay_text p = checked_text (objects_text (promptpay_objects p))
 
--- who is paid, by the objects of the account
+-- the payee, from the objects inside the account object
 abbrev pub read_payee : List Entry → List ℕ
 read_payee account =
     if is_filled (value_of (codes "01") account) then codes "0" ++ drop 4 (value_of (codes "01") account)
     else (if is_filled (value_of (codes "02") account) then value_of (codes "02") account else value_of (codes "03") account)
 
--- a code of the first version, in baht, to an account of PromptPay in Thailand
+-- a code of version 01, in baht, for Thailand, with an account of PromptPay
 abbrev pub is_promptpay : List Entry → List Entry → Bool
 is_promptpay objects account =
     bytes_eq (value_of (codes "00") objects) (codes "01") && bytes_eq (value_of (codes "53") objects) (codes "764")
     && bytes_eq (value_of (codes "58") objects) (codes "TH") && bytes_eq (value_of (codes "00") account) (codes "A000000677010111")
 
-abbrev pub claim_in : List Entry → List Entry → Option Claim  -- the payment that objects say, with those of the account
+abbrev pub claim_in : List Entry → List Entry → Option Claim  -- the payment of these objects, with those inside the account object; None if this is not PromptPay
 claim_in objects account =
     if is_promptpay objects account
     then Some (record { payee = read_payee account; cents = read_cents (value_of (codes "54") objects) })
     else None
 
-abbrev pub promptpay_in : List Entry → Option Claim  -- the payment that objects say
+abbrev pub promptpay_in : List Entry → Option Claim  -- the payment of these objects; None if it cannot be read
 promptpay_in objects = option_and_then (claim_in objects) (read_objects (value_of (codes "29") objects))
 
-abbrev pub read_promptpay : List ℕ → Option Claim  -- the payment that a text says
+abbrev pub read_promptpay : List ℕ → Option Claim  -- the payment of a text; None if it cannot be read
 read_promptpay text = option_and_then promptpay_in (read_checked text)
 
--- what the library promptpay-qr makes of its own tests
+-- the results of the library promptpay-qr for its own tests
 phone_row : read_promptpay (codes "00020101021229370016A000000677010111011300660000000005802TH530376454044.226304E469")
     ≡ Some (let p : Claim = record { payee = codes "0000000000"; cents = Some 422 } in p)
 unfolding read_checked read_at_most crc_of read_amount

@@ -21,7 +21,7 @@ use Rattle.qrcode_contents.specs.fields.Links.{Parameter, part_text, query_text,
 use Rattle.qrcode_contents.specs.fields.Percents.{decoded}
 use Rattle.qrcode_contents.specs.fields.Refusals.{refused_if, first_refusal}
 
-pub record Key : Type 0 where  -- one-time passwords as their text says them
+pub record Key : Type 0 where  -- the fields of one-time passwords, with texts as bytes
   pub factor : Factor
   pub issuer : List ℕ
   pub account : List ℕ
@@ -29,7 +29,7 @@ pub record Key : Type 0 where  -- one-time passwords as their text says them
   pub algorithm : Algorithm
   pub digits : Digits
 
-abbrev pub key_of : OneTime → Key  -- what is said of one-time passwords
+abbrev pub key_of : OneTime → Key  -- the fields of a `OneTime`
 key_of o = record {
   factor = o.factor;
   issuer = o.issuer.now;
@@ -39,17 +39,17 @@ key_of o = record {
   digits = o.digits;
 }
 
-abbrev pub is_colon : ℕ → Bool  -- a colon ends the issuer
+abbrev pub is_colon : ℕ → Bool  -- a colon, which ends the issuer of a label
 is_colon b = b == 58
 
-abbrev pub begins_with_space : List ℕ → Bool  -- the text begins with a space, which readers leave out
+abbrev pub begins_with_space : List ℕ → Bool  -- the text starts with a space, which readers drop
 begins_with_space text = starts_with (λ a b. a == b) text (32 ∷ [])
 
-abbrev pub has_no_period : Factor → Bool  -- a time that no password holds
+abbrev pub has_no_period : Factor → Bool  -- a period of 0 seconds
 has_no_period (Time period) = period == 0
 has_no_period (Counter count) = false
 
-abbrev pub key_checks : Key → List (Option ContentError)  -- what the link cannot say
+abbrev pub key_checks : Key → List (Option ContentError)  -- the checks of the fields, in order
 key_checks k =
     refused_if (list_any is_control k.issuer) Issuer ControlCharacter
     ∷ refused_if (list_any is_colon k.issuer) Issuer Character
@@ -61,31 +61,31 @@ key_checks k =
     ∷ refused_if (has_no_period k.factor) Period Range
     ∷ []
 
-unfoldable pub key_refusal : Key → Option ContentError  -- the first of these refusals
+unfoldable pub key_refusal : Key → Option ContentError  -- the error of the first check that fails
 key_refusal k = first_refusal (key_checks k)
 
-abbrev pub factor_name : Factor → List ℕ  -- what the passwords change with
+abbrev pub factor_name : Factor → List ℕ  -- the type in the link, by what makes the passwords change
 factor_name (Time period) = codes "totp"
 factor_name (Counter count) = codes "hotp"
 
-abbrev pub factor_parameter : Factor → Parameter  -- the period, left out where it is 30 seconds, or the counter
+abbrev pub factor_parameter : Factor → Parameter  -- the parameter of the period, empty for 30 seconds, or of the counter
 factor_parameter (Time period) = (codes "period", if period == 30 then [] else decimal period)
 factor_parameter (Counter count) = (codes "counter", decimal count)
 
-abbrev pub is_a_word : Factor → Type 0  -- the period or counter fits its type
+abbrev pub is_a_word : Factor → Type 0  -- the period or counter fits 64 bits
 is_a_word (Time period) = period < 2 ^ 64
 is_a_word (Counter count) = count < 2 ^ 64
 
-abbrev pub algorithm_value : Algorithm → List ℕ  -- the algorithm, left out where it is SHA1
+abbrev pub algorithm_value : Algorithm → List ℕ  -- the value of the hash function; empty for SHA1
 algorithm_value Sha1 = []
 algorithm_value Sha256 = codes "SHA256"
 algorithm_value Sha512 = codes "SHA512"
 
-abbrev pub digits_text : Digits → List ℕ  -- the number of digits, left out where it is 6
+abbrev pub digits_text : Digits → List ℕ  -- the value of the number of digits; empty for 6
 digits_text Six = []
 digits_text Eight = codes "8"
 
-abbrev pub label_text : Key → List ℕ  -- the issuer, if any, with a colon behind it, and the account
+abbrev pub label_text : Key → List ℕ  -- the issuer and a colon, if there is one, and the account
 label_text k = (if is_filled k.issuer then part_text Path k.issuer ++ codes ":" else []) ++ part_text Path k.account
 
 abbrev pub key_parameters : Key → List Parameter  -- the parameters of the link
@@ -93,33 +93,33 @@ key_parameters k =
     (codes "secret", k.secret) ∷ (codes "issuer", k.issuer) ∷ (codes "algorithm", algorithm_value k.algorithm)
     ∷ (codes "digits", digits_text k.digits) ∷ factor_parameter k.factor ∷ []
 
-abbrev pub key_text : Key → List ℕ  -- the text of one-time passwords
+abbrev pub key_text : Key → List ℕ  -- the link of one-time passwords
 key_text k = codes "otpauth://" ++ (factor_name k.factor ++ 47 ∷ (label_text k ++ query_text (codes "?") (key_parameters k)))
 
-abbrev pub read_algorithm : List ℕ → Option Algorithm  -- the algorithm of a link
+abbrev pub read_algorithm : List ℕ → Option Algorithm  -- the hash function of a link; SHA1 if empty, None if unknown
 read_algorithm value =
     if not (is_filled value) || bytes_eq value (codes "SHA1") then Some Sha1
     else (if bytes_eq value (codes "SHA256") then Some Sha256
     else (if bytes_eq value (codes "SHA512") then Some Sha512 else None))
 
-abbrev pub read_digits : List ℕ → Option Digits  -- the number of digits of a link
+abbrev pub read_digits : List ℕ → Option Digits  -- the number of digits of a link; six if empty, None if neither six nor eight
 read_digits value =
     if not (is_filled value) || bytes_eq value (codes "6") then Some Six
     else (if bytes_eq value (codes "8") then Some Eight else None)
 
-abbrev pub read_factor : List ℕ → List ℕ → Option Factor  -- what the passwords of a link change with
+abbrev pub read_factor : List ℕ → List ℕ → Option Factor  -- what makes the passwords of a link change, by its type; None for any other type
 read_factor name link =
     if bytes_eq name (codes "totp") then Some (Time (if is_filled (value_in (codes "period") link) then digits_value 10 (value_in (codes "period") link) else 30))
     else (if bytes_eq name (codes "hotp") then Some (Counter (digits_value 10 (value_in (codes "counter") link))) else None)
 
-abbrev pub without_spaces : List ℕ → List ℕ  -- without spaces at the beginning
+abbrev pub without_spaces : List ℕ → List ℕ  -- a text without the spaces at its start
 without_spaces [] = []
 without_spaces (b ∷ rest) = if b == 32 then without_spaces rest else b ∷ rest
 
-abbrev pub read_account : List ℕ → List ℕ  -- the account of a label
+abbrev pub read_account : List ℕ → List ℕ  -- the account of a label, after the issuer if there is one
 read_account label = without_spaces (if list_any is_colon label then after 58 label else label)
 
-abbrev pub key_in : List ℕ → List ℕ → Option Key  -- the one-time passwords that a link says behind its name
+abbrev pub key_in : List ℕ → List ℕ → Option Key  -- the one-time passwords of a link with this type and rest; None if they cannot be read
 key_in name link =
     option_and_then (λ factor. option_and_then (λ algorithm. option_map (λ digits. record {
       factor = factor;
@@ -130,7 +130,7 @@ key_in name link =
       digits = digits;
     }) (read_digits (value_in (codes "digits") link))) (read_algorithm (value_in (codes "algorithm") link))) (read_factor name link)
 
-abbrev pub read_key : List ℕ → Option Key  -- the one-time passwords that a text says
+abbrev pub read_key : List ℕ → Option Key  -- the one-time passwords of a text; None if they cannot be read
 read_key text = option_and_then (λ rest. key_in (before 47 rest) (after 47 rest)) (behind (codes "otpauth://") text)
 
 -- the printed example

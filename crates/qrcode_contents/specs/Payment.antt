@@ -1,4 +1,4 @@
--- Texts of SEPA credit transfers, line by line.
+-- SEPA credit transfers (EPC069-12), line by line.
 use Rattle.std.specs.Prelude.{ℕ, nat_lt, ◌==◌, ◌&&◌, ◌||◌, not, Bool, true, false, List, [], ◌∷◌, ◌++◌, length, take, Option, Some, None, codes, if◌then◌else◌}
 use Rattle.std.specs.Str.{bytes_eq, chars}
 use Rattle.std.specs.List.{list_all, list_any, starts_with}
@@ -16,7 +16,7 @@ use Rattle.qrcode_contents.specs.fields.Entries.{is_empty, is_filled, behind}
 use Rattle.qrcode_contents.specs.fields.Lines.{lines_text, read_lines, line_at}
 use Rattle.qrcode_contents.specs.fields.Refusals.{refused_if, first_refusal}
 
-pub record Transfer : Type 0 where  -- a transfer as its text says it
+pub record Transfer : Type 0 where  -- the fields of a transfer, with texts as bytes
   pub version : PaymentVersion
   pub bic : List ℕ
   pub name : List ℕ
@@ -27,7 +27,7 @@ pub record Transfer : Type 0 where  -- a transfer as its text says it
   pub message : List ℕ
   pub information : List ℕ
 
-abbrev pub payment_fields : Payment → Transfer  -- what is said of a payment
+abbrev pub payment_fields : Payment → Transfer  -- the fields of a `Payment`
 payment_fields p = record {
   version = p.version;
   bic = p.bic.now;
@@ -44,25 +44,25 @@ abbrev pub version_name : PaymentVersion → List ℕ  -- the line of a version
 version_name One = codes "001"
 version_name Two = codes "002"
 
-abbrev pub version_for : List ℕ → PaymentVersion  -- the version that a payment wants: 001 with a BIC, and 002 without
+abbrev pub version_for : List ℕ → PaymentVersion  -- the version that a payment needs: 001 with a BIC, and 002 without
 version_for bic = if is_empty bic then Two else One
 
 abbrev pub needs_bic : PaymentVersion → Bool
 needs_bic One = true
 needs_bic Two = false
 
-abbrev pub is_bic : List ℕ → Bool  -- a bank's identifier of ISO 9362
+abbrev pub is_bic : List ℕ → Bool  -- the form of a BIC (ISO 9362): 8 or 11 capitals and digits
 is_bic text = (length text == 8 || length text == 11) && list_all is_capital_or_digit text
 
-abbrev pub is_reference : List ℕ → Bool  -- the form of a creditor's reference of ISO 11649
+abbrev pub is_reference : List ℕ → Bool  -- the form of a creditor reference (ISO 11649)
 is_reference text = has_form text && starts_with (λ a b. a == b) text (codes "RF")
 
-unfoldable pub control_checks : Transfer → Option ContentError  -- line breaks and other control characters
+unfoldable pub control_checks : Transfer → Option ContentError  -- the error of the first field with a line break or another control character
 control_checks t = control_refusal (
     (Bic, t.bic) ∷ (Name, t.name) ∷ (Iban, t.iban) ∷ (Purpose, t.purpose) ∷ (Reference, t.reference)
     ∷ (Message, t.message) ∷ (Information, t.information) ∷ [])
 
--- line breaks of Unicode, by which a reader may end a line; the other fields have only ASCII
+-- the error of the first field with a line break outside ASCII, where a reader may end a line; the other fields have only ASCII
 unfoldable pub break_checks : Transfer → Option ContentError
 break_checks t = first_refusal (
     refused_if (list_any is_unicode_break (chars t.name)) Name ControlCharacter
@@ -70,7 +70,7 @@ break_checks t = first_refusal (
     ∷ refused_if (list_any is_unicode_break (chars t.information)) Information ControlCharacter
     ∷ [])
 
--- what is no BIC, and where it lacks, what is no account, and an amount out of range
+-- the checks for a missing or wrong BIC, a wrong IBAN, and an amount out of range, in order
 abbrev pub bank_checks : Transfer → List (Option ContentError)
 bank_checks t =
     refused_if (needs_bic t.version && is_empty t.bic) Bic Empty
@@ -88,7 +88,7 @@ bank_checks t =
 unfoldable pub bank_refusal : Transfer → Option ContentError
 bank_refusal t = first_refusal (bank_checks t)
 
--- a name or a purpose that is wrong, a wrong reference, one beside a message, and what is too long
+-- the first error of these: a wrong name, purpose or reference, a message next to a reference, and long texts
 unfoldable pub text_checks : Transfer → Option ContentError
 text_checks t = first_refusal (
     refused_if (is_empty t.name) Name Empty
@@ -104,7 +104,7 @@ text_checks t = first_refusal (
     ∷ refused_if (nat_lt 70 (length (chars t.information))) Information TooLong
     ∷ [])
 
--- how many of the lines behind the amount the text has: those behind the last filled one are left out
+-- how many of the four lines after the amount are written: empty ones at the end are left out
 abbrev pub later_count : Transfer → ℕ
 later_count t =
     if is_filled t.information then 4
@@ -112,7 +112,7 @@ later_count t =
     else (if is_filled t.reference then 2
     else (if is_filled t.purpose then 1 else 0)))
 
-abbrev pub later_lines : Transfer → List (List ℕ)  -- the lines behind the amount
+abbrev pub later_lines : Transfer → List (List ℕ)  -- the lines after the amount
 later_lines t = take (later_count t) (t.purpose ∷ t.reference ∷ t.message ∷ t.information ∷ [])
 
 -- the lines: service, version, character set (UTF-8), kind of transfer, and the fields
@@ -124,19 +124,19 @@ payment_lines t =
 unfoldable pub payment_text : Transfer → List ℕ  -- the text of a transfer
 payment_text t = lines_text (payment_lines t)
 
-unfoldable pub field_checks : Transfer → Option ContentError  -- what the fields refuse
+unfoldable pub field_checks : Transfer → Option ContentError  -- the error of the first wrong field
 field_checks t =
     first_refusal (control_checks t ∷ break_checks t ∷ bank_refusal t ∷ text_checks t ∷ [])
 
--- what the text cannot say: what the fields refuse, and a text of more than 331 bytes
+-- the error of the first wrong field, or else of a text of more than 331 bytes
 abbrev pub payment_refusal : Transfer → Option ContentError
 payment_refusal t = first_refusal (field_checks t ∷ refused_if (nat_lt 331 (length (payment_text t))) Whole TooLong ∷ [])
 
-abbrev pub named_version : List ℕ → Option PaymentVersion  -- the version that this line says
+abbrev pub named_version : List ℕ → Option PaymentVersion  -- the version of this line; None if it is neither 001 nor 002
 named_version line =
     if bytes_eq line (codes "001") then Some One else (if bytes_eq line (codes "002") then Some Two else None)
 
--- the transfer that lines say, of a version and with an amount
+-- the transfer of these lines, with this version and amount
 abbrev pub transfer_from : (ℕ → List ℕ) → PaymentVersion → List ℕ → Transfer
 transfer_from line version amount = record {
   version = version;
@@ -150,11 +150,11 @@ transfer_from line version amount = record {
   information = line 11;
 }
 
-abbrev pub transfer_of : (ℕ → List ℕ) → Option Transfer  -- the transfer that lines say; a line behind the last is empty
+abbrev pub transfer_of : (ℕ → List ℕ) → Option Transfer  -- the transfer of these lines, where a line after the last is empty; None if they cannot be read
 transfer_of line =
     if bytes_eq (line 0) (codes "BCD") && bytes_eq (line 2) (codes "1") && bytes_eq (line 3) (codes "SCT")
     then option_and_then (λ version. option_map (transfer_from line version) (behind (codes "EUR") (line 7))) (named_version (line 1))
     else None
 
-unfoldable pub read_payment : List ℕ → Option Transfer  -- the transfer that a text says
+unfoldable pub read_payment : List ℕ → Option Transfer  -- the transfer of a text; None if it cannot be read
 read_payment text = transfer_of (line_at (read_lines text))

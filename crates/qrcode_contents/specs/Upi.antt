@@ -1,4 +1,4 @@
--- Links that ask for a payment by UPI, as the linking specification of NPCI has them: `upi://pay?`, and in each parameter a key, `=` and a value.
+-- Links that ask for a payment by UPI (linking specification of NPCI): `upi://pay?`, and parameters, each a key, `=` and a value.
 use Rattle.std.specs.Prelude.{◌≡◌, ℕ, nat_lt, ◌==◌, ◌&&◌, ◌||◌, not, Bool, List, [], ◌∷◌, ◌++◌, length, Option, Some, None, codes, count_by, if◌then◌else◌, refl}
 use Rattle.std.specs.Str.{bytes_eq}
 use Rattle.std.specs.List.{after_first, before_first, list_all, list_any}
@@ -15,7 +15,7 @@ use Rattle.qrcode_contents.specs.fields.Links.{Parameter, query_text, read_param
 use Rattle.qrcode_contents.specs.fields.Percents.{decoded}
 use Rattle.qrcode_contents.specs.fields.Refusals.{refused_if, first_refusal}
 
-pub record Request : Type 0 where  -- what a link asks for; an amount may be left open
+pub record Request : Type 0 where  -- the fields of a payment, with texts as bytes; the amount may be left open
   pub payee : List ℕ
   pub name : List ℕ
   pub category : List ℕ
@@ -23,7 +23,7 @@ pub record Request : Type 0 where  -- what a link asks for; an amount may be lef
   pub note : List ℕ
   pub cents : Option ℕ
 
-abbrev pub request_of : Upi → Request  -- what is said of a payment
+abbrev pub request_of : Upi → Request  -- the fields of a `Upi`
 request_of u = record {
   payee = u.payee.now;
   name = u.name.now;
@@ -33,21 +33,21 @@ request_of u = record {
   cents = u.cents;
 }
 
-abbrev pub is_at : ℕ → Bool  -- the mark between a name and its bank
+abbrev pub is_at : ℕ → Bool  -- an `@`, between name and bank
 is_at b = b == 64
 
 -- a byte of an address: a letter, a digit, or one of -._@
 abbrev pub is_address_byte : ℕ → Bool
 is_address_byte b = is_digit b || is_capital b || (nat_lt 96 b && nat_lt b 123) || b == 45 || b == 46 || b == 95 || is_at b
 
-abbrev pub is_address : List ℕ → Bool  -- the form of an address: one `@`, with a name before it and a bank behind it
+abbrev pub is_address : List ℕ → Bool  -- the form of an address: exactly one `@`, with a name before it and a bank after it
 is_address text =
     count_by is_at text == 1 && is_filled (before_first is_at text) && is_filled (after_first is_at text)
 
-abbrev pub is_category : List ℕ → Bool  -- four digits, of ISO 18245
+abbrev pub is_category : List ℕ → Bool  -- four digits (ISO 18245)
 is_category text = length text == 4 && list_all is_digit text
 
-abbrev pub upi_checks : Request → List (Option ContentError)  -- what the link cannot say
+abbrev pub upi_checks : Request → List (Option ContentError)  -- the checks of the fields, in order
 upi_checks r =
     refused_if (is_empty r.payee) Payee Empty
     ∷ refused_if (not (list_all is_address_byte r.payee)) Payee Character
@@ -59,19 +59,19 @@ upi_checks r =
     ∷ refused_if (is_out_of_range r.cents) Amount Range
     ∷ []
 
-unfoldable pub upi_refusal : Request → Option ContentError  -- the first of these refusals
+unfoldable pub upi_refusal : Request → Option ContentError  -- the error of the first check that fails
 upi_refusal r = first_refusal (upi_checks r)
 
-abbrev pub upi_parameters : Request → List Parameter  -- the parameters behind the address, in the order of the specification
+abbrev pub upi_parameters : Request → List Parameter  -- the parameters after the address, in the order of the specification
 upi_parameters r =
     (codes "pn", r.name) ∷ (codes "mc", r.category) ∷ (codes "tr", r.reference) ∷ (codes "tn", r.note)
     ∷ (codes "am", amount_line r.cents) ∷ (codes "cu", codes "INR") ∷ []
 
--- the text of a request: an address stands as it is, also its `@`, and other values percent-encoded
+-- the link of a request: the address as it is, with its `@`, and the other values percent-encoded
 abbrev pub upi_text : Request → List ℕ
 upi_text r = codes "upi://pay?pa=" ++ (r.payee ++ query_text (codes "&") (upi_parameters r))
 
--- the request that a link says behind its scheme; rupees are the only currency
+-- the request of a link without its scheme; None if its currency is not INR
 abbrev pub request_in : List ℕ → Option Request
 request_in link =
     if bytes_eq (value_in (codes "cu") link) (codes "INR") then Some (record {
@@ -83,7 +83,7 @@ request_in link =
       cents = read_cents (value_in (codes "am") link);
     }) else None
 
-abbrev pub read_upi : List ℕ → Option Request  -- the request that a text says
+abbrev pub read_upi : List ℕ → Option Request  -- the request of a link; None if it cannot be read
 read_upi text = option_and_then request_in (behind (codes "upi://pay") text)
 
 -- the printed example of the linking specification

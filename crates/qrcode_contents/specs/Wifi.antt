@@ -1,4 +1,4 @@
--- Texts that join wireless networks: `WIFI:`, and entries with the keys T, S, P and H.
+-- Texts that join Wi-Fi networks: `WIFI:`, and entries with the keys T, S, P and H.
 use Rattle.std.specs.Prelude.{ℕ, nat_lt, ◌&&◌, not, Bool, true, false, List, [], ◌∷◌, ◌++◌, length, Option, Some, None, flat_map, codes, if◌then◌else◌}
 use Rattle.std.specs.Str.{bytes_eq}
 use Rattle.std.specs.Option.{option_map, option_and_then}
@@ -11,16 +11,16 @@ use Rattle.qrcode_contents.specs.declared.wifi.Wifi.{Wifi}
 use Rattle.qrcode_contents.specs.fields.Refusals.{refused_if, first_refusal}
 use Rattle.qrcode_contents.specs.fields.Entries.{Entry, single, is_empty, is_filled, marked_text, read_entries, value_of}
 
-pub record Network : Type 0 where  -- a network as its text says it
+pub record Network : Type 0 where  -- the fields of a network, with texts as bytes
   pub security : Security
   pub ssid : List ℕ
   pub password : List ℕ
   pub hidden : Bool
 
-abbrev pub wifi_fields : Wifi → Network  -- what is said of a network
+abbrev pub wifi_fields : Wifi → Network  -- the fields of a `Wifi`
 wifi_fields w = record { security = w.security; ssid = w.ssid.now; password = w.password.now; hidden = w.hidden }
 
-abbrev pub security_name : Security → List ℕ  -- the name of a way to secure a network
+abbrev pub security_name : Security → List ℕ  -- the name of a security in the text
 security_name Open = codes "nopass"
 security_name Wep = codes "WEP"
 security_name Wpa = codes "WPA"
@@ -32,7 +32,7 @@ is_open Wep = false
 is_open Wpa = false
 is_open Wpa3 = false
 
-abbrev pub wifi_refusal : Network → Option ContentError  -- what the text cannot say
+abbrev pub wifi_refusal : Network → Option ContentError  -- the error of the first wrong field
 wifi_refusal n = first_refusal (
     refused_if (is_empty n.ssid) Ssid Empty
     ∷ refused_if (nat_lt 32 (length n.ssid)) Ssid TooLong
@@ -48,14 +48,14 @@ wifi_entries n =
 abbrev pub wifi_text : Network → List ℕ  -- the text of a network
 wifi_text n = codes "WIFI:" ++ (flat_map marked_text (wifi_entries n) ++ 59 ∷ [])
 
-abbrev pub named_security : List ℕ → Option Security  -- the way to secure a network that has this name
+abbrev pub named_security : List ℕ → Option Security  -- the security with this name
 named_security name =
     if bytes_eq name (codes "nopass") then Some Open
     else (if bytes_eq name (codes "WEP") then Some Wep
     else (if bytes_eq name (codes "WPA") then Some Wpa
     else (if bytes_eq name (codes "SAE") then Some Wpa3 else None)))
 
-abbrev pub network_of : List Entry → Option Network  -- the network that entries say
+abbrev pub network_of : List Entry → Option Network  -- the network of these entries; None if the security is unknown
 network_of entries = option_map (λ security. record {
   security = security;
   ssid = value_of (codes "S") entries;
@@ -63,5 +63,5 @@ network_of entries = option_map (λ security. record {
   hidden = bytes_eq (value_of (codes "H") entries) (codes "true");
 }) (named_security (value_of (codes "T") entries))
 
-abbrev pub read_wifi : List ℕ → Option Network  -- the network that a text says
+abbrev pub read_wifi : List ℕ → Option Network  -- the network of a text; None if it cannot be read
 read_wifi text = option_and_then network_of (read_entries (codes "WIFI:") text)

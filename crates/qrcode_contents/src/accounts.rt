@@ -1,5 +1,5 @@
-//! Account numbers of ISO 13616 (IBAN) and creditors' references of ISO 11649: two letters, two
-//! check digits, and what is checked.
+//! Account numbers (IBAN, ISO 13616) and creditor references (ISO 11649): two letters, two check
+//! digits, and the characters that they check.
 
 ghost use Rattle.std.specs.Prelude.{◌≡◌, ◌<◌, length};
 ghost use Rattle.qrcode_contents.specs.Accounts.{has_form, check_number, is_checked};
@@ -7,10 +7,11 @@ ghost use Rattle.qrcode_contents.specs.Accounts.{has_form, check_number, is_chec
 use crate::fields::characters::{are_capitals, are_capitals_or_digits, are_digits};
 use crate::fields::numbers::has_check_digits;
 
-/// The fewest characters of either: one behind the check digits.
+/// The smallest number of characters of either: one after the check digits.
 pub const LEAST: usize = 5;
 
-/// Whether a text has the form of both: two letters, two digits, and letters and digits.
+/// Returns whether `text` has the form of either: two capitals, two digits, then only capitals and
+/// digits.
 pub fn has_form(text: &str) -> bool
     ensures { result ≡ has_form text.now }
 {
@@ -21,7 +22,7 @@ pub fn has_form(text: &str) -> bool
         && are_capitals_or_digits(text)
 }
 
-// The number of the two check digits.
+// The check digits as a number.
 fn check_number(bytes: &[u8]) -> u32
     requires { 3 < length bytes.now }
     ensures { result ≡ check_number bytes.now }
@@ -30,8 +31,8 @@ fn check_number(bytes: &[u8]) -> u32
     tens * 10 + u32::from(bytes[3].saturating_sub(b'0'))
 }
 
-/// Whether the check digits are right: the remainder by 97 is 1, and they are 02 to 98, since they
-/// are 98 less a remainder.
+/// Returns whether the check digits are right: the remainder modulo 97 is 1, and they are 02 to 98,
+/// since they are 98 minus a remainder.
 pub fn is_checked(text: &str) -> bool
     ensures { result ≡ is_checked text.now }
 {

@@ -1,4 +1,4 @@
-//! The text of a Swiss QR bill.
+//! Swiss QR-bills.
 
 ghost use Rattle.std.specs.Prelude.{◌≡◌, ◌++◌, ◌∷◌, Option, Some, [], IfOk, OnOk, IsOkUnless, string_bytes};
 ghost use Rattle.std.specs.Option.{option_map};
@@ -18,7 +18,7 @@ use crate::fields::refusals::{refuse_first, too_long, too_short};
 use qrcode_types::types::{EcLevel, Version};
 use std::alloc::Global;
 
-/// The level of a bill's symbol.
+/// The error correction level of a bill's symbol.
 pub const LEVEL: EcLevel = EcLevel::M;
 
 /// The largest version of a bill's symbol.
@@ -34,7 +34,7 @@ pub enum Currency {
 }
 
 impl Currency {
-    // The line of the currency.
+    // The line of the currency: `CHF` or `EUR`.
     fn name(self) -> &'static str
         ensures { result.now ≡ currency_name self }
     {
@@ -45,37 +45,38 @@ impl Currency {
     }
 }
 
-/// A name with its structured address. Street and number may be empty.
+/// A name with a structured address. `street` and `number` may be empty.
 #[derive(Copy, Clone, PartialEq, Eq, Debug)]
 pub struct Party<'a> {
     /// The name, up to 70 characters.
     pub name: &'a str,
     /// The street, up to 70 characters.
     pub street: &'a str,
-    /// The number of the house, up to 16 characters.
+    /// The house number, up to 16 characters.
     pub number: &'a str,
     /// The postal code, up to 16 characters.
     pub code: &'a str,
     /// The town, up to 35 characters.
     pub city: &'a str,
-    /// The country, two capitals of ISO 3166-1.
+    /// The country code, two capitals (ISO 3166-1).
     pub country: &'a str,
 }
 
-/// A Swiss QR bill. Its reference is empty, one of ISO 11649 (`RF..`), or 27 digits, to which an
-/// account with a number of an institution from 30000 to 31999 belongs.
+/// A Swiss QR-bill. Its reference is empty, one of ISO 11649 (`RF..`), or a QR reference of 27
+/// digits. A QR-IBAN, whose institution has a number from 30000 to 31999, needs a QR reference; any
+/// other IBAN excludes one.
 #[derive(Copy, Clone, PartialEq, Eq, Debug)]
 pub struct Bill<'a> {
-    /// The account in Switzerland or Liechtenstein, without spaces: `CH` or `LI`, two check digits,
+    /// The IBAN, of Switzerland or Liechtenstein, without spaces: `CH` or `LI`, two check digits,
     /// five digits of the institution, and 12 capitals and digits.
     pub iban: &'a str,
-    /// Who is paid.
+    /// The creditor, who is paid.
     pub creditor: Party<'a>,
-    /// The amount in hundredths, 1 to 99,999,999,999, or left open.
+    /// The amount in hundredths, 1 to 99,999,999,999; `None` leaves it open.
     pub cents: Option<u64>,
     /// The currency.
     pub currency: Currency,
-    /// Who pays; all fields empty where nobody is named.
+    /// The debtor, who pays; all fields are empty if nobody is named.
     pub debtor: Party<'a>,
     /// The reference, without spaces.
     pub reference: &'a str,
@@ -83,14 +84,14 @@ pub struct Bill<'a> {
     pub message: &'a str,
 }
 
-// Whether a character may stand in a bill.
+// Whether a bill may have the character.
 fn is_latin(character: char) -> bool
     ensures { result ≡ is_latin character }
 {
     matches!(character, ' '..='~' | '\u{a0}'..='\u{17f}' | '\u{218}'..='\u{21b}' | '\u{20ac}')
 }
 
-// How many characters may not stand in a bill.
+// How many characters a bill may not have.
 fn foreign_count(text: &str) -> usize
     ensures { result ≡ foreign_count text.now }
 {
@@ -99,21 +100,21 @@ fn foreign_count(text: &str) -> usize
         .count()
 }
 
-// Whether a text has what no line says.
+// Whether a text has a character that no line may have.
 fn is_unsaid(text: &str) -> bool
     ensures { result ≡ is_unsaid text.now }
 {
     has_control(text) || foreign_count(text) != 0
 }
 
-// Whether it is a code of a country.
+// Whether a text has the form of a country code, two capitals.
 fn is_country(text: &str) -> bool
     ensures { result ≡ is_country text.now }
 {
     text.len() == 2 && are_capitals(text.as_bytes())
 }
 
-// Whether it has the form of an account of Switzerland or Liechtenstein.
+// Whether a text has the form of an IBAN of Switzerland or Liechtenstein.
 fn is_an_account(text: &str) -> bool
     ensures { result ≡ is_account text.now }
 {
@@ -124,7 +125,7 @@ fn is_an_account(text: &str) -> bool
         && are_digits(&bytes[4..9])
 }
 
-// Whether QR references belong to the account.
+// Whether an IBAN is a QR-IBAN: the number of its institution is 30000 to 31999.
 fn is_qr_account(text: &str) -> bool
     ensures { result ≡ is_qr_account text.now }
 {
@@ -132,21 +133,21 @@ fn is_qr_account(text: &str) -> bool
     bytes.len() > 5 && bytes[4] == b'3' && (bytes[5] == b'0' || bytes[5] == b'1')
 }
 
-// Whether it begins as a reference of ISO 11649.
+// Whether a reference starts with `RF`, as those of ISO 11649 do.
 fn is_creditor_reference(text: &str) -> bool
     ensures { result ≡ is_creditor_reference text.now }
 {
     text.as_bytes().starts_with(b"RF")
 }
 
-// Whether it is to be a QR reference.
+// Whether a reference is meant as a QR reference: it is not empty and does not start with `RF`.
 fn is_qr_reference(text: &str) -> bool
     ensures { result ≡ is_qr_reference text.now }
 {
     !text.is_empty() && !is_creditor_reference(text)
 }
 
-// The line of the reference's kind.
+// The line of the reference's type: `NON`, `SCOR` or `QRR`.
 fn kind_of(reference: &str) -> &'static str
     ensures { result.now ≡ reference_kind reference.now }
 {
@@ -159,14 +160,14 @@ fn kind_of(reference: &str) -> &'static str
     }
 }
 
-// Whether an amount is no amount of a bill.
+// Whether an amount is given, but not 0.01 to 999999999.99.
 pub(crate) fn is_out_of_range(cents: Option<u64>) -> bool
     ensures { result ≡ is_out_of_range cents }
 {
     cents.is_some_and(|cents| cents < 1 || cents > 99_999_999_999)
 }
 
-// The debtor's field that this one of an address is.
+// The debtor's field for this field of an address.
 fn debtor_field(field: Field) -> Field
     ensures { result ≡ debtor_field field }
 {
@@ -181,7 +182,7 @@ fn debtor_field(field: Field) -> Field
     }
 }
 
-// Refuses the debtor's fields where those of an address are refused.
+// Reports the debtor's field instead of that of an address, e.g. `DebtorCity` for `City`.
 fn of_debtor(answer: ContentResult<()>) -> ContentResult<()>
     ensures { (refusal : Option ContentError) → answer ≡ checked refusal
         → result ≡ checked (option_map of_debtor refusal) }
@@ -195,7 +196,7 @@ fn of_debtor(answer: ContentResult<()>) -> ContentResult<()>
 }
 
 impl Party<'_> {
-    // Refuses a text with what no line says.
+    // Rejects texts with a character that no line may have.
     #[tactic(auto, unfolding(crate::specs::Bill::text_refusal))]
     fn check_texts(&self) -> ContentResult<()>
         ensures { result ≡ checked (text_refusal (addressee_of self.now)) }
@@ -210,7 +211,7 @@ impl Party<'_> {
         ])
     }
 
-    // Refuses what is too long.
+    // Rejects texts that are too long.
     #[tactic(auto, unfolding(crate::specs::Bill::length_refusal))]
     fn check_lengths(&self) -> ContentResult<()>
         ensures { result ≡ checked (length_refusal (addressee_of self.now)) }
@@ -224,7 +225,7 @@ impl Party<'_> {
         ])
     }
 
-    // Refuses what is missing, and what is no country.
+    // Rejects missing fields and a wrong country code.
     #[tactic(auto, unfolding(crate::specs::Bill::form_refusal))]
     fn check_form(&self) -> ContentResult<()>
         ensures { result ≡ checked (form_refusal (addressee_of self.now)) }
@@ -240,7 +241,7 @@ impl Party<'_> {
         ])
     }
 
-    // Refuses what cannot be said of somebody who is named.
+    // Checks form and lengths of a party who is named.
     #[tactic(auto, unfolding(crate::specs::Bill::named_refusal))]
     fn check_named(&self) -> ContentResult<()>
         ensures { result ≡ checked (named_refusal (addressee_of self.now)) }
@@ -249,7 +250,7 @@ impl Party<'_> {
         self.check_lengths()
     }
 
-    // Whether nobody is named.
+    // Whether all fields are empty.
     fn is_nobody(&self) -> bool
         ensures { result ≡ is_nobody (addressee_of self.now) }
     {
@@ -261,7 +262,7 @@ impl Party<'_> {
             && self.country.is_empty()
     }
 
-    // Refuses what cannot be said of somebody, or of nobody.
+    // Checks a party who need not be named.
     #[tactic(auto, unfolding(crate::specs::Bill::party_refusal))]
     fn check_party(&self) -> ContentResult<()>
         ensures { result ≡ checked (party_refusal (addressee_of self.now)) }
@@ -273,14 +274,14 @@ impl Party<'_> {
         self.check_named()
     }
 
-    // Refuses what cannot be said of a debtor.
+    // Checks a party as `check_party` does, and reports the debtor's fields.
     fn check_debtor(&self) -> ContentResult<()>
         ensures { result ≡ checked (debtor_refusal (addressee_of self.now)) }
     {
         of_debtor(self.check_party())
     }
 
-    // The line of the address's kind.
+    // The line of the address type: `S` (structured), or empty if nobody is named.
     fn kind(&self) -> &'static str
         ensures { result.now ≡ address_kind (addressee_of self.now) }
     {
@@ -302,7 +303,7 @@ impl Party<'_> {
 }
 
 impl Bill<'_> {
-    // Refuses what is no account, and an amount out of range.
+    // Rejects a wrong IBAN, and an amount out of range.
     #[tactic(auto, unfolding(crate::specs::Bill::account_refusal))]
     fn check_account(&self) -> ContentResult<()>
         ensures { result ≡ checked (account_refusal (invoice_of self.now)) }
@@ -318,7 +319,7 @@ impl Bill<'_> {
         ])
     }
 
-    // Refuses what no line says, and a long message.
+    // Rejects characters that no line may have in reference and message, and a long message.
     #[tactic(auto, unfolding(crate::specs::Bill::message_refusal))]
     fn check_message(&self) -> ContentResult<()>
         ensures { result ≡ checked (message_refusal (invoice_of self.now)) }
@@ -331,7 +332,7 @@ impl Bill<'_> {
         ])
     }
 
-    // Refuses a reference that is wrong, that is missing, or that does not belong to the account.
+    // Rejects a reference that is wrong, that is missing, or that does not go with the IBAN.
     #[tactic(auto, unfolding(crate::specs::Bill::reference_refusal))]
     fn check_reference(&self) -> ContentResult<()>
         ensures { result ≡ checked (reference_refusal (invoice_of self.now)) }
@@ -361,7 +362,7 @@ impl Bill<'_> {
         ])
     }
 
-    // Refuses what the text cannot say.
+    // Fails on the first wrong field.
     #[tactic(auto, unfolding(crate::specs::Bill::bill_refusal))]
     fn check(&self) -> ContentResult<()>
         ensures { result ≡ checked (bill_refusal (invoice_of self.now)) }
@@ -374,7 +375,7 @@ impl Bill<'_> {
         self.check_reference()
     }
 
-    // Appends the line of the amount.
+    // Appends the line of the amount, empty if it is left open.
     fn push_amount_line(&self, text: &mut String) -> ContentResult<()>
         ensures appends { OnOk result (string_bytes text.new
             ≡ string_bytes text.old ++ later_text (amount_line self.now.cents ∷ [])) }
@@ -387,7 +388,7 @@ impl Bill<'_> {
         Ok(())
     }
 
-    // Appends the last lines.
+    // Appends the last lines, from the reference's type to `EPD`.
     fn push_end(&self, text: &mut String) -> ContentResult<()>
         ensures appends { OnOk result (string_bytes text.new ≡ string_bytes text.old
             ++ later_text (end_lines (invoice_of self.now))) }
@@ -399,7 +400,7 @@ impl Bill<'_> {
         Ok(())
     }
 
-    // The text of a bill that is not refused.
+    // Writes the text without checking the fields.
     fn written(&self, alloc: Global) -> ContentResult<String>
         ensures value { IfOk result (λ text. string_bytes text ≡ bill_text (invoice_of self.now)) }
         ensures memory { IsOkUnless result OutOfMemory }
@@ -415,10 +416,11 @@ impl Bill<'_> {
         Ok(text)
     }
 
-    /// The text of the bill. Its symbol has the level [`LEVEL`] and a version up to [`LARGEST`].
+    /// Returns the text of the bill. Its symbol must have level [`LEVEL`] and a version up to
+    /// [`LARGEST`], which may be too small for a long bill.
     ///
-    /// An error names the field and why the text cannot say it, or is `OutOfMemory`. A field of the
-    /// debtor has a name of its own, as `DebtorCity`.
+    /// Errors: `Refused` names the first wrong field and why; `OutOfMemory` if memory runs out. The
+    /// debtor's fields have names of their own, e.g. `DebtorCity`.
     pub fn text(&self, alloc: Global) -> ContentResult<String>
         ensures reads { Answers (bill_refusal (invoice_of self.now)) result
             (λ text. read_bill text ≡ Some (invoice_of self.now)) }

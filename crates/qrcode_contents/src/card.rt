@@ -1,4 +1,4 @@
-//! The text of a contact as a vCard.
+//! Contacts as vCard 3.0.
 
 ghost use Rattle.std.specs.Prelude.{◌≡◌, ◌++◌, Some, IfOk, OnOk, IsOkUnless, string_bytes};
 ghost use Rattle.qrcode_contents.specs.declared.fields.errors.ContentError.TheVariants.{OutOfMemory};
@@ -14,27 +14,28 @@ use crate::phone::no_number;
 use crate::times::{date_or_none, is_wrong_day};
 use std::alloc::Global;
 
-/// A contact with more fields. What is empty is left out; texts may have line feeds.
+/// A contact with more fields than a MECARD has. `name` and `contact.family` are required; other
+/// empty fields are left out. Texts may have tabs and line feeds, the web address may not.
 #[derive(Copy, Clone, PartialEq, Eq, Debug)]
 pub struct Card<'a> {
-    /// What a MECARD has too.
+    /// The fields that a MECARD has too.
     pub contact: Contact<'a>,
-    /// The name as it is shown.
+    /// The displayed name.
     pub name: &'a str,
     /// The organisation.
     pub organisation: &'a str,
-    /// The title or function.
+    /// The job title.
     pub title: &'a str,
-    /// The number of a mobile telephone.
+    /// The number of a mobile phone.
     pub mobile: &'a str,
-    /// The number of a telephone at work.
+    /// The telephone number at work.
     pub work_phone: &'a str,
-    /// The number of a telephone at home.
+    /// The telephone number at home.
     pub home_phone: &'a str,
 }
 
 impl Card<'_> {
-    // Refuses missing names, and control characters.
+    // Rejects missing names, and control characters in the first texts.
     #[tactic(auto, unfolding(crate::specs::Card::first_refused))]
     fn check_first(&self) -> ContentResult<()>
         ensures { result ≡ checked (first_refused (contact_of self.now)) }
@@ -50,7 +51,7 @@ impl Card<'_> {
         ])
     }
 
-    // Refuses what is no telephone number.
+    // Rejects a wrong telephone number.
     #[tactic(auto, unfolding(crate::specs::Card::numbers_refused))]
     fn check_numbers(&self) -> ContentResult<()>
         ensures { result ≡ checked (numbers_refused (contact_of self.now)) }
@@ -63,7 +64,7 @@ impl Card<'_> {
         ])
     }
 
-    // Refuses control characters in the other texts, and a birthday that the calendar has not.
+    // Rejects control characters in the other texts, and a birthday that does not exist.
     #[tactic(auto, unfolding(crate::specs::Card::last_refused))]
     fn check_last(&self) -> ContentResult<()>
         ensures { result ≡ checked (last_refused (contact_of self.now)) }
@@ -85,7 +86,7 @@ impl Card<'_> {
         ])
     }
 
-    // Refuses what the card cannot say.
+    // Fails on the first wrong field.
     fn check(&self) -> ContentResult<()>
         ensures { result ≡ checked (card_refusal (contact_of self.now)) }
     {
@@ -94,7 +95,7 @@ impl Card<'_> {
         self.check_last()
     }
 
-    // Appends the lines of the name and of the texts that follow it.
+    // Appends the lines from `N` to `EMAIL`.
     fn push_names(&self, alloc: Global, text: &mut String) -> ContentResult<()>
         ensures appends { OnOk result (string_bytes text.new
             ≡ string_bytes text.old ++ content_text (name_lines (contact_of self.now))) }
@@ -115,7 +116,7 @@ impl Card<'_> {
         push_texts(alloc, text, &texts)
     }
 
-    // The text of a card that is not refused.
+    // Writes the text without checking the fields.
     fn written(&self, alloc: Global) -> ContentResult<String>
         ensures value { IfOk result (λ text. string_bytes text ≡ card_text (contact_of self.now)) }
         ensures memory { IsOkUnless result OutOfMemory }
@@ -140,9 +141,9 @@ impl Card<'_> {
         Ok(text)
     }
 
-    /// The text of the contact as a vCard of version 3.0.
+    /// Returns the contact as a vCard of version 3.0.
     ///
-    /// An error names the field and why the text cannot say it, or is `OutOfMemory`.
+    /// Errors: `Refused` names the first wrong field and why; `OutOfMemory` if memory runs out.
     pub fn text(&self, alloc: Global) -> ContentResult<String>
         ensures reads { Answers (card_refusal (contact_of self.now)) result
             (λ text. read_card text ≡ Some (contact_of self.now)) }

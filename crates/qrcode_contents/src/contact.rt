@@ -1,4 +1,4 @@
-//! The text of a contact.
+//! Contacts as MECARD.
 
 ghost use Rattle.std.specs.Prelude.{◌≡◌, Some, IfOk, IsOkUnless, string_bytes};
 ghost use Rattle.qrcode_contents.specs.declared.fields.errors.ContentError.TheVariants.{OutOfMemory};
@@ -12,24 +12,24 @@ use crate::phone::no_number;
 use crate::times::{Day, day_or_none, is_wrong_day};
 use std::alloc::Global;
 
-/// A contact. What is empty is left out.
+/// A contact. `family` is required; other empty fields are left out.
 #[derive(Copy, Clone, PartialEq, Eq, Debug)]
 pub struct Contact<'a> {
-    /// The family name, or the only one.
+    /// The family name, or the only name.
     pub family: &'a str,
     /// The given names.
     pub given: &'a str,
     /// A telephone number.
     pub phone: &'a str,
-    /// An address of mail.
+    /// An e-mail address.
     pub email: &'a str,
-    /// An address of the web.
+    /// A web address.
     pub url: &'a str,
     /// The birthday.
     pub birthday: Option<Day>,
     /// A note.
     pub note: &'a str,
-    /// The street with the number of the house.
+    /// The street with the house number.
     pub street: &'a str,
     /// The town.
     pub city: &'a str,
@@ -42,7 +42,7 @@ pub struct Contact<'a> {
 }
 
 impl Contact<'_> {
-    // Refuses line breaks and other control characters.
+    // Rejects line breaks and other control characters.
     #[tactic(auto, unfolding(crate::specs::Contact::person_controls))]
     fn check_controls(&self) -> ContentResult<()>
         ensures { result ≡ checked (person_controls (person_of self.now)) }
@@ -61,8 +61,7 @@ impl Contact<'_> {
         ])
     }
 
-    // Refuses a contact with no name, a birthday that the calendar has not, and what is no
-    // telephone number.
+    // Rejects an empty family name, a birthday that does not exist, and a wrong telephone number.
     #[tactic(auto, unfolding(crate::specs::Contact::person_checks))]
     fn check_forms(&self) -> ContentResult<()>
         ensures { result ≡ checked (person_checks (person_of self.now)) }
@@ -74,7 +73,7 @@ impl Contact<'_> {
         ])
     }
 
-    // Refuses fields that the text cannot say.
+    // Fails on the first wrong field.
     fn check(&self) -> ContentResult<()>
         ensures { result ≡ checked (contact_refusal (person_of self.now)) }
     {
@@ -82,7 +81,7 @@ impl Contact<'_> {
         self.check_forms()
     }
 
-    // The text of a contact that is not refused.
+    // Writes the text without checking the fields.
     fn written(&self, alloc: Global) -> ContentResult<String>
         ensures value { IfOk result (λ text. string_bytes text ≡ mecard_text (person_of self.now)) }
         ensures memory { IsOkUnless result OutOfMemory }
@@ -113,9 +112,9 @@ impl Contact<'_> {
         Ok(text)
     }
 
-    /// The text of the contact as MECARD.
+    /// Returns the contact as MECARD.
     ///
-    /// An error names the field and why the text cannot say it, or is `OutOfMemory`.
+    /// Errors: `Refused` names the first wrong field and why; `OutOfMemory` if memory runs out.
     pub fn mecard(&self, alloc: Global) -> ContentResult<String>
         ensures reads { Answers (contact_refusal (person_of self.now)) result
             (λ text. read_mecard text ≡ Some (person_of self.now)) }

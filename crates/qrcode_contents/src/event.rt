@@ -1,4 +1,4 @@
-//! The text of an event of a calendar.
+//! Calendar events as iCalendar (RFC 5545).
 
 ghost use Rattle.std.specs.Prelude.{◌≡◌, ◌++◌, not, Some, IfOk, OnOk, IsOkUnless, string_bytes, codes};
 ghost use Rattle.qrcode_contents.specs.declared.fields.errors.ContentError.TheVariants.{OutOfMemory};
@@ -13,33 +13,34 @@ use crate::fields::refusals::{controls, refuse_first, stray};
 use crate::times::{Day, Moment};
 use std::alloc::Global;
 
-/// When an event begins and ends.
+/// The beginning and end of an event.
 #[derive(Copy, Clone, PartialEq, Eq, Debug)]
 pub enum Span {
-    /// From a day until before another, which is behind it.
+    /// Whole days: the first, and the day after the last.
     Days(Day, Day),
-    /// From a moment until a later one.
+    /// From one time to a later one.
     Times(Moment, Moment),
 }
 
-/// An event. What is empty is left out; texts may have line feeds.
+/// An event. Empty fields are left out; `summary`, `location` and `description` may have tabs and
+/// line feeds.
 #[derive(Copy, Clone, PartialEq, Eq, Debug)]
 pub struct Event<'a> {
-    /// The identifier, which no other event has, e.g. `19970610T172345Z-AF23B2@example.com`.
+    /// A unique identifier, e.g. `19970610T172345Z-AF23B2@example.com`.
     pub uid: &'a str,
-    /// When it was written.
+    /// The time when the event was written.
     pub stamp: Option<Moment>,
-    /// When it begins and ends.
+    /// The beginning and end.
     pub span: Span,
-    /// What it is.
+    /// The title.
     pub summary: &'a str,
-    /// Where it is.
+    /// The place.
     pub location: &'a str,
     /// A description.
     pub description: &'a str,
 }
 
-// Appends the line of a key and a day.
+// Appends a line of `key` and `day`.
 fn push_day(alloc: Global, text: &mut String, key: &str, day: Day) -> ContentResult<()>
     ensures appends { OnOk result (string_bytes text.new
         ≡ string_bytes text.old ++ content_line (key.now, day_text day)) }
@@ -49,7 +50,7 @@ fn push_day(alloc: Global, text: &mut String, key: &str, day: Day) -> ContentRes
     push_value(alloc, text, key, value.as_str())
 }
 
-// Appends the line of a key and a moment.
+// Appends a line of `key` and `moment`.
 fn push_moment(alloc: Global, text: &mut String, key: &str, moment: Moment) -> ContentResult<()>
     ensures appends { OnOk result (string_bytes text.new
         ≡ string_bytes text.old ++ content_line (key.now, moment_text moment)) }
@@ -59,14 +60,14 @@ fn push_moment(alloc: Global, text: &mut String, key: &str, moment: Moment) -> C
     push_value(alloc, text, key, value.as_str())
 }
 
-// Whether the calendar has no such moment.
+// Whether a time is given that does not exist.
 fn is_wrong(stamp: Option<Moment>) -> bool
     ensures { result ≡ wrong_stamp stamp }
 {
     stamp.is_some_and(|moment| !moment.is_valid())
 }
 
-// Appends the line of the moment when an event was written, and nothing where it is left out.
+// Appends the `DTSTAMP` line; nothing for `None`.
 fn push_stamp(alloc: Global, text: &mut String, stamp: Option<Moment>) -> ContentResult<()>
     ensures appends { OnOk result (string_bytes text.new
         ≡ string_bytes text.old ++ content_line (codes "DTSTAMP", stamp_text stamp)) }
@@ -79,8 +80,8 @@ fn push_stamp(alloc: Global, text: &mut String, stamp: Option<Moment>) -> Conten
 }
 
 impl Span {
-    // Whether the calendar has no such beginning, and no such end, and whether the end is not
-    // behind the beginning.
+    // Whether the beginning does not exist, whether the end does not exist, and whether the end is
+    // not after the beginning.
     fn faults(self) -> (bool, bool, bool)
         ensures { result ≡ (begins_never self, ends_never self, ends_early self) }
     {
@@ -96,7 +97,7 @@ impl Span {
         }
     }
 
-    // Appends the lines of beginning and end.
+    // Appends the lines of the beginning and the end.
     fn push(self, alloc: Global, text: &mut String) -> ContentResult<()>
         ensures appends { OnOk result (string_bytes text.new
             ≡ string_bytes text.old ++ content_text (span_lines self)) }
@@ -116,7 +117,7 @@ impl Span {
 }
 
 impl Event<'_> {
-    // Refuses what the text cannot say.
+    // Fails on the first wrong field.
     #[tactic(auto, unfolding(crate::specs::Event::event_refusal))]
     fn check(&self) -> ContentResult<()>
         ensures { result ≡ checked (event_refusal (happening_of self.now)) }
@@ -134,7 +135,7 @@ impl Event<'_> {
         ])
     }
 
-    // The text of an event that is not refused.
+    // Writes the text without checking the fields.
     fn written(&self, alloc: Global) -> ContentResult<String>
         ensures value { IfOk result (λ text. string_bytes text
             ≡ event_text (happening_of self.now)) }
@@ -157,9 +158,9 @@ impl Event<'_> {
         Ok(text)
     }
 
-    /// The text of a calendar object with the event, as iCalendar has it (RFC 5545).
+    /// Returns an iCalendar object (RFC 5545) with the event.
     ///
-    /// An error names the field and why the text cannot say it, or is `OutOfMemory`.
+    /// Errors: `Refused` names the first wrong field and why; `OutOfMemory` if memory runs out.
     pub fn text(&self, alloc: Global) -> ContentResult<String>
         ensures reads { Answers (event_refusal (happening_of self.now)) result
             (λ text. read_event text ≡ Some (happening_of self.now)) }

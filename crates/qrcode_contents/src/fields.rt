@@ -1,5 +1,4 @@
-//! What the texts that symbols carry are made of: escapes, entries, lines, links, check digits, and
-//! why a field is refused.
+//! What the formats share: escapes, entries, lines, links, check digits, and errors.
 
 pub mod amounts;
 pub mod characters;

@@ -1,4 +1,4 @@
-//! Links to places.
+//! Links to places on the earth.
 
 ghost use Rattle.std.specs.Prelude.{◌≡◌, ◌<◌, ◌*◌, ◌%◌, ◌++◌, Some, IfOk, OnOk, IsOkUnless, string_bytes};
 ghost use Rattle.qrcode_contents.specs.declared.fields.errors.ContentError.TheVariants.{OutOfMemory};
@@ -10,7 +10,7 @@ use crate::fields::refusals::refuse_first;
 use std::alloc::Global;
 use std::fmt::Write;
 
-/// A place on the earth, in the coordinates of WGS 84.
+/// A place on the earth, in WGS 84 coordinates.
 #[derive(Copy, Clone, PartialEq, Eq, Debug)]
 pub struct Place {
     /// Millionths of a degree north of the equator, from -90,000,000 to 90,000,000.
@@ -19,7 +19,7 @@ pub struct Place {
     pub longitude: i32,
 }
 
-// Appends the digit before a place, and nothing where the number is zero. The rest of the number.
+// Appends the digit `number / place`, or nothing if `number` is zero. Returns the remainder.
 fn push_digit(text: &mut String, number: u32, place: u32) -> ContentResult<u32>
     requires place { 0 < place }
     requires digit { number < place * 10 }
@@ -36,7 +36,7 @@ fn push_digit(text: &mut String, number: u32, place: u32) -> ContentResult<u32>
     Ok(number % place)
 }
 
-// Appends millionths with a point before them, and without zeros at the end.
+// Appends a point and millionths without trailing zeros; nothing if there are none.
 fn push_fraction(text: &mut String, millionths: u32) -> ContentResult<()>
     requires { millionths < 1000000 }
     ensures appends { OnOk result (string_bytes text.new
@@ -54,14 +54,14 @@ fn push_fraction(text: &mut String, millionths: u32) -> ContentResult<()>
     Ok(())
 }
 
-// The sign of a number below zero.
+// A minus sign for a negative number, else empty.
 fn sign(number: i32) -> &'static str
     ensures { result.now ≡ sign_text number }
 {
     if number.is_negative() { "-" } else { "" }
 }
 
-// Appends degrees that are given in millionths.
+// Appends millionths of a degree as degrees, e.g. `-180.5`.
 fn push_coordinate(text: &mut String, millionths: i32) -> ContentResult<()>
     ensures appends { OnOk result (string_bytes text.new
         ≡ string_bytes text.old ++ coordinate_text millionths) }
@@ -75,7 +75,7 @@ fn push_coordinate(text: &mut String, millionths: i32) -> ContentResult<()>
 }
 
 impl Place {
-    // Refuses what is no place.
+    // Rejects coordinates out of range.
     fn check(&self) -> ContentResult<()>
         ensures { result ≡ checked (place_refusal self.now) }
     {
@@ -87,7 +87,7 @@ impl Place {
         ])
     }
 
-    // The link to a place that is not refused.
+    // Writes the link without checking the fields.
     fn written(&self, alloc: Global) -> ContentResult<String>
         ensures value { IfOk result (λ text. string_bytes text ≡ place_text self.now) }
         ensures memory { IsOkUnless result OutOfMemory }
@@ -99,9 +99,9 @@ impl Place {
         Ok(text)
     }
 
-    /// The link to the place.
+    /// Returns the link to the place, `geo:..`.
     ///
-    /// An error names the field and why the text cannot say it, or is `OutOfMemory`.
+    /// Errors: `Refused` names the first wrong field and why; `OutOfMemory` if memory runs out.
     pub fn text(&self, alloc: Global) -> ContentResult<String>
         ensures reads { Answers (place_refusal self.now) result
             (λ text. read_place text ≡ Some self.now) }

@@ -1,4 +1,4 @@
-//! Laws of the types that no call stands for, on the contract of a function that does nothing.
+//! Theorems about `==` on the formats and their types.
 
 ghost use Rattle.std.specs.Prelude.{◌≡◌, ◌↔◌, IsTrue};
 ghost use Rattle.qrcode_contents.specs.Bill.{addressee_of, invoice_of};
@@ -49,8 +49,8 @@ use crate::times::{Day, Moment};
 use crate::upi::Upi;
 use crate::wifi::{Security, Wifi};
 
-/// Two values are equal by `==` exactly when they are the same; two contents of texts, when their
-/// fields are.
+/// Theorem: two values of these types are equal by `==` exactly if they are the same; structs with
+/// texts, exactly if their fields are.
 pub fn equality<'a>()
     ensures days { (a b : Day) → IsTrue (⟦<Day as PartialEq>⟧.eq a b) ↔ (a ≡ b) }
     ensures moments { (a b : Moment) → IsTrue (⟦<Moment as PartialEq>⟧.eq a b) ↔ (a ≡ b) }
@@ -76,7 +76,7 @@ pub fn equality<'a>()
         → IsTrue (⟦<Wifi<'a> as PartialEq>⟧.eq a b) ↔ (wifi_fields a ≡ wifi_fields b) }
 {}
 
-/// Two cards are equal by `==` exactly when their fields are.
+/// Theorem: two cards are equal by `==` exactly if their fields are.
 pub fn card_equality<'a>()
     ensures { (a b : Card)
         → IsTrue (⟦<Card<'a> as PartialEq>⟧.eq a b) ↔ (contact_of a ≡ contact_of b) }
@@ -84,7 +84,7 @@ pub fn card_equality<'a>()
     contact_equality();
 }
 
-/// Two contacts are equal by `==` exactly when their fields are.
+/// Theorem: two contacts are equal by `==` exactly if their fields are.
 pub fn contact_equality<'a>()
     ensures { (a b : Contact)
         → IsTrue (⟦<Contact<'a> as PartialEq>⟧.eq a b) ↔ (person_of a ≡ person_of b) }
@@ -92,7 +92,7 @@ pub fn contact_equality<'a>()
     equality();
 }
 
-/// Two values of one-time passwords are equal by `==` exactly when their fields are.
+/// Theorem: two `OneTime`s are equal by `==` exactly if their fields are.
 pub fn one_time_equality<'a>()
     ensures { (a b : OneTime)
         → IsTrue (⟦<OneTime<'a> as PartialEq>⟧.eq a b) ↔ (key_of a ≡ key_of b) }
@@ -100,7 +100,7 @@ pub fn one_time_equality<'a>()
     equality();
 }
 
-/// Two bills are equal by `==` exactly when their fields are.
+/// Theorem: two bills are equal by `==` exactly if their fields are.
 pub fn bill_equality<'a>()
     ensures { (a b : Bill)
         → IsTrue (⟦<Bill<'a> as PartialEq>⟧.eq a b) ↔ (invoice_of a ≡ invoice_of b) }
@@ -108,7 +108,7 @@ pub fn bill_equality<'a>()
     equality();
 }
 
-/// Two events are equal by `==` exactly when their fields are.
+/// Theorem: two events are equal by `==` exactly if their fields are.
 pub fn event_equality<'a>()
     ensures { (a b : Event)
         → IsTrue (⟦<Event<'a> as PartialEq>⟧.eq a b) ↔ (happening_of a ≡ happening_of b) }
@@ -116,7 +116,8 @@ pub fn event_equality<'a>()
     equality();
 }
 
-/// Two payments by UPI, by Pix or by PromptPay are equal by `==` exactly when their fields are.
+/// Theorem: two payments by UPI, by Pix or by PromptPay are equal by `==` exactly if their fields
+/// are.
 #[tactic(auto, using(crate::proofs::OpenAmounts::amounts_equal))]
 pub fn request_equality<'a>()
     ensures requests { (a b : Upi)

@@ -1,5 +1,5 @@
-//! Texts that symbols carry: networks, contacts, payments, events and links, each a value with
-//! named fields and the text of its format.
+//! Payloads of QR codes: Wi-Fi networks, contacts, payments, events and links. Each format is a
+//! struct with named fields, and a call such as `text` writes it.
 #![tactic(auto)]
 
 mod accounts;

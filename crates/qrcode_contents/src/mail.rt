@@ -1,4 +1,4 @@
-//! Links that write a mail.
+//! Links that open a new e-mail.
 
 ghost use Rattle.std.specs.Prelude.{◌≡◌, Some, IfOk, IsOkUnless, string_bytes};
 ghost use Rattle.qrcode_contents.specs.declared.fields.errors.ContentError.TheVariants.{OutOfMemory};
@@ -11,19 +11,19 @@ use crate::fields::links::{Part, push_parameters, push_part};
 use crate::fields::refusals::{controls, refuse_first, stray};
 use std::alloc::Global;
 
-/// A mail that is not yet written. What is empty is left out.
+/// An e-mail to be written. `subject` and `body` may be empty.
 #[derive(Copy, Clone, PartialEq, Eq, Debug)]
 pub struct Mail<'a> {
-    /// To whom, with one `@`.
+    /// The recipient's address, with one `@`.
     pub address: &'a str,
     /// The subject.
     pub subject: &'a str,
-    /// The text, of lines with a line feed between each two.
+    /// The text; a line feed separates lines.
     pub body: &'a str,
 }
 
 impl Mail<'_> {
-    // Refuses what the link cannot say.
+    // Fails on the first wrong field.
     #[tactic(auto, unfolding(crate::specs::Mail::mail_refusal))]
     fn check(&self) -> ContentResult<()>
         ensures { result ≡ checked (mail_refusal (letter_of self.now)) }
@@ -37,7 +37,7 @@ impl Mail<'_> {
         ])
     }
 
-    // The link of a mail that is not refused.
+    // Writes the link without checking the fields.
     fn written(&self, alloc: Global) -> ContentResult<String>
         ensures value { IfOk result (λ text. string_bytes text ≡ mail_text (letter_of self.now)) }
         ensures memory { IsOkUnless result OutOfMemory }
@@ -49,9 +49,9 @@ impl Mail<'_> {
         Ok(text)
     }
 
-    /// The link that writes the mail.
+    /// Returns the link that opens the e-mail, `mailto:..`.
     ///
-    /// An error names the field and why the text cannot say it, or is `OutOfMemory`.
+    /// Errors: `Refused` names the first wrong field and why; `OutOfMemory` if memory runs out.
     pub fn text(&self, alloc: Global) -> ContentResult<String>
         ensures reads { Answers (mail_refusal (letter_of self.now)) result
             (λ text. read_mail text ≡ Some (letter_of self.now)) }

@@ -1,5 +1,4 @@
-//! Codes that merchants present, of objects of EMVCo, for a payment by Pix in Brazil or by
-//! PromptPay in Thailand.
+//! Merchant-presented EMVCo codes: payments by Pix (Brazil) and PromptPay (Thailand).
 
 ghost use Rattle.std.specs.Prelude.{◌≡◌, Some, IfOk, IsOkUnless, string_bytes};
 ghost use Rattle.std.specs.List.{list_all};
@@ -16,25 +15,25 @@ use crate::fields::objects::{push_check, push_object};
 use crate::fields::refusals::refuse_first;
 use std::alloc::Global;
 
-/// A payment by Pix, of characters of ASCII. Reference and description may be empty.
+/// A payment by Pix, in ASCII. `reference` and `description` may be empty.
 #[derive(Copy, Clone, PartialEq, Eq, Debug)]
 pub struct Pix<'a> {
-    /// The key of who is paid, up to 77 characters without a space: a number of CPF or CNPJ, a
-    /// telephone number as +5561912345678, a mail address, or a random key.
+    /// The payee's key, up to 77 characters without spaces: a CPF or CNPJ number, a telephone
+    /// number such as +5561912345678, an e-mail address, or a random key.
     pub key: &'a str,
-    /// Their name, up to 25 characters.
+    /// The payee's name, up to 25 characters.
     pub name: &'a str,
-    /// Their town, up to 15 characters.
+    /// The payee's town, up to 15 characters.
     pub city: &'a str,
-    /// The amount in centavos, 1 to 99,999,999,999, or none, which the payer then says.
+    /// The amount in centavos, 1 to 99,999,999,999; with `None` the payer enters it.
     pub cents: Option<u64>,
     /// The reference (txid), up to 25 letters and digits.
     pub reference: &'a str,
-    /// A description, which with the key has up to 73 characters.
+    /// A description; together with the key up to 73 characters.
     pub description: &'a str,
 }
 
-// Whether all bytes are of ASCII, and none is a control character.
+// Whether all bytes are ASCII and no control characters.
 fn are_printed(text: &str) -> bool
     ensures { result ≡ list_all is_printed text.now }
 {
@@ -42,7 +41,7 @@ fn are_printed(text: &str) -> bool
     bytes.iter().all(|byte| matches!(*byte, 32..=126))
 }
 
-// Whether all bytes may stand in a key.
+// Whether all bytes may be in a key: ASCII, no space and no control character.
 fn are_of_key(text: &str) -> bool
     ensures { result ≡ list_all is_key_byte text.now }
 {
@@ -58,7 +57,7 @@ fn are_of_reference(text: &str) -> bool
     bytes.iter().all(|byte| matches!(*byte, b'0'..=b'9' | b'A'..=b'Z' | b'a'..=b'z'))
 }
 
-// The reference, or what stands for none.
+// The reference, or `***` if there is none.
 fn reference_text(reference: &str) -> &str
     ensures { result.now ≡ reference_text reference.now }
 {
@@ -70,7 +69,7 @@ fn reference_text(reference: &str) -> &str
 }
 
 impl Pix<'_> {
-    // Refuses a key and a description that the code cannot say.
+    // Rejects a wrong key or description.
     #[tactic(auto, unfolding(crate::specs::Merchant::account_refusal))]
     fn check_account(&self) -> ContentResult<()>
         ensures { result ≡ checked (account_refusal (charge_of self.now)) }
@@ -88,7 +87,7 @@ impl Pix<'_> {
         ])
     }
 
-    // Refuses other fields that it cannot say.
+    // Rejects other wrong fields.
     #[tactic(auto, unfolding(crate::specs::Merchant::receiver_refusal))]
     fn check_receiver(&self) -> ContentResult<()>
         ensures { result ≡ checked (receiver_refusal (charge_of self.now)) }
@@ -110,7 +109,7 @@ impl Pix<'_> {
         ])
     }
 
-    // Refuses what the code cannot say.
+    // Fails on the first wrong field.
     #[tactic(auto, unfolding(crate::specs::Merchant::pix_refusal))]
     fn check(&self) -> ContentResult<()>
         ensures { result ≡ checked (pix_refusal (charge_of self.now)) }
@@ -119,7 +118,7 @@ impl Pix<'_> {
         self.check_receiver()
     }
 
-    // The objects in that of the account.
+    // The objects inside the account object (26).
     #[tactic(auto, unfolding(crate::specs::fields::Objects::objects_text))]
     fn key_objects(&self, alloc: Global) -> ContentResult<String>
         ensures value { IfOk result (λ text. string_bytes text
@@ -133,7 +132,7 @@ impl Pix<'_> {
         Ok(text)
     }
 
-    // The text of a payment that is not refused.
+    // Writes the text without checking the fields.
     #[tactic(auto, unfolding(crate::specs::fields::Objects::objects_text))]
     fn written(&self, alloc: Global) -> ContentResult<String>
         ensures value { IfOk result (λ text. string_bytes text ≡ pix_text (charge_of self.now)) }
@@ -157,9 +156,9 @@ impl Pix<'_> {
         Ok(text)
     }
 
-    /// The text that asks for the payment.
+    /// Returns the text that asks for the payment.
     ///
-    /// An error names the field and why the text cannot say it, or is `OutOfMemory`.
+    /// Errors: `Refused` names the first wrong field and why; `OutOfMemory` if memory runs out.
     pub fn text(&self, alloc: Global) -> ContentResult<String>
         ensures reads { Answers (pix_refusal (charge_of self.now)) result
             (λ text. read_pix text ≡ Some (charge_of self.now)) }
@@ -173,14 +172,14 @@ impl Pix<'_> {
 /// A payment by PromptPay.
 #[derive(Copy, Clone, PartialEq, Eq, Debug)]
 pub struct PromptPay<'a> {
-    /// Who is paid: the ten digits of a telephone number, which begins with 0, the thirteen of a
-    /// person or for taxes, or the fifteen of an electronic wallet.
+    /// The payee: a telephone number of ten digits, which starts with 0, a national or tax ID of
+    /// thirteen, or an e-wallet of fifteen.
     pub payee: &'a str,
-    /// The amount in satang, 1 to 99,999,999,999, or none, which the payer then says.
+    /// The amount in satang, 1 to 99,999,999,999; with `None` the payer enters it.
     pub cents: Option<u64>,
 }
 
-// The tag of a payee.
+// The tag of the payee's object.
 fn payee_tag(payee: &str) -> &'static str
     ensures { result.now ≡ payee_tag payee.now }
 {
@@ -191,7 +190,7 @@ fn payee_tag(payee: &str) -> &'static str
     }
 }
 
-// The value of a payee.
+// The value of the payee's object: in a telephone number `0066` replaces the first 0.
 fn payee_text(alloc: Global, payee: &str) -> ContentResult<String>
     ensures value { IfOk result (λ text. string_bytes text ≡ payee_text payee.now) }
     ensures memory { IsOkUnless result OutOfMemory }
@@ -204,7 +203,7 @@ fn payee_text(alloc: Global, payee: &str) -> ContentResult<String>
     Ok(text)
 }
 
-// For many payments, or for one of an amount.
+// The point of initiation: static (`11`) if the amount is open, else dynamic (`12`).
 fn initiation(cents: Option<u64>) -> &'static str
     ensures { result.now ≡ initiation cents }
 {
@@ -214,7 +213,7 @@ fn initiation(cents: Option<u64>) -> &'static str
     }
 }
 
-// The objects in that of the account.
+// The objects inside the account object (29).
 #[tactic(auto, unfolding(crate::specs::fields::Objects::objects_text))]
 fn payee_objects(alloc: Global, payee: &str) -> ContentResult<String>
     ensures value { IfOk result (λ text. string_bytes text
@@ -229,7 +228,7 @@ fn payee_objects(alloc: Global, payee: &str) -> ContentResult<String>
 }
 
 impl PromptPay<'_> {
-    // Refuses what the code cannot say.
+    // Fails on the first wrong field.
     #[tactic(auto, unfolding(crate::specs::Merchant::promptpay_refusal))]
     fn check(&self) -> ContentResult<()>
         ensures { result ≡ checked (promptpay_refusal (claim_of self.now)) }
@@ -253,7 +252,7 @@ impl PromptPay<'_> {
         ])
     }
 
-    // The text of a payment that is not refused.
+    // Writes the text without checking the fields.
     #[tactic(auto, unfolding(crate::specs::fields::Objects::objects_text))]
     fn written(&self, alloc: Global) -> ContentResult<String>
         ensures value { IfOk result (λ text. string_bytes text
@@ -273,9 +272,9 @@ impl PromptPay<'_> {
         Ok(text)
     }
 
-    /// The text that asks for the payment.
+    /// Returns the text that asks for the payment.
     ///
-    /// An error names the field and why the text cannot say it, or is `OutOfMemory`.
+    /// Errors: `Refused` names the first wrong field and why; `OutOfMemory` if memory runs out.
     pub fn text(&self, alloc: Global) -> ContentResult<String>
         ensures reads { Answers (promptpay_refusal (claim_of self.now)) result
             (λ text. read_promptpay text ≡ Some (claim_of self.now)) }

@@ -1,4 +1,4 @@
-//! Links of one-time passwords.
+//! Links that set up one-time passwords, `otpauth://..`.
 
 ghost use Rattle.std.specs.Prelude.{◌≡◌, ◌++◌, ◌∷◌, [], codes, Some, IfOk, OnOk, IsOkUnless, string_bytes};
 ghost use Rattle.std.specs.List.{list_any};
@@ -13,17 +13,17 @@ use crate::fields::links::{self, Part, push_part};
 use crate::fields::refusals::{controls, refuse_first};
 use std::alloc::Global;
 
-/// What the passwords change with.
+/// What makes the passwords change: the time, or a counter.
 #[derive(Copy, Clone, PartialEq, Eq, Debug)]
 pub enum Factor {
-    /// The time (RFC 6238); each holds for so many seconds, at least one.
+    /// The time (TOTP, RFC 6238); each password is valid for this many seconds, at least one.
     Time(u32),
-    /// A counter (RFC 4226), which begins here.
+    /// A counter (HOTP, RFC 4226), with its first value.
     Counter(u64),
 }
 
 impl Factor {
-    // The beginning of the link.
+    // The link up to its label.
     fn start(self) -> &'static str
         ensures { result.now ≡ codes "otpauth://" ++ (factor_name self ++ codes "/") }
     {
@@ -33,14 +33,14 @@ impl Factor {
         }
     }
 
-    // Whether a password holds no time.
+    // Whether the period is 0 seconds.
     fn has_no_period(self) -> bool
         ensures { result ≡ has_no_period self }
     {
         matches!(self, Factor::Time(0))
     }
 
-    // The key of its parameter.
+    // The key of the parameter for it.
     fn key(self) -> &'static str
         ensures { result.now ≡ (factor_parameter self).0 }
     {
@@ -50,7 +50,7 @@ impl Factor {
         }
     }
 
-    // The value of its parameter; empty for 30 seconds.
+    // The value of that parameter; empty for 30 seconds, the default.
     fn value(self, alloc: Global) -> ContentResult<String>
         ensures value { IfOk result (λ text. string_bytes text ≡ (factor_parameter self).1) }
         ensures fits { OnOk result (is_a_word self) }
@@ -64,10 +64,10 @@ impl Factor {
     }
 }
 
-/// The hash of the passwords.
+/// The hash function of the passwords.
 #[derive(Copy, Clone, PartialEq, Eq, Debug)]
 pub enum Algorithm {
-    /// SHA1, as most programs take for granted.
+    /// SHA1, which most apps take for granted.
     Sha1,
     /// SHA256.
     Sha256,
@@ -76,7 +76,7 @@ pub enum Algorithm {
 }
 
 impl Algorithm {
-    // The value in the link; empty for SHA1.
+    // The value in the link; empty for SHA1, the default.
     fn value(self) -> &'static str
         ensures { result.now ≡ algorithm_value self }
     {
@@ -88,7 +88,7 @@ impl Algorithm {
     }
 }
 
-/// How many digits a password has.
+/// The number of digits of a password.
 #[derive(Copy, Clone, PartialEq, Eq, Debug)]
 pub enum Digits {
     /// Six.
@@ -98,7 +98,7 @@ pub enum Digits {
 }
 
 impl Digits {
-    // The value in the link; empty for six.
+    // The value in the link; empty for six, the default.
     fn value(self) -> &'static str
         ensures { result.now ≡ digits_text self }
     {
@@ -112,21 +112,20 @@ impl Digits {
 /// One-time passwords of an account.
 #[derive(Copy, Clone, PartialEq, Eq, Debug)]
 pub struct OneTime<'a> {
-    /// What they change with.
+    /// What makes the passwords change.
     pub factor: Factor,
-    /// Who issues them, without a colon; may be empty.
+    /// The issuer, without a colon; may be empty.
     pub issuer: &'a str,
-    /// The account, without a colon.
+    /// The account, without a colon, and without a space at the start.
     pub account: &'a str,
-    /// The secret in base 32, without `=` at its end.
+    /// The secret in base 32, without `=` at the end.
     pub secret: &'a str,
-    /// The hash.
+    /// The hash function.
     pub algorithm: Algorithm,
-    /// How many digits a password has.
+    /// The number of digits of a password.
     pub digits: Digits,
 }
 
-// Whether a byte is a colon.
 fn has_colon(text: &str) -> bool
     ensures { result ≡ list_any is_colon text.now }
 {
@@ -134,7 +133,7 @@ fn has_colon(text: &str) -> bool
     bytes.iter().any(|byte| *byte == b':')
 }
 
-// Appends the parameters.
+// Appends the parameters, without those whose value is empty.
 fn push_parameters<'a>(
     text: &mut String,
     secret: &'a str,
@@ -161,7 +160,7 @@ fn push_parameters<'a>(
 }
 
 impl OneTime<'_> {
-    // Refuses what the link cannot say.
+    // Fails on the first wrong field.
     #[tactic(auto, unfolding(crate::specs::OneTime::key_refusal))]
     fn check(&self) -> ContentResult<()>
         ensures { result ≡ checked (key_refusal (key_of self.now)) }
@@ -180,7 +179,7 @@ impl OneTime<'_> {
         ])
     }
 
-    // Appends the label: the issuer, if any, and the account.
+    // Appends the label: the issuer and a colon, if there is one, and the account.
     fn push_label(&self, text: &mut String) -> ContentResult<()>
         ensures appends { OnOk result (string_bytes text.new
             ≡ string_bytes text.old ++ label_text (key_of self.now)) }
@@ -193,7 +192,7 @@ impl OneTime<'_> {
         push_part(text, Part::Path, self.account)
     }
 
-    // The link of passwords that are not refused.
+    // Writes the link without checking the fields.
     fn written(&self, alloc: Global) -> ContentResult<String>
         ensures value { IfOk result (λ text. string_bytes text ≡ key_text (key_of self.now)) }
         ensures fits { OnOk result (is_a_word self.now.factor) }
@@ -214,9 +213,9 @@ impl OneTime<'_> {
         Ok(text)
     }
 
-    /// The link of the passwords.
+    /// Returns the link that sets up the passwords.
     ///
-    /// An error names the field and why the text cannot say it, or is `OutOfMemory`.
+    /// Errors: `Refused` names the first wrong field and why; `OutOfMemory` if memory runs out.
     pub fn text(&self, alloc: Global) -> ContentResult<String>
         ensures reads { Answers (key_refusal (key_of self.now)) result
             (λ text. read_key text ≡ Some (key_of self.now)) }

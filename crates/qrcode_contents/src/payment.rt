@@ -1,4 +1,4 @@
-//! The text of a SEPA credit transfer.
+//! SEPA credit transfers (EPC QR codes).
 
 ghost use Rattle.std.specs.Prelude.{◌≡◌, ◌++◌, ◌≤◌, Some, IfOk, OnOk, IsOkUnless, string_bytes, length, nat_lt, Ok, Err, if◌then◌else◌};
 ghost use Rattle.qrcode_contents.specs.declared.fields.errors.ContentError.TheVariants.{Refused, OutOfMemory};
@@ -17,23 +17,23 @@ use crate::fields::refusals::{controls, refuse_first, too_long, too_short, unico
 use qrcode_types::types::{EcLevel, Version};
 use std::alloc::Global;
 
-/// The level of a payment's symbol.
+/// The error correction level of a payment's symbol.
 pub const LEVEL: EcLevel = EcLevel::M;
 
 /// The largest version of a payment's symbol.
 pub const LARGEST: Version = Version::Normal(13);
 
-/// The version of the text.
+/// The version of the format.
 #[derive(Copy, Clone, PartialEq, Eq, Debug)]
 pub enum PaymentVersion {
-    /// 001, with a BIC.
+    /// 001, which needs a BIC.
     One,
-    /// 002, where the BIC may be left out.
+    /// 002, where the BIC may be empty.
     Two,
 }
 
 impl PaymentVersion {
-    /// The version of a payment with this BIC: 001, and 002 where it is empty.
+    /// Returns the version for a payment with this BIC: 001, or 002 if it is empty.
     pub fn for_bic(bic: &str) -> PaymentVersion
         ensures { result ≡ version_for bic.now }
     {
@@ -44,7 +44,7 @@ impl PaymentVersion {
         }
     }
 
-    /// The line of the version.
+    /// Returns the line of the version: `001` or `002`.
     pub fn name(self) -> &'static str
         ensures { result.now ≡ version_name self }
     {
@@ -54,7 +54,7 @@ impl PaymentVersion {
         }
     }
 
-    /// Whether the BIC must be there.
+    /// Returns whether the BIC is required.
     pub fn needs_bic(self) -> bool
         ensures { result ≡ needs_bic self }
     {
@@ -65,47 +65,47 @@ impl PaymentVersion {
     }
 }
 
-/// A SEPA credit transfer. What is empty is left out; of `reference` and `message` one at most is
-/// filled.
+/// A SEPA credit transfer. `purpose`, `reference`, `message` and `information` may be empty, and
+/// `bic` in version 002; `reference` and `message` must not both be given.
 #[derive(Copy, Clone, PartialEq, Eq, Debug)]
 pub struct Payment<'a> {
-    /// The version of the text.
+    /// The version of the format.
     pub version: PaymentVersion,
-    /// The bank's identifier, 8 or 11 capitals and digits.
+    /// The bank's identifier (BIC), 8 or 11 capitals and digits.
     pub bic: &'a str,
-    /// Who is paid, 1 to 70 characters.
+    /// The payee's name, 1 to 70 characters.
     pub name: &'a str,
     /// The account (IBAN), without spaces: two letters, two check digits, and 1 to 30 capitals and
     /// digits.
     pub iban: &'a str,
     /// The amount in cents of a euro, 1 to 99,999,999,999.
     pub cents: u64,
-    /// The code of the purpose, up to 4 capitals and digits.
+    /// The purpose code, up to 4 capitals and digits.
     pub purpose: &'a str,
-    /// The creditor's reference of ISO 11649, without spaces: `RF`, two check digits, and 1 to 21
+    /// The creditor reference (ISO 11649), without spaces: `RF`, two check digits, and 1 to 21
     /// capitals and digits.
     pub reference: &'a str,
     /// A message, up to 140 characters.
     pub message: &'a str,
-    /// For the payer, up to 70 characters.
+    /// Information for the payer, up to 70 characters.
     pub information: &'a str,
 }
 
-// Whether it is a BIC.
+// Whether a text has the form of a BIC: 8 or 11 capitals and digits.
 fn is_a_bic(text: &str) -> bool
     ensures { result ≡ is_bic text.now }
 {
     (text.len() == 8 || text.len() == 11) && are_capitals_or_digits(text)
 }
 
-// Whether it has the form of a reference of ISO 11649.
+// Whether a text has the form of an ISO 11649 reference.
 fn is_a_reference(text: &str) -> bool
     ensures { result ≡ is_reference text.now }
 {
     has_form(text) && text.as_bytes().starts_with(b"RF")
 }
 
-// Refuses a text of more than 331 bytes.
+// Rejects a text of more than 331 bytes.
 fn limited(text: String) -> ContentResult<String>
     ensures { result ≡ (if nat_lt 331 (length (string_bytes text))
         then Err (Refused Whole TooLong) else Ok text) }
@@ -117,7 +117,7 @@ fn limited(text: String) -> ContentResult<String>
 }
 
 impl Payment<'_> {
-    // Refuses line breaks and other control characters.
+    // Rejects line breaks and other control characters.
     #[tactic(auto, unfolding(crate::specs::Payment::control_checks))]
     fn check_controls(&self) -> ContentResult<()>
         ensures { result ≡ checked (control_checks (payment_fields self.now)) }
@@ -133,7 +133,7 @@ impl Payment<'_> {
         ])
     }
 
-    // Refuses line breaks of Unicode in what may have more than ASCII.
+    // Rejects line breaks outside ASCII, in the fields that may have more than ASCII.
     #[tactic(auto, unfolding(crate::specs::Payment::break_checks))]
     fn check_breaks(&self) -> ContentResult<()>
         ensures { result ≡ checked (break_checks (payment_fields self.now)) }
@@ -145,7 +145,7 @@ impl Payment<'_> {
         ])
     }
 
-    // Refuses what is no BIC, and where it lacks, what is no account, and an amount out of range.
+    // Rejects a missing or wrong BIC, a wrong IBAN, and an amount out of range.
     #[tactic(auto, unfolding(crate::specs::Payment::bank_refusal))]
     fn check_bank(&self) -> ContentResult<()>
         ensures { result ≡ checked (bank_refusal (payment_fields self.now)) }
@@ -168,8 +168,8 @@ impl Payment<'_> {
         ])
     }
 
-    // Refuses a name or a purpose that is wrong, a wrong reference, one beside a message, and what
-    // is too long.
+    // Rejects a wrong name, purpose or reference, a message next to a reference, and texts that are
+    // too long.
     #[tactic(auto, unfolding(crate::specs::Payment::text_checks))]
     fn check_texts(&self) -> ContentResult<()>
         ensures { result ≡ checked (text_checks (payment_fields self.now)) }
@@ -195,7 +195,7 @@ impl Payment<'_> {
         ])
     }
 
-    // Refuses fields that the text cannot say.
+    // Fails on the first wrong field.
     #[tactic(auto, unfolding(crate::specs::Payment::field_checks))]
     fn check(&self) -> ContentResult<()>
         ensures { result ≡ checked (field_checks (payment_fields self.now)) }
@@ -206,7 +206,7 @@ impl Payment<'_> {
         self.check_texts()
     }
 
-    // How many of the last four lines there are: those behind the last filled one are left out.
+    // How many of the last four lines are written: empty ones at the end are left out.
     fn later_count(&self) -> usize
         ensures value { result ≡ later_count (payment_fields self.now) }
         ensures at_most { result ≤ 4 }
@@ -224,7 +224,7 @@ impl Payment<'_> {
         }
     }
 
-    // The lines behind the amount.
+    // Appends the lines after the amount.
     fn push_later(&self, text: &mut String) -> ContentResult<()>
         ensures appends { OnOk result (string_bytes text.new
             ≡ string_bytes text.old ++ later_text (later_lines (payment_fields self.now))) }
@@ -234,7 +234,7 @@ impl Payment<'_> {
         push_lines(text, &lines[..self.later_count()])
     }
 
-    // The text of a payment.
+    // Writes the text without checking the fields or its length.
     #[tactic(auto, unfolding(crate::specs::Payment::payment_text))]
     fn written(&self, alloc: Global) -> ContentResult<String>
         ensures value { IfOk result (λ text. string_bytes text
@@ -251,10 +251,11 @@ impl Payment<'_> {
         Ok(text)
     }
 
-    /// The text of the payment, 331 bytes at most. Its symbol has the level [`LEVEL`] and a version
-    /// up to [`LARGEST`].
+    /// Returns the text of the payment, at most 331 bytes. Its symbol must have level [`LEVEL`] and
+    /// a version up to [`LARGEST`].
     ///
-    /// An error names the field and why the text cannot say it, or is `OutOfMemory`.
+    /// Errors: `Refused` names the first wrong field and why; `OutOfMemory` if memory runs out. A
+    /// text of more than 331 bytes is `Whole`, `TooLong`.
     pub fn text(&self, alloc: Global) -> ContentResult<String>
         ensures reads { Answers (payment_refusal (payment_fields self.now)) result
             (λ text. read_payment text ≡ Some (payment_fields self.now)) }

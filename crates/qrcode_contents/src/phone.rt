@@ -1,4 +1,4 @@
-//! Links to a telephone.
+//! Links that call a telephone number, or write a text message to it.
 
 ghost use Rattle.std.specs.Prelude.{◌≡◌, ◌++◌, ◌==◌, drop, Some, IfOk, OnOk, IsOkUnless, string_bytes, codes};
 ghost use Rattle.std.specs.List.{list_any};
@@ -16,15 +16,15 @@ use crate::fields::percents::push_encoded;
 use crate::fields::refusals::{Check, refuse_first};
 use std::alloc::Global;
 
-/// A telephone number: digits, one at least, with `-`, `.`, `(` and `)` between them, and `+` in
-/// front of a global number.
+/// A telephone number: at least one digit, perhaps with `-`, `.`, `(` and `)`. A global number
+/// starts with `+`.
 #[derive(Copy, Clone, PartialEq, Eq, Debug)]
 pub struct Phone<'a> {
     /// The number.
     pub number: &'a str,
 }
 
-// The number behind a scheme.
+// Writes `scheme` and `number`.
 fn written(alloc: Global, scheme: &str, number: &str) -> ContentResult<String>
     ensures value { IfOk result (λ text. string_bytes text ≡ scheme.now ++ number.now) }
     ensures memory { IsOkUnless result OutOfMemory }
@@ -34,7 +34,7 @@ fn written(alloc: Global, scheme: &str, number: &str) -> ContentResult<String>
     Ok(text)
 }
 
-// The number behind `sms:`, and the body behind it.
+// Writes `sms:`, `number`, `?body=` and `body`, which is percent-encoded.
 fn written_message(alloc: Global, number: &str, body: &str) -> ContentResult<String>
     ensures value { IfOk result (λ text. string_bytes text ≡ message_text number.now body.now) }
     ensures reads { OnOk result (decoded (encoded body.now) ≡ body.now) }
@@ -47,14 +47,13 @@ fn written_message(alloc: Global, number: &str, body: &str) -> ContentResult<Str
     Ok(text)
 }
 
-// Whether a plus sign stands behind the first byte.
+// Whether there is a plus sign after the first byte.
 fn has_later_plus(number: &str) -> bool
     ensures { result ≡ list_any (λ b. b == 43) (drop 1 number.now) }
 {
     number.as_bytes().iter().skip(1).any(|byte| *byte == b'+')
 }
 
-// Whether a byte is a digit.
 fn has_digit(number: &str) -> bool
     ensures { result ≡ list_any is_digit number.now }
 {
@@ -62,14 +61,15 @@ fn has_digit(number: &str) -> bool
     bytes.iter().any(|byte| byte.is_ascii_digit())
 }
 
-/// Whether a text is a telephone number.
+/// Returns whether `text` is a telephone number: at least one digit, `-`, `.`, `(` and `)`, and `+`
+/// only at the start.
 pub fn is_number(text: &str) -> bool
     ensures value { result ≡ is_number text.now }
 {
     are_dialled(text) && !has_later_plus(text) && has_digit(text)
 }
 
-/// Refuses a field that is no telephone number, where it is not empty.
+/// Returns the check that rejects a `text` that is neither empty nor a telephone number.
 pub(crate) fn no_number(field: Field, text: &str) -> Check
     ensures { result ≡ (is_no_number text.now, field, Character) }
 {
@@ -81,7 +81,7 @@ pub(crate) fn no_number(field: Field, text: &str) -> Check
 }
 
 impl Phone<'_> {
-    // Refuses what is no number.
+    // Rejects an empty or wrong number.
     #[tactic(auto, unfolding(crate::specs::Phone::phone_refusal))]
     fn check(&self) -> ContentResult<()>
         ensures { result ≡ checked (phone_refusal self.now.number.now) }
@@ -92,9 +92,9 @@ impl Phone<'_> {
         ])
     }
 
-    /// The link that calls the number.
+    /// Returns the link that calls the number, `tel:..`.
     ///
-    /// An error names the field and why the text cannot say it, or is `OutOfMemory`.
+    /// Errors: `Refused` names the first wrong field and why; `OutOfMemory` if memory runs out.
     pub fn tel(&self, alloc: Global) -> ContentResult<String>
         ensures reads { Answers (phone_refusal self.now.number.now) result
             (λ text. behind (codes "tel:") text ≡ Some self.now.number.now) }
@@ -105,9 +105,9 @@ impl Phone<'_> {
         written(alloc, "tel:", self.number)
     }
 
-    /// The link that writes to the number.
+    /// Returns the link that writes a text message to the number, `sms:..`.
     ///
-    /// An error names the field and why the text cannot say it, or is `OutOfMemory`.
+    /// Errors: `Refused` names the first wrong field and why; `OutOfMemory` if memory runs out.
     pub fn sms(&self, alloc: Global) -> ContentResult<String>
         ensures reads { Answers (phone_refusal self.now.number.now) result
             (λ text. behind (codes "sms:") text ≡ Some self.now.number.now) }
@@ -118,9 +118,9 @@ impl Phone<'_> {
         written(alloc, "sms:", self.number)
     }
 
-    /// The link that writes this body to the number.
+    /// Returns the link that writes a text message to the number, and fills in `body`.
     ///
-    /// An error names the field and why the text cannot say it, or is `OutOfMemory`.
+    /// Errors: `Refused` names the first wrong field and why; `OutOfMemory` if memory runs out.
     pub fn message(&self, alloc: Global, body: &str) -> ContentResult<String>
         ensures reads { Answers (phone_refusal self.now.number.now) result
             (λ text. read_message text ≡ Some (self.now.number.now, body.now)) }

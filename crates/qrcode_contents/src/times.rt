@@ -1,4 +1,4 @@
-//! Days and moments of a calendar.
+//! Days, and times in UTC.
 
 ghost use Rattle.std.specs.Prelude.{◌≡◌, ◌++◌, ◌≤◌, string_bytes, OnOk, IfOk, IsOkUnless};
 ghost use Rattle.qrcode_contents.specs.declared.fields.errors.ContentError.TheVariants.{OutOfMemory};
@@ -19,7 +19,7 @@ pub struct Day {
     pub day: u8,
 }
 
-/// A second of a day, in UTC.
+/// A time in UTC, to the second.
 #[derive(Copy, Clone, PartialEq, Eq, Debug)]
 pub struct Moment {
     /// The day.
@@ -28,18 +28,17 @@ pub struct Moment {
     pub hour: u8,
     /// The minute, up to 59.
     pub minute: u8,
-    /// The second, up to 60 where a leap second ends the minute.
+    /// The second, up to 59, or 60 for a leap second.
     pub second: u8,
 }
 
-// Whether the year has a 29th of February.
 fn is_leap(year: u16) -> bool
     ensures { result ≡ is_leap year }
 {
     year % 4 == 0 && (year % 100 != 0 || year % 400 == 0)
 }
 
-/// How many days the month of a year has, 31 where there is no such month.
+/// Returns the number of days in `month` of `year`; 31 if there is no such month.
 pub fn days_in(year: u16, month: u8) -> u8
     ensures { result ≡ days_in year month }
 {
@@ -51,7 +50,7 @@ pub fn days_in(year: u16, month: u8) -> u8
     }
 }
 
-// Appends numbers, each with two digits. After `OutOfMemory` a part of them is appended.
+// Appends numbers below 100, with two digits each.
 fn push_pairs(text: &mut String, numbers: &[u16]) -> ContentResult<()>
     ensures appends { OnOk result (string_bytes text.new
         ≡ string_bytes text.old ++ pairs_text numbers.now) }
@@ -66,7 +65,7 @@ fn push_pairs(text: &mut String, numbers: &[u16]) -> ContentResult<()>
 }
 
 impl Day {
-    /// Whether the calendar has the day, in a year of four digits.
+    /// Returns whether the day exists, in a year up to 9999.
     pub fn is_valid(self) -> bool
         ensures { result ≡ is_day self }
     {
@@ -77,14 +76,16 @@ impl Day {
             && self.day <= days_in(self.year, self.month)
     }
 
-    /// A number that grows from day to day.
+    /// Returns the day as a number, e.g. 19960415, which is larger for a later day.
     pub fn number(self) -> u32
         ensures { result ≡ day_number self }
     {
         (u32::from(self.year) * 100 + u32::from(self.month)) * 100 + u32::from(self.day)
     }
 
-    /// The text of the day in iCalendar. It fails only where memory is refused (`OutOfMemory`).
+    /// Returns the day as iCalendar writes it, e.g. 19960415.
+    ///
+    /// Errors: only `OutOfMemory`.
     #[tactic(auto, unfolding(crate::specs::Times::day_text))]
     pub fn text(self, alloc: Global) -> ContentResult<String>
         ensures value { IfOk result (λ text. string_bytes text ≡ day_text self) }
@@ -97,8 +98,9 @@ impl Day {
         Ok(text)
     }
 
-    /// The text of the day in vCard, e.g. 1996-04-15. It fails only where memory is refused
-    /// (`OutOfMemory`).
+    /// Returns the day as vCard writes it, e.g. 1996-04-15.
+    ///
+    /// Errors: only `OutOfMemory`.
     #[tactic(auto, unfolding(crate::specs::Times::date_text))]
     pub fn date(self, alloc: Global) -> ContentResult<String>
         ensures value { IfOk result (λ text. string_bytes text ≡ date_text self) }
@@ -114,14 +116,14 @@ impl Day {
     }
 }
 
-/// Whether a day is said that the calendar has not.
+/// Returns whether a day is given that does not exist.
 pub(crate) fn is_wrong_day(day: Option<Day>) -> bool
     ensures { result ≡ wrong_day day }
 {
     day.is_some_and(|day| !day.is_valid())
 }
 
-/// The text of a day in iCalendar, and nothing where it is left out.
+/// Returns a day as iCalendar writes it; empty for `None`.
 pub(crate) fn day_or_none(alloc: Global, day: Option<Day>) -> ContentResult<String>
     ensures value { IfOk result (λ text. string_bytes text ≡ said_or_none day_text day) }
     ensures memory { IsOkUnless result OutOfMemory }
@@ -132,7 +134,7 @@ pub(crate) fn day_or_none(alloc: Global, day: Option<Day>) -> ContentResult<Stri
     }
 }
 
-/// The text of a day in vCard, and nothing where it is left out.
+/// Returns a day as vCard writes it; empty for `None`.
 pub(crate) fn date_or_none(alloc: Global, day: Option<Day>) -> ContentResult<String>
     ensures value { IfOk result (λ text. string_bytes text ≡ said_or_none date_text day) }
     ensures memory { IsOkUnless result OutOfMemory }
@@ -144,14 +146,14 @@ pub(crate) fn date_or_none(alloc: Global, day: Option<Day>) -> ContentResult<Str
 }
 
 impl Moment {
-    /// Whether the calendar has the day, and the day the time.
+    /// Returns whether the day and the time exist, where a minute may have a second 60.
     pub fn is_valid(self) -> bool
         ensures { result ≡ is_moment self }
     {
         self.day.is_valid() && self.hour < 24 && self.minute < 60 && self.second < 61
     }
 
-    /// A number that grows from second to second.
+    /// Returns the time as a number, e.g. 19980119070000, which is larger for a later time.
     pub fn number(self) -> u64
         ensures { result ≡ moment_number self }
     {
@@ -159,7 +161,9 @@ impl Moment {
         (hours * 100 + u64::from(self.minute)) * 100 + u64::from(self.second)
     }
 
-    /// The text of the moment in iCalendar. It fails only where memory is refused (`OutOfMemory`).
+    /// Returns the time as iCalendar writes it, e.g. 19980119T070000Z.
+    ///
+    /// Errors: only `OutOfMemory`.
     #[tactic(auto, unfolding(crate::specs::Times::moment_text))]
     pub fn text(self, alloc: Global) -> ContentResult<String>
         ensures value { IfOk result (λ text. string_bytes text ≡ moment_text self) }

@@ -1,4 +1,4 @@
-//! Links that ask for a payment by UPI in India.
+//! Links that ask for a payment by UPI (India).
 
 ghost use Rattle.std.specs.Prelude.{◌≡◌, ◌++◌, ◌∷◌, [], Some, IfOk, OnOk, IsOkUnless, string_bytes, codes};
 ghost use Rattle.std.specs.List.{list_all};
@@ -16,25 +16,24 @@ use crate::fields::links::push_parameters;
 use crate::fields::refusals::{controls, refuse_first};
 use std::alloc::Global;
 
-/// A payment by UPI. What is empty is left out.
+/// A payment by UPI. `payee` is required; other empty fields are left out.
 #[derive(Copy, Clone, PartialEq, Eq, Debug)]
 pub struct Upi<'a> {
-    /// The address of who is paid, as `name@bank`: letters, digits, `-`, `.` and `_` around one
-    /// `@`.
+    /// The payee's address, `name@bank`: letters, digits, `-`, `.` and `_` around one `@`.
     pub payee: &'a str,
-    /// Their name.
+    /// The payee's name.
     pub name: &'a str,
-    /// The category of a merchant, four digits of ISO 18245.
+    /// The merchant's category, four digits (ISO 18245).
     pub category: &'a str,
-    /// The reference, as the number of an order.
+    /// The reference, e.g. an order number.
     pub reference: &'a str,
     /// A note.
     pub note: &'a str,
-    /// The amount in paise, 1 to 99,999,999,999, or none, which the payer then says.
+    /// The amount in paise, 1 to 99,999,999,999; with `None` the payer enters it.
     pub cents: Option<u64>,
 }
 
-// Whether a text has the form of an address.
+// Whether a text has exactly one `@`, with something before and after it.
 fn is_address(text: &str) -> bool
     ensures { result ≡ is_address text.now }
 {
@@ -42,7 +41,7 @@ fn is_address(text: &str) -> bool
     has_one_at(text) && !name.is_empty() && !bank.is_empty()
 }
 
-// Whether all bytes may stand in an address.
+// Whether all bytes may be in an address: letters, digits and `-._@`.
 fn are_of_address(text: &str) -> bool
     ensures { result ≡ list_all is_address_byte text.now }
 {
@@ -52,14 +51,14 @@ fn are_of_address(text: &str) -> bool
     )
 }
 
-// Whether a text is a category.
+// Whether a text is four digits.
 fn is_category(text: &str) -> bool
     ensures { result ≡ is_category text.now }
 {
     text.len() == 4 && are_digits(text.as_bytes())
 }
 
-// Appends the amount and its currency.
+// Appends the amount, if it is not empty, and the currency.
 fn push_money(text: &mut String, amount: &str) -> ContentResult<()>
     ensures appends { OnOk result (string_bytes text.new ≡ string_bytes text.old
         ++ query_text (codes "&") ((codes "am", amount.now) ∷ (codes "cu", codes "INR") ∷ [])) }
@@ -69,7 +68,7 @@ fn push_money(text: &mut String, amount: &str) -> ContentResult<()>
 }
 
 impl Upi<'_> {
-    // Refuses what the link cannot say.
+    // Fails on the first wrong field.
     #[tactic(auto, unfolding(crate::specs::Upi::upi_refusal))]
     fn check(&self) -> ContentResult<()>
         ensures { result ≡ checked (upi_refusal (request_of self.now)) }
@@ -91,7 +90,7 @@ impl Upi<'_> {
         ])
     }
 
-    // The link of a payment that is not refused.
+    // Writes the link without checking the fields.
     fn written(&self, alloc: Global) -> ContentResult<String>
         ensures value { IfOk result (λ text. string_bytes text ≡ upi_text (request_of self.now)) }
         ensures memory { IsOkUnless result OutOfMemory }
@@ -110,9 +109,9 @@ impl Upi<'_> {
         Ok(text)
     }
 
-    /// The link that asks for the payment.
+    /// Returns the link that asks for the payment.
     ///
-    /// An error names the field and why the text cannot say it, or is `OutOfMemory`.
+    /// Errors: `Refused` names the first wrong field and why; `OutOfMemory` if memory runs out.
     pub fn text(&self, alloc: Global) -> ContentResult<String>
         ensures reads { Answers (upi_refusal (request_of self.now)) result
             (λ text. read_upi text ≡ Some (request_of self.now)) }

@@ -1,4 +1,4 @@
-//! The text that joins a wireless network.
+//! Texts that join a Wi-Fi network.
 
 ghost use Rattle.std.specs.Prelude.{◌≡◌, [], Some, IfOk, IsOkUnless, string_bytes, codes, if◌then◌else◌};
 ghost use Rattle.qrcode_contents.specs.declared.fields.errors.ContentError.TheVariants.{OutOfMemory};
@@ -10,10 +10,10 @@ use crate::fields::errors::{Cause, ContentResult, Field};
 use crate::fields::refusals::refuse_first;
 use std::alloc::Global;
 
-/// How a network is secured.
+/// The security of a network.
 #[derive(Copy, Clone, PartialEq, Eq, Debug)]
 pub enum Security {
-    /// Without a password.
+    /// Open, without a password.
     Open,
     /// WEP.
     Wep,
@@ -24,7 +24,7 @@ pub enum Security {
 }
 
 impl Security {
-    /// The name in the text.
+    /// Returns the name in the text, such as `WPA`; `nopass` for an open network.
     pub fn name(self) -> &'static str
         ensures { result.now ≡ security_name self }
     {
@@ -37,28 +37,28 @@ impl Security {
     }
 }
 
-// `true`, or nothing.
+// `true`, or an empty text.
 fn truth(holds: bool) -> &'static str
     ensures { result.now ≡ (if holds then codes "true" else []) }
 {
     if holds { "true" } else { "" }
 }
 
-/// A wireless network. An open network has an empty password.
+/// A Wi-Fi network. The password is empty if, and only if, the network is open.
 #[derive(Copy, Clone, PartialEq, Eq, Debug)]
 pub struct Wifi<'a> {
-    /// How it is secured.
+    /// The security.
     pub security: Security,
-    /// Its name, 1 to 32 bytes.
+    /// The name (SSID), 1 to 32 bytes.
     pub ssid: &'a str,
-    /// Its password.
+    /// The password.
     pub password: &'a str,
-    /// Whether it does not tell its name.
+    /// Whether the network hides its name.
     pub hidden: bool,
 }
 
 impl Wifi<'_> {
-    // Refuses what the text cannot say.
+    // Fails on the first wrong field.
     fn check(&self) -> ContentResult<()>
         ensures { result ≡ checked (wifi_refusal (wifi_fields self.now)) }
     {
@@ -79,7 +79,7 @@ impl Wifi<'_> {
         ])
     }
 
-    // The text of a network that is not refused.
+    // Writes the text without checking the fields.
     fn written(&self, alloc: Global) -> ContentResult<String>
         ensures value { IfOk result (λ text. string_bytes text ≡ wifi_text (wifi_fields self.now)) }
         ensures memory { IsOkUnless result OutOfMemory }
@@ -96,9 +96,9 @@ impl Wifi<'_> {
         Ok(text)
     }
 
-    /// The text that joins the network.
+    /// Returns the text that joins the network.
     ///
-    /// An error names the field and why the text cannot say it, or is `OutOfMemory`.
+    /// Errors: `Refused` names the first wrong field and why; `OutOfMemory` if memory runs out.
     pub fn text(&self, alloc: Global) -> ContentResult<String>
         ensures reads { Answers (wifi_refusal (wifi_fields self.now)) result
             (λ text. read_wifi text ≡ Some (wifi_fields self.now)) }

@@ -1,4 +1,4 @@
--- Days and minutes are counted on over the ends of months and years.
+-- Counting days and minutes across the ends of months and years.
 use Rattle.std.proofs.Common.{◌≡◌, ℕ, zero, suc, nat_lt, nat_le, ◌+◌, ◌-◌, ◌*◌, ◌/◌, ◌%◌, ◌<◌, ◌≤◌, ◌==◌, ◌&&◌, Bool, true, false, Some, if◌then◌else◌, refl, ap, ◌∙◌, sym, subst, arith}
 use Rattle.std.specs.Prelude.{IfSome}
 use Rattle.std.proofs.lemmas.Bool.Decides.{nat_tests}
@@ -8,7 +8,7 @@ use Rattle.qrcode_contents.specs.Times.{is_leap, days_in, is_day, is_moment}
 use Rattle.qrcode_contents.proofs.EntryReading.{both}
 use Rattle.qrcode_payloads.specs.Times.{days_before, days_through, day_count, minute_count, day_after, day_before, clock_minutes, with_minutes}
 
--- what a day of the calendar is
+-- a day that exists
 record IsReal (d : Day) : Type 0 where
   year : d.year < 10000
   january : 0 < d.month
@@ -35,7 +35,7 @@ unfolding days_through
 year_by year true is = rw is refl
 year_by year false is = rw is refl
 
--- the months of a year are its days
+-- the months of a year have as many days as the year
 next_year : (year : ℕ) → days_before (year + 1) ≡ days_before year + (days_through year 11 + 31)
 unfolding days_before
 next_year year =
@@ -53,7 +53,7 @@ no_months : (year : ℕ) → days_through year (1 - 1) ≡ 0
 unfolding days_through
 no_months year = refl
 
--- the end of a year is counted over
+-- 1 January comes one day after 31 December
 over_year : (year : ℕ) → days_before (year + 1) + days_through (year + 1) (1 - 1) + 1 ≡ days_before year + days_through year 11 + 31 + 1
 over_year year =
     let next = next_year year in
@@ -105,7 +105,7 @@ before_counts d is = before_by d (real d is) (nat_lt 1 d.day) (nat_lt 1 d.month)
 
 -- ---- minutes
 
--- what a moment of the calendar is
+-- a moment that exists
 record IsRealMoment (m : Moment) : Type 0 where
   day : is_day m.day ≡ true
   clock : clock_minutes m < 1440
@@ -134,7 +134,7 @@ later_over n m is small over =
     let counts = with_counts m (day_after m.day) (clock_minutes m + n - 1440) (omega (arith, clock, small)) in
     counts ∙ (ap (λ days. days * 1440 + (clock_minutes m + n - 1440)) (after_counts m.day is.day) ∙ omega (arith, over))
 
--- so many minutes before, on the day before
+-- n minutes earlier, on the day before
 pub before_midnight : (n : ℕ) (m : Moment) (day : Day) (clock : ℕ) (r : Moment) → is_moment m ≡ true → n < 1440 → clock ≡ clock_minutes m → clock < n → day_before m.day ≡ Some day → r ≡ with_minutes m day (clock + 1440 - n) → minute_count r + n ≡ minute_count m
 before_midnight n m day clock r is small same early before made =
     let moment = real_moment m is in
@@ -143,7 +143,7 @@ before_midnight n m day clock r is small same early before made =
     ∙ ap (λ k. minute_count (with_minutes m day (k + 1440 - n)) + n) same
     ∙ earlier_over n m day moment small (subst (λ k. k < n) same early) counted
 
--- so many minutes after, on the day after
+-- n minutes later, on the next day
 pub past_midnight : (n : ℕ) (m : Moment) (day : Day) (clock : ℕ) (r : Moment) → is_moment m ≡ true → n < 1440 → clock ≡ clock_minutes m → 1440 ≤ clock + n → day ≡ day_after m.day → r ≡ with_minutes m day (clock + n - 1440) → minute_count r ≡ minute_count m + n
 past_midnight n m day clock r is small same over after made =
     let moment = real_moment m is in

@@ -1,4 +1,4 @@
--- Amounts as people write them: digits, perhaps in groups of three, and perhaps a point with more of them behind it.
+-- Amounts as people write them: digits, perhaps in groups of three, and perhaps a point and more digits.
 use Rattle.std.specs.Prelude.{◌≡◌, ℕ, ◌%◌, ◌==◌, ◌&&◌, ◌||◌, Bool, true, false, List, [], ◌∷◌, length, take, drop, codes, if◌then◌else◌, refl}
 use Rattle.std.specs.List.{after_first, before_first, list_all}
 use Rattle.qrcode_contents.specs.fields.Characters.{is_digit}
@@ -7,30 +7,30 @@ use Rattle.qrcode_payloads.specs.Numbers.{is_point}
 use Rattle.qrcode_payloads.specs.Plain.{plain}
 use Rattle.qrcode_payloads.specs.declared.plain.Between.TheVariants as between
 
-abbrev pub are_groups : ℕ → List ℕ → Bool  -- groups of three digits, with a separator before each
+abbrev pub are_groups : ℕ → List ℕ → Bool  -- groups of three digits, with the separator before each
 are_groups separator [] = true
 are_groups separator (a ∷ []) = false
 are_groups separator (a ∷ b ∷ []) = false
 are_groups separator (a ∷ b ∷ c ∷ []) = false
 are_groups separator (a ∷ b ∷ c ∷ d ∷ more) = (a == separator && is_digit b && is_digit c && is_digit d) && are_groups separator more
 
--- one to three digits, and groups behind them
+-- one to three digits, and then such groups
 abbrev pub is_grouped : ℕ → List ℕ → Bool
 is_grouped separator text =
     is_filled (take (length text % 4) text) && list_all is_digit (take (length text % 4) text) && are_groups separator (drop (length text % 4) text)
 
--- digits alone, or in groups, between which spaces or apostrophes stand
+-- digits, or groups of digits with spaces or apostrophes between them
 abbrev pub is_whole : List ℕ → Bool
 is_whole text = list_all is_digit text || is_grouped 32 text || is_grouped 39 text
 
-abbrev pub is_amount : List ℕ → Bool  -- digits before the point, perhaps in groups, and digits alone behind it
+abbrev pub is_amount : List ℕ → Bool  -- digits before the point, perhaps in groups, and digits after it, without groups
 is_amount text = is_whole (before_first is_point text) && list_all is_digit (after_first is_point text)
 
--- an amount without what stands between its groups; another text with it, so that it is no number
+-- an amount without the separators of its groups; any other text unchanged, so that it is no number
 abbrev pub ungrouped : List ℕ → List ℕ
 ungrouped text = if is_amount text then plain between.Groups text else text
 
-abbrev pub plain_amount : List ℕ → List ℕ  -- an amount as formats have it
+abbrev pub plain_amount : List ℕ → List ℕ  -- an amount as formats write it: without separators of groups, and with a decimal point
 plain_amount text = ungrouped (plain between.Amount text)
 
 grouped_row : is_amount (codes "12'345.6") ≡ true

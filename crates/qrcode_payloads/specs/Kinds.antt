@@ -1,4 +1,4 @@
--- The kinds of payload, and where each has its fields.
+-- The kinds of payload, and the fields of each.
 use Rattle.std.specs.Prelude.{◌≡◌, refl, ℕ, Bool, List, [], ◌∷◌, Option, length, position, slice_get, unwrap_or}
 use Rattle.qrcode_contents.specs.declared.fields.errors.Field.{Field}
 use Rattle.qrcode_contents.specs.declared.fields.errors.Field.TheVariants.{Password, Secret}
@@ -7,7 +7,7 @@ use Rattle.qrcode_payloads.specs.declared.kinds.Kind.{Kind}
 use Rattle.qrcode_payloads.specs.declared.kinds.Kind.TheVariants.{Wifi, Mecard, Vcard, Payment, Bill, Mail, Geo, Tel, Sms, Otp, Event, Upi, Pix, Promptpay}
 use Rattle.qrcode_payloads.specs.declared.kinds.TheConstants.{WIFI, MECARD, VCARD, PAYMENT, BILL, MAIL, GEO, TEL, SMS, OTP, EVENT, UPI, PIX, PROMPTPAY}
 
-abbrev pub kind_named : ℕ → Option Kind  -- the kind of a number, in this order from 0 on
+abbrev pub kind_named : ℕ → Option Kind  -- the kind with a number, in this order from 0
 kind_named n = slice_get (Wifi ∷ Mecard ∷ Vcard ∷ Payment ∷ Bill ∷ Mail ∷ Geo ∷ Tel ∷ Sms ∷ Otp ∷ Event ∷ Upi ∷ Pix ∷ Promptpay ∷ []) n
 
 abbrev pub fields_of : Kind → List Field  -- the fields of a kind, in order
@@ -29,10 +29,10 @@ fields_of Promptpay = PROMPTPAY
 unfoldable pub is_same : Field → Field → Bool  -- whether two fields are the same
 is_same a b = (of_fields.ghosts).eq a b
 
-abbrev pub place_of : List Field → Field → ℕ  -- the place of a field; after all where it is none of these
+abbrev pub place_of : List Field → Field → ℕ  -- the index of a field; the number of fields if it is none of them
 place_of fields field = unwrap_or (position (λ one. is_same one field) fields) (length fields)
 
--- the places of fields compute
+-- examples: a field of the kind, and one that it does not have
 password_row : place_of WIFI Password ≡ 1
 unfolding is_same
 password_row = refl

@@ -1,4 +1,4 @@
--- The texts of payloads, and what refuses them.
+-- The texts of payloads, and why fields have none.
 use Rattle.std.specs.Prelude.{◌≡◌, ◌≢◌, ℕ, nat_lt, Bool, List, [], ◌∷◌, ◌++◌, length, map, codes, Option, Some, Result, IfOk, string_bytes, if◌then◌else◌}
 use Rattle.std.specs.declared.alloc.Global.{Global}
 use Rattle.std.specs.declared.string.String.{String}
@@ -26,7 +26,7 @@ use Rattle.qrcode_payloads.specs.Values.{network_in, person_in, contact_in, tran
 use Rattle.qrcode_payloads.specs.declared.kinds.Kind.{Kind}
 use Rattle.qrcode_payloads.specs.declared.kinds.Kind.TheVariants.{Wifi, Mecard, Vcard, Payment, Bill, Mail, Geo, Tel, Sms, Otp, Event, Upi, Pix, Promptpay}
 
-abbrev pub payload_refusal : Kind → (Field → List ℕ) → Option ContentError  -- what the format of a kind cannot say of fields
+abbrev pub payload_refusal : Kind → (Field → List ℕ) → Option ContentError  -- why the format of this kind rejects the fields, or why a field cannot be read
 payload_refusal Wifi g = refusal_of wifi_refusal (network_in g)
 payload_refusal Mecard g = refusal_of contact_refusal (person_in g)
 payload_refusal Vcard g = refusal_of card_refusal (contact_in g)
@@ -42,21 +42,21 @@ payload_refusal Upi g = refusal_of upi_refusal (request_in g)
 payload_refusal Pix g = refusal_of pix_refusal (charge_in g)
 payload_refusal Promptpay g = refusal_of promptpay_refusal (claim_in g)
 
-abbrev pub is_long : List ℕ → Bool  -- more bytes than the digits that sixteen symbols hold
+abbrev pub is_long : List ℕ → Bool  -- more bytes than 16 symbols, the most of a split, hold digits
 is_long text = nat_lt 113424 (length text)
 
--- the first of these fields that is so long
+-- the error of the first field that is so long
 abbrev pub long_refusal : List Field → (Field → List ℕ) → Option ContentError
 long_refusal fields g =
     first_refusal (map (λ field. refused_if (is_long (g field)) field TooLong) fields)
 
-abbrev pub content_refusal : Kind → (Field → List ℕ) → Option ContentError  -- why fields have no text: one is too long, or the format cannot say them
+abbrev pub content_refusal : Kind → (Field → List ℕ) → Option ContentError  -- why fields have no text: one is too long, or else it cannot be read or is wrong
 content_refusal kind g = first_refusal (long_refusal (fields_of kind) g ∷ payload_refusal kind g ∷ [])
 
-abbrev pub sms_text : List ℕ → List ℕ → List ℕ  -- the text of a message, which is left out where it is empty
+abbrev pub sms_text : List ℕ → List ℕ → List ℕ  -- the link that writes a text message, with a body if it is not empty
 sms_text number body = if is_empty body then codes "sms:" ++ number else message_text number body
 
-abbrev pub payload_text : Kind → (Field → List ℕ) → List ℕ  -- the text of fields
+abbrev pub payload_text : Kind → (Field → List ℕ) → List ℕ  -- the text of a payload of this kind, of these fields
 payload_text Wifi g = text_of wifi_text (network_in g)
 payload_text Mecard g = text_of mecard_text (person_in g)
 payload_text Vcard g = text_of card_text (contact_in g)
@@ -72,12 +72,12 @@ payload_text Upi g = text_of upi_text (request_in g)
 payload_text Pix g = text_of pix_text (charge_in g)
 payload_text Promptpay g = text_of promptpay_text (claim_in g)
 
--- a text says a number, and a message where there is one
+-- reading the text gives the number, and the body if it is not empty
 pub record IsReadAsSms (number body text : List ℕ) : Type 0 where
   pub alone : length body ≡ 0 → behind (codes "sms:") text ≡ Some number
   pub message : length body ≢ 0 → read_message text ≡ Some (number, body)
 
-abbrev pub IsReadAs : Kind → (Field → List ℕ) → List ℕ → Type 0  -- a text is read as exactly these fields
+abbrev pub IsReadAs : Kind → (Field → List ℕ) → List ℕ → Type 0  -- reading the text gives exactly these fields
 IsReadAs Wifi g text = IsRead read_wifi (network_in g) text
 IsReadAs Mecard g text = IsRead read_mecard (person_in g) text
 IsReadAs Vcard g text = IsRead read_card (contact_in g) text
@@ -93,7 +93,7 @@ IsReadAs Upi g text = IsRead read_upi (request_in g) text
 IsReadAs Pix g text = IsRead read_pix (charge_in g) text
 IsReadAs Promptpay g text = IsRead read_promptpay (claim_in g) text
 
--- an answer is the text of fields, which is read as exactly them, or their refusal
+-- the result is the text of the fields, and reading it gives exactly them; or it is the error of `payload_refusal`, or OutOfMemory
 pub record HasText (kind : Kind) (g : Field → List ℕ) (result : Result (String Global) ContentError) : Type 0 where
   pub reads : Answers (payload_refusal kind g) result (IsReadAs kind g)
   pub value : IfOk result (λ text. string_bytes text ≡ payload_text kind g)

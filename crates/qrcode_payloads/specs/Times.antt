@@ -1,4 +1,4 @@
--- Days and moments of digits, and the moments in UTC of times in other zones.
+-- Days and times as people write them, and times of other zones in UTC.
 use Rattle.std.specs.Prelude.{◌≡◌, ℕ, zero, suc, nat_lt, nat_le, ◌+◌, ◌*◌, ◌/◌, ◌%◌, ◌==◌, ◌&&◌, ◌||◌, Bool, true, false, List, ◌∷◌, ◌++◌, length, slice_index, ◌-◌, Option, Some, None, is_some, if◌then◌else◌, codes, refl}
 use Rattle.std.specs.List.{after_first, before_first, list_all}
 use Rattle.std.specs.Option.{option_map, option_and_then}
@@ -14,20 +14,20 @@ use Rattle.qrcode_payloads.specs.Numbers.{scaled_value, at_most_u64}
 abbrev pub is_tee : ℕ → Bool  -- a T, between day and time
 is_tee b = b == 84
 
-abbrev pub day_numbered : ℕ → Day  -- the day of a number of eight digits, e.g. 19970714
+abbrev pub day_numbered : ℕ → Day  -- the day of a number such as 19970714
 day_numbered n = record { year = n / 10000 % 10000; month = n / 100 % 100; day = n % 100 }
 
-abbrev pub day_said : List ℕ → Option Day  -- the day of eight digits
+abbrev pub day_said : List ℕ → Option Day  -- the day of eight digits, which need not exist; None for any other text
 day_said text = if length text == 8 && list_all is_digit text then option_map day_numbered (scaled_value 0 text) else None
 
--- the number of six digits of a time of day, or of four, where the seconds are left out
+-- a time of day as a number: six digits, or four without seconds (1700 gives 170000)
 abbrev pub clock_number : List ℕ → Option ℕ
 clock_number text =
     if list_all is_digit text
     then (if length text == 4 then option_map (λ n. at_most_u64 (n * 100)) (scaled_value 0 text) else (if length text == 6 then scaled_value 0 text else None))
     else None
 
-abbrev pub moment_at : Day → ℕ → Moment  -- the moment of a day and the number of a time
+abbrev pub moment_at : Day → ℕ → Moment  -- the moment on a day at the time with this number, e.g. 170000
 moment_at day n = record { day = day; hour = n / 10000 % 100; minute = n / 100 % 100; second = n % 100 }
 
 abbrev pub is_zed : ℕ → Bool  -- a Z, for UTC
@@ -36,66 +36,66 @@ is_zed b = b == 90
 abbrev pub ends_with_zed : List ℕ → Bool  -- the last byte is a Z
 ends_with_zed text = slice_index text (length text - 1) == 90
 
--- ---- how far moments lie apart
+-- ---- how far apart moments are
 
-unfoldable pub days_before : ℕ → ℕ  -- the days of all years before one
+unfoldable pub days_before : ℕ → ℕ  -- the number of days in all years before this one, from year 0 on
 days_before zero = 0
 days_before (suc year) = days_before year + (if is_leap year then 366 else 365)
 
-unfoldable pub days_through : ℕ → ℕ → ℕ  -- the days of so many months of a year, from January on
+unfoldable pub days_through : ℕ → ℕ → ℕ  -- the number of days in the first months of a year, this many of them
 days_through year zero = 0
 days_through year (suc months) = days_through year months + days_in year (suc months)
 
-abbrev pub day_count : Day → ℕ  -- the days from the beginning of the year 0 to the end of a day
+abbrev pub day_count : Day → ℕ  -- the number of days from the start of year 0 to the end of a day
 day_count d = days_before d.year + days_through d.year (d.month - 1) + d.day
 
-abbrev pub minute_count : Moment → ℕ  -- minutes that grow by one from each minute to the next, over ends of days, months and years
+abbrev pub minute_count : Moment → ℕ  -- a number for each minute, one more than for the minute before, across the ends of days, months and years
 minute_count m = day_count m.day * 1440 + (m.hour * 60 + m.minute)
 
--- ---- zones
+-- ---- time zones
 
 abbrev pub day_after : Day → Day  -- the next day
 day_after d =
     if nat_lt d.day (days_in d.year d.month) then record { year = d.year; month = d.month; day = d.day + 1 }
     else (if nat_lt d.month 12 then record { year = d.year; month = d.month + 1; day = 1 } else record { year = d.year + 1; month = 1; day = 1 })
 
-abbrev pub day_before : Day → Option Day  -- the day before, and none before the year 0
+abbrev pub day_before : Day → Option Day  -- the day before; None before year 0
 day_before d =
     if nat_lt 1 d.day then Some (record { year = d.year; month = d.month; day = d.day - 1 })
     else (if nat_lt 1 d.month then Some (record { year = d.year; month = d.month - 1; day = days_in d.year (d.month - 1) })
     else (if d.year == 0 then None else Some (record { year = d.year - 1; month = 12; day = 31 })))
 
-abbrev pub clock_minutes : Moment → ℕ  -- the minutes of its day
+abbrev pub clock_minutes : Moment → ℕ  -- the minutes since midnight
 clock_minutes m = m.hour * 60 + m.minute
 
-abbrev pub with_minutes : Moment → Day → ℕ → Moment  -- the moment of another day and minute of it
+abbrev pub with_minutes : Moment → Day → ℕ → Moment  -- the moment with another day and other minutes since midnight; the second stays
 with_minutes m day n = record { day = day; hour = n / 60 % 24; minute = n % 60; second = m.second }
 
-abbrev pub earlier : ℕ → Moment → Option Moment  -- the moment so many minutes before, which are less than a day
+abbrev pub earlier : ℕ → Moment → Option Moment  -- the moment n minutes earlier, n being less than a day; None before year 0
 earlier n m =
     if nat_le n (clock_minutes m) then Some (with_minutes m m.day (clock_minutes m - n))
     else option_map (λ day. with_minutes m day (clock_minutes m + 1440 - n)) (day_before m.day)
 
-abbrev pub later : ℕ → Moment → Moment  -- the moment so many minutes after
+abbrev pub later : ℕ → Moment → Moment  -- the moment n minutes later, n being less than a day
 later n m =
     if nat_lt (clock_minutes m + n) 1440 then with_minutes m m.day (clock_minutes m + n)
     else with_minutes m (day_after m.day) (clock_minutes m + n - 1440)
 
-unfoldable pub local_said : List ℕ → List ℕ → Option Moment  -- the moment of a day and a time, wherever they are told
+unfoldable pub local_said : List ℕ → List ℕ → Option Moment  -- the moment of a day and a time, in whatever zone they are
 local_said day clock = option_and_then (λ d. option_map (moment_at d) (clock_number clock)) (day_said day)
 
--- the minutes between a zone and UTC: two digits of hours, two of minutes, and perhaps two zeros
+-- the offset of a zone from UTC in minutes: two digits of hours, two of minutes, and perhaps 00 for seconds
 unfoldable pub zone_minutes : List ℕ → Option ℕ
 zone_minutes text =
     option_and_then (λ n. if nat_lt (n / 10000) 24 && nat_lt (n / 100 % 100) 60 && n % 100 == 0 then Some (n / 10000 * 60 + n / 100 % 100) else None) (clock_number text)
 
-abbrev pub is_plus : ℕ → Bool  -- the sign of a zone whose clocks are ahead of UTC
+abbrev pub is_plus : ℕ → Bool  -- the sign of a zone ahead of UTC
 is_plus b = b == 43
 
-abbrev pub is_minus : ℕ → Bool  -- the sign of one whose clocks are behind
+abbrev pub is_minus : ℕ → Bool  -- the sign of a zone behind UTC
 is_minus b = b == 45
 
--- the moment in UTC, of one that the calendar has; another is refused as it is
+-- a moment of a zone this many minutes ahead of UTC, or below behind UTC, in UTC; one that does not exist stays as it is, and is rejected later
 unfoldable pub from_ahead : Option ℕ → Moment → Option Moment
 from_ahead None m = None
 from_ahead (Some n) m = if is_moment m then earlier n m else Some m
@@ -104,34 +104,34 @@ unfoldable pub from_behind : Option ℕ → Moment → Option Moment
 from_behind None m = None
 from_behind (Some n) m = Some (if is_moment m then later n m else m)
 
-abbrev pub is_utc : List ℕ → Bool  -- a time has one Z, at its end
+abbrev pub is_utc : List ℕ → Bool  -- the time has exactly one Z, at its end
 is_utc time = ends_with_zed time && is_empty (after_first is_zed time)
 
--- the moment in UTC of a day and of a time with a sign and a zone
+-- a day, and a time with a zone such as +0200, in UTC
 unfoldable pub zoned : List ℕ → List ℕ → Option Moment
 zoned day time =
     if is_empty (after_first is_plus time)
     then option_and_then (from_behind (zone_minutes (after_first is_minus time))) (local_said day (before_first is_minus time))
     else option_and_then (from_ahead (zone_minutes (after_first is_plus time))) (local_said day (before_first is_plus time))
 
--- the moment in UTC of a day and of a time with a Z, or with a zone
+-- a day, and a time with a Z or a zone, in UTC
 unfoldable pub moment_of : List ℕ → List ℕ → Option Moment
 moment_of day time = if is_utc time then local_said day (before_first is_zed time) else zoned day time
 
--- a day without the hyphens of ISO 8601; another text as it is, so that it is refused
+-- a day such as 1997-07-14 without its hyphens; any other text unchanged
 unfoldable pub plain_day : List ℕ → List ℕ
 plain_day text = if has_form (codes "dddd-dd-dd") text then plain between.Digits text else text
 
--- a time of day, and perhaps a zone, with colons where ISO 8601 has them; a zone may do without
+-- a time, perhaps with Z or a zone, that has colons where ISO 8601 has them; the zone may lack its colon
 unfoldable pub has_colons : List ℕ → Bool
 has_colons time =
     has_form (codes "dd:dd") time || has_form (codes "dd:dd:dd") time || has_form (codes "dd:ddZ") time || has_form (codes "dd:dd:ddZ") time || has_form (codes "dd:ddsdd:dd") time || has_form (codes "dd:dd:ddsdd:dd") time || has_form (codes "dd:ddsdddd") time || has_form (codes "dd:dd:ddsdddd") time
 
--- a time of day, and perhaps a zone, without these colons; another text as it is
+-- such a time without its colons; any other text unchanged
 unfoldable pub plain_clock : List ℕ → List ℕ
 plain_clock time = if has_colons time then plain between.Clock time else time
 
--- a day, or a day and a time, without the hyphens of the day and the colons of the time; a space may stand for the T
+-- a day, or a day and a time, without the hyphens and colons of ISO 8601; a space becomes a T
 unfoldable pub plain_time : List ℕ → List ℕ
 plain_time text =
     let written = plain between.Time text in
@@ -139,11 +139,11 @@ plain_time text =
     then plain_day (before_first is_tee written) ++ (84 ∷ plain_clock (after_first is_tee written))
     else plain_day written
 
--- the moment in UTC of a day, a T, a time of day, and a Z or a zone
+-- a day, a T, a time, and a Z or a zone, in UTC; None for any other text
 abbrev pub moment_said : List ℕ → Option Moment
 moment_said text = moment_of (before_first is_tee text) (after_first is_tee text)
 
-abbrev pub is_local : List ℕ → Bool  -- a day and a time with no zone
+abbrev pub is_local : List ℕ → Bool  -- a day and a time without a zone
 is_local text = is_some (local_said (before_first is_tee text) (after_first is_tee text))
 
 -- printed examples of RFC 5545, sections 3.3.4 and 3.3.5, and one without seconds
@@ -158,7 +158,7 @@ short_moment : moment_said (codes "19980119T0700Z") ≡ moment_said (codes "1998
 unfolding moment_of zoned local_said zone_minutes from_ahead from_behind
 short_moment = refl
 
--- printed examples of RFC 3339, section 5.8: the same moment in two zones, which are days apart, and a leap second
+-- printed examples of RFC 3339, section 5.8: the same moment in two zones, on different days, and a leap second
 zone_row : moment_said (codes "19961219T163957-0800") ≡ moment_said (codes "19961220T003957Z")
 unfolding moment_of zoned local_said zone_minutes from_ahead from_behind
 zone_row = refl
@@ -167,7 +167,7 @@ leap_row : moment_said (codes "19901231T155960-0800") ≡ moment_said (codes "19
 unfolding moment_of zoned local_said zone_minutes from_ahead from_behind
 leap_row = refl
 
--- over the end of a year, and over that of February in a leap year
+-- across the end of a year, and from 28 to 29 February in a leap year
 year_row : moment_said (codes "20270101T0030+0100") ≡ moment_said (codes "20261231T2330Z")
 unfolding moment_of zoned local_said zone_minutes from_ahead from_behind
 year_row = refl
@@ -176,7 +176,7 @@ february_row : moment_said (codes "20000228T2330-0045") ≡ moment_said (codes "
 unfolding moment_of zoned local_said zone_minutes from_ahead from_behind
 february_row = refl
 
--- a time with no zone, and zones of too many hours and minutes
+-- a time without a zone, and zones with too many hours or minutes
 local_row : moment_said (codes "19980118T230000") ≡ None
 unfolding moment_of zoned local_said zone_minutes from_ahead from_behind
 local_row = refl
@@ -189,7 +189,7 @@ minutes_row : moment_said (codes "19980118T230000+0060") ≡ None
 unfolding moment_of zoned local_said zone_minutes from_ahead from_behind
 minutes_row = refl
 
--- colons as ISO 8601 has them, and where zeros are left out, so that the colons stay and nothing is read
+-- colons as in ISO 8601; without leading zeros the colons stay, so that nothing is read
 colons_row : has_colons (codes "14:00:30-01:00") ≡ true
 unfolding has_colons
 colons_row = refl

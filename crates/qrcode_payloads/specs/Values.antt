@@ -1,4 +1,4 @@
--- The values of the formats, of the texts that are given for fields.
+-- The values of the formats, from the texts of fields.
 use Rattle.std.specs.Prelude.{ℕ, ℤ, nat_lt, ◌==◌, ◌-◌, ◌^◌, Bool, false, List, length, slice_index, is_some, Option, Some, None, Result, Ok, Err, if◌then◌else◌}
 use Rattle.qrcode_contents.specs.Bill.{Addressee, Invoice}
 use Rattle.qrcode_contents.specs.Card.{Contact}
@@ -43,45 +43,45 @@ use Rattle.qrcode_payloads.specs.Times.{day_said, is_local, moment_said, plain_d
 use Rattle.qrcode_payloads.specs.Words.{named, security_words, currency_words, algorithm_words, digits_words, flag_words}
 use Rattle.qrcode_payloads.specs.declared.plain.Between.TheVariants as between
 
--- the value of a word; another where none is given
+-- the value of a word; `other` if the text is empty
 abbrev pub word_in : {A : Type 0} → List (List ℕ × A) → A → List ℕ → Field → Result A ContentError
 word_in words other text field = if is_empty text then Ok other else said (named words text) field Word
 
--- why a text says no number: it is empty, has more digits after its point, or other characters
+-- why a text is no number: it is empty, has too many digits after its point, or other characters
 abbrev pub number_cause : List ℕ → Cause
 number_cause text = if is_empty text then Empty else (if is_some (scaled_value (length text) text) then Decimals else Character)
 
--- why a text says no time: it is empty, has no zone, or other characters
+-- why a text is no time: it is empty, has no zone, or other characters
 abbrev pub time_cause : List ℕ → Cause
 time_cause text = if is_empty text then Empty else (if is_local text then TooShort else Character)
 
-abbrev pub degrees_cause : List ℕ → Cause  -- why a text says no degrees
+abbrev pub degrees_cause : List ℕ → Cause  -- why a text is no number of degrees
 degrees_cause text = number_cause (unsigned text)
 
 abbrev pub ends_with_point : List ℕ → Bool  -- the last byte is a point
 ends_with_point text = slice_index text (length text - 1) == 46
 
-abbrev pub amount_in : List ℕ → Result ℕ ContentError  -- an amount, in hundredths, with no point at its end
+abbrev pub amount_in : List ℕ → Result ℕ ContentError  -- an amount, in hundredths; a point at its end is an error
 amount_in text =
     if ends_with_point text then Err (Refused Amount Character) else said (scaled_value 2 text) Amount (number_cause text)
 
-abbrev pub open_amount_in : List ℕ → Result (Option ℕ) ContentError  -- an amount, or none
+abbrev pub open_amount_in : List ℕ → Result (Option ℕ) ContentError  -- an amount, in hundredths; None if the text is empty
 open_amount_in text = if is_empty text then Ok None else with_value (amount_in text) (λ cents. Ok (Some cents))
 
--- how a network is secured; where nothing is said, by WPA with a password, and not at all without one
+-- the security of a network: the given one, else WPA if there is a password, and open if not
 abbrev pub security_in : (Field → List ℕ) → Result ways.Security ContentError
 security_in g = word_in security_words (if is_empty (g Password) then Open else Wpa) (g Security) Security
 
-abbrev pub hidden_in : List ℕ → Result Bool ContentError  -- whether a network does not broadcast its name
+abbrev pub hidden_in : List ℕ → Result Bool ContentError  -- whether a network hides its name; false if the text is empty
 hidden_in text = word_in flag_words false text Hidden
 
-abbrev pub currency_in : List ℕ → Result currencies.Currency ContentError  -- the currency of a bill
+abbrev pub currency_in : List ℕ → Result currencies.Currency ContentError  -- the currency of a bill; Swiss francs if the text is empty
 currency_in text = word_in currency_words Franc text Currency
 
-abbrev pub algorithm_in : List ℕ → Result algorithms.Algorithm ContentError  -- the hash of one-time passwords
+abbrev pub algorithm_in : List ℕ → Result algorithms.Algorithm ContentError  -- the hash function of one-time passwords; SHA1 if the text is empty
 algorithm_in text = word_in algorithm_words Sha1 text Algorithm
 
-abbrev pub digits_in : List ℕ → Result digits.Digits ContentError  -- how many digits they have
+abbrev pub digits_in : List ℕ → Result digits.Digits ContentError  -- the number of digits of one-time passwords; six if the text is empty
 digits_in text = word_in digits_words Six text Digits
 
 abbrev pub network_in : (Field → List ℕ) → Result Network ContentError  -- a network
@@ -95,10 +95,10 @@ network_in g = with_value (security_in g) (λ security. with_value (hidden_in (g
 abbrev pub day_cause : List ℕ → Cause  -- why a text is no day of eight digits
 day_cause text = if list_all is_digit text then (if nat_lt (length text) 8 then TooShort else TooLong) else Character
 
-abbrev pub birthday_in : List ℕ → Result (Option Day) ContentError  -- a birthday, where it is said
+abbrev pub birthday_in : List ℕ → Result (Option Day) ContentError  -- a birthday; None if the text is empty
 birthday_in text = if is_empty text then Ok None else with_value (said (day_said text) Birthday (day_cause text)) (λ day. Ok (Some day))
 
-abbrev pub person_said : (Field → List ℕ) → List ℕ → Option Day → Person  -- a contact with this telephone number and birthday
+abbrev pub person_said : (Field → List ℕ) → List ℕ → Option Day → Person  -- the contact of the fields, with this telephone number and birthday
 person_said g phone birthday = record {
   family = g Family;
   given = g Given;
@@ -114,10 +114,10 @@ person_said g phone birthday = record {
   country = g Country;
 }
 
-abbrev pub person_in : (Field → List ℕ) → Result Person ContentError  -- a contact, as MECARD has it
+abbrev pub person_in : (Field → List ℕ) → Result Person ContentError  -- a contact for a MECARD
 person_in g = with_value (birthday_in (plain_day (g Birthday))) (λ birthday. Ok (person_said g (phone_digits (g Phone)) birthday))
 
-abbrev pub contact_in : (Field → List ℕ) → Result Contact ContentError  -- a contact, as vCard has it
+abbrev pub contact_in : (Field → List ℕ) → Result Contact ContentError  -- a contact for a vCard
 contact_in g = with_value (birthday_in (plain_day (g Birthday))) (λ birthday. Ok (record {
   person = person_said g (phone_number (g Phone)) birthday;
   name = g Name;
@@ -128,7 +128,7 @@ contact_in g = with_value (birthday_in (plain_day (g Birthday))) (λ birthday. O
   home_phone = phone_number (g HomePhone);
 }))
 
-abbrev pub transfer_in : (Field → List ℕ) → Result Transfer ContentError  -- a payment
+abbrev pub transfer_in : (Field → List ℕ) → Result Transfer ContentError  -- a SEPA credit transfer
 transfer_in g = with_value (amount_in (plain_amount (g Amount))) (λ cents. Ok (record {
   version = version_for (plain between.Spaces (g Bic));
   bic = plain between.Spaces (g Bic);
@@ -141,7 +141,7 @@ transfer_in g = with_value (amount_in (plain_amount (g Amount))) (λ cents. Ok (
   information = g Information;
 }))
 
-abbrev pub creditor_in : (Field → List ℕ) → Addressee  -- who is paid by a bill
+abbrev pub creditor_in : (Field → List ℕ) → Addressee  -- the creditor of a bill
 creditor_in g = record {
   name = g Name;
   street = g Street;
@@ -151,7 +151,7 @@ creditor_in g = record {
   country = plain between.Spaces (g Country);
 }
 
-abbrev pub debtor_in : (Field → List ℕ) → Addressee  -- who pays it
+abbrev pub debtor_in : (Field → List ℕ) → Addressee  -- the debtor of a bill
 debtor_in g = record {
   name = g DebtorName;
   street = g DebtorStreet;
@@ -178,7 +178,7 @@ letter_in g = record { address = g Email; subject = g Subject; body = g Message 
 abbrev pub degrees_in : List ℕ → Field → Result ℤ ContentError  -- degrees, in millionths
 degrees_in text field = said (degrees_of text) field (degrees_cause text)
 
--- degrees of a field, which may have white space before and behind them
+-- degrees of a field, in millionths; white space around them is ignored
 abbrev pub degrees_given : (Field → List ℕ) → Field → Result ℤ ContentError
 degrees_given g field = degrees_in (plain between.Degrees (trim (g field))) field
 
@@ -188,11 +188,11 @@ place_in g = with_value (degrees_given g Latitude) (λ north. with_value (degree
 abbrev pub phone_in : (Field → List ℕ) → List ℕ  -- a telephone number
 phone_in g = phone_number (g Phone)
 
--- a whole number that is at most this
+-- a whole number; `Range` if it is more than `most`
 abbrev pub whole_in : List ℕ → ℕ → Field → Result ℕ ContentError
 whole_in text most field = with_value (said (scaled_value 0 text) field (number_cause text)) (λ n. if nat_lt most n then Err (Refused field Range) else Ok n)
 
--- what passwords change with: a counter where one is given, and no period, and else the time, every 30 seconds or as many as are given
+-- what makes passwords change: the counter if one is given, else the time, with the given period or 30 seconds; a period next to a counter is `Unused`
 abbrev pub factor_in : List ℕ → List ℕ → Result Factor ContentError
 factor_in counter period =
     if is_empty counter
@@ -209,20 +209,20 @@ key_in g = with_value (factor_in (g Counter) (g Period)) (λ factor. with_value 
   digits = digits;
 }))))
 
-abbrev pub stamp_in : List ℕ → Result (Option Moment) ContentError  -- when an event was written, where it is said
+abbrev pub stamp_in : List ℕ → Result (Option Moment) ContentError  -- the time when an event was written; None if the text is empty
 stamp_in text = if is_empty text then Ok None else with_value (said (moment_said text) Stamp (time_cause text)) (λ moment. Ok (Some moment))
 
-abbrev pub days_in : Day → List ℕ → Result Span ContentError  -- from one day until before another
+abbrev pub days_in : Day → List ℕ → Result Span ContentError  -- the whole days from the first until the day before the end
 days_in first end = with_value (said (day_said end) End (time_cause end)) (λ last. Ok (Days first last))
 
-abbrev pub times_in : List ℕ → List ℕ → Result Span ContentError  -- from one moment to another
+abbrev pub times_in : List ℕ → List ℕ → Result Span ContentError  -- from one time to another
 times_in begin end = with_value (said (moment_said begin) Begin (time_cause begin)) (λ first. with_value (said (moment_said end) End (time_cause end)) (λ last. Ok (Times first last)))
 
 abbrev pub span_from : Option Day → List ℕ → List ℕ → Result Span ContentError
 span_from (Some first) begin end = days_in first end
 span_from None begin end = times_in begin end
 
--- when an event begins and ends: both are days, or both are moments
+-- the beginning and end of an event: both are days, or both are times
 abbrev pub span_in : List ℕ → List ℕ → Result Span ContentError
 span_in begin end = span_from (day_said begin) begin end
 

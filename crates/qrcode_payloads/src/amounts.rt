@@ -1,4 +1,4 @@
-//! Amounts as people write them.
+//! Amounts of money as people write them.
 
 ghost use Rattle.std.specs.Prelude.{◌≡◌, IfOk, string_bytes};
 ghost use Rattle.qrcode_payloads.specs.Amounts.{are_groups, is_grouped, is_whole, is_amount, ungrouped, plain_amount};
@@ -7,7 +7,7 @@ use crate::plain::{Between, plain};
 use qrcode_contents::fields::characters::{are_digits, parts};
 use std::alloc::{AllocError, Global};
 
-// Whether bytes are groups of three digits, with a separator before each.
+// Whether bytes are groups of three digits, with `separator` before each.
 fn are_groups(separator: u8, bytes: &[u8]) -> bool
     ensures { result ≡ are_groups separator bytes.now }
 {
@@ -21,7 +21,7 @@ fn are_groups(separator: u8, bytes: &[u8]) -> bool
     rest.is_empty()
 }
 
-// Whether bytes are one to three digits, and groups behind them.
+// Whether bytes are one to three digits, and then such groups.
 fn is_grouped(separator: u8, bytes: &[u8]) -> bool
     ensures { result ≡ is_grouped separator bytes.now }
 {
@@ -29,7 +29,7 @@ fn is_grouped(separator: u8, bytes: &[u8]) -> bool
     !first.is_empty() && are_digits(first) && are_groups(separator, groups)
 }
 
-// Whether a text is digits, alone or in groups.
+// Whether a text is digits, or groups of digits with spaces or apostrophes between them.
 fn is_whole(text: &str) -> bool
     ensures { result ≡ is_whole text.now }
 {
@@ -37,7 +37,7 @@ fn is_whole(text: &str) -> bool
     are_digits(bytes) || is_grouped(b' ', bytes) || is_grouped(b'\'', bytes)
 }
 
-// Whether a text is such digits, and perhaps a point with digits behind it.
+// Whether a text is such digits, and perhaps a point and more digits.
 fn is_amount(text: &str) -> bool
     ensures { result ≡ is_amount text.now }
 {
@@ -45,7 +45,7 @@ fn is_amount(text: &str) -> bool
     is_whole(whole) && are_digits(part.as_bytes())
 }
 
-// An amount without what stands between its groups. Another text stays, and is no number.
+// Removes spaces and apostrophes between groups. Any other text is no number, and stays unchanged.
 fn ungrouped(alloc: Global, text: String) -> Result<String, AllocError>
     ensures { IfOk result (λ value. string_bytes value ≡ ungrouped (string_bytes text)) }
 {
@@ -56,7 +56,7 @@ fn ungrouped(alloc: Global, text: String) -> Result<String, AllocError>
     }
 }
 
-/// An amount as formats have it, where it is written as people do.
+/// Returns an amount as formats write it: without separators of groups, and with a decimal point.
 pub(crate) fn plain_amount(alloc: Global, text: &str) -> Result<String, AllocError>
     ensures { IfOk result (λ value. string_bytes value ≡ plain_amount text.now) }
 {

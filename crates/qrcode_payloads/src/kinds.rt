@@ -1,4 +1,4 @@
-//! The kinds of payload, and which fields each has, in order.
+//! The kinds of payload, and the fields of each, in order.
 
 ghost use Rattle.std.specs.Prelude.{◌≡◌, position};
 ghost use Rattle.qrcode_payloads.specs.Kinds.{kind_named, fields_of, place_of, is_same};
@@ -38,7 +38,8 @@ pub enum Kind {
     Promptpay,
 }
 
-/// The kind with a number, in the order above from 0 on.
+/// Returns the kind with this number: they count from 0 in the order of [`Kind`]. Returns `None`
+/// for any other number.
 pub fn kind_named(number: u32) -> Option<Kind>
     ensures value { result ≡ kind_named number }
 {
@@ -192,7 +193,7 @@ pub static PIX: [Field; 6] = [
 /// The fields of [`Kind::Promptpay`].
 pub static PROMPTPAY: [Field; 2] = [Field::Payee, Field::Amount];
 
-/// The fields of a kind, in order.
+/// Returns the fields of `kind`, in order.
 pub fn fields_of(kind: Kind) -> &'static [Field]
     ensures value { result.now ≡ fields_of kind }
 {
@@ -214,7 +215,6 @@ pub fn fields_of(kind: Kind) -> &'static [Field]
     }
 }
 
-// Whether two fields are the same.
 #[tactic(auto, unfolding(crate::specs::Kinds::is_same))]
 fn is_same(a: Field, b: Field) -> bool
     ensures { result ≡ is_same a b }
@@ -222,14 +222,14 @@ fn is_same(a: Field, b: Field) -> bool
     a == b
 }
 
-// The place of a field, where it is one of these.
+// The index of a field, if it is one of these.
 fn found_place(fields: &[Field], field: Field) -> Option<usize>
     ensures { result ≡ position (λ one. is_same one field) fields.now }
 {
     fields.iter().position(|one| is_same(*one, field))
 }
 
-/// The place of a field; after all where it is none of these.
+/// Returns the index of `field` in `fields`; their number if it is none of them.
 pub fn place_of(fields: &[Field], field: Field) -> usize
     ensures value { result ≡ place_of fields.now field }
 {

@@ -1,5 +1,5 @@
-//! The payloads of QR codes: which fields each kind has, and its text, from what people write for
-//! the fields.
+//! Payloads of QR codes, from fields as people write them: which fields each kind has, and its
+//! text.
 #![tactic(auto)]
 
 mod amounts;

@@ -1,4 +1,4 @@
-//! Numbers as people write them: digits, and perhaps a point with more of them after it.
+//! Numbers as people write them: digits, and perhaps a point and more digits.
 
 ghost use Rattle.std.specs.Prelude.{◌≡◌, ◌++◌, ◌+◌, ◌-◌, ◌≤◌, ℕ, List, [], ◌∷◌, Option, Some, None, replicate, IfSome, if◌then◌else◌};
 ghost use Rattle.std.specs.List.{list_all};
@@ -8,8 +8,9 @@ ghost use Rattle.qrcode_payloads.specs.Numbers.{at_most_u64, scaled_value, has_m
 
 use qrcode_contents::fields::characters::parts;
 
-/// A number with at most this many digits after its point, counted in the last of them: 12.5 with
-/// two is 1250. A number that is too large stays at the largest.
+/// Reads a number with at most `places` digits after its point, in units of the last place: 12.5
+/// with two places is 1250. A number that is too large becomes `u64::MAX`. Returns `None` for any
+/// other text.
 pub fn decimal(text: &str, places: usize) -> Option<u64>
     ensures value { result ≡ scaled_value places text.now }
 {
@@ -21,8 +22,8 @@ pub fn decimal(text: &str, places: usize) -> Option<u64>
     Some(with_zeros(number, places - part.len()))
 }
 
-/// The millionths of a number of degrees, which may have a minus sign before it and at most six
-/// digits after its point. More than 2,000 degrees stay at these.
+/// Reads degrees in millionths: perhaps a minus sign, and at most six digits after the point. More
+/// than 2,000 degrees become 2,000. Returns `None` for any other text.
 pub fn degrees(text: &str) -> Option<i32>
     ensures value { result ≡ degrees_of text.now }
 {
@@ -31,7 +32,7 @@ pub fn degrees(text: &str) -> Option<i32>
     Some(if is_negative { -millionths } else { millionths })
 }
 
-/// Whether a minus sign stands before a number, and the number without it.
+/// Splits off a minus sign: whether there is one, and the text without it.
 pub(crate) fn unsigned(text: &str) -> (bool, &str)
     ensures sign { result.0 ≡ has_minus text.now }
     ensures number { result.1.now ≡ unsigned text.now }
@@ -42,7 +43,7 @@ pub(crate) fn unsigned(text: &str) -> (bool, &str)
     }
 }
 
-// A number with more digits behind it.
+// Appends digits to a number, at most `u64::MAX`; `None` if one of them is no digit.
 fn with_digits(mut number: u64, digits: &str) -> Option<u64>
     ensures value { (before : List ℕ) → number ≡ at_most_u64 (digits_value 10 before)
         → result ≡ (if list_all is_digit digits.now
@@ -54,7 +55,7 @@ fn with_digits(mut number: u64, digits: &str) -> Option<u64>
     Some(number)
 }
 
-// A number with zeros behind it.
+// Appends `count` zeros to a number, at most `u64::MAX`.
 fn with_zeros(mut number: u64, count: usize) -> u64
     ensures value { (before : List ℕ) → number ≡ at_most_u64 (digits_value 10 before)
         → result ≡ at_most_u64 (digits_value 10 (before ++ replicate count 48)) }
@@ -65,7 +66,7 @@ fn with_zeros(mut number: u64, count: usize) -> u64
     number
 }
 
-// A number with a digit behind it.
+// Appends a digit to a number, at most `u64::MAX`.
 fn with_digit(number: u64, digit: u8) -> u64
     ensures value { (before : List ℕ) → number ≡ at_most_u64 (digits_value 10 before)
         → digit ≤ 9
@@ -74,7 +75,7 @@ fn with_digit(number: u64, digit: u8) -> u64
     number.saturating_mul(10).saturating_add(u64::from(digit))
 }
 
-/// The number of a digit.
+/// Returns the value of an ASCII digit; `None` for any other byte.
 pub fn digit(byte: u8) -> Option<u8>
     ensures value { result ≡ (if is_digit byte then Some (byte - 48) else None) }
     ensures at_most { IfSome result (λ digit. digit ≤ 9) }

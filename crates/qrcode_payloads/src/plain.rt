@@ -1,4 +1,4 @@
-//! Values without what people write between their characters.
+//! Removes spaces, hyphens and the like, which people write between the characters of a value.
 
 ghost use Rattle.std.specs.Prelude.{◌≡◌, IfOk, string_bytes};
 ghost use Rattle.std.specs.List.{list_all};
@@ -8,20 +8,21 @@ use qrcode_contents::fields::characters::parts;
 use qrcode_contents::phone::is_number;
 use std::alloc::{AllocError, Global};
 
-/// What people write between the characters of a value.
+/// Which characters to remove from a value.
 #[derive(Clone, Copy)]
 pub(crate) enum Between {
     /// Spaces, in account numbers, references, codes and telephone numbers.
     Spaces,
-    /// Hyphens, points and brackets, where formats have only the digits of numbers and days.
+    /// Hyphens, points and brackets, in telephone numbers and days that formats write in digits
+    /// alone.
     Digits,
-    /// Nothing, in amounts as they are written.
+    /// Nothing, in amounts whose groups are not yet checked.
     Amount,
     /// Spaces and apostrophes, between the groups of an amount.
     Groups,
-    /// Nothing, in degrees: 1 30 may be minutes.
+    /// Nothing, in degrees: the 30 of `1 30` may be minutes.
     Degrees,
-    /// Spaces and hyphens, in secrets and numbers of persons.
+    /// Spaces and hyphens, in secrets and numbers for PromptPay.
     Person,
     /// Nothing, in days and times.
     Time,
@@ -30,7 +31,7 @@ pub(crate) enum Between {
 }
 
 impl Between {
-    // Whether a character is one of these. A space may be one that does not break.
+    // Whether to remove a character. `Spaces` and `Person` also remove no-break spaces.
     fn is_between(self, character: char) -> bool
         ensures { result ≡ is_between self character }
     {
@@ -45,9 +46,8 @@ impl Between {
         }
     }
 
-    // A character of a value as formats have it: a capital, a point where a comma stands in a
-    // number, a plain space or apostrophe in an amount, and a T where a space stands between day
-    // and time.
+    // A character as formats write it: a capital; in numbers a point for a comma; in amounts a
+    // plain space or apostrophe; between day and time a T for a space.
     fn as_written(self, character: char) -> char
         ensures { result ≡ as_written self character }
     {
@@ -60,7 +60,7 @@ impl Between {
         }
     }
 
-    // A character of a value as formats have it, and none where it stands between these.
+    // A character as formats write it; `None` if it is removed.
     fn kept(self, character: char) -> Option<char>
         ensures { result ≡ kept self character }
     {
@@ -71,7 +71,8 @@ impl Between {
     }
 }
 
-/// A value without these characters, as formats have it.
+/// Returns `text` without the characters that `between` removes, the others as formats write them:
+/// capitals, a decimal point.
 pub(crate) fn plain(alloc: Global, text: &str, between: Between) -> Result<String, AllocError>
     ensures { IfOk result (λ value. string_bytes value ≡ plain between text.now) }
 {
@@ -80,7 +81,8 @@ pub(crate) fn plain(alloc: Global, text: &str, between: Between) -> Result<Strin
         .collect(alloc)
 }
 
-// Whether a byte stands where a form has this one: a digit for d, a sign for s.
+// Whether a byte matches one of a form: a digit matches `d`, `+` or `-` matches `s`, any other only
+// itself.
 fn is_placed(place: u8, byte: u8) -> bool
     ensures { result ≡ is_placed place byte }
 {
@@ -91,7 +93,8 @@ fn is_placed(place: u8, byte: u8) -> bool
     }
 }
 
-/// Whether bytes have a form: a digit for each d of it, a sign for each s, and else the same bytes.
+/// Returns whether `bytes` match `form`: a digit for each `d`, `+` or `-` for each `s`, and
+/// otherwise the same bytes.
 pub(crate) fn has_form(form: &[u8], bytes: &[u8]) -> bool
     ensures { result ≡ has_form form.now bytes.now }
 {
@@ -110,7 +113,7 @@ pub(crate) fn has_form(form: &[u8], bytes: &[u8]) -> bool
     rest.is_empty()
 }
 
-// Whether bytes are the code of a country: one to three digits behind + or 00.
+// Whether bytes are a country code: one to three digits after `+` or `00`.
 #[tactic(auto, unfolding(crate::specs::Plain::is_code))]
 fn is_code(bytes: &[u8]) -> bool
     ensures { result ≡ is_code bytes.now }
@@ -123,7 +126,7 @@ fn is_code(bytes: &[u8]) -> bool
         || has_form(b"00ddd", bytes)
 }
 
-// Whether a text is such a code, perhaps with a hyphen behind it.
+// Whether a text is such a country code, perhaps with a hyphen after it.
 #[tactic(auto, unfolding(crate::specs::Plain::is_country))]
 fn is_country(text: &str) -> bool
     ensures { result ≡ is_country text.now }
@@ -132,7 +135,7 @@ fn is_country(text: &str) -> bool
     is_code(code.as_bytes()) && rest.is_empty()
 }
 
-// A number without a (0) behind the code of its country.
+// Removes a `(0)` right after the country code.
 #[tactic(auto, unfolding(crate::specs::Plain::without_zero))]
 fn without_zero(alloc: Global, number: String) -> Result<String, AllocError>
     ensures { IfOk result (λ value. string_bytes value ≡ without_zero (string_bytes number)) }
@@ -146,16 +149,16 @@ fn without_zero(alloc: Global, number: String) -> Result<String, AllocError>
     Ok(dialled)
 }
 
-/// A telephone number as formats have it, without a (0), which nobody dials behind the code of a
-/// country.
+/// Returns a telephone number without spaces, and without a `(0)` after the country code, where
+/// nobody dials it.
 pub(crate) fn phone_number(alloc: Global, text: &str) -> Result<String, AllocError>
     ensures { IfOk result (λ value. string_bytes value ≡ phone_number text.now) }
 {
     without_zero(alloc, plain(alloc, text, Between::Spaces)?)
 }
 
-/// A telephone number of digits alone, perhaps behind a plus sign, as MECARD has it; another text
-/// as it is, so that it is refused.
+/// Returns a telephone number as MECARD writes it: digits, perhaps after a plus sign. What is no
+/// number keeps its other characters, so that it is rejected.
 pub(crate) fn phone_digits(alloc: Global, text: &str) -> Result<String, AllocError>
     ensures { IfOk result (λ value. string_bytes value ≡ phone_digits text.now) }
 {
@@ -166,14 +169,13 @@ pub(crate) fn phone_digits(alloc: Global, text: &str) -> Result<String, AllocErr
     plain(alloc, number.as_str(), Between::Digits)
 }
 
-// Whether all bytes are equals signs.
 fn are_equals(bytes: &[u8]) -> bool
     ensures { result ≡ list_all is_equals bytes.now }
 {
     bytes.iter().all(|byte| *byte == b'=')
 }
 
-/// A secret without the equals signs at its end; with all of them where another byte is behind one.
+/// Returns a secret without the equals signs at its end; unchanged if any other byte follows one.
 pub(crate) fn without_padding(secret: &str) -> &str
     ensures { result.now ≡ without_padding secret.now }
 {

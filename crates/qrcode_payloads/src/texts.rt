@@ -1,4 +1,4 @@
-//! The texts of payloads.
+//! Writes the text of each kind of payload.
 
 ghost use Rattle.std.specs.Prelude.{◌≡◌, IfOk, string_bytes};
 ghost use Rattle.qrcode_contents.specs.Bill.{addressee_of};
@@ -28,7 +28,6 @@ use qrcode_contents::times::Day;
 use qrcode_contents::{bill, event, mail, merchant, payment, upi, wifi};
 use std::alloc::Global;
 
-// The text of a network.
 fn wifi_text<G: Given>(alloc: Global, given: &G) -> ContentResult<String>
     ensures { HasText Wifi (G.fields given.now) result }
 {
@@ -43,7 +42,6 @@ fn wifi_text<G: Given>(alloc: Global, given: &G) -> ContentResult<String>
     network.text(alloc)
 }
 
-// The text of a payment.
 fn payment_text<G: Given>(alloc: Global, given: &G) -> ContentResult<String>
     ensures { HasText Payment (G.fields given.now) result }
 {
@@ -67,7 +65,6 @@ fn payment_text<G: Given>(alloc: Global, given: &G) -> ContentResult<String>
     payment.text(alloc)
 }
 
-// The link to a location.
 fn geo_text<G: Given>(alloc: Global, given: &G) -> ContentResult<String>
     ensures { HasText Geo (G.fields given.now) result }
 {
@@ -82,7 +79,7 @@ fn geo_text<G: Given>(alloc: Global, given: &G) -> ContentResult<String>
     place.text(alloc)
 }
 
-// A contact with this telephone number and birthday.
+// The contact of the fields, with this telephone number and birthday.
 fn contact<'a, G: Given>(given: &'a G, phone: &'a str, birthday: Option<Day>) -> Contact<'a>
     ensures { person_of result ≡ person_said (G.fields given.now) phone.now birthday }
 {
@@ -102,7 +99,6 @@ fn contact<'a, G: Given>(given: &'a G, phone: &'a str, birthday: Option<Day>) ->
     }
 }
 
-// The text of a contact, as MECARD.
 fn mecard_text<G: Given>(alloc: Global, given: &G) -> ContentResult<String>
     ensures { HasText Mecard (G.fields given.now) result }
 {
@@ -112,7 +108,6 @@ fn mecard_text<G: Given>(alloc: Global, given: &G) -> ContentResult<String>
     contact(given, phone.as_str(), birthday).mecard(alloc)
 }
 
-// The text of a contact, as vCard.
 fn vcard_text<G: Given>(alloc: Global, given: &G) -> ContentResult<String>
     ensures { HasText Vcard (G.fields given.now) result }
 {
@@ -134,7 +129,7 @@ fn vcard_text<G: Given>(alloc: Global, given: &G) -> ContentResult<String>
     card.text(alloc)
 }
 
-// Who is paid by a bill, of a country.
+// The creditor of a bill, with this country code.
 fn creditor<'a, G: Given>(given: &'a G, country: &'a str) -> bill::Party<'a>
     ensures { country.now ≡ plain between.Spaces (G.fields given.now Country)
         → addressee_of result ≡ creditor_in (G.fields given.now) }
@@ -149,7 +144,7 @@ fn creditor<'a, G: Given>(given: &'a G, country: &'a str) -> bill::Party<'a>
     }
 }
 
-// Who pays it, of a country.
+// The debtor of a bill, with this country code.
 fn debtor<'a, G: Given>(given: &'a G, country: &'a str) -> bill::Party<'a>
     ensures { country.now ≡ plain between.Spaces (G.fields given.now DebtorCountry)
         → addressee_of result ≡ debtor_in (G.fields given.now) }
@@ -164,7 +159,6 @@ fn debtor<'a, G: Given>(given: &'a G, country: &'a str) -> bill::Party<'a>
     }
 }
 
-// The text of a bill.
 fn bill_text<G: Given>(alloc: Global, given: &G) -> ContentResult<String>
     ensures { HasText Bill (G.fields given.now) result }
 {
@@ -187,7 +181,6 @@ fn bill_text<G: Given>(alloc: Global, given: &G) -> ContentResult<String>
     bill.text(alloc)
 }
 
-// The link that writes an e-mail.
 fn mail_text<G: Given>(alloc: Global, given: &G) -> ContentResult<String>
     ensures { HasText Mail (G.fields given.now) result }
 {
@@ -199,7 +192,6 @@ fn mail_text<G: Given>(alloc: Global, given: &G) -> ContentResult<String>
     mail.text(alloc)
 }
 
-// The link that calls a number.
 fn tel_text<G: Given>(alloc: Global, given: &G) -> ContentResult<String>
     ensures { HasText Tel (G.fields given.now) result }
 {
@@ -210,7 +202,7 @@ fn tel_text<G: Given>(alloc: Global, given: &G) -> ContentResult<String>
     phone.tel(alloc)
 }
 
-// The link that writes to a number, without a message where it is empty.
+// The link that writes a text message to `number`, with `body` if it is not empty.
 fn message_text(alloc: Global, number: &str, body: &str) -> ContentResult<String>
     ensures reads { Answers (phone_refusal number.now) result (IsReadAsSms number.now body.now) }
     ensures value { IfOk result (λ text. string_bytes text ≡ sms_text number.now body.now) }
@@ -222,7 +214,7 @@ fn message_text(alloc: Global, number: &str, body: &str) -> ContentResult<String
     phone.message(alloc, body)
 }
 
-// The link that writes to a number.
+// The link that writes a text message.
 fn sms_text<G: Given>(alloc: Global, given: &G) -> ContentResult<String>
     ensures { HasText Sms (G.fields given.now) result }
 {
@@ -230,7 +222,6 @@ fn sms_text<G: Given>(alloc: Global, given: &G) -> ContentResult<String>
     message_text(alloc, number.as_str(), given.text(Field::Message))
 }
 
-// The link of one-time passwords.
 fn otp_text<G: Given>(alloc: Global, given: &G) -> ContentResult<String>
     ensures { HasText Otp (G.fields given.now) result }
 {
@@ -249,7 +240,6 @@ fn otp_text<G: Given>(alloc: Global, given: &G) -> ContentResult<String>
     passwords.text(alloc)
 }
 
-// The text of an event.
 fn event_text<G: Given>(alloc: Global, given: &G) -> ContentResult<String>
     ensures { HasText Event (G.fields given.now) result }
 {
@@ -269,7 +259,6 @@ fn event_text<G: Given>(alloc: Global, given: &G) -> ContentResult<String>
     event.text(alloc)
 }
 
-// The link of a payment by UPI.
 fn upi_text<G: Given>(alloc: Global, given: &G) -> ContentResult<String>
     ensures { HasText Upi (G.fields given.now) result }
 {
@@ -286,7 +275,6 @@ fn upi_text<G: Given>(alloc: Global, given: &G) -> ContentResult<String>
     payment.text(alloc)
 }
 
-// The text of a payment by Pix.
 fn pix_text<G: Given>(alloc: Global, given: &G) -> ContentResult<String>
     ensures { HasText Pix (G.fields given.now) result }
 {
@@ -303,7 +291,6 @@ fn pix_text<G: Given>(alloc: Global, given: &G) -> ContentResult<String>
     payment.text(alloc)
 }
 
-// The text of a payment by PromptPay.
 fn promptpay_text<G: Given>(alloc: Global, given: &G) -> ContentResult<String>
     ensures { HasText Promptpay (G.fields given.now) result }
 {
@@ -317,14 +304,15 @@ fn promptpay_text<G: Given>(alloc: Global, given: &G) -> ContentResult<String>
     payment.text(alloc)
 }
 
-// Whether a text has more bytes than the digits that sixteen codes hold, the most of a split.
+// Whether a text has more than 113,424 bytes, as many as 16 symbols (the most of a split) hold
+// digits.
 fn is_long(text: &str) -> bool
     ensures { result ≡ is_long text.now }
 {
     text.len() > 113_424
 }
 
-// Refuses the first of some fields that is so long, before memory is taken for it.
+// Rejects the first field that is too long, before memory is taken for it.
 fn refuse_long<G: Given>(fields: &[Field], given: &G) -> ContentResult<()>
     ensures { result ≡ checked (long_refusal fields.now (G.fields given.now)) }
 {
@@ -338,7 +326,7 @@ fn refuse_long<G: Given>(fields: &[Field], given: &G) -> ContentResult<()>
     Ok(())
 }
 
-// The text of a kind of payload, of fields that are not too long.
+// Writes the text, without checking whether fields have more than 113,424 bytes.
 fn payload_text<G: Given>(alloc: Global, kind: Kind, given: &G) -> ContentResult<String>
     ensures { HasText kind (G.fields given.now) result }
 {
@@ -360,10 +348,10 @@ fn payload_text<G: Given>(alloc: Global, kind: Kind, given: &G) -> ContentResult
     }
 }
 
-/// The text of a kind of payload, of what is given for its fields.
+/// Returns the text of a payload of this `kind`, with the fields of `given`.
 ///
-/// An error names the first field that is too long, or that the format refuses, and why, or is
-/// `OutOfMemory`.
+/// Errors: `Refused` with the first field of more than 113,424 bytes, or else the first wrong
+/// field, and its cause; `OutOfMemory` if memory runs out.
 pub fn text_of<G: Given>(alloc: Global, kind: Kind, given: &G) -> ContentResult<String>
     ensures reads { Answers (content_refusal kind (G.fields given.now)) result
         (IsReadAs kind (G.fields given.now)) }

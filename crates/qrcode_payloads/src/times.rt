@@ -1,4 +1,4 @@
-//! Days and moments as people write them, also in zones other than UTC.
+//! Reads days and times as people write them, also with a time zone.
 
 ghost use Rattle.std.specs.Prelude.{◌≡◌, ◌<◌, ◌+◌, IfOk, IfSome, Some, true, string_bytes};
 ghost use Rattle.qrcode_payloads.specs.Times.{day_numbered, day_said, clock_number, moment_at, local_said, day_after, day_before, clock_minutes, with_minutes, earlier, later, zone_minutes, minute_count, day_count, from_ahead, from_behind, is_utc, zoned, moment_said, is_local, plain_day, has_colons, plain_clock, plain_time};
@@ -10,7 +10,7 @@ use qrcode_contents::fields::characters::{are_digits, parts};
 use qrcode_contents::times::{Day, Moment, days_in};
 use std::alloc::{AllocError, Global};
 
-// The day of a number of eight digits, e.g. 19970714.
+// The day of a number such as 19970714.
 fn day_numbered(number: u64) -> Day
     ensures { result ≡ day_numbered number }
 {
@@ -21,7 +21,8 @@ fn day_numbered(number: u64) -> Day
     }
 }
 
-/// The day of eight digits, e.g. 19970714.
+/// Reads a day of eight digits, e.g. 19970714, which need not exist. Returns `None` for any other
+/// text.
 pub(crate) fn day_said(text: &str) -> Option<Day>
     ensures value { result ≡ day_said text.now }
 {
@@ -31,7 +32,7 @@ pub(crate) fn day_said(text: &str) -> Option<Day>
     Some(day_numbered(decimal(text, 0)?))
 }
 
-// The number of six digits of a time of day, or of four, where the seconds are left out.
+// Reads a time of day as a number: six digits, or four without seconds (`1700` gives 170000).
 fn clock_number(text: &str) -> Option<u64>
     ensures value { result ≡ clock_number text.now }
 {
@@ -45,7 +46,7 @@ fn clock_number(text: &str) -> Option<u64>
     }
 }
 
-// The moment of a day and the number of a time.
+// The moment on `day` at the time with this number, e.g. 170000.
 fn moment_at(day: Day, number: u64) -> Moment
     ensures { result ≡ moment_at day number }
 {
@@ -57,7 +58,7 @@ fn moment_at(day: Day, number: u64) -> Moment
     }
 }
 
-// The day after another.
+// The next day.
 fn day_after(day: Day) -> Day
     requires { day.year < 10_000 }
     ensures value { result ≡ day_after day }
@@ -72,7 +73,7 @@ fn day_after(day: Day) -> Day
     Day { year, month, day }
 }
 
-// The day before another; none before the year 0.
+// The day before; `None` before the year 0.
 fn day_before(day: Day) -> Option<Day>
     ensures value { result ≡ day_before day }
 {
@@ -88,14 +89,14 @@ fn day_before(day: Day) -> Option<Day>
     Some(Day { year, month, day })
 }
 
-// The minutes of a day up to a moment.
+// The minutes since midnight.
 fn clock_minutes(moment: Moment) -> u16
     ensures { result ≡ clock_minutes moment }
 {
     u16::from(moment.hour) * 60 + u16::from(moment.minute)
 }
 
-// The moment of another day and minute of it.
+// The moment with another day and other minutes since midnight; the second stays.
 fn with_minutes(moment: Moment, day: Day, minutes: u16) -> Moment
     ensures { result ≡ with_minutes moment day minutes }
 {
@@ -110,7 +111,7 @@ fn with_minutes(moment: Moment, day: Day, minutes: u16) -> Moment
     }
 }
 
-// The moment so many minutes before; none before the year 0.
+// The moment `minutes` earlier; `None` before the year 0.
 fn earlier(minutes: u16, moment: Moment) -> Option<Moment>
     requires valid { is_moment moment ≡ true }
     requires at_most { minutes < 1440 }
@@ -125,7 +126,7 @@ fn earlier(minutes: u16, moment: Moment) -> Option<Moment>
     Some(with_minutes(moment, day, clock + 1440 - minutes))
 }
 
-// The moment so many minutes after.
+// The moment `minutes` later.
 fn later(minutes: u16, moment: Moment) -> Moment
     requires valid { is_moment moment ≡ true }
     requires at_most { minutes < 1440 }
@@ -139,7 +140,8 @@ fn later(minutes: u16, moment: Moment) -> Moment
     with_minutes(moment, day_after(moment.day), clock - 1440)
 }
 
-// The minutes between a zone and UTC, from two digits of hours and two of minutes.
+// Reads the offset of a zone from UTC, in minutes: two digits of hours, two of minutes, and perhaps
+// `00` for seconds.
 #[tactic(auto, unfolding(crate::specs::Times::zone_minutes))]
 fn zone_minutes(text: &str) -> Option<u16>
     ensures value { result ≡ zone_minutes text.now }
@@ -153,7 +155,7 @@ fn zone_minutes(text: &str) -> Option<u16>
     None
 }
 
-// The moment of a day and a time, wherever they are told.
+// Reads a day and a time, in whatever zone they are.
 #[tactic(auto, unfolding(crate::specs::Times::local_said))]
 fn local_said(day: &str, clock: &str) -> Option<Moment>
     ensures value { result ≡ local_said day.now clock.now }
@@ -163,7 +165,8 @@ fn local_said(day: &str, clock: &str) -> Option<Moment>
     Some(moment_at(day, number))
 }
 
-// The moment in UTC of one in a zone whose clocks are ahead; one that the calendar has not stays.
+// Converts a moment of a zone ahead of UTC to UTC. One that does not exist stays as it is. `None`
+// if `zone` is no offset, or before the year 0.
 #[tactic(auto, unfolding(crate::specs::Times::from_ahead))]
 fn from_ahead(zone: &str, local: Moment) -> Option<Moment>
     ensures value { result ≡ from_ahead (zone_minutes zone.now) local }
@@ -176,7 +179,8 @@ fn from_ahead(zone: &str, local: Moment) -> Option<Moment>
     }
 }
 
-// The same where they are behind.
+// Converts a moment of a zone behind UTC to UTC. One that does not exist stays as it is. `None` if
+// `zone` is no offset.
 #[tactic(auto, unfolding(crate::specs::Times::from_behind))]
 fn from_behind(zone: &str, local: Moment) -> Option<Moment>
     ensures value { result ≡ from_behind (zone_minutes zone.now) local }
@@ -189,14 +193,14 @@ fn from_behind(zone: &str, local: Moment) -> Option<Moment>
     }
 }
 
-// Whether a time has one Z, at its end.
+// Whether a time has exactly one Z, at its end.
 fn is_utc(time: &str) -> bool
     ensures { result ≡ is_utc time.now }
 {
     time.ends_with('Z') && parts(time, 'Z').1.is_empty()
 }
 
-// The moment in UTC of a day and of a time with a sign and a zone.
+// Reads a day, and a time with a zone such as `+0200`, in UTC.
 #[tactic(auto, unfolding(crate::specs::Times::zoned))]
 fn zoned(day: &str, time: &str) -> Option<Moment>
     ensures value { result ≡ zoned day.now time.now }
@@ -209,8 +213,8 @@ fn zoned(day: &str, time: &str) -> Option<Moment>
     from_ahead(zone, local_said(day, clock)?)
 }
 
-/// The moment in UTC of a day, a T, a time of day, and a Z or a zone, e.g. 19970714T170000Z,
-/// 19970714T1700Z or 19970714T1900+0200.
+/// Reads a day, a T, a time, and a Z or a zone, in UTC: e.g. 19970714T170000Z, 19970714T1700Z or
+/// 19970714T1900+0200. Returns `None` for any other text.
 #[tactic(auto, unfolding(crate::specs::Times::moment_of))]
 pub(crate) fn moment_said(text: &str) -> Option<Moment>
     ensures value { result ≡ moment_said text.now }
@@ -222,7 +226,7 @@ pub(crate) fn moment_said(text: &str) -> Option<Moment>
     zoned(day, time)
 }
 
-/// Whether a text is a day and a time with no zone, e.g. 19970714T170000.
+/// Returns whether `text` is a day and a time without a zone, e.g. 19970714T170000.
 pub(crate) fn is_local(text: &str) -> bool
     ensures value { result ≡ is_local text.now }
 {
@@ -230,7 +234,7 @@ pub(crate) fn is_local(text: &str) -> bool
     local_said(day, time).is_some()
 }
 
-/// A day without the hyphens of ISO 8601; another text as it is, so that it is refused.
+/// Returns a day such as 1997-07-14 without its hyphens; any other text unchanged.
 #[tactic(auto, unfolding(crate::specs::Times::plain_day))]
 pub(crate) fn plain_day(alloc: Global, text: &str) -> Result<String, AllocError>
     ensures { IfOk result (λ value. string_bytes value ≡ plain_day text.now) }
@@ -241,8 +245,8 @@ pub(crate) fn plain_day(alloc: Global, text: &str) -> Result<String, AllocError>
     String::from_str(alloc, text)
 }
 
-// Whether a time of day, and perhaps a zone, have colons where ISO 8601 has them; a zone may do
-// without.
+// Whether a time, perhaps with Z or a zone, has colons where ISO 8601 has them; the zone may lack
+// its colon.
 #[tactic(auto, unfolding(crate::specs::Times::has_colons))]
 fn has_colons(time: &[u8]) -> bool
     ensures { result ≡ has_colons time.now }
@@ -257,7 +261,7 @@ fn has_colons(time: &[u8]) -> bool
         || has_form(b"dd:dd:ddsdddd", time)
 }
 
-// A time of day, and perhaps a zone, without these colons; another text as it is.
+// Returns such a time without its colons; any other text unchanged.
 #[tactic(auto, unfolding(crate::specs::Times::plain_clock))]
 fn plain_clock(alloc: Global, time: &str) -> Result<String, AllocError>
     ensures { IfOk result (λ value. string_bytes value ≡ plain_clock time.now) }
@@ -268,7 +272,8 @@ fn plain_clock(alloc: Global, time: &str) -> Result<String, AllocError>
     String::from_str(alloc, time)
 }
 
-/// A day, or a day and a time, without the hyphens of the day and the colons of the time.
+/// Returns a day, or a day and a time, without the hyphens and colons of ISO 8601; a space becomes
+/// a T.
 #[tactic(auto, unfolding(crate::specs::Times::plain_time))]
 pub(crate) fn plain_time(alloc: Global, text: &str) -> Result<String, AllocError>
     ensures { IfOk result (λ value. string_bytes value ≡ plain_time text.now) }

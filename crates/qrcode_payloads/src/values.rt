@@ -1,4 +1,4 @@
-//! The values of the formats, from the texts that are given for fields.
+//! Turns the texts of fields into values: amounts, days, words and so on.
 
 ghost use Rattle.std.specs.Prelude.{◌≡◌, ◌≤◌, IfOk};
 ghost use Rattle.qrcode_contents.specs.declared.fields.errors.ContentError.TheVariants.{Refused};
@@ -16,7 +16,7 @@ use qrcode_contents::one_time::{Algorithm, Digits, Factor};
 use qrcode_contents::times::{Day, Moment};
 use qrcode_contents::wifi::Security;
 
-// Why a text says no number: it is empty, has more digits after its point, or other characters.
+// Why a text is no number: `Empty`, `Decimals` (too many digits after its point) or `Character`.
 fn number_cause(text: &str) -> Cause
     ensures { result ≡ number_cause text.now }
 {
@@ -29,7 +29,7 @@ fn number_cause(text: &str) -> Cause
     }
 }
 
-/// An amount, in hundredths, with no point at its end.
+/// Reads an amount, in hundredths; a point at its end is an error.
 pub(crate) fn amount(text: &str) -> ContentResult<u64>
     ensures value { result ≡ amount_in text.now }
 {
@@ -39,7 +39,7 @@ pub(crate) fn amount(text: &str) -> ContentResult<u64>
     decimal(text, 2).ok_or(ContentError::Refused(Field::Amount, number_cause(text)))
 }
 
-/// An amount, in hundredths, or none.
+/// Reads an amount, in hundredths; `None` if `text` is empty.
 pub(crate) fn open_amount(text: &str) -> ContentResult<Option<u64>>
     ensures value { result ≡ open_amount_in text.now }
 {
@@ -49,7 +49,7 @@ pub(crate) fn open_amount(text: &str) -> ContentResult<Option<u64>>
     Ok(Some(amount(text)?))
 }
 
-// Why a text is no day of eight digits.
+// Why a text is no day of eight digits: `Character`, `TooShort` or `TooLong`.
 fn day_cause(text: &str) -> Cause
     ensures { result ≡ day_cause text.now }
 {
@@ -62,7 +62,7 @@ fn day_cause(text: &str) -> Cause
     }
 }
 
-/// A birthday, where it is said.
+/// Reads a birthday; `None` if `text` is empty.
 pub(crate) fn birthday(text: &str) -> ContentResult<Option<Day>>
     ensures value { result ≡ birthday_in text.now }
 {
@@ -75,7 +75,8 @@ pub(crate) fn birthday(text: &str) -> ContentResult<Option<Day>>
     }
 }
 
-/// How a network is secured: as is said, or else by WPA with a password, and not at all without.
+/// Returns the security of a network: the given one, else WPA if there is a password, and open if
+/// not.
 pub(crate) fn security<G: Given>(given: &G) -> ContentResult<Security>
     ensures value { result ≡ security_in (G.fields given.now) }
 {
@@ -98,7 +99,7 @@ pub(crate) fn security<G: Given>(given: &G) -> ContentResult<Security>
     word(given.text(Field::Security), &words, other, Field::Security)
 }
 
-/// Whether a network does not broadcast its name.
+/// Reads whether a network hides its name; `false` if `text` is empty.
 pub(crate) fn hidden(text: &str) -> ContentResult<bool>
     ensures value { result ≡ hidden_in text.now }
 {
@@ -106,7 +107,7 @@ pub(crate) fn hidden(text: &str) -> ContentResult<bool>
     word(text, &words, false, Field::Hidden)
 }
 
-/// The currency of a bill, Swiss francs unless another one is said.
+/// Reads the currency of a bill; Swiss francs if `text` is empty.
 pub(crate) fn currency(text: &str) -> ContentResult<Currency>
     ensures value { result ≡ currency_in text.now }
 {
@@ -114,7 +115,7 @@ pub(crate) fn currency(text: &str) -> ContentResult<Currency>
     word(text, &words, Currency::Franc, Field::Currency)
 }
 
-/// The hash of one-time passwords, SHA1 unless another one is said.
+/// Reads the hash function of one-time passwords; SHA1 if `text` is empty.
 pub(crate) fn algorithm(text: &str) -> ContentResult<Algorithm>
     ensures value { result ≡ algorithm_in text.now }
 {
@@ -129,7 +130,7 @@ pub(crate) fn algorithm(text: &str) -> ContentResult<Algorithm>
     word(text, &words, Algorithm::Sha1, Field::Algorithm)
 }
 
-/// How many digits one-time passwords have, six unless eight are said.
+/// Reads the number of digits of one-time passwords, six or eight; six if `text` is empty.
 pub(crate) fn digits(text: &str) -> ContentResult<Digits>
     ensures value { result ≡ digits_in text.now }
 {
@@ -137,7 +138,7 @@ pub(crate) fn digits(text: &str) -> ContentResult<Digits>
     word(text, &words, Digits::Six, Field::Digits)
 }
 
-/// Degrees, in millionths.
+/// Reads degrees, in millionths. An error names `field`.
 pub(crate) fn coordinate(text: &str, field: Field) -> ContentResult<i32>
     ensures value { result ≡ degrees_in text.now field }
 {
@@ -145,7 +146,7 @@ pub(crate) fn coordinate(text: &str, field: Field) -> ContentResult<i32>
     degrees(text).ok_or(ContentError::Refused(field, cause))
 }
 
-// A whole number that is at most this.
+// Reads a whole number; `Range` if it is more than `most`.
 fn whole(text: &str, most: u64, field: Field) -> ContentResult<u64>
     ensures value { result ≡ whole_in text.now most field }
     ensures at_most { IfOk result (λ number. number ≤ most) }
@@ -157,8 +158,8 @@ fn whole(text: &str, most: u64, field: Field) -> ContentResult<u64>
     }
 }
 
-/// What passwords change with: a counter where one is given, and no period, and else the time,
-/// every 30 seconds or as many as are given.
+/// Returns what makes passwords change: the counter if one is given, else the time, with the given
+/// period or 30 seconds. A period next to a counter is `Unused`.
 pub(crate) fn factor(counter: &str, period: &str) -> ContentResult<Factor>
     ensures value { result ≡ factor_in counter.now period.now }
 {
@@ -175,7 +176,7 @@ pub(crate) fn factor(counter: &str, period: &str) -> ContentResult<Factor>
     Ok(Factor::Time(whole(period, 4_294_967_295, Field::Period)? as u32))
 }
 
-// The refusal of a field that says no time.
+// The error of a field that is no time: `Empty`, `TooShort` (without a zone) or `Character`.
 fn no_time(text: &str, field: Field) -> ContentError
     ensures { result ≡ Refused field (time_cause text.now) }
 {
@@ -189,7 +190,7 @@ fn no_time(text: &str, field: Field) -> ContentError
     ContentError::Refused(field, cause)
 }
 
-/// When an event was written, where it is said.
+/// Reads the time when an event was written; `None` if `text` is empty.
 pub(crate) fn stamp(text: &str) -> ContentResult<Option<Moment>>
     ensures value { result ≡ stamp_in text.now }
 {
@@ -202,7 +203,7 @@ pub(crate) fn stamp(text: &str) -> ContentResult<Option<Moment>>
     }
 }
 
-// From a day until before another.
+// The whole days from `first` until the day before `end`.
 fn days(first: Day, end: &str) -> ContentResult<Span>
     ensures value { result ≡ days_in first end.now }
 {
@@ -212,7 +213,7 @@ fn days(first: Day, end: &str) -> ContentResult<Span>
     }
 }
 
-// From one moment to another.
+// The time from `begin` to `end`.
 fn times(begin: &str, end: &str) -> ContentResult<Span>
     ensures value { result ≡ times_in begin.now end.now }
 {
@@ -223,7 +224,7 @@ fn times(begin: &str, end: &str) -> ContentResult<Span>
     }
 }
 
-/// When an event begins and ends: both are days, or both are moments.
+/// Reads the beginning and end of an event: both are days, or both are times.
 pub(crate) fn span(begin: &str, end: &str) -> ContentResult<Span>
     ensures value { result ≡ span_in begin.now end.now }
 {

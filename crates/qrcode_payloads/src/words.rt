@@ -1,4 +1,4 @@
-//! Words that stand for values, in any case.
+//! Words for values, in upper or lower case.
 
 ghost use Rattle.std.specs.Prelude.{◌≡◌, map};
 ghost use Rattle.qrcode_payloads.specs.Values.{word_in};
@@ -6,14 +6,14 @@ ghost use Rattle.qrcode_payloads.specs.Words.{is_word, named};
 
 use qrcode_contents::fields::errors::{Cause, ContentError, ContentResult, Field};
 
-// Whether a text is a word, in any case.
+// Whether a text is this word; ASCII case is ignored.
 fn is_word(text: &str, word: &str) -> bool
     ensures { result ≡ is_word text.now word.now }
 {
     text.eq_ignore_ascii_case(word)
 }
 
-// The value of the first of these words that a text is, in any case.
+// The value of the first of these words that the text is; `None` if it is none of them.
 fn named<T: Copy>(text: &str, words: &[(&str, T)]) -> Option<T>
     ensures value { result ≡ named (map (λ word. (word.0.now, word.1)) words.now) text.now }
 {
@@ -27,7 +27,10 @@ fn named<T: Copy>(text: &str, words: &[(&str, T)]) -> Option<T>
     None
 }
 
-/// The value of a field that is one of these words; another where none is given.
+/// Returns the value of a field that must be one of `words`, in upper or lower case; `other` if
+/// `text` is empty.
+///
+/// Errors: `Refused` with `field` and `Word` if `text` is none of them.
 pub(crate) fn word<T: Copy>(
     text: &str,
     words: &[(&str, T)],

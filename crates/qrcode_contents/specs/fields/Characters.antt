@@ -1,4 +1,4 @@
--- What characters fields have.
+-- Tests of the characters in a field.
 use Rattle.std.specs.Prelude.{ℕ, nat_lt, ◌==◌, ◌&&◌, ◌||◌, not, Bool, List, [], ◌∷◌, map, Option, if◌then◌else◌}
 use Rattle.std.specs.List.{list_any}
 use Rattle.qrcode_contents.specs.declared.fields.errors.ContentError.{ContentError}
@@ -15,32 +15,32 @@ is_capital b = nat_lt 64 b && nat_lt b 91
 abbrev pub is_capital_or_digit : ℕ → Bool  -- a digit, or a letter A to Z
 is_capital_or_digit b = is_digit b || is_capital b
 
-abbrev pub is_dialled : ℕ → Bool  -- a byte of a telephone number: a digit, a plus sign, or one of -.()
+abbrev pub is_dialled : ℕ → Bool  -- a byte that a telephone number may have: a digit, a plus sign, or one of -.()
 is_dialled b = is_digit b || b == 43 || b == 45 || b == 46 || b == 40 || b == 41
 
 abbrev pub is_base32 : ℕ → Bool  -- a character of base 32 (RFC 4648, section 6)
 is_base32 b = is_capital b || (nat_lt 49 b && nat_lt b 56)
 
-abbrev pub is_control : ℕ → Bool  -- a control character of ASCII
+abbrev pub is_control : ℕ → Bool  -- an ASCII control character
 is_control b = nat_lt b 32 || b == 127
 
-abbrev pub is_stray : ℕ → Bool  -- a control character that is neither a tab nor a line feed
+abbrev pub is_stray : ℕ → Bool  -- an ASCII control character other than tab and line feed
 is_stray b = is_control b && not (b == 9) && not (b == 10)
 
-abbrev pub is_unicode_break : ℕ → Bool  -- a character that ends a line, and is none of ASCII: NEL, LS or PS
+abbrev pub is_unicode_break : ℕ → Bool  -- a line break outside ASCII: NEL, LS or PS
 is_unicode_break c = c == 133 || c == 8232 || c == 8233
 
-abbrev pub before : ℕ → List ℕ → List ℕ  -- the bytes before the first byte c
+abbrev pub before : ℕ → List ℕ → List ℕ  -- the bytes before the first byte c; all if there is none
 before c [] = []
 before c (b ∷ rest) = if b == c then [] else b ∷ before c rest
 
-abbrev pub after : ℕ → List ℕ → List ℕ  -- the bytes behind the first byte c
+abbrev pub after : ℕ → List ℕ → List ℕ  -- the bytes after the first byte c; none if there is none
 after c [] = []
 after c (b ∷ rest) = if b == c then rest else after c rest
 
-abbrev pub control_refusal : List (Field × List ℕ) → Option ContentError  -- the first field with a control character
+abbrev pub control_refusal : List (Field × List ℕ) → Option ContentError  -- the error of the first field with a control character
 control_refusal fields =
     first_refusal (map (λ field. refused_if (list_any is_control field.1) field.0 ControlCharacter) fields)
 
-abbrev pub stray_checks : List (Field × List ℕ) → List (Option ContentError)  -- of each field, control characters that are neither tabs nor line feeds
+abbrev pub stray_checks : List (Field × List ℕ) → List (Option ContentError)  -- for each field, the check for control characters other than tab and line feed
 stray_checks fields = map (λ field. refused_if (list_any is_stray field.1) field.0 ControlCharacter) fields

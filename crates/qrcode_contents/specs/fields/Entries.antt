@@ -1,4 +1,4 @@
--- Entries, each a key and the parts of a value, as Wi-Fi and MECARD texts have them.
+-- Entries of Wi-Fi and MECARD texts, each a key and the parts of a value.
 use Rattle.std.specs.Prelude.{ℕ, ◌==◌, not, Bool, List, [], ◌∷◌, ◌++◌, length, Option, Some, None, map, flat_map, filter, slice_index_or, if◌then◌else◌}
 use Rattle.std.specs.Str.{bytes_eq}
 use Rattle.std.specs.List.{list_any}
@@ -20,10 +20,10 @@ is_empty bytes = length bytes == 0
 abbrev pub is_filled : List ℕ → Bool  -- there are bytes
 is_filled bytes = not (is_empty bytes)
 
-abbrev pub filled : List Entry → List Entry  -- the entries that say something: a part of their value has bytes
+abbrev pub filled : List Entry → List Entry  -- the entries with a part that is not empty
 filled entries = filter (λ entry. list_any is_filled entry.1) entries
 
-abbrev pub parts_text : Escapes → ℕ → List (List ℕ) → List ℕ  -- parts, escaped, with a separator between each two
+abbrev pub parts_text : Escapes → ℕ → List (List ℕ) → List ℕ  -- parts, escaped, with a separator between them
 parts_text escapes separator [] = []
 parts_text escapes separator (part ∷ parts) =
     escaped escapes part ++ flat_map (λ later. separator ∷ escaped escapes later) parts
@@ -31,38 +31,38 @@ parts_text escapes separator (part ∷ parts) =
 abbrev pub entry_text : Escapes → ℕ → Entry → List ℕ  -- a key, a colon and the parts of the value
 entry_text escapes separator (key, parts) = key ++ 58 ∷ parts_text escapes separator parts
 
-abbrev pub marked_text : Entry → List ℕ  -- an entry with a semicolon behind it, and nothing where it says nothing
+abbrev pub marked_text : Entry → List ℕ  -- an entry and a semicolon; empty if all parts are
 marked_text entry =
     if list_any is_filled entry.1 then entry_text Marks 44 entry ++ 59 ∷ [] else []
 
--- the entry that a piece of the text is, by its escapes and what stands between parts
+-- a piece of a text read as an entry, with these escapes and this separator between parts
 unfoldable pub read_entry : Escapes → ℕ → List ℕ → Entry
 read_entry escapes separator piece =
     (before 58 piece, map (unescaped escapes) (pieces separator (after 58 piece)))
 
--- the entries before the first empty piece; none where no piece is empty
+-- the entries before the first empty piece; None if no piece is empty
 abbrev pub read_until_empty : List (List ℕ) → Option (List Entry)
 read_until_empty [] = None
 read_until_empty ([] ∷ later) = Some []
 read_until_empty ((b ∷ piece) ∷ later) =
     option_map (λ entries. read_entry Marks 44 (b ∷ piece) ∷ entries) (read_until_empty later)
 
--- the bytes behind this beginning; none where the text begins otherwise
+-- the bytes after this start; None if the text starts otherwise
 abbrev pub behind : List ℕ → List ℕ → Option (List ℕ)
 behind [] bytes = Some bytes
 behind (a ∷ start) [] = None
 behind (a ∷ start) (b ∷ bytes) = if a == b then behind start bytes else None
 
--- the entries of a text with this beginning: a semicolon stands behind each, and an empty one ends them
+-- the entries of a text with this start: a semicolon ends each, and an empty one ends the list
 unfoldable pub read_entries : List ℕ → List ℕ → Option (List Entry)
 read_entries start text = option_and_then (λ bytes. read_until_empty (pieces 59 bytes)) (behind start text)
 
--- the i-th part of the first entry with this key, and nothing where there is none
+-- the i-th part of the first entry with this key; empty if there is none
 abbrev pub part_of : List ℕ → ℕ → List Entry → List ℕ
 part_of key i [] = []
 part_of key i (entry ∷ entries) =
     if bytes_eq key entry.0 then slice_index_or entry.1 i [] else part_of key i entries
 
--- the value of the first entry with this key, which has one part, and nothing where there is none
+-- the first part of the first entry with this key; empty if there is none
 abbrev pub value_of : List ℕ → List Entry → List ℕ
 value_of key entries = part_of key 0 entries

@@ -1,4 +1,4 @@
--- Links with parameters: a question mark before the first, `&` before each later one, and in each a key, `=` and a value.
+-- Links with parameters: `?` before the first, `&` before the others, and in each a key, `=` and a value.
 use Rattle.std.specs.Prelude.{◌≡◌, ℕ, ◌==◌, not, Bool, true, false, List, [], ◌∷◌, ◌++◌, map, flat_map, filter, codes, if◌then◌else◌, refl}
 use Rattle.std.specs.List.{slice_split}
 use Rattle.qrcode_contents.specs.declared.fields.links.Part.{Part}
@@ -7,7 +7,7 @@ use Rattle.qrcode_contents.specs.fields.Characters.{before, after}
 use Rattle.qrcode_contents.specs.fields.Entries.{Entry, single, is_filled, value_of}
 use Rattle.qrcode_contents.specs.fields.Percents.{encoded_byte, decoded}
 
--- a byte, percent-encoded: in a path `@` stands for itself, and in a value a line feed is a carriage return and a line feed (RFC 6068, section 5)
+-- a byte, percent-encoded: in a path `@` stays as it is, and in a value a line feed becomes CR LF (RFC 6068, section 5)
 abbrev pub part_byte : Part → ℕ → List ℕ
 part_byte Path b = if b == 64 then 64 ∷ [] else encoded_byte b
 part_byte Value b = if b == 10 then codes "%0D%0A" else encoded_byte b
@@ -21,21 +21,21 @@ Parameter = List ℕ × List ℕ
 abbrev pub parameter_text : Parameter → List ℕ  -- a key, `=` and the value
 parameter_text (key, value) = key ++ 61 ∷ part_text Value value
 
--- parameters of which the first has this mark before it; those with no value are left out
+-- parameters, with `mark` before the first and `&` before the others; those without a value are left out
 abbrev pub query_text : List ℕ → List Parameter → List ℕ
 query_text mark [] = []
 query_text mark ((key, value) ∷ later) =
     if is_filled value then mark ++ (parameter_text (key, value) ++ query_text (codes "&") later) else query_text mark later
 
-abbrev pub mark_text : Bool → List ℕ  -- the mark before a parameter: another before the first than before later ones
+abbrev pub mark_text : Bool → List ℕ  -- the character before a parameter: `?` if it is the first, else `&`
 mark_text false = codes "?"
 mark_text true = codes "&"
 
--- the parameter that a piece between two marks is; of a line break the line feed is kept
+-- a piece between two `&` read as a parameter, without carriage returns: CR LF becomes a line feed
 unfoldable pub read_parameter : List ℕ → Entry
 read_parameter piece = single (before 61 piece) (filter (λ b. not (b == 13)) (decoded (after 61 piece)))
 
-abbrev pub value_in : List ℕ → List ℕ → List ℕ  -- the value of this parameter of a link, and nothing where it has none
+abbrev pub value_in : List ℕ → List ℕ → List ℕ  -- the value of this parameter of a link; empty if it has none
 value_in key link = value_of key (map read_parameter (slice_split (λ b. b == 38) (after 63 link)))
 
 -- a printed example of RFC 6068, section 6.1

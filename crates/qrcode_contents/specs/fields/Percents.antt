@@ -1,24 +1,24 @@
--- Percent-encoding of RFC 3986, section 2.
+-- Percent-encoding (RFC 3986, section 2).
 use Rattle.std.specs.Prelude.{◌≡◌, ℕ, nat_lt, ◌+◌, ◌-◌, ◌*◌, ◌/◌, ◌%◌, ◌==◌, ◌&&◌, ◌||◌, Bool, List, [], ◌∷◌, flat_map, codes, if◌then◌else◌, refl}
 use Rattle.qrcode_contents.specs.fields.Characters.{is_digit}
 
-abbrev pub is_unreserved : ℕ → Bool  -- a letter, a digit, or one of -._~
+abbrev pub is_unreserved : ℕ → Bool  -- a byte that is not encoded: a letter, a digit, or one of -._~
 is_unreserved b =
     is_digit b || (nat_lt 64 b && nat_lt b 91) || (nat_lt 96 b && nat_lt b 123) || b == 45 || b == 46 || b == 95 || b == 126
 
-abbrev pub hex_digit : ℕ → ℕ  -- the digit of a number below 16
+abbrev pub hex_digit : ℕ → ℕ  -- the hexadecimal digit of a number below 16, with capitals
 hex_digit n = if nat_lt n 10 then 48 + n else 55 + n
 
-abbrev pub hex_value : ℕ → ℕ  -- the number of a digit
+abbrev pub hex_value : ℕ → ℕ  -- the number of a hexadecimal digit
 hex_value c = if nat_lt c 58 then c - 48 else c - 55
 
-abbrev pub encoded_byte : ℕ → List ℕ  -- a byte as it is, or as a percent sign and two digits
+abbrev pub encoded_byte : ℕ → List ℕ  -- a byte as it is, or as a percent sign and two hexadecimal digits
 encoded_byte b = if is_unreserved b then b ∷ [] else 37 ∷ hex_digit (b / 16) ∷ hex_digit (b % 16) ∷ []
 
 unfoldable pub encoded : List ℕ → List ℕ  -- the bytes, percent-encoded
 encoded bytes = flat_map encoded_byte bytes
 
-unfoldable pub decoded : List ℕ → List ℕ  -- the bytes that percent-encoded bytes stand for
+unfoldable pub decoded : List ℕ → List ℕ  -- percent-encoded bytes, decoded
 decoded [] = []
 decoded (a ∷ []) = a ∷ []
 decoded (a ∷ b ∷ []) = a ∷ b ∷ []

@@ -1,4 +1,4 @@
-//! Amounts of money, with a point before the last two digits.
+//! Amounts of money, with two digits after the point.
 
 ghost use Rattle.std.specs.Prelude.{◌≡◌, ◌++◌, ◌^◌, ◌<◌, string_bytes, IfOk, OnOk, IsOkUnless};
 ghost use Rattle.qrcode_contents.specs.declared.fields.errors.ContentError.TheVariants.{OutOfMemory};
@@ -9,8 +9,9 @@ use crate::fields::errors::ContentResult;
 use std::alloc::Global;
 use std::fmt::Write;
 
-/// Appends an amount that is given in hundredths, as `12.30`. After `OutOfMemory` a part of it is
-/// appended.
+/// Appends an amount of `hundredths` with two digits after the point, e.g. `12.30` for 1230.
+///
+/// Errors: only `OutOfMemory`; some of it may then be appended.
 #[tactic(auto, unfolding(crate::specs::fields::Amounts::amount_text))]
 pub fn push_amount(text: &mut String, hundredths: u64) -> ContentResult<()>
     ensures appends { OnOk result (string_bytes text.new
@@ -24,8 +25,9 @@ pub fn push_amount(text: &mut String, hundredths: u64) -> ContentResult<()>
     Ok(())
 }
 
-/// An amount that is given in hundredths, or nothing where it is left open. It fails only where
-/// memory is refused (`OutOfMemory`).
+/// Returns an amount of `hundredths` as text, e.g. `12.30`; empty if it is left open (`None`).
+///
+/// Errors: only `OutOfMemory`.
 pub fn open_amount(alloc: Global, hundredths: Option<u64>) -> ContentResult<String>
     ensures value { IfOk result (λ text. string_bytes text ≡ amount_line hundredths) }
     ensures memory { IsOkUnless result OutOfMemory }

@@ -1,5 +1,4 @@
-//! Content lines, as vCard and iCalendar have them: folded, and ended by a carriage return and a
-//! line feed.
+//! Content lines of vCard and iCalendar: folded at 75 octets, each ended by CR LF.
 
 ghost use Rattle.std.specs.Prelude.{◌≡◌, ◌+◌, ◌≤◌, [], ◌∷◌, ◌++◌, map, string_bytes, encode_utf8, IfOk, OnOk, IsOkUnless};
 ghost use Rattle.std.specs.Char.{len_utf8};
@@ -11,8 +10,8 @@ use crate::fields::errors::ContentResult;
 use crate::fields::escapes::Escapes;
 use std::alloc::Global;
 
-// Appends a character, on a line of its own behind a space where the line would have more than 75
-// octets with it. The octets of the line behind it.
+// Appends a character, on a new line after a space if this line would exceed 75 octets. Returns the
+// octets that the line then has.
 fn push_character(text: &mut String, column: usize, character: char) -> ContentResult<usize>
     requires { column ≤ 75 }
     ensures appends { OnOk result (string_bytes text.new ≡ string_bytes text.old
@@ -31,7 +30,7 @@ fn push_character(text: &mut String, column: usize, character: char) -> ContentR
     Ok(column + width)
 }
 
-// Appends a line, folded.
+// Appends a line, folded, without its end.
 fn push_folded(text: &mut String, line: &str) -> ContentResult<()>
     ensures appends { OnOk result (string_bytes text.new
         ≡ string_bytes text.old ++ folded_from 0 0 line.now) }
@@ -44,8 +43,9 @@ fn push_folded(text: &mut String, line: &str) -> ContentResult<()>
     Ok(())
 }
 
-/// Appends a key and a value as it is, folded, and nothing where the value is empty. After
-/// `OutOfMemory` a part of it is appended.
+/// Appends a line of `key` and `value`, folded but not escaped; nothing if `value` is empty.
+///
+/// Errors: only `OutOfMemory`; some of it may then be appended.
 pub fn push_value(alloc: Global, text: &mut String, key: &str, value: &str) -> ContentResult<()>
     ensures appends { OnOk result (string_bytes text.new
         ≡ string_bytes text.old ++ content_line (key.now, value.now)) }
@@ -62,8 +62,10 @@ pub fn push_value(alloc: Global, text: &mut String, key: &str, value: &str) -> C
     Ok(())
 }
 
-/// Appends a key and parts, escaped, with semicolons between them, folded, and nothing where no
-/// part has bytes. After `OutOfMemory` a part of it is appended.
+/// Appends a line of `key` and `parts`, escaped, separated by semicolons, and folded; nothing if
+/// all parts are empty.
+///
+/// Errors: only `OutOfMemory`; some of it may then be appended.
 pub fn push_content(
     alloc: Global,
     text: &mut String,
@@ -81,8 +83,9 @@ pub fn push_content(
     push_value(alloc, text, key, value.as_str())
 }
 
-/// Appends lines, each a key and a text, escaped and folded; a line with no text is left out. After
-/// `OutOfMemory` a part of them is appended.
+/// Appends lines, each a key and a text, escaped and folded. Leaves out those whose text is empty.
+///
+/// Errors: only `OutOfMemory`; some of them may then be appended.
 pub fn push_texts(alloc: Global, text: &mut String, lines: &[(&str, &str)]) -> ContentResult<()>
     ensures appends { OnOk result (string_bytes text.new ≡ string_bytes text.old
         ++ content_text (map (λ line. (line.0.now, structured (line.1.now ∷ []))) lines.now)) }

@@ -1,4 +1,4 @@
-//! Entries of a text, each a key and the parts of a value.
+//! Entries of Wi-Fi and MECARD texts, `KEY:value;`, where a value may have several parts.
 
 ghost use Rattle.std.specs.Prelude.{◌≡◌, ◌<◌, ◌++◌, map, flat_map, string_bytes, OnOk, IsOkUnless};
 ghost use Rattle.std.specs.List.{list_any};
@@ -8,9 +8,9 @@ ghost use Rattle.qrcode_contents.specs.fields.Entries.{is_filled, single, parts_
 use crate::fields::errors::ContentResult;
 use crate::fields::escapes::{Escapes, push_escaped};
 
-/// Appends parts, escaped, with a separator of ASCII between each two.
+/// Appends `parts`, escaped, with `separator`, an ASCII character, between them.
 ///
-/// `OutOfMemory`: memory was refused; then a part of it is appended.
+/// Errors: only `OutOfMemory`; some of it may then be appended.
 pub fn push_parts(
     text: &mut String,
     escapes: Escapes,
@@ -34,7 +34,7 @@ pub fn push_parts(
     Ok(())
 }
 
-/// Whether a part has bytes.
+/// Returns whether any part is not empty.
 pub fn any_filled(parts: &[&str]) -> bool
     ensures { result ≡ list_any is_filled (map (λ part. part.now) parts.now) }
 {
@@ -48,8 +48,10 @@ pub fn any_filled(parts: &[&str]) -> bool
     false
 }
 
-/// Appends an entry with a semicolon behind it, and nothing where no part has bytes. After
-/// `OutOfMemory` a part of it is appended.
+/// Appends the entry of `key` and `parts`, escaped and separated by commas, and a semicolon;
+/// nothing if all parts are empty.
+///
+/// Errors: only `OutOfMemory`; some of it may then be appended.
 pub fn push_entry(text: &mut String, key: &str, parts: &[&str]) -> ContentResult<()>
     ensures appends { OnOk result (string_bytes text.new
         ≡ string_bytes text.old ++ marked_text (key.now, map (λ part. part.now) parts.now)) }
@@ -65,8 +67,9 @@ pub fn push_entry(text: &mut String, key: &str, parts: &[&str]) -> ContentResult
     Ok(())
 }
 
-/// Appends entries, each a key and a text; one with no text is left out. After `OutOfMemory` a part
-/// of them is appended.
+/// Appends entries, each a key and a text. Leaves out those whose text is empty.
+///
+/// Errors: only `OutOfMemory`; some of them may then be appended.
 pub fn push_texts(text: &mut String, entries: &[(&str, &str)]) -> ContentResult<()>
     ensures appends { OnOk result (string_bytes text.new ≡ string_bytes text.old
         ++ flat_map marked_text (map (λ entry. single entry.0.now entry.1.now) entries.now)) }

@@ -1,4 +1,4 @@
-//! Why a value has no text.
+//! Errors: which field a format rejects, and why.
 
 ghost use Rattle.std.specs.Prelude.{◌≡◌};
 ghost use Rattle.qrcode_contents.specs.declared.fields.errors.ContentError.TheVariants.{OutOfMemory};
@@ -7,20 +7,20 @@ use std::alloc::{AllocError, AllocFailed};
 use std::error::Error;
 use std::fmt;
 
-/// A field of one of the values.
+/// A field of one of the formats.
 #[derive(Debug, PartialEq, Eq, Copy, Clone)]
 pub enum Field {
     /// The name of a network.
     Ssid,
     /// The password of a network.
     Password,
-    /// How a network is secured.
+    /// The security of a network.
     Security,
-    /// Whether a network does not broadcast its name.
+    /// Whether a network hides its name.
     Hidden,
-    /// The bank's identifier.
+    /// The bank's identifier (BIC).
     Bic,
-    /// The name of who is paid, or of a contact.
+    /// The name of the payee, or the displayed name of a contact.
     Name,
     /// The family name of a contact.
     Family,
@@ -28,27 +28,27 @@ pub enum Field {
     Given,
     /// An organisation.
     Organisation,
-    /// The title of a contact.
+    /// The job title of a contact.
     Title,
     /// A telephone number.
     Phone,
-    /// The number of a mobile telephone.
+    /// The number of a mobile phone.
     Mobile,
-    /// The number of a telephone at work.
+    /// The telephone number at work.
     WorkPhone,
-    /// The number of a telephone at home.
+    /// The telephone number at home.
     HomePhone,
-    /// An address of mail.
+    /// An e-mail address.
     Email,
-    /// An address of the web.
+    /// A web address.
     Url,
     /// A birthday.
     Birthday,
     /// A note.
     Note,
-    /// A street with the number of the house.
+    /// A street; for a contact with the house number.
     Street,
-    /// A number of a house.
+    /// A house number.
     Number,
     /// A town.
     City,
@@ -58,33 +58,33 @@ pub enum Field {
     PostalCode,
     /// A country.
     Country,
-    /// The name of who pays.
+    /// The debtor's name.
     DebtorName,
-    /// The street of who pays.
+    /// The debtor's street.
     DebtorStreet,
-    /// The number of the house of who pays.
+    /// The debtor's house number.
     DebtorNumber,
-    /// The postal code of who pays.
+    /// The debtor's postal code.
     DebtorPostalCode,
-    /// The town of who pays.
+    /// The debtor's town.
     DebtorCity,
-    /// The country of who pays.
+    /// The debtor's country.
     DebtorCountry,
-    /// The account.
+    /// The account (IBAN).
     Iban,
     /// The amount of money.
     Amount,
     /// The currency of the amount.
     Currency,
-    /// The code of a payment's purpose.
+    /// The purpose code of a payment.
     Purpose,
     /// The reference of a payment.
     Reference,
-    /// The message of a payment, of a mail or to a telephone.
+    /// The message of a payment, an e-mail or a text message.
     Message,
-    /// What stands beside a payment.
+    /// Information for the payer of a payment.
     Information,
-    /// The subject of a mail.
+    /// The subject of an e-mail.
     Subject,
     /// Degrees north of the equator.
     Latitude,
@@ -92,33 +92,33 @@ pub enum Field {
     Longitude,
     /// The secret of one-time passwords.
     Secret,
-    /// Who issues one-time passwords.
+    /// The issuer of one-time passwords.
     Issuer,
-    /// For which account they are.
+    /// The account of one-time passwords.
     Account,
-    /// The hash of one-time passwords.
+    /// The hash function of one-time passwords.
     Algorithm,
-    /// How many digits a one-time password has.
+    /// The number of digits of a one-time password.
     Digits,
-    /// How long a one-time password is valid.
+    /// How many seconds a one-time password is valid.
     Period,
-    /// Where the counter of one-time passwords begins.
+    /// The first value of the counter of one-time passwords.
     Counter,
     /// The identifier of an event.
     Uid,
-    /// When an event was written.
+    /// The time when an event was written.
     Stamp,
-    /// When an event begins.
+    /// The beginning of an event.
     Begin,
-    /// When an event ends.
+    /// The end of an event.
     End,
-    /// What an event is.
+    /// The title of an event.
     Summary,
-    /// Where an event is.
+    /// The place of an event.
     Location,
     /// The description of an event or of a payment.
     Description,
-    /// Who is paid: an address of UPI, a key of Pix, or an identifier of PromptPay.
+    /// The payee: a UPI address, a Pix key, or a PromptPay number.
     Payee,
     /// The category of a merchant.
     Category,
@@ -126,10 +126,10 @@ pub enum Field {
     Whole,
 }
 
-/// What a format cannot say of a field.
+/// Why a format rejects a field.
 #[derive(Debug, PartialEq, Eq, Copy, Clone)]
 pub enum Cause {
-    /// The field may not be empty.
+    /// The field must not be empty.
     Empty,
     /// The field is longer than the format allows.
     TooLong,
@@ -143,24 +143,24 @@ pub enum Cause {
     CheckDigits,
     /// The number is outside the format's range.
     Range,
-    /// The field has no place beside the others.
+    /// The field does not go with the other fields.
     Unused,
-    /// The number has more digits after its point than the format allows.
+    /// The number has more digits after the decimal point than the format allows.
     Decimals,
-    /// The field is none of the words that it may be.
+    /// The field is none of the allowed words.
     Word,
 }
 
-/// Why a value has no text, or `OutOfMemory`.
+/// Why a value has no text.
 #[derive(Debug, PartialEq, Eq, Copy, Clone)]
 pub enum ContentError {
-    /// The format cannot say this field, for this cause.
+    /// The format rejects this field, for this cause.
     Refused(Field, Cause),
-    /// Memory was refused.
+    /// Memory ran out.
     OutOfMemory,
 }
 
-/// The answer of a call that may refuse a field.
+/// The result of a call that may reject a field.
 pub type ContentResult<T> = Result<T, ContentError>;
 
 impl fmt::Display for ContentError {

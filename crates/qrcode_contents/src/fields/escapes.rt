@@ -1,4 +1,4 @@
-//! Fields with a backslash before what would end them.
+//! Puts a backslash before characters that would end a field.
 
 ghost use Rattle.std.specs.Prelude.{◌≡◌, ◌<◌, ◌++◌, string_bytes, encode_utf8, IfSome, OnOk, IsOkUnless};
 ghost use Rattle.qrcode_contents.specs.declared.fields.errors.ContentError.TheVariants.{OutOfMemory};
@@ -6,17 +6,17 @@ ghost use Rattle.qrcode_contents.specs.fields.Escapes.{letter_of, escaped};
 
 use crate::fields::errors::ContentResult;
 
-/// How a format writes the characters that would end a field: a backslash, and a letter for each.
+/// Which characters a format escapes, with a backslash and a letter.
 #[derive(Copy, Clone, PartialEq, Eq, Debug)]
 pub enum Escapes {
-    /// Wi-Fi and MECARD: `\`, `;`, `,`, `:` and `"` stand behind a backslash.
+    /// Wi-Fi and MECARD: `\`, `;`, `,`, `:` and `"` get a backslash.
     Marks,
-    /// vCard and iCalendar: `\`, `;` and `,` stand behind a backslash, and a line feed is `\n`.
+    /// vCard and iCalendar: `\`, `;` and `,` get a backslash, and a line feed is `\n`.
     Lines,
 }
 
 impl Escapes {
-    // What stands for the character behind a backslash; none where the character stands for itself.
+    // What to write after a backslash for `character`; `None` if it needs no escape.
     fn letter_of(self, character: char) -> Option<char>
         ensures value { result ≡ letter_of self character }
         ensures ascii { IfSome result (λ letter. letter < 128) }
@@ -30,7 +30,7 @@ impl Escapes {
     }
 }
 
-// Appends a character, behind a backslash where it needs one.
+// Appends a character, escaped if it needs to be.
 fn push_character(text: &mut String, escapes: Escapes, character: char) -> ContentResult<()>
     ensures appends { OnOk result (string_bytes text.new
         ≡ string_bytes text.old ++ escaped escapes (encode_utf8 character)) }
@@ -45,7 +45,9 @@ fn push_character(text: &mut String, escapes: Escapes, character: char) -> Conte
     Ok(())
 }
 
-/// Appends a value as the format writes it. After `OutOfMemory` a part of it is appended.
+/// Appends `value`, escaped.
+///
+/// Errors: only `OutOfMemory`; some of it may then be appended.
 pub fn push_escaped(text: &mut String, escapes: Escapes, value: &str) -> ContentResult<()>
     ensures appends { OnOk result (string_bytes text.new
         ≡ string_bytes text.old ++ escaped escapes value.now) }

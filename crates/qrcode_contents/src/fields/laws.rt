@@ -1,4 +1,4 @@
-//! Laws of the types that no call stands for, on the contract of a function that does nothing.
+//! Theorems about `==` on the types of `fields`.
 
 ghost use Rattle.std.specs.Prelude.{◌≡◌, ◌↔◌, IsTrue};
 ghost use Rattle.qrcode_contents.specs.declared.fields.errors.Cause.{Cause};
@@ -11,7 +11,7 @@ use crate::fields::errors::{Cause, ContentError, Field};
 use crate::fields::escapes::Escapes;
 use crate::fields::links::Part;
 
-/// Two values are equal by `==` exactly when they are the same.
+/// Theorem: two values of these types are equal by `==` exactly if they are the same.
 pub fn equality()
     ensures fields { (a b : Field) → IsTrue (⟦<Field as PartialEq>⟧.eq a b) ↔ (a ≡ b) }
     ensures reasons { (a b : Cause) → IsTrue (⟦<Cause as PartialEq>⟧.eq a b) ↔ (a ≡ b) }
@@ -19,7 +19,7 @@ pub fn equality()
     ensures parts { (a b : Part) → IsTrue (⟦<Part as PartialEq>⟧.eq a b) ↔ (a ≡ b) }
 {}
 
-/// Two errors are equal by `==` exactly when they are the same.
+/// Theorem: two errors are equal by `==` exactly if they are the same.
 pub fn error_equality()
     ensures { (a b : ContentError) → IsTrue (⟦<ContentError as PartialEq>⟧.eq a b) ↔ (a ≡ b) }
 {

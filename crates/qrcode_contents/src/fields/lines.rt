@@ -1,4 +1,4 @@
-//! Texts of lines.
+//! Texts of several lines.
 
 ghost use Rattle.std.specs.Prelude.{◌≡◌, ◌++◌, map, string_bytes, OnOk, IsOkUnless};
 ghost use Rattle.qrcode_contents.specs.declared.fields.errors.ContentError.TheVariants.{OutOfMemory};
@@ -6,7 +6,9 @@ ghost use Rattle.qrcode_contents.specs.fields.Lines.{later_text};
 
 use crate::fields::errors::ContentResult;
 
-/// Appends lines, each with a line feed before it. After `OutOfMemory` a part of it is appended.
+/// Appends `lines`, with a line feed before each.
+///
+/// Errors: only `OutOfMemory`; some of them may then be appended.
 pub fn push_lines(text: &mut String, lines: &[&str]) -> ContentResult<()>
     ensures appends { OnOk result (string_bytes text.new
         ≡ string_bytes text.old ++ later_text (map (λ line. line.now) lines.now)) }

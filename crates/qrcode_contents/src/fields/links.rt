@@ -1,4 +1,4 @@
-//! Parts and parameters of links, percent-encoded.
+//! Percent-encoded parts and parameters of links.
 
 ghost use Rattle.std.specs.Prelude.{◌≡◌, ◌++◌, map, string_bytes, OnOk, IsOkUnless};
 ghost use Rattle.qrcode_contents.specs.declared.fields.errors.ContentError.TheVariants.{OutOfMemory};
@@ -7,16 +7,16 @@ ghost use Rattle.qrcode_contents.specs.fields.Links.{mark_text, part_byte, part_
 use crate::fields::errors::ContentResult;
 use crate::fields::percents::push_byte;
 
-/// A part of a link.
+/// The part of a link that a text is in.
 #[derive(Copy, Clone, PartialEq, Eq, Debug)]
 pub enum Part {
-    /// A path, in which `@` stands for itself.
+    /// A path, in which `@` is not encoded.
     Path,
-    /// A value, in which a line feed is written as a carriage return and a line feed.
+    /// The value of a parameter, in which a line feed becomes CR LF (`%0D%0A`).
     Value,
 }
 
-// Appends a byte of a part.
+// Appends a byte, encoded for this part of a link.
 fn push_part_byte(text: &mut String, part: Part, byte: u8) -> ContentResult<()>
     ensures appends { OnOk result (string_bytes text.new
         ≡ string_bytes text.old ++ part_byte part byte) }
@@ -30,7 +30,9 @@ fn push_part_byte(text: &mut String, part: Part, byte: u8) -> ContentResult<()>
     Ok(())
 }
 
-/// Appends a part of a link, percent-encoded. After `OutOfMemory` a part of it is appended.
+/// Appends `value`, percent-encoded for this `part` of a link.
+///
+/// Errors: only `OutOfMemory`; some of it may then be appended.
 #[tactic(auto, unfolding(crate::specs::fields::Links::part_text))]
 pub fn push_part(text: &mut String, part: Part, value: &str) -> ContentResult<()>
     ensures appends { OnOk result (string_bytes text.new
@@ -44,14 +46,14 @@ pub fn push_part(text: &mut String, part: Part, value: &str) -> ContentResult<()
     Ok(())
 }
 
-// The mark before a parameter, where others stand before it or not.
+// The character before a parameter: `&` if others come before it, else `?`.
 fn mark(begun: bool) -> &'static str
     ensures { result.now ≡ mark_text begun }
 {
     if begun { "&" } else { "?" }
 }
 
-// Appends a mark, a key, `=` and a value.
+// Appends `mark`, `key`, `=` and `value`, which is percent-encoded.
 fn push_parameter(text: &mut String, mark: &str, key: &str, value: &str) -> ContentResult<()>
     ensures appends { OnOk result (string_bytes text.new
         ≡ string_bytes text.old ++ (mark.now ++ parameter_text (key.now, value.now))) }
@@ -63,9 +65,10 @@ fn push_parameter(text: &mut String, mark: &str, key: &str, value: &str) -> Cont
     push_part(text, Part::Value, value)
 }
 
-/// Appends parameters, each a key and a value: `?` before the first, unless others stand before it,
-/// and `&` before later ones. Those with no value are left out. After `OutOfMemory` a part of it is
-/// appended.
+/// Appends parameters, each a key and a value, and leaves out those whose value is empty. Before
+/// the first comes `?`, or `&` if the link has parameters already (`begun`); before the others `&`.
+///
+/// Errors: only `OutOfMemory`; some of them may then be appended.
 pub fn push_parameters(
     text: &mut String,
     begun: bool,

@@ -1,4 +1,4 @@
-//! Objects of EMVCo, as codes that merchants present have them, and their check.
+//! Data objects of merchant-presented EMVCo codes, and their checksum.
 
 ghost use Rattle.std.specs.Prelude.{◌≡◌, ◌++◌, string_bytes, OnOk, IsOkUnless};
 ghost use Rattle.qrcode_contents.specs.declared.fields.errors.ContentError.TheVariants.{OutOfMemory};
@@ -8,8 +8,10 @@ use crate::fields::errors::ContentResult;
 use crate::fields::percents::hex_digit;
 use std::fmt::Write;
 
-/// Appends an object, a tag of two digits and a value, and nothing where it has no value. After
-/// `OutOfMemory` a part of it is appended.
+/// Appends an object: `tag`, two digits; the length of `value`, two digits up to 99; and `value`.
+/// Appends nothing if `value` is empty.
+///
+/// Errors: only `OutOfMemory`; some of it may then be appended.
 pub fn push_object(text: &mut String, tag: &str, value: &str) -> ContentResult<()>
     ensures appends { OnOk result (string_bytes text.new
         ≡ string_bytes text.old ++ object_text (tag.now, value.now)) }
@@ -24,7 +26,7 @@ pub fn push_object(text: &mut String, tag: &str, value: &str) -> ContentResult<(
     Ok(())
 }
 
-// The register after a bit.
+// The CRC register after one more zero bit.
 fn crc_bit(register: u16) -> u16
     ensures { result ≡ crc_bit register }
 {
@@ -35,7 +37,7 @@ fn crc_bit(register: u16) -> u16
     }
 }
 
-// The register after a byte.
+// The CRC register after one more byte.
 fn crc_step(register: u16, byte: u8) -> u16
     ensures { result ≡ crc_step register byte }
 {
@@ -43,7 +45,7 @@ fn crc_step(register: u16, byte: u8) -> u16
     crc_bit(crc_bit(crc_bit(crc_bit(half))))
 }
 
-/// The check of bytes: CRC-16 by the polynomial 0x1021, which begins with ones.
+/// Returns the CRC-16 of `bytes`: polynomial 0x1021, initial value 0xffff.
 #[tactic(auto, unfolding(crate::specs::fields::Objects::crc_of))]
 pub fn crc(bytes: &[u8]) -> u16
     ensures { result ≡ crc_of bytes.now }
@@ -55,7 +57,7 @@ pub fn crc(bytes: &[u8]) -> u16
     register
 }
 
-// Appends four digits of hexadecimal.
+// Appends `check` as four hexadecimal digits.
 fn push_crc(text: &mut String, check: u16) -> ContentResult<()>
     ensures appends { OnOk result (string_bytes text.new
         ≡ string_bytes text.old ++ crc_text check) }
@@ -68,7 +70,10 @@ fn push_crc(text: &mut String, check: u16) -> ContentResult<()>
     Ok(())
 }
 
-/// Appends the check of a text, as its last object. After `OutOfMemory` a part of it is appended.
+/// Appends the checksum of `text` as its last object: `6304`, which it covers too, and four
+/// hexadecimal digits.
+///
+/// Errors: only `OutOfMemory`; some of it may then be appended.
 pub fn push_check(text: &mut String) -> ContentResult<()>
     ensures value { OnOk result (string_bytes text.new ≡ checked_text (string_bytes text.old)) }
     ensures memory { IsOkUnless result OutOfMemory }

@@ -1,4 +1,4 @@
-//! Percent-encoding of RFC 3986.
+//! Percent-encoding (RFC 3986).
 
 ghost use Rattle.std.specs.Prelude.{◌≡◌, ◌<◌, ◌++◌, string_bytes, OnOk, IsOkUnless};
 ghost use Rattle.qrcode_contents.specs.declared.fields.errors.ContentError.TheVariants.{OutOfMemory};
@@ -6,14 +6,14 @@ ghost use Rattle.qrcode_contents.specs.fields.Percents.{is_unreserved, hex_digit
 
 use crate::fields::errors::ContentResult;
 
-// Whether the byte stands for itself.
+// Whether a byte is not encoded: a letter, a digit, or one of `-._~`.
 fn is_unreserved(byte: u8) -> bool
     ensures { result ≡ is_unreserved byte }
 {
     matches!(byte, b'-' | b'.' | b'0'..=b'9' | b'A'..=b'Z' | b'_' | b'a'..=b'z' | b'~')
 }
 
-// The hexadecimal digit of a number below 16.
+// The hexadecimal digit of `number`, with capitals.
 pub(crate) fn hex_digit(number: u8) -> u8
     requires { number < 16 }
     ensures value { result ≡ hex_digit number }
@@ -26,8 +26,10 @@ pub(crate) fn hex_digit(number: u8) -> u8
     }
 }
 
-/// Appends a byte as it is, or as a percent sign and two digits. After `OutOfMemory` a part of it
-/// is appended.
+/// Appends `byte` as it is if it is a letter, a digit or one of `-._~`, else as a percent sign and
+/// two hexadecimal digits.
+///
+/// Errors: only `OutOfMemory`; some of it may then be appended.
 pub fn push_byte(text: &mut String, byte: u8) -> ContentResult<()>
     ensures appends { OnOk result (string_bytes text.new
         ≡ string_bytes text.old ++ encoded_byte byte) }
@@ -43,7 +45,9 @@ pub fn push_byte(text: &mut String, byte: u8) -> ContentResult<()>
     Ok(())
 }
 
-/// Appends a value, percent-encoded. After `OutOfMemory` a part of it is appended.
+/// Appends `value`, percent-encoded.
+///
+/// Errors: only `OutOfMemory`; some of it may then be appended.
 #[tactic(auto, unfolding(crate::specs::fields::Percents::encoded))]
 pub fn push_encoded(text: &mut String, value: &str) -> ContentResult<()>
     ensures appends { OnOk result (string_bytes text.new

@@ -1,4 +1,4 @@
-//! The first refusal of some checks.
+//! Checks of fields, of which the first that fails is reported.
 
 ghost use Rattle.std.specs.Prelude.{◌≡◌, length, map, nat_lt};
 ghost use Rattle.std.specs.List.{list_any};
@@ -10,46 +10,47 @@ ghost use Rattle.qrcode_contents.specs.fields.Refusals.{checked, first_refusal, 
 use crate::fields::characters::{character_count, has_control, has_stray, has_unicode_break};
 use crate::fields::errors::{Cause, ContentError, ContentResult, Field};
 
-/// A check: whether a field is refused, which one, and for what cause.
+/// A check: whether it rejects the field, which field, and for what cause.
 pub type Check = (bool, Field, Cause);
 
-/// Refuses a field with a control character, as a line break is.
+/// Returns the check that rejects an ASCII control character, such as a line break.
 pub fn controls(field: Field, text: &str) -> Check
     ensures { result ≡ (list_any is_control text.now, field, ControlCharacter) }
 {
     (has_control(text), field, Cause::ControlCharacter)
 }
 
-/// Refuses a field with a control character that is neither a tab nor a line feed.
+/// Returns the check that rejects an ASCII control character other than tab and line feed.
 pub fn stray(field: Field, text: &str) -> Check
     ensures { result ≡ (list_any is_stray text.now, field, ControlCharacter) }
 {
     (has_stray(text), field, Cause::ControlCharacter)
 }
 
-/// Refuses a field with a character that ends a line, and is none of ASCII.
+/// Returns the check that rejects a line break outside ASCII: U+0085, U+2028 or U+2029.
 pub fn unicode_breaks(field: Field, text: &str) -> Check
     ensures { result ≡ (list_any is_unicode_break (chars text.now), field, ControlCharacter) }
 {
     (has_unicode_break(text), field, Cause::ControlCharacter)
 }
 
-/// Refuses a field of fewer characters than this.
+/// Returns the check that rejects fewer than `least` characters.
 pub fn too_short(field: Field, text: &str, least: usize) -> Check
     ensures { result ≡ (nat_lt (length (chars text.now)) least, field, TooShort) }
 {
     (character_count(text) < least, field, Cause::TooShort)
 }
 
-/// Refuses a field of more characters than this.
+/// Returns the check that rejects more than `most` characters.
 pub fn too_long(field: Field, text: &str, most: usize) -> Check
     ensures { result ≡ (nat_lt most (length (chars text.now)), field, TooLong) }
 {
     (character_count(text) > most, field, Cause::TooLong)
 }
 
-/// Refuses the field of the first check that refuses one; the error is `Refused`, with that field
-/// and its cause.
+/// Fails if one of the checks rejects its field.
+///
+/// Errors: `Refused` with field and cause of the first check that does.
 pub fn refuse_first(checks: &[Check]) -> ContentResult<()>
     ensures { result ≡ checked (first_refusal
         (map (λ check. refused_if check.0 check.1 check.2) checks.now)) }

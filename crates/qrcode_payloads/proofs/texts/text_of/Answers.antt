@@ -8,7 +8,7 @@ use Rattle.qrcode_payloads.specs.Kinds.{fields_of}
 use Rattle.qrcode_payloads.specs.Texts.{long_refusal}
 use Rattle.qrcode_payloads.proofs.texts.text_of.Goals as goal
 
--- where the first check refuses nothing, the answers are those of the second
+-- if the first check has no error, the result answers as by the second
 later_answers : (first later : Option ContentError) (r : Result (String Global) ContentError) (P : List ℕ → Type 0) → first ≡ None → Answers later r P → Answers (first_refusal (first ∷ later ∷ [])) r P
 later_answers None None r P is answers = answers
 later_answers None (Some e) r P is answers = answers

@@ -8,12 +8,12 @@ use Rattle.qrcode_contents.specs.contracts.fields.errors.CausePartialEq.TheImpl 
 use Rattle.qrcode_contents.specs.contracts.fields.errors.ContentErrorPartialEq.TheImpl as of_errors
 use Rattle.qrcode_contents.proofs.fields.laws.error_equality.Goals as goal
 
--- two tests hold together
+-- if `a && b` holds, both do
 both : (a b : Bool) → IsTrue (a && b) → IsTrue a × IsTrue b
 both true b h = (refl, h)
 both false b h = let never : false ≡ true = h in cc
 
--- and the other way round
+-- if both hold, `a && b` does
 joined : (a b : Bool) → IsTrue a → IsTrue b → IsTrue (a && b)
 joined true b h k = k
 joined false b h k = h

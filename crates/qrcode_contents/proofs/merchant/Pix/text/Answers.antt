@@ -28,7 +28,7 @@ at_most n most is small = grind (arith, nat_tests)
 not_empty : (text : List ℕ) → is_empty text ≡ false → is_filled text ≡ true
 not_empty text is = rw is refl
 
--- a description fits beside its key
+-- a description fits next to its key
 description_short : (key : ℕ) (text : List ℕ) → (is_filled text && nat_lt (73 - key) (length text)) ≡ false → length text < 100
 description_short key [] is = omega arith
 description_short key (b ∷ text) is = grind (arith, nat_tests)
@@ -79,7 +79,7 @@ reference_read (b ∷ text) are =
     let some : is_filled (b ∷ text) ≡ true = grind (arith, nat_tests) in
     rw (some, not_asterisks (b ∷ text) are) refl
 
--- what the refusals say of a payment that has none
+-- what holds of a payment that passes all checks
 record AreSaid (p : Charge) : Type 0 where
   fits : Fits p
   name : length p.name < 100
@@ -107,7 +107,7 @@ pix_said p is =
       cents = test_passes (is_out_of_range p.cents) Amount Range receiver.1.1.1.1.1.1.1.1.0;
     }
 
--- the objects in that of the reference
+-- the objects inside the object of the reference
 abbrev more_objects : Charge → List Parameter
 more_objects p = (codes "05", reference_text p.reference) ∷ []
 
@@ -144,7 +144,7 @@ objects_are p said = (
   ),
 )
 
--- entries that say nothing may be left out
+-- entries whose parts are all empty may be left out
 pix_in-filled : (es : List Entry) → are_distinct es ≡ true → pix_in (filled es) ≡ option_and_then (λ account. option_and_then (charge_in (filled es) account) (read_objects (value_of (codes "62") es))) (read_objects (value_of (codes "26") es))
 pix_in-filled es are = rw (part_of-filled (codes "26") 0 es are, part_of-filled (codes "62") 0 es are) refl
 
@@ -169,7 +169,7 @@ more-filled objects account more are = rw (part_of-filled (codes "05") 0 more ar
 same_charge : (p : Charge) (cents : Option ℕ) (reference : List ℕ) → cents ≡ p.cents → reference ≡ p.reference → (let x : Charge = record { key = p.key; name = p.name; city = p.city; cents = cents; reference = reference; description = p.description } in x) ≡ p
 same_charge p cents reference h₁ h₂ = rw (h₁, h₂) refl
 
--- what is read is what was said
+-- reading the text gives back the fields
 pix_read : (p : Charge) → pix_refusal p ≡ None → read_pix (pix_text p) ≡ Some p
 pix_read p is =
     let said = pix_said p is in

@@ -18,11 +18,11 @@ use Rattle.qrcode_contents.proofs.Passing.{all_pass, test_passes}
 use Rattle.qrcode_contents.proofs.Answering.{answered}
 use Rattle.qrcode_contents.proofs.merchant.PromptPay.text.Goals as goal
 
--- the objects of an account, with who is paid
+-- the objects of an account, with the payee's
 abbrev account_with : List ℕ → List ℕ → List Parameter
 account_with tag value = (codes "00", codes "A000000677010111") ∷ (tag, value) ∷ []
 
--- objects that say who is paid
+-- objects that give the payee
 record Says (payee : List ℕ) (os : List Parameter) : Type 0 where
   are : AreObjects os
   short : length (objects_text os) < 100
@@ -102,7 +102,7 @@ account_by payee false true wallet p i w one first = subst (Says payee) (by_iden
 account_by payee false false true p i w one first = subst (Says payee) (by_wallet payee p i) (wallet_says payee (size_is payee 15 w))
 account_by payee false false false p i w one first = cc
 
--- what the refusals say of a payment that has none
+-- what holds of a payment that passes all checks
 record AreSaid (p : Claim) : Type 0 where
   account : Says p.payee (payee_objects p.payee)
   cents : is_out_of_range p.cents ≡ false
@@ -126,7 +126,7 @@ objects_are : (p : Claim) → AreSaid p → AreObjects (promptpay_objects p)
 objects_are p said =
     (refl, omega arith, (refl, initiation_short p.cents, (refl, said.account.short, (refl, omega arith, (refl, omega arith, (refl, cents_short p.cents said.cents, tt))))))
 
--- entries that say nothing may be left out
+-- entries whose parts are all empty may be left out
 promptpay_in-filled : (es : List Entry) → are_distinct es ≡ true → promptpay_in (filled es) ≡ option_and_then (claim_in (filled es)) (read_objects (value_of (codes "29") es))
 promptpay_in-filled es are = rw (part_of-filled (codes "29") 0 es are) refl
 
@@ -140,7 +140,7 @@ same_claim p payee cents h₁ h₂ = rw (h₁, h₂) refl
 claim_said : (p : Claim) (account : List Entry) → value_of (codes "00") account ≡ codes "A000000677010111" → read_payee account ≡ p.payee → is_out_of_range p.cents ≡ false → claim_in (entries_of (with_check (promptpay_objects p))) account ≡ Some p
 claim_said p account named payee cents = rw named (ap Some (same_claim p _ _ payee (cents_read p.cents cents)))
 
--- what is read is what was said
+-- reading the text gives back the fields
 promptpay_read : (p : Claim) → promptpay_refusal p ≡ None → read_promptpay (promptpay_text p) ≡ Some p
 promptpay_read p is =
     let said = promptpay_said p is in

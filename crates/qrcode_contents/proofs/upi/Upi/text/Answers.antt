@@ -22,7 +22,7 @@ use Rattle.qrcode_contents.proofs.PhoneReading.{holds}
 use Rattle.qrcode_contents.proofs.Answering.{answered}
 use Rattle.qrcode_contents.proofs.upi.Upi.text.Goals as goal
 
--- a byte of an address stands for itself
+-- a byte that is read as it is: no percent sign, carriage return or `&`
 record IsItself (b : ℕ) : Type 0 where
   no_percent : (b == 37) ≡ false
   no_return : (b == 13) ≡ false
@@ -57,7 +57,7 @@ amount_plain (Some n) is =
     HasNo-append 13 (decimal (n / 100)) (46 ∷ (decimal (n / 10 % 10) ++ decimal (n % 10))) (decimal_plain (n / 100) (omega (arith, fits)))
     (HasNo-append 13 (decimal (n / 10 % 10)) (decimal (n % 10)) (decimal_plain (n / 10 % 10) (omega arith)) (decimal_plain (n % 10) (omega arith)))
 
--- what the refusals say of a request that has none
+-- what holds of a request that passes all checks
 record AreSaid (r : Request) : Type 0 where
   address : list_all is_address_byte r.payee ≡ true
   parameters : AreParameters (upi_parameters r)
@@ -78,7 +78,7 @@ upi_said r is =
       cents = cents;
     }
 
--- the link behind its scheme
+-- the link after its scheme
 abbrev link_of : Request → List ℕ
 link_of r = codes "?pa=" ++ (r.payee ++ and_text (upi_parameters r))
 
@@ -100,7 +100,7 @@ value_of_link r said key other distinct =
 same_request : (r : Request) (payee name category reference note : List ℕ) (cents : Option ℕ) → payee ≡ r.payee → name ≡ r.name → category ≡ r.category → reference ≡ r.reference → note ≡ r.note → cents ≡ r.cents → (let x : Request = record { payee = payee; name = name; category = category; reference = reference; note = note; cents = cents } in x) ≡ r
 same_request r payee name category reference note cents h₁ h₂ h₃ h₄ h₅ h₆ = rw (h₁, h₂, h₃, h₄, h₅, h₆) refl
 
--- what is read is what was said
+-- reading the text gives back the fields
 upi_read : (r : Request) → upi_refusal r ≡ None → read_upi (upi_text r) ≡ Some r
 upi_read r is =
     let said = upi_said r is in
