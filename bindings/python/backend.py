@@ -1,8 +1,8 @@
 """Builds the wheel with the standard library alone, so that `pip install ./bindings/python` works
 offline: the package, and the shared library in it.
 
-The library is that of GOQLANIS_LIB, where that is set, or else what `bindings/c/build` makes. The
-tag names the least glibc that has all that the library takes from it.
+The library is the one in GOQLANIS_LIB if that is set, otherwise the one that `bindings/c/build`
+makes. The tag names the oldest glibc that has all that the library needs.
 """
 import ast
 import base64
@@ -37,7 +37,7 @@ Tag: {tag}
 
 
 def library():
-    """The bytes of the shared library."""
+    """Returns the bytes of the shared library."""
     given = os.environ.get("GOQLANIS_LIB")
     if given:
         return Path(given).read_bytes()
@@ -47,7 +47,7 @@ def library():
 
 
 def least_glibc(data):
-    """The n of the least glibc 2.n that has each name that a file in ELF form takes from it."""
+    """Returns the n of the oldest glibc 2.n that has all symbols that an ELF file needs from it."""
     return max(int(it) for it in re.findall(rb"\0GLIBC_2\.(\d+)", data))
 
 

@@ -1,6 +1,6 @@
-"""QR and Micro QR symbols by a library that is proved correct.
+"""Creates and reads QR and Micro QR codes with a library that is proved correct.
 
-A symbol of a text or of bytes, and files of it, which are written whole or not at all:
+`encode` makes a symbol of a str or bytes, and `save` writes it to a file, completely or not at all:
 
 >>> import goqlanis
 >>> symbol = goqlanis.encode("https://example.org")
@@ -9,15 +9,15 @@ A symbol of a text or of bytes, and files of it, which are written whole or not 
 >>> symbol.save("code.png", scale=8, border=4, dark="#008", light=None, dpi=300)
 >>> symbol.save("code.svg")
 
-In the terminal, in a page of HTML, and as bytes or a text of your own:
+For a terminal, for an HTML page, and as bytes:
 
     symbol.terminal()
     page = f"<p>{symbol.svg_inline(scale=4)}</p>"
     page = f'<img src="{symbol.png_data_uri(scale=4)}" alt="code">'
     data = symbol.png(scale=8)
 
-Other symbols of the same data: of a level, of a version, with the highest level that costs no
-larger symbol, in Micro QR, and in several symbols:
+You can choose the level, the version, the highest level that needs no larger symbol, Micro QR, or
+several symbols:
 
 >>> goqlanis.encode("12345", "H"), goqlanis.encode("12345", version=7)
 (<goqlanis.Symbol 1-H>, <goqlanis.Symbol 7-M>)
@@ -26,28 +26,28 @@ larger symbol, in Micro QR, and in several symbols:
 >>> len(goqlanis.encode_sequence("a" * 5000))
 3
 
-Networks, contacts, payments and more are texts of goqlanis.contents:
+goqlanis.contents writes the text for Wi-Fi networks, contacts, payments and more:
 
 >>> goqlanis.encode(goqlanis.contents.wifi("Guests", "secret")).version
 '3'
 
-The codes of a picture, and a symbol or a square of modules, are read back:
+`read` reads the codes of a picture, a symbol or a square of modules:
 
 >>> [code.text for code in goqlanis.read("code.png")]
 ['https://example.org']
 >>> goqlanis.read(symbol).data, goqlanis.read_text(symbol.matrix)
 (b'https://example.org', 'https://example.org')
 
-What is refused is an exception of its own name, all of them a goqlanis.Error (help(goqlanis.errors)
-lists them), and its text says what would help:
+Each reason why the library rejects something is a subclass of goqlanis.Error (help(goqlanis.errors)
+lists them), and its message says what would help:
 
 >>> goqlanis.encode("a" * 3000)
 Traceback (most recent call last):
     ...
 goqlanis.NoRoom: 3,000 bytes at level M: at most 2,331 fit, more of digits or capitals; no level \
-holds them: encode_sequence parts them between symbols
+holds them: encode_sequence splits them over several symbols
 
-help(goqlanis.encode), help(goqlanis.Symbol) and help(goqlanis.contents) say all that may be asked,
+help(goqlanis.encode), help(goqlanis.Symbol) and help(goqlanis.contents) explain all options,
 help(goqlanis.Code) and help(goqlanis.Reading) what is read, help(goqlanis.Check) what is checked.
 """
 from typing import TYPE_CHECKING
@@ -73,7 +73,7 @@ __all__ = ["contents", "Symbol", "encode", "encode_sequence", "encode_segments",
            "encode_text", "read", "read_any", "read_text", "join", "check", "least_version",
            "least_version_of_segments", "is_functional"]
 
-# Names that other packages have.
+# The names that other packages use, and what to use here.
 _HERE = {"make": "encode(data)", "make_qr": "encode(data)", "QRCode": "encode(data)",
          "QrCode": "encode(data)", "make_micro": "encode(data, micro=True)",
          "make_sequence": "encode_sequence(data)", "split": "encode_sequence(data)",
@@ -82,6 +82,6 @@ _HERE = {"make": "encode(data)", "make_qr": "encode(data)", "QRCode": "encode(da
 
 if not TYPE_CHECKING:
     def __getattr__(name):
-        """Refuses a name that is not here, and says what stands for one of another package."""
+        """Raises AttributeError, which says what to use instead of a name of another package."""
         helps = f": take goqlanis.{_HERE[name]}" if name in _HERE else ""
         raise AttributeError(f"module 'goqlanis' has no attribute {name!r}{helps}")

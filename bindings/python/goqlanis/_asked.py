@@ -1,4 +1,4 @@
-"""What is asked of the library in its own numbers, and what it answers."""
+"""Requests for symbols in the library's numbers, and its answers."""
 import ctypes
 from typing import Any, List, NamedTuple, Sequence, Tuple
 
@@ -13,8 +13,8 @@ Answer = Tuple[int, List[Symbol]]
 
 
 def _made(call: Any, *given: Any, behind: Sequence[Any] = (), most: int = 1) -> Answer:
-    """What a call answers that fills modules, and the symbols where that is 0: one, or as many as
-    `behind` says."""
+    """Returns the answer of a call that fills modules, and its symbols if the answer is 0: one, or
+    as many as the first of `behind`, the outputs after the modules, says."""
     known = Known()
     modules: Any = ctypes.create_string_buffer(most * MODULES_MAX)
     answer = call(*given, modules, len(modules), ctypes.byref(known), *map(ctypes.byref, behind))
@@ -27,8 +27,8 @@ def _made(call: Any, *given: Any, behind: Sequence[Any] = (), most: int = 1) -> 
 
 
 class Data(NamedTuple):
-    """The symbol of data: of a version, or of the least, which is 0; under the mask of least
-    penalty, which is 0, or under another, which is its number and 1."""
+    """A symbol of data. A version of 0 is the smallest; a mask of 0 is the one with the lowest
+    penalty, and others are their number plus 1."""
     data: bytes
     level: int
     manner: int
@@ -50,7 +50,7 @@ class Data(NamedTuple):
 
 
 class Parts(NamedTuple):
-    """Several symbols between which data is parted."""
+    """Several symbols over which data is split."""
     data: bytes
     level: int
     manner: int
@@ -65,7 +65,7 @@ class Parts(NamedTuple):
 
 
 class Segments(NamedTuple):
-    """The symbol of segments: of a version, or of the least of Normal, which is 0."""
+    """A symbol of segments. A version of 0 is the smallest of Normal QR."""
     rows: Sequence[Segment]
     level: int
     version: int
@@ -74,7 +74,7 @@ class Segments(NamedTuple):
         return (Segment * len(self.rows))(*self.rows), len(self.rows)
 
     def least(self) -> Tuple[int, int]:
-        """What the library answers about the least version, and its number."""
+        """Returns the library's answer about the smallest version, and its number."""
         found = ctypes.c_uint32()
         call = library.goq_least_version_of_segments
         return call(*self.given(), self.level, ctypes.byref(found)), found.value
@@ -90,7 +90,7 @@ class Segments(NamedTuple):
 
 
 class Elements(NamedTuple):
-    """The symbol of elements of GS1, in which nothing is wrong: of a version, or of the least."""
+    """A symbol of correct GS1 elements. A version of 0 is the smallest."""
     elements: Any
     level: int
     version: int

@@ -1,4 +1,4 @@
-"""What a caller gives, checked before the library sees it."""
+"""Checks of arguments, before the library sees them."""
 import functools
 import inspect
 import numbers
@@ -8,7 +8,7 @@ from typing import Any, Callable, Iterable, List, Optional, Tuple, TypeVar
 from .errors import NoSuchLevel, NoSuchVersion
 
 Call = TypeVar("Call", bound=Callable[..., Any])
-# What other packages call arguments, and what is taken here.
+# The names of arguments in other packages, and what to use here.
 OTHERS = {"error": "level='H'", "error_correction": "level='H'", "boost_error": "boost=True",
           "mask_pattern": "mask=3", "encoding": "data.encode(..)", "symbol_count": "count=3",
           "mode": "encode_segments", "unit": "size='30mm' (EPS, PDF, PNG) or size=300 (pixels)",
@@ -24,12 +24,12 @@ BINARY = (bytes, bytearray, memoryview)
 
 
 def cut(said: str) -> str:
-    """The first 40 characters of what is quoted in a message."""
+    """Returns the first 40 characters of what a message quotes."""
     return said if len(said) <= 40 else f"{said[:38]}.."
 
 
 def shown(value: Any, write: Callable[[Any], str] = repr) -> str:
-    """A value as Python writes it, cut."""
+    """Returns a value as Python writes it, cut to 40 characters."""
     try:
         return cut(write(value))
     except ValueError:  # Python writes no int of more than 4,300 digits.
@@ -37,7 +37,7 @@ def shown(value: Any, write: Callable[[Any], str] = repr) -> str:
 
 
 def named(call: Call) -> Call:
-    """A call that says what to take instead of an argument that it does not have."""
+    """Wraps a call so that it says what to use instead of an argument that it does not have."""
     known = inspect.signature(call).parameters
 
     @functools.wraps(call)
@@ -53,7 +53,7 @@ def named(call: Call) -> Call:
 
 def whole(name: str, value: Any, least: int, most: int,
           error: Callable[[str], Exception] = ValueError) -> int:
-    """A whole number in a range. Those of numpy are taken; True and 2.0 are none."""
+    """Returns a whole number in a range. Those of numpy are accepted; True and 2.0 are not."""
     number = _index(value)
     if number is None:
         raise TypeError(f"{name} is a whole number from {least:,} to {most:,}, not {shown(value)}"
@@ -65,7 +65,7 @@ def whole(name: str, value: Any, least: int, most: int,
 
 
 def _index(value: Any) -> Optional[int]:
-    """The whole number that a value is, where it is one; numpy has bools of its own."""
+    """Returns the value as a whole number, or None; numpy has bools of its own."""
     try:
         return None if "bool" in type(value).__name__ else operator.index(value)
     except TypeError:
@@ -73,7 +73,7 @@ def _index(value: Any) -> Optional[int]:
 
 
 def _whole_of(value: Any) -> str:
-    """What would make a whole number of a value, where something does."""
+    """Says which whole number to give instead of a value, if there is one."""
     if isinstance(value, float) and abs(value) < 2**53:
         return f": take {round(value)}"
     if isinstance(value, str) and value.strip().isdecimal() and len(value) < 40:
@@ -82,14 +82,14 @@ def _whole_of(value: Any) -> str:
 
 
 def flag(name: str, value: Any) -> bool:
-    """True or False."""
+    """Returns the value, which must be True or False."""
     if not isinstance(value, bool):
         raise TypeError(f"{name} is True or False, not {shown(value)}")
     return value
 
 
 def text(name: str, value: Any) -> str:
-    """A str."""
+    """Returns the value, which must be a str."""
     if isinstance(value, str):
         return str.__str__(value)
     if isinstance(value, BINARY):
@@ -98,12 +98,12 @@ def text(name: str, value: Any) -> str:
 
 
 def exact(value: Any) -> bytes:
-    """Bytes of no other class, as the length that such a class says may be wrong."""
+    """Returns plain bytes, since the length that a subclass states may be wrong."""
     return value if type(value) is bytes else memoryview(value).tobytes()
 
 
 def binary(name: str, value: Any) -> bytes:
-    """Bytes."""
+    """Returns the value as bytes, which it must be."""
     if isinstance(value, BINARY):
         return exact(value)
     if isinstance(value, str):
@@ -112,7 +112,7 @@ def binary(name: str, value: Any) -> bytes:
 
 
 def data(value: Any) -> Tuple[bytes, bool]:
-    """Data as bytes, and whether it is a text."""
+    """Returns data as bytes, and whether it is a str."""
     if isinstance(value, str):
         return str.encode(value), True
     if isinstance(value, BINARY):
@@ -121,12 +121,12 @@ def data(value: Any) -> Tuple[bytes, bool]:
 
 
 def _typed(value: Any) -> str:
-    """A value with its type."""
+    """Returns a value with its type, for a message."""
     return "None" if value is None else f"the {type(value).__name__} {shown(value)}"
 
 
 def _bytes_of(value: Any) -> str:
-    """What would make data of a value, where something does."""
+    """Says how to make data of a value, if there is a way."""
     if isinstance(value, numbers.Number):
         return f": take str({shown(value, str)})"
     if hasattr(value, "read_bytes"):
@@ -139,7 +139,7 @@ def _bytes_of(value: Any) -> str:
 
 
 def level(value: Any) -> int:
-    """The library's number of a level."""
+    """Returns the library's number of a level."""
     if not isinstance(value, str):
         raise TypeError(f"level is one of 'L', 'M', 'Q' and 'H', not {shown(value)}")
     if len(value) != 1 or value.upper() not in LEVELS:
@@ -148,7 +148,7 @@ def level(value: Any) -> int:
 
 
 def version(value: Any) -> int:
-    """The library's number of a version, which is a text or, of Normal, a number."""
+    """Returns the library's number of a version, which is a str or, for Normal QR, a number."""
     name = value if isinstance(value, str) else shown(_index(value), str)
     if name == "None":
         raise TypeError(f"a version is '1' to '40' or 'M1' to 'M4', not {shown(value)}")
@@ -161,20 +161,20 @@ def version(value: Any) -> int:
 
 
 def _compared(holds: Callable[[int, int], bool]) -> Callable[[Any, Any], Any]:
-    """A comparison of versions by their sizes."""
+    """Returns a comparison of versions by size."""
     def compare(self: Any, other: Any) -> Any:
         return holds(_rank(self), _rank(other)) if isinstance(other, str) else NotImplemented
     return compare
 
 
 def _rank(name: str) -> int:
-    """The place of a version in the order M1 to M4, 1 to 40."""
+    """Returns the place of a version in the order M1 to M4, 1 to 40."""
     number = version(name)
     return number - 44 if number > 40 else number
 
 
 class Version(str):
-    """The name of a version, "1" to "40" or "M1" to "M4": a str that is ordered by size.
+    """The name of a version, "1" to "40" or "M1" to "M4": a str that sorts by size.
 
     >>> Version("9") < "10", max(Version("M4"), Version("1")), Version("7") == "7"
     (True, '1', True)
@@ -185,12 +185,12 @@ class Version(str):
 
 
 def version_name(number: int) -> Version:
-    """A version's name by the library's number."""
+    """Returns the name of a version by the library's number."""
     return Version(number) if number <= 40 else Version(f"M{number - 40}")
 
 
 def listed(name: str, value: Any, of: str) -> List[Any]:
-    """A list of what an iterable gives, which is no text."""
+    """Returns the items of an iterable, which must not be a str or bytes."""
     if isinstance(value, (str, *BINARY)) or not isinstance(value, Iterable):
         raise TypeError(f"{name}: a list of {of}, not {_typed(value)}")
     return list(value)

@@ -1,4 +1,4 @@
-"""How symbols are drawn: the formats, and what may be asked of each."""
+"""Draws symbols: the formats, and the options of each."""
 import ctypes
 import os
 import re
@@ -16,8 +16,8 @@ from .errors import NoSuchSize, NotInFormat, OutOfMemory, refuse
 
 
 class Kind(NamedTuple):
-    """A format: the library's number, whether it is a text, the usual pixels of a module, and whether
-    it has colours."""
+    """A format: the library's number, whether it is text, the default pixels per module, and
+    whether it has colours."""
     number: int
     is_text: bool
     scale: int
@@ -25,7 +25,7 @@ class Kind(NamedTuple):
 
 
 KINDS = {ending: Kind(*row) for ending, row in FORMATS.items()}
-# Formats that are no files: half blocks for dark grounds, and rows of pixels.
+# Formats without a file extension: half blocks for dark backgrounds, and rows of pixels.
 OTHERS = {"light": Kind(goq.LIGHT_HALF_BLOCKS, True, 1, False),
           "grey": Kind(goq.GREY, False, 8, False)}
 MOST_SIDE = 65535
@@ -33,7 +33,7 @@ Size = Union[int, str, None]
 
 
 class Look(NamedTuple):
-    """What is asked of a drawing, as a caller gives it; `border` and `quiet_zone` are one thing."""
+    """The options of a drawing, as a caller gives them; `border` and `quiet_zone` are the same."""
     scale: Any = None
     border: Any = None
     quiet_zone: Any = None
@@ -44,7 +44,7 @@ class Look(NamedTuple):
 
 
 def drawn(modules: bytes, width: int, usual_zone: int, name: str, look: Look) -> bytes:
-    """The drawing of modules in a format."""
+    """Draws modules in a format; the default quiet zone has `usual_zone` modules."""
     kind = KINDS.get(name) or OTHERS[name]
     zone = zone_of(look, usual_zone)
     across = width + 2 * zone
@@ -54,7 +54,8 @@ def drawn(modules: bytes, width: int, usual_zone: int, name: str, look: Look) ->
     most = SIDES.get(kind.number, side)
     if side > most:
         helps = "a smaller border" if across > most else f"scale={most // across} or less"
-        raise NoSuchSize(f"a side of {side:,} pixels: this format has at most {most:,}: take {helps}")
+        raise NoSuchSize(f"a side of {side:,} pixels: this format has at most {most:,}: take "
+                         f"{helps}")
     drawing = Drawing(ctypes.sizeof(Drawing), kind.number, zone, scale, dark, light, dpi)
     given, count = (modules, len(modules), width, ctypes.byref(drawing)), ctypes.c_size_t()
     refuse(library.goq_draw_with_length(*given, ctypes.byref(count)))
@@ -72,16 +73,16 @@ def _room(count: int) -> bytearray:
 
 
 def zone_of(look: Look, usual: int) -> int:
-    """The modules of the quiet zone."""
+    """Returns the width of the quiet zone in modules."""
     if look.border is not None and look.quiet_zone is not None:
-        raise TypeError("border and quiet_zone are one thing: give one of them")
+        raise TypeError("border and quiet_zone are the same: give one of them")
     name, value = ("border", look.border) if look.quiet_zone is None else \
         ("quiet_zone", look.quiet_zone)
     return usual if value is None else _checks.whole(name, value, 0, 32000, NoSuchSize)
 
 
 def _scale(look: Look, kind: Kind) -> int:
-    """The pixels of a module."""
+    """Returns the pixels per module."""
     if _ending(look.scale) in KINDS:
         raise TypeError(f"scale is a whole number: symbol.save({shown(look.scale)}) writes a file")
     return kind.scale if look.scale is None else \
@@ -89,7 +90,7 @@ def _scale(look: Look, kind: Kind) -> int:
 
 
 def _fitted(look: Look, name: str, across: int) -> int:
-    """The pixels of a module where so many are to fit in a size."""
+    """Returns the most pixels per module with which `across` modules fit in a size."""
     if look.scale is not None:
         raise TypeError("scale and size: give one of them")
     pixels = _pixels(look, 72 if name in ("eps", "pdf") else look.dpi)
@@ -100,7 +101,7 @@ def _fitted(look: Look, name: str, across: int) -> int:
 
 
 def _pixels(look: Look, dots: Any) -> int:
-    """The pixels of a size, of which so many are an inch."""
+    """Returns the pixels of a size, with `dots` pixels per inch."""
     size = look.size
     found = isinstance(size, str) and re.fullmatch(r"([0-9]{1,99}([.][0-9]{1,99})?)mm", size)
     if found and dots is None:
@@ -112,25 +113,27 @@ def _pixels(look: Look, dots: Any) -> int:
 
 
 def _ink(look: Look, name: str, has_colours: bool) -> Tuple[int, int, int]:
-    """The colours of dark and light modules, and the dots per inch, 0 for none."""
+    """Returns the colours of dark and light modules, and the dots per inch, 0 for none."""
     dark, light = colour("dark", look.dark), colour("light", look.light)
     if not has_colours and (dark, light) != (0x000000, 0xFFFFFF):
-        raise NotInFormat(f"{name.upper()} is black on white; PNG, SVG, EPS, PDF and PPM have colours")
+        raise NotInFormat(f"{name.upper()} is black on white; PNG, SVG, EPS, PDF and PPM have "
+                          "colours")
     if name not in ("png", "svg") and max(dark, light) > 0xFFFFFF:
-        raise NotInFormat(f"{name.upper()} has opaque colours alone; PNG and SVG have transparent ones")
+        raise NotInFormat(f"{name.upper()} has only opaque colours; PNG and SVG have transparent "
+                          "ones")
     if dark == light:
-        raise ValueError(f"dark and light are one colour, {shown(look.dark)}: nobody sees the "
-                         "symbol")
+        raise ValueError(f"dark and light are the same colour, {shown(look.dark)}: the symbol "
+                         "would be invisible")
     if look.dpi is not None and name != "png":
-        raise NotInFormat(f"{name.upper()} names no dots per inch: PNG alone has dpi")
+        raise NotInFormat(f"{name.upper()} has no dots per inch: only PNG has dpi")
     if are_close(dark, light):
         warnings.warn(f"dark modules in {shown(look.dark)}, light ones in {shown(look.light)}: "
-                      "many readers want dark ones that are much darker", stacklevel=6)
+                      "many readers need the dark ones to be much darker", stacklevel=6)
     return dark, light, 0 if look.dpi is None else _checks.whole("dpi", look.dpi, 1, MOST_SIDE)
 
 
 def kind_of(out: Any, kind: Optional[str]) -> str:
-    """The format of a file: the one that is asked for, or that of its ending."""
+    """Returns the format of a file: `kind`, or that of the file extension."""
     known = ", ".join(KINDS)
     if kind is not None:
         found = _checks.text("kind", kind).lstrip(".").lower()
@@ -144,12 +147,12 @@ def kind_of(out: Any, kind: Optional[str]) -> str:
                          "one")
     if ending not in KINDS:
         file = os.path.basename(os.fsdecode(name))
-        raise ValueError(f"{shown(file)}: its ending is none of {known}: save "
+        raise ValueError(f"{shown(file)}: its file extension is none of {known}: save "
                          f"{shown(os.path.splitext(file)[0] + '.png')}, and convert that")
     return ending
 
 
 def _ending(name: Any) -> str:
-    """The ending of the name of a file, in small letters; empty where it has none."""
+    """Returns the file extension of a name in lower case, or an empty str if it has none."""
     is_name = isinstance(name, (str, bytes, os.PathLike))
     return os.path.splitext(os.fsdecode(name))[1][1:].lower() if is_name else ""

@@ -1,4 +1,4 @@
-"""Files, written whole or not at all."""
+"""Writes files completely or not at all."""
 import errno
 import io
 import os
@@ -9,7 +9,7 @@ from typing import Any, Optional
 
 
 def write(out: Any, data: bytes, is_text: bool) -> None:
-    """Writes data to a path, or to a file that is open."""
+    """Writes data to a path, or to an open file."""
     if not hasattr(out, "write"):
         path = os.fsdecode(out)
         try:
@@ -21,12 +21,12 @@ def write(out: Any, data: bytes, is_text: bool) -> None:
     elif is_text:
         out.write(data.decode())
     else:
-        raise TypeError("this format is bytes, and the file is open for text: open it with 'wb'")
+        raise TypeError("this format is binary, and the file is open for text: open it with 'wb'")
 
 
 def _write_parts(out: Any, data: bytes) -> None:
-    """Writes data to a file that may take a part of it at a time, and says how much. Where it says
-    nothing it took all, but a file without a buffer took nothing."""
+    """Writes data to a file whose `write` may take only a part of it and return how much. If it
+    returns None, it took all, except that a file without a buffer took nothing."""
     while data:
         count = out.write(data)
         if not isinstance(count, int) and not isinstance(out, io.RawIOBase):
@@ -37,11 +37,12 @@ def _write_parts(out: Any, data: bytes) -> None:
 
 
 def _write_whole(path: str, data: bytes) -> None:
-    """Writes a file under another name beside it, which nobody else may read, and renames that.
-    Links are followed; what is no regular file, or is open already, is written straight.
+    """Writes a temporary file in the same folder, which nobody else may read, and renames it.
+    Links are followed; anything but a regular file, or a file that is already open, is written
+    directly.
 
-    Each folder is opened once, and its names are looked up in what is open: a link that takes the
-    place of the folder meanwhile leads nowhere.
+    Each folder is opened once, and its names are looked up in the open folder: a link that replaces
+    the folder in the meantime has no effect.
     """
     for _ in range(40):
         if _OPEN.match(path):
@@ -60,12 +61,12 @@ def _write_whole(path: str, data: bytes) -> None:
     raise OSError(errno.ELOOP, os.strerror(errno.ELOOP))
 
 
-# What these name is open already, in this process or another one.
+# Paths of files that are already open, in this process or another one.
 _OPEN = re.compile("/dev/fd/|/proc/[^/]+/(task/[^/]+/)?fd/")
 
 
 def _opened(folder: str) -> int:
-    """A folder, open for its names alone."""
+    """Opens a folder, only to look up its names."""
     try:
         return os.open(folder or ".", os.O_PATH | os.O_DIRECTORY)
     except OSError as error:
@@ -74,8 +75,9 @@ def _opened(folder: str) -> int:
 
 
 def _found(folder: int, name: str) -> Optional[os.stat_result]:
-    """What stands under a name in a folder. Refused is what is neither this user's nor the folder's
-    owner's, where everybody can make files and nobody can remove another's (sticky)."""
+    """Returns what has this name in a folder, or None. Raises PermissionError if everybody can
+    create files there but not remove those of others (sticky), and it belongs neither to this user
+    nor to the owner of the folder."""
     try:
         found = os.stat(name, dir_fd=folder, follow_symlinks=False)
     except FileNotFoundError:
@@ -89,7 +91,7 @@ def _found(folder: int, name: str) -> Optional[os.stat_result]:
 
 def _replace(folder: int, above: str, name: str, old: Optional[os.stat_result],
              data: bytes) -> None:
-    """Writes a new file in a folder, which `above` names, and renames it."""
+    """Writes a new file in a folder, whose path is `above`, and renames it to `name`."""
     beside = f".goqlanis-{secrets.token_hex(8)}"
     try:
         usual = _usual_rights(folder, beside)
@@ -98,7 +100,7 @@ def _replace(folder: int, above: str, name: str, old: Optional[os.stat_result],
         why = f"{error.strerror} in the folder {os.path.abspath(above)}"
         raise OSError(error.errno, why) from None
     try:
-        # Between opening and renaming nothing is done by name: another file may have it by then.
+        # Between opening and renaming, nothing goes by the name: another file may have it by then.
         with open(descriptor, "wb") as file:
             rights = usual if old is None else _rights_after(descriptor, usual, old)
             file.write(data)
@@ -112,13 +114,14 @@ def _replace(folder: int, above: str, name: str, old: Optional[os.stat_result],
 
 
 def _created(folder: int, name: str, mode: int) -> int:
-    """A new file, open."""
+    """Creates a file and opens it."""
     return os.open(name, os.O_CREAT | os.O_EXCL | os.O_WRONLY, mode, dir_fd=folder)
 
 
 def _write_straight(place: str, data: bytes, folder: Optional[int] = None) -> None:
-    """Writes what is no regular file, by its name in a folder; or, without a folder, behind what is
-    in a file that is open already. A regular file that took its place meanwhile is left alone."""
+    """Writes to something other than a regular file, by its name in a folder, and leaves a regular
+    file alone that took its place in the meantime; or, without a folder, appends to a file that is
+    already open."""
     flags = os.O_WRONLY | (os.O_APPEND if folder is None else 0)
     descriptor = os.open(place, flags, dir_fd=folder)
     with open(descriptor, "wb") as file:
@@ -128,14 +131,14 @@ def _write_straight(place: str, data: bytes, folder: Optional[int] = None) -> No
 
 
 def _kept_rights(mode: int) -> int:
-    """The permissions of an old file that are kept: those of its owner, and what group and others
-    both had. Those of the group may be those of a list of users (ACL)."""
+    """Returns the permissions of an old file that are kept: those of its owner, and what group and
+    others both had, since those of the group may come from an access control list (ACL)."""
     shared = mode & mode >> 3 & 0o7
     return mode & 0o700 | shared << 3 | shared
 
 
 def _usual_rights(folder: int, name: str) -> int:
-    """The permissions that a new file gets in a folder by itself: of one without data."""
+    """Returns the permissions that a new file gets in a folder: those of an empty one."""
     descriptor = _created(folder, name, 0o666)
     try:
         return stat.S_IMODE(os.fstat(descriptor).st_mode) & 0o777
@@ -145,9 +148,9 @@ def _usual_rights(folder: int, name: str) -> int:
 
 
 def _rights_after(descriptor: int, usual: int, old: os.stat_result) -> int:
-    """Gives a new file the owner and the group of the old one, where that is allowed, and returns
-    its permissions. A file that stays this user's in the place of another's has no more of them
-    than any new file, and the owner of the old one has to be able to read it."""
+    """Gives a new file the owner and group of the old one, if that is allowed, and returns its
+    permissions. If it replaces another user's file but stays this user's, it gets no more of them
+    than any new file, and the owner of the old one must be able to read it."""
     kept = _kept_rights(old.st_mode)
     try:
         os.fchown(descriptor, old.st_uid, old.st_gid)

@@ -1,4 +1,4 @@
-"""The library for C, by ctypes: its structs and calls, as bindings/c/goqlanis.h has them."""
+"""The C library through ctypes: its structs and calls, as in bindings/c/goqlanis.h."""
 import ctypes
 import ctypes.util
 import os
@@ -6,7 +6,7 @@ from typing import Any, Callable, Dict, List
 
 from ._numbers import STRUCTS, VERSION
 
-MAJOR = 10000  # what a step of the first number of a version is in its number
+MAJOR = 10000  # what one step of the major version adds to a version's number
 
 _number, _size, _data, _place = (ctypes.c_uint32, ctypes.c_size_t, ctypes.c_char_p,
                                  ctypes.c_void_p)
@@ -14,7 +14,7 @@ _TYPES: Dict[str, Any] = {"": _number, "size": _size, "data": _data}
 
 
 def _struct(name: str, fields: str) -> Any:
-    """A struct of the header."""
+    """Makes the class of a struct of the header."""
     pairs = (it.partition(":") for it in fields.split())
     own = {"_fields_": [(field, _TYPES[kind]) for field, _, kind in pairs]}
     _TYPES[name] = type(name, (ctypes.Structure,), own)
@@ -54,17 +54,17 @@ _CALLS: Dict[str, List[Any]] = {
 
 
 def _load() -> ctypes.CDLL:
-    """The library: that of GOQLANIS_LIB, or the one beside this file, or the system's."""
+    """Loads the library of GOQLANIS_LIB, or else the one next to this file, or the system's."""
     beside = os.path.join(os.path.dirname(os.path.abspath(__file__)), "libgoqlanis.so.1")
     beside = beside if os.path.exists(beside) else ""
     found = os.environ.get("GOQLANIS_LIB") or beside or ctypes.util.find_library("goqlanis")
     if not found:
-        raise ImportError("libgoqlanis.so.1 is not there: set GOQLANIS_LIB to its path")
+        raise ImportError("libgoqlanis.so.1 not found: set GOQLANIS_LIB to its path")
     loaded = ctypes.CDLL(found)
     own = loaded.goq_version() if hasattr(loaded, "goq_version") else 0
     if own // MAJOR != VERSION // MAJOR:
         raise ImportError(f"{found} is not version {VERSION // MAJOR} of libgoqlanis, which this "
-                          "package is for: take the library of the same release")
+                          "package needs: take the library of the same release")
     for name, arguments in _CALLS.items():
         if not hasattr(loaded, name):
             setattr(loaded, name, _lacking(found, name))
@@ -75,7 +75,7 @@ def _load() -> ctypes.CDLL:
 
 
 def _lacking(found: str, name: str) -> Callable[..., int]:
-    """What stands for a call that an older library does not have."""
+    """Returns a stand-in for a call that an older library does not have."""
     def call(*given: Any) -> int:
         raise NotImplementedError(f"{found} has no {name}: it is older than this package")
     return call

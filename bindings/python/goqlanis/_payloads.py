@@ -1,4 +1,4 @@
-"""The fields of payloads, as the library takes them, and what it says of them."""
+"""The fields of payloads for the library, and the errors for them."""
 import ctypes
 import datetime
 import decimal
@@ -14,7 +14,7 @@ from .errors import NoRoom, TooLong, WrongField, refuse
 Number = Union[int, float, str, decimal.Decimal]
 
 Time = Union[str, datetime.date]
-# The digits before a point, or zeros behind it, beyond which a number is in no format.
+# A number with more digits before the point, or zeros after it, fits no format.
 MOST_DIGITS = 40
 
 
@@ -59,7 +59,7 @@ class TooManyDecimals(WrongField):
 
 
 class UnknownWord(WrongField):
-    """The field is none of the words that it may be."""
+    """The field is not one of the words that it may be."""
     why = "it is not one of the values that it may have"
 
 
@@ -85,7 +85,7 @@ for _each in (WrongField, *_CAUSES.values()):
 
 
 def text_of(kind: int, fields: Sequence[Tuple[str, str]]) -> str:
-    """The text of a kind, of names and values in the library's order."""
+    """Returns the text of a kind of payload; names and values are in the library's order."""
     rows = (Field * len(fields))(*(_field(name, value) for name, value in fields))
     out, count, place = _room(), ctypes.c_size_t(), ctypes.c_size_t()
     answer = library.goq_content(kind, rows, len(rows), out, BYTES_MAX, ctypes.byref(count),
@@ -100,8 +100,8 @@ def _field(name: str, value: str) -> Field:
 
 
 def elements_of(elements: Any) -> Any:
-    """Elements of GS1 as the library takes them."""
-    pairs = _checks.listed("elements", elements, "pairs, as ('01', '09501101530003')")
+    """Returns GS1 elements as the library takes them."""
+    pairs = _checks.listed("elements", elements, "pairs, e.g. ('01', '09501101530003')")
     if not pairs:
         raise EmptyField("elements")
     return (Element * len(pairs))(*(_element(f"element {at + 1}", it)
@@ -110,13 +110,13 @@ def elements_of(elements: Any) -> Any:
 
 def _element(name: str, pair: Any) -> Element:
     if not isinstance(pair, (tuple, list)) or len(pair) != 2:
-        raise TypeError(f"{name} is a pair, as ('01', '09501101530003'), not {shown(pair)}")
+        raise TypeError(f"{name} is a pair, e.g. ('01', '09501101530003'), not {shown(pair)}")
     identifier, value = (_checks.text(f"each part of {name}", it).encode() for it in pair)
     return Element(identifier, len(identifier), value, len(value))
 
 
 def string_of(elements: Any) -> bytes:
-    """The element string of elements, none of which may be wrong."""
+    """Returns the element string of elements, or raises the error for the first wrong one."""
     answer, data, at = _string(elements)
     if answer in _CAUSES:
         said = f"element {at + 1}{_wrong(answer, elements[at])}"
@@ -126,7 +126,7 @@ def string_of(elements: Any) -> bytes:
 
 
 def _string(elements: Any) -> Tuple[int, bytes, int]:
-    """What the library answers, the element string, and the place of an element that is wrong."""
+    """Returns the library's answer, the element string, and the place of a wrong element."""
     out, count, place = _room(), ctypes.c_size_t(), ctypes.c_size_t()
     answer = library.goq_gs1(elements, len(elements), out, BYTES_MAX, ctypes.byref(count),
                              ctypes.byref(place))
@@ -134,7 +134,7 @@ def _string(elements: Any) -> Tuple[int, bytes, int]:
 
 
 def _wrong(answer: int, element: Element) -> str:
-    """What is wrong with an element."""
+    """Says what is wrong with an element."""
     identifier, why = repr(element.identifier.decode())[1:-1], _CAUSES[answer].why
     if answer == 42 and identifier.startswith("("):
         return f": write {_checks.cut(identifier.strip('()'))} without brackets"
@@ -147,13 +147,13 @@ def _wrong(answer: int, element: Element) -> str:
 
 
 def _lengths(identifier: bytes) -> str:
-    """How many characters a value may have: one number, or from one to another."""
+    """Says how many characters a value may have: one number, or from one to another."""
     tried = (Element(identifier, len(identifier), b"0" * count, count) for count in range(91))
     taken = [it.value_length for it in tried if _string((Element * 1)(it))[0] != 43]
     return " to ".join(map(str, sorted({taken[0], taken[-1]})))
 
 
-# What would help, by the name of a field, in the words of the program.
+# What would help, by the name of the field, in the words of the program.
 _NUMBER = "write digits, after + for an international number"
 _DEGREES = "write degrees as -33.8568"
 _TIME = "write it with its zone, as 2026-11-28T14:00Z or +01:00, or begin and end as days"
@@ -173,7 +173,7 @@ _RANGES = {"amount": "0.01 to 999999999.99", "latitude": "-90 to 90", "longitude
 
 
 def _said(kind: Type[WrongField], field: str) -> str:
-    """What is wrong with a field, and what would help; nothing where the cause says all."""
+    """Says what is wrong with a field and what would help; empty if the exception says it all."""
     if kind is OutOfRange and field in _RANGES:
         return f"{field}: {kind.why}: {_RANGES[field]}"
     helps = _FORMS.get(field, "") if kind in (TooLong, TooShort, WrongCharacter) else ""
@@ -185,7 +185,7 @@ def _room() -> Any:
 
 
 def _refuse(answer: int, field: str) -> None:
-    """Raises what an answer of the library stands for."""
+    """Raises the exception for an answer of the library, unless that is success."""
     if answer in _CAUSES:
         raise _CAUSES[answer](field, _said(_CAUSES[answer], field))
     if answer == 7:
@@ -194,7 +194,7 @@ def _refuse(answer: int, field: str) -> None:
 
 
 def number(name: str, value: Number) -> str:
-    """A number as its digits, with a point before decimals; a `str` as it is."""
+    """Returns the digits of a number, with a point before decimals; a str is returned unchanged."""
     if isinstance(value, str):
         return value
     if isinstance(value, bool) or not isinstance(value, (int, float, decimal.Decimal)):
@@ -207,7 +207,7 @@ def number(name: str, value: Number) -> str:
 
 
 def time(name: str, value: Time) -> str:
-    """A day, or a moment in UTC; a `str` as it is."""
+    """Returns the text of a day, or of a time in UTC; a str is returned unchanged."""
     if isinstance(value, str):
         return value
     if not isinstance(value, datetime.date):

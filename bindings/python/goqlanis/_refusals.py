@@ -1,4 +1,4 @@
-"""What a refusal says: what, why, and what would help."""
+"""Error messages for data that is rejected: what is wrong, why, and what would help."""
 from typing import Any
 
 from ._asked import Data, Parts, Segments
@@ -8,12 +8,13 @@ from ._numbers import (AS_MARKED_TEXT, LEVEL_NOT_IN_VERSION, NO_MODE, NO_ROOM, N
 from .errors import Error, refusal
 
 LIMIT = 1_048_576
-MODES = ("numeric holds only digits", "alphanumeric holds only digits, capitals, spaces and $%*+-./:",
-         "", "kanji holds only Shift JIS, 8140 to 9ffc and e040 to ebbf")
+MODES = ("numeric holds only digits",
+         "alphanumeric holds only digits, capitals, spaces and $%*+-./:", "",
+         "kanji holds only Shift JIS, 8140 to 9ffc and e040 to ebbf")
 
 
 def of(asked: Any, answer: int, said: str) -> Error:
-    """The refusal of a symbol of data that is called so."""
+    """Returns the error for a symbol; its message calls the data `said`."""
     texts = {LEVEL_NOT_IN_VERSION: _no_level, NO_MODE: _no_mode, NOT_IN_MODE: _not_in_mode,
              NO_SUCH_MASK: _no_mask}
     is_refused = answer in (LEVEL_NOT_IN_VERSION, NO_MODE, NO_ROOM)
@@ -33,9 +34,9 @@ def _no_level(asked: Any) -> str:
 def _no_mode(asked: Any) -> str:
     name = version_name(asked.version)
     if isinstance(asked, Segments) and any(row.kind >= len(MODES) for row in asked.rows):
-        return f"version {name} has no headers, as all of Micro QR; take 1 to 40"
+        return f"version {name} has no headers, like all of Micro QR; take 1 to 40"
     if isinstance(asked, Segments):
-        return f"version {name} has not all modes of the segments; M3, M4 and 1 to 40 have"
+        return f"version {name} lacks a mode of the segments; M3, M4 and 1 to 40 have all"
     if isinstance(asked, Data) and asked.manner >= AS_MARKED_TEXT:
         return (f"version {name} cannot say which character set it holds; leave out marked and "
                 "eci, or take 1 to 40")
@@ -44,7 +45,7 @@ def _no_mode(asked: Any) -> str:
 
 
 def _not_in_mode(asked: Segments) -> str:
-    """The first segment that is refused by itself."""
+    """Names the first segment that is rejected on its own."""
     for at, row in enumerate(asked.rows):
         if asked._replace(rows=[row], version=0).answer()[0] == NOT_IN_MODE:
             return f"segment {at + 1}: {MODES[row.kind]}"
@@ -71,17 +72,17 @@ def _no_room(asked: Any, said: str) -> str:
     if helps:
         return f"{text}; {helps} holds them"
     if isinstance(asked, Data) and asked.manner < AS_MARKED_TEXT and _are_held(asked):
-        return f"{text}; no level holds them: encode_sequence parts them between symbols"
+        return f"{text}; no level holds them: encode_sequence splits them over several symbols"
     return f"{text}; no level holds them"
 
 
 def _are_held(asked: Data) -> bool:
-    """Whether several symbols hold data between them."""
+    """Returns whether several symbols together hold the data."""
     return Parts(asked.data, 0, asked.manner, 1, 40, 0).answer()[0] == 0
 
 
 def _helps(asked: Any) -> str:
-    """The version, and the highest level, that hold what was refused."""
+    """Names the smallest version, and the highest level, that would hold the data."""
     found = []
     if asked.version:
         _, symbols = asked.of_any_version().answer()
@@ -93,7 +94,7 @@ def _helps(asked: Any) -> str:
 
 
 def _most(asked: Data) -> int:
-    """The most bytes, of any kind, that the version holds, or the greatest one."""
+    """Returns the most bytes, of any kind, that the version holds, or without one version 40."""
     at = asked._replace(version=asked.version or 40, boost=0, mask=0)
     most, beyond = 0, 2954
     while beyond - most > 1:
@@ -104,13 +105,13 @@ def _most(asked: Data) -> int:
 
 
 def of_parts(asked: Parts, answer: int) -> Error:
-    """The refusal of several symbols."""
+    """Returns the error for several symbols."""
     level, last = LEVELS[asked.level], version_name(asked.greatest_version)
     if answer == NO_ROOM:
         return refusal(answer, f"{len(asked.data):,} bytes: {asked.wanted or 16} symbols up to "
-                       f"version {last} at level {level} do not hold them; take a greater version "
+                       f"version {last} at level {level} do not hold them; take a larger version "
                        "or a lower level" + (", or more symbols" if asked.wanted % 16 else ""))
     if answer == NO_SUCH_VERSION:
         return refusal(answer, f"versions {version_name(asked.least_version)} to {last}: several "
-                       "symbols are of 1 to 40, the least version first")
+                       "symbols have versions 1 to 40, the smallest first")
     return refusal(answer)

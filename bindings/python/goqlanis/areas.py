@@ -1,4 +1,4 @@
-"""Areas of symbols that may show anything, and logos in them."""
+"""Areas of symbols that may show anything, e.g. logos."""
 import base64
 import ctypes
 import os
@@ -18,7 +18,7 @@ HALF = 0xffffffff
 
 
 class Rectangle(NamedTuple):
-    """A rectangle of modules: its left column and its top row, from 0 on, and how many columns and
+    """A rectangle of modules: its left column and top row, counted from 0, and how many columns and
     rows it has.
 
     >>> from goqlanis import encode
@@ -32,10 +32,14 @@ class Rectangle(NamedTuple):
 
 
 class Reserve(NamedTuple):
-    """What an area takes of a symbol, and what it leaves: how many codewords of each block it
-    touches; how many of each may be lost; the block that loses most, from 0 on; the modules that it
-    has of each copy of the format word, of which 3 may be lost; and how many more codewords of each
-    block may be lost, or None where the area may not show anything.
+    """How much of a symbol an area takes, and what is left.
+
+    - `touched`: how many codewords of each block the area touches;
+    - `allowed`: how many codewords of each block may be lost;
+    - `worst`: the block that loses most, counted from 0;
+    - `format_modules`: how many modules of each copy of the format information it has; 3 may be
+      lost;
+    - `least`: how many more codewords of each block may be lost; None if the area takes too much.
 
     >>> from goqlanis import encode
     >>> found = encode("01234567", "H").reserve((9, 9, 3, 3))
@@ -53,7 +57,7 @@ Area = Union[Rectangle, Sequence[int], Sequence[Rectangle]]
 
 
 def reserve(version: int, level: int, area: Area) -> Reserve:
-    """What an area takes of a symbol of a version and level."""
+    """Returns how much of a symbol of a version and level an area takes."""
     return _reserve(version, level, *_given(area))
 
 
@@ -67,11 +71,11 @@ def _reserve(version: int, level: int, given: Any, count: int) -> Reserve:
 
 
 def largest(version: int, level: int, ratio: Any, kept: Any, keep_alignment: bool) -> Rectangle:
-    """The largest rectangle in the middle of a symbol of a version and level."""
+    """Returns the largest rectangle in the middle of a symbol of a version and level."""
     given = _checks.listed("ratio", ratio, "two numbers")
     sides = [_checks.whole("ratio", it, 1, 10000) for it in given]
     if len(sides) != 2:
-        raise ValueError("ratio is a width and a height, as (16, 9)")
+        raise ValueError("ratio is a width and a height, e.g. (16, 9)")
     left = HALF if kept is None else _checks.whole("reserve", kept, 0, 10000)
     wish = Wish(ctypes.sizeof(Wish), *sides, left, _checks.flag("keep_alignment", keep_alignment))
     found = Given()
@@ -80,7 +84,7 @@ def largest(version: int, level: int, ratio: Any, kept: Any, keep_alignment: boo
 
 
 def covered(modules: bytes, version: int, level: int, area: Area) -> bytes:
-    """The modules of a symbol, those of an area light."""
+    """Returns the modules of a symbol, with those of an area light."""
     out, place = ctypes.create_string_buffer(modules, len(modules)), ctypes.c_size_t()
     given = _given(area)
     answer = library.goq_cover(out, len(out), *given, ctypes.byref(place))
@@ -91,7 +95,7 @@ def covered(modules: bytes, version: int, level: int, area: Area) -> bytes:
 
 
 def _too_large(version: int, level: int, given: Any, count: int) -> Error:
-    """The refusal of an area, with the level that would do."""
+    """Returns the error for an area that takes too much, with a level that allows it."""
     taken = _reserve(version, level, given, count)
     higher = (it for it in range(level + 1, len(LEVELS)) if _fits(version, it, given, count))
     found = next(higher, None)
@@ -108,7 +112,7 @@ def _fits(version: int, level: int, given: Any, count: int) -> bool:
 
 
 def _given(area: Area) -> Tuple[Any, int]:
-    """The rectangles of an area: one, or several."""
+    """Returns the rectangles of an area, which is one or several."""
     given: List[Any] = _checks.listed("area", area, "rectangles: left, top, width, height")
     is_one = given and not any(isinstance(it, Iterable) for it in given)
     rows = [Given(*rectangle(row)) for row in ([given] if is_one else given)]
@@ -116,7 +120,7 @@ def _given(area: Area) -> Tuple[Any, int]:
 
 
 def rectangle(given: Any) -> Rectangle:
-    """A rectangle, as a caller gives it."""
+    """Returns the rectangle that a caller gives."""
     sides = _checks.listed("area", given, "left, top, width, height")
     if len(sides) != 4:
         raise ValueError(f"a rectangle is left, top, width and height, not {_checks.shown(given)}")
@@ -129,7 +133,7 @@ def _rectangle(found: Given) -> Rectangle:
 
 
 class Logo(NamedTuple):
-    """A picture in an area of a symbol, as the address of its data; its ratio is kept."""
+    """A picture in an area of a symbol, as a data URI; its ratio is kept."""
     left: int
     top: int
     width: int
@@ -137,14 +141,15 @@ class Logo(NamedTuple):
     data: str
 
     def over(self, svg: bytes, zone: int) -> bytes:
-        """An SVG file with a quiet zone, and the picture in it."""
+        """Returns an SVG file, whose quiet zone has `zone` modules, with the picture added."""
         picture = (f'<image x="{zone + self.left}" y="{zone + self.top}" width="{self.width}" '
                    f'height="{self.height}" href="{self.data}"/>')
         return svg.replace(b"</svg>", picture.encode() + b"</svg>")
 
 
 def loaded(logo: Any) -> Tuple[str, Tuple[int, int]]:
-    """A picture, by its path or its bytes, as the address of its data, and its width and height."""
+    """Returns the data URI of a picture, given by its path or its bytes, and its width and height.
+    """
     data = logo
     if isinstance(logo, (str, os.PathLike)):
         with open(logo, "rb") as file:
@@ -166,10 +171,10 @@ def loaded(logo: Any) -> Tuple[str, Tuple[int, int]]:
 
 
 def _sides(data: bytes) -> List[Any]:
-    """The width and height of an SVG file, which is UTF-8 without entities, as these may take any
-    time and memory to parse."""
+    """Returns the width and height of an SVG file, which must be UTF-8 without entities, since
+    these may take any time and memory to parse."""
     if b"<!ENTITY" in data or b"\0" in data:
-        raise ValueError("the logo has entities, or is no UTF-8: save it as plain SVG")
+        raise ValueError("the logo has entities, or is not UTF-8: save it as plain SVG")
     try:
         root = xml.fromstring(data)
     except (xml.ParseError, LookupError, ValueError):
@@ -178,12 +183,12 @@ def _sides(data: bytes) -> List[Any]:
     said = box if len(box) == 2 else [root.get("width", ""), root.get("height", "")]
     found = [re.match(r"[0-9]{0,99}[.]?[0-9]{1,99}", it) for it in said]
     if not root.tag.endswith("svg") or not all(found):
-        raise ValueError("the logo is no SVG file with a viewBox, or a width and a height")
+        raise ValueError("the logo is not an SVG file with a viewBox, or a width and a height")
     return [Fraction(it[0]) for it in found if it]
 
 
 def placed(data: str, area: Rectangle, margin: int) -> Logo:
-    """A picture in an area, with a margin of light modules where there is room."""
+    """Returns a picture in an area, with a margin of light modules if there is room."""
     across, down = (min(margin, (side - 1) // 2) for side in (area.width, area.height))
     return Logo(area.left + across, area.top + down, area.width - 2 * across,
                 area.height - 2 * down, data)

@@ -1,4 +1,4 @@
-"""What of codes departs from the standard."""
+"""Reports what departs from the standard in a code."""
 import ctypes
 from itertools import islice
 from typing import Any, Iterator, List, NamedTuple, Optional, Tuple, Union, overload
@@ -23,8 +23,8 @@ segments whose character set readers guess: {0.guessed_segments}{guess}"""
 
 
 class WrongModules(NamedTuple):
-    """How many modules of each pattern are wrong: separators are counted with the finder patterns,
-    the module that is always dark with the format word."""
+    """How many modules of each pattern are wrong. `finder` includes the separators, and `format`
+    the module that is always dark; `remainder` are the modules after the last codeword."""
     finder: int
     alignment: int
     timing: int
@@ -34,15 +34,17 @@ class WrongModules(NamedTuple):
 
 
 class Rank(NamedTuple):
-    """How many masks have a lower penalty, and how many before this one the same."""
+    """How many masks have a lower penalty, and how many with a lower number have the same."""
     lower: int
     same_before: int
 
 
 class Check(NamedTuple):
-    """What of a code departs from the standard, as `goqlanis check --json` says it, and by str() as
-    `goqlanis check`. What is not known is None: bits and fewest_bits after FNC1 or with a header
-    between segments, and all of the data where its bits are not segments and an end.
+    """What departs from the standard in a code: the fields of `goqlanis check --json`; str() gives
+    the text of `goqlanis check`.
+
+    Unknown fields are None: `bits` and `fewest_bits` after FNC1 or with a header between segments,
+    and all fields on the data if its bits are not segments and a terminator.
 
     >>> from goqlanis import encode_segments
     >>> found = check(encode_segments([("numeric", b"1"), ("numeric", b"23")]))
@@ -92,8 +94,10 @@ def check(picture: Modules) -> Check: ...
 @overload
 def check(picture: Picture) -> List[Check]: ...
 def check(picture: Union[Picture, Modules, Any]) -> Union[List[Check], Check]:
-    """What of the codes of a picture departs from the standard, in the order of `read`, or of a
-    symbol or a square of modules. Both are as `read` takes them.
+    """Returns what departs from the standard in each code of a picture, in the order of `read`, or
+    in a symbol or a square of modules. Both are as `read` takes them.
+
+    Raises a subclass of Unread if nothing can be checked.
 
     >>> from goqlanis import encode
     >>> rows = [list(row) for row in encode(b"01234567", "H").matrix]
@@ -114,7 +118,7 @@ def check(picture: Union[Picture, Modules, Any]) -> Union[List[Check], Check]:
 
 
 def _checks(picture: bytes) -> Iterator[Check]:
-    """Checks of a picture: room is made for more of them until there is enough."""
+    """Yields the checks of a picture; makes room for more of them until there is enough."""
     count, answer = 4, goq.SMALL_BUFFER
     while answer == goq.SMALL_BUFFER:
         checks, wrong = (Checked * count)(), (ctypes.c_size_t * (count * BLOCKS_MAX))()

@@ -1,6 +1,8 @@
-"""Payloads of QR codes: networks, contacts, payments, links and events. Each is read back as
-exactly its fields. Account numbers, references, telephone numbers and secrets may have spaces and
-small letters, and amounts a comma.
+"""Writes the payloads of QR codes: Wi-Fi networks, contacts, payments, links and events.
+
+Each function returns the text to encode, from which exactly its fields can be read back. Account
+numbers, references, telephone numbers and secrets may have spaces and lowercase letters, and
+amounts a comma.
 
 >>> import goqlanis
 >>> from goqlanis import contents
@@ -10,7 +12,8 @@ small letters, and amounts a comma.
 >>> goqlanis.encode(text).version
 '3'
 
-What a format cannot say is an exception, which says which field is wrong and why:
+If the format cannot express a field, a subclass of WrongField is raised: its name says why, and
+`field` names the argument:
 
 >>> contents.payment("Red Cross of Belgium", "BE72000000001617", "1.00")
 Traceback (most recent call last):
@@ -36,8 +39,11 @@ __all__ = ["Party", "wifi", "mecard", "vcard", "payment", "bill", "mail", "geo",
 
 
 def wifi(ssid: str, password: str = "", security: str = "", hidden: bool = False) -> str:
-    """A Wi-Fi network: `security` is "open" (or "nopass", "none"), "WEP", "WPA" (or "WPA2") or
-    "WPA3", in any case; without it a network with a password has WPA.
+    """Returns the text of a Wi-Fi network.
+
+    `security` is "open" (or "nopass", "none"), "WEP", "WPA" (or "WPA2") or "WPA3", in upper or
+    lower case; the default is "WPA" if there is a password, otherwise "open". `hidden` says that
+    the network does not broadcast its name.
 
     >>> wifi('"foo;bar\\\\baz"', hidden=True)
     'WIFI:T:nopass;S:\\\\"foo\\\\;bar\\\\\\\\baz\\\\";H:true;;'
@@ -50,8 +56,10 @@ def wifi(ssid: str, password: str = "", security: str = "", hidden: bool = False
 def mecard(family: str, given: str = "", phone: str = "", email: str = "", url: str = "",
            birthday: str = "", note: str = "", street: str = "", city: str = "", region: str = "",
            code: str = "", country: str = "") -> str:
-    """A contact as MECARD: `family` is the family name, or the only one, `birthday` a day as
-    1970-01-31, and `code` the postal code.
+    """Returns the text of a contact as MECARD.
+
+    `family` is the family name, or the only name, `birthday` a day, e.g. "1970-01-31", and `code`
+    the postal code.
 
     >>> mecard("Owen", "Sean", email="srowen@example.com")
     'MECARD:N:Owen,Sean;EMAIL:srowen@example.com;;'
@@ -66,8 +74,10 @@ def vcard(name: str, family: str, given: str = "", organisation: str = "", phone
           email: str = "", url: str = "", street: str = "", city: str = "", region: str = "",
           code: str = "", country: str = "", note: str = "", title: str = "", birthday: str = "",
           mobile: str = "", work_phone: str = "", home_phone: str = "") -> str:
-    """A contact as vCard 3.0: `name` is the full name, as it is shown, and `birthday` a day as
-    1970-01-31.
+    """Returns the text of a contact as vCard 3.0.
+
+    `name` is the full name, as it is displayed, `birthday` a day, e.g. "1970-01-31", and `code` the
+    postal code.
 
     >>> vcard("Frank Dawson", "Dawson", "Frank", email="fdawson@earthlink.net").splitlines()[2:5]
     ['N:Dawson;Frank;;;', 'FN:Frank Dawson', 'EMAIL:fdawson@earthlink.net']
@@ -82,9 +92,12 @@ def vcard(name: str, family: str, given: str = "", organisation: str = "", phone
 
 def payment(name: str, iban: str, amount: Number, bic: str = "", purpose: str = "",
             reference: str = "", message: str = "", information: str = "") -> str:
-    """A SEPA credit transfer (EPC069-12) of an amount in euros, for a symbol of level M and at most
-    version 13: of version 001 with a BIC, and of 002 without. A reference is one of ISO 11649,
-    instead of a message.
+    """Returns the text of a SEPA credit transfer (EPC069-12) of an amount in euros, for a symbol of
+    level M and at most version 13.
+
+    With a BIC the text has version 001, without one version 002. `reference` is one of ISO 11649,
+    instead of a `message`; `purpose` has up to four letters and digits; `information` is a note to
+    the payer.
 
     >>> text = payment("Red Cross of Belgium", "BE72000000001616", "1.00", "BPOTBEB1", "CHAR")
     >>> text.splitlines()[4:8]
@@ -97,8 +110,8 @@ def payment(name: str, iban: str, amount: Number, bic: str = "", purpose: str = 
 
 
 class Party(NamedTuple):
-    """Who is paid, or who pays, by a bill: `number` is that of the house, and `country` two
-    capitals, as CH."""
+    """The creditor or debtor of a bill: `number` is the house number, `code` the postal code, and
+    `country` two letters, e.g. "CH"."""
     name: str
     street: str = ""
     number: str = ""
@@ -109,8 +122,11 @@ class Party(NamedTuple):
 
 def bill(iban: str, creditor: Party, amount: Optional[Number] = None, currency: str = "CHF",
          reference: str = "", message: str = "", debtor: Optional[Party] = None) -> str:
-    """A Swiss QR bill, for a symbol of level M and at most version 25, without its cross: with no
-    amount it is left open.
+    """Returns the text of a Swiss QR bill, for a symbol of level M and at most version 25, without
+    the Swiss cross.
+
+    Without an `amount` it is left open; `currency` is "CHF" or "EUR". For a QR-IBAN, `reference`
+    has 27 digits; for another account it begins with RF or is empty.
 
     >>> schneider = Party("Robert Schneider AG", "Rue du Lac", "1268", "2501", "Biel", "CH")
     >>> bill("CH5800791123000889012", schneider, currency="EUR",
@@ -124,14 +140,14 @@ def bill(iban: str, creditor: Party, amount: Optional[Number] = None, currency: 
 
 
 def _party(who: str, party: Any) -> Iterable[Tuple[str, str]]:
-    """The fields of a party."""
+    """Returns the fields of a party."""
     if not isinstance(party, Party):
         raise TypeError(f"{who} is a contents.Party(name, street, ..), not {shown(party)}")
     return ((f"{who}.{name}", value) for name, value in zip(Party._fields, party))
 
 
 def mail(address: str, subject: str = "", body: str = "") -> str:
-    """The link that writes a mail.
+    """Returns a link that writes an e-mail.
 
     >>> mail("infobot@example.com", body="send current-issue\\nsend index")
     'mailto:infobot@example.com?body=send%20current-issue%0D%0Asend%20index'
@@ -140,8 +156,8 @@ def mail(address: str, subject: str = "", body: str = "") -> str:
 
 
 def geo(latitude: Number, longitude: Number) -> str:
-    """The link to a place, in degrees north of the equator and east of Greenwich, with at most six
-    decimal places.
+    """Returns a link to a place, in degrees north of the equator and east of Greenwich, each with
+    at most six decimal places.
 
     >>> geo("13.4125", "103.8667")
     'geo:13.4125,103.8667'
@@ -153,7 +169,7 @@ def geo(latitude: Number, longitude: Number) -> str:
 
 
 def tel(number: str) -> str:
-    """The link that calls a number.
+    """Returns a link that calls a telephone number.
 
     >>> tel("+1-201-555-0123")
     'tel:+1-201-555-0123'
@@ -162,7 +178,7 @@ def tel(number: str) -> str:
 
 
 def sms(number: str, body: str = "") -> str:
-    """The link that writes to a number.
+    """Returns a link that writes a text message to a telephone number.
 
     >>> sms("+15105550101", "hello there")
     'sms:+15105550101?body=hello%20there'
@@ -172,7 +188,8 @@ def sms(number: str, body: str = "") -> str:
 
 def totp(account: str, secret: str, issuer: str = "", algorithm: str = "SHA1", digits: int = 6,
          period: int = 30) -> str:
-    """The link of one-time passwords that change every `period` seconds; the secret is in base 32.
+    """Returns a link to one-time passwords that change every `period` seconds, for authenticator
+    apps; `secret` is in base 32.
 
     >>> totp("alice@google.com", "jbsw y3dp ehpk 3pxp", "Example")
     'otpauth://totp/Example:alice@google.com?secret=JBSWY3DPEHPK3PXP&issuer=Example'
@@ -183,7 +200,7 @@ def totp(account: str, secret: str, issuer: str = "", algorithm: str = "SHA1", d
 
 def hotp(account: str, secret: str, issuer: str = "", algorithm: str = "SHA1", digits: int = 6,
          counter: int = 0) -> str:
-    """The link of one-time passwords that change with a counter, which begins here.
+    """Returns a link to one-time passwords that change with a counter, which begins at `counter`.
 
     >>> hotp("alice@google.com", "JBSWY3DPEHPK3PXP", algorithm="SHA256", digits=8)
     'otpauth://hotp/alice@google.com?secret=JBSWY3DPEHPK3PXP&algorithm=SHA256&digits=8&counter=0'
@@ -194,17 +211,18 @@ def hotp(account: str, secret: str, issuer: str = "", algorithm: str = "SHA1", d
 
 def _key(account: str, secret: str, issuer: str, algorithm: str,
          digits: int) -> List[Tuple[str, str]]:
-    """The fields that both kinds of one-time passwords have."""
+    """Returns the fields that both kinds of one-time passwords have."""
     return [("account", account), ("secret", secret), ("issuer", issuer),
             ("algorithm", algorithm), ("digits", number("digits", digits))]
 
 
 def event(begin: Time, end: Time, summary: str = "", location: str = "", description: str = "",
           uid: str = "", stamp: Time = "") -> str:
-    """A calendar event from one moment to another, or of whole days, where `begin` and `end` are
-    dates and `end` is the day after the last. Moments have a time zone, as
-    "2026-11-28T14:00+01:00" or "2026-11-28T13:00Z". `uid` is an identifier that no other event has, and `stamp` the moment when
-    this was written; both may be left out.
+    """Returns the text of a calendar event, from one time to another or for whole days.
+
+    A time has a zone, e.g. "2026-11-28T14:00+01:00" or "2026-11-28T13:00Z". For whole days, `begin`
+    and `end` are dates, and `end` is the day after the last. `uid` is an identifier that no other
+    event has, and `stamp` the time when this was written; both may be left out.
 
     >>> from datetime import datetime, timezone
     >>> begin = datetime(1997, 7, 14, 17, tzinfo=timezone.utc)
@@ -219,8 +237,10 @@ def event(begin: Time, end: Time, summary: str = "", location: str = "", descrip
 
 def upi(payee: str, name: str = "", amount: Optional[Number] = None, note: str = "",
         reference: str = "", category: str = "") -> str:
-    """A payment by UPI to an address as name@bank, in rupees: with no amount the payer says it.
-    `category` is the code of a merchant, four digits.
+    """Returns a link to a UPI payment in rupees; without an `amount`, the payer enters it.
+
+    `payee` is an address, e.g. name@bank, `reference` e.g. an order number, and `category` the
+    category of a merchant, four digits.
 
     >>> upi("nadeem@npci", "nadeem chinna", 10, "Pay", category="0000")
     'upi://pay?pa=nadeem@npci&pn=nadeem%20chinna&mc=0000&tn=Pay&am=10.00&cu=INR'
@@ -231,8 +251,10 @@ def upi(payee: str, name: str = "", amount: Optional[Number] = None, note: str =
 
 def pix(payee: str, name: str, city: str, amount: Optional[Number] = None, reference: str = "",
         description: str = "") -> str:
-    """A static payment by Pix to a key, in reais: with no amount the payer says it. Name, town and
-    description are of ASCII; `reference` (txid) has letters and digits.
+    """Returns the text of a static Pix payment in reais; without an `amount`, the payer enters it.
+
+    `payee` is a Pix key. `name`, `city` and `description` are ASCII; `reference` (txid) has letters
+    and digits.
 
     >>> pix("123e4567-e12b-12d1-a456-426655440000", "Fulano de Tal", "BRASILIA")[-46:]
     '13Fulano de Tal6008BRASILIA62070503***63041D3D'
@@ -243,8 +265,9 @@ def pix(payee: str, name: str, city: str, amount: Optional[Number] = None, refer
 
 
 def promptpay(payee: str, amount: Optional[Number] = None) -> str:
-    """A payment by PromptPay, in baht, to a telephone number of ten digits, a national or tax ID of
-    thirteen, or an electronic wallet of fifteen: with no amount the payer says it.
+    """Returns the text of a PromptPay payment in baht; without an `amount`, the payer enters it.
+
+    `payee` is a telephone number of 10 digits, a national or tax ID of 13, or an e-wallet of 15.
 
     >>> promptpay("000-000-0000", "4.22")
     '00020101021229370016A000000677010111011300660000000005802TH530376454044.226304E469'
@@ -253,14 +276,16 @@ def promptpay(payee: str, amount: Optional[Number] = None) -> str:
 
 
 def _open(amount: Optional[Number]) -> str:
-    """An amount that may be left open."""
+    """Returns an amount that may be left open."""
     return "" if amount is None else number("amount", amount)
 
 
 def gs1(elements: Iterable[Tuple[str, str]]) -> bytes:
-    """The element string of GS1, of application identifiers without parentheses and their values;
-    `goqlanis.encode_gs1` makes the symbol of it. `field` of a wrong element is its place, as
-    `elements[1]`.
+    """Returns the GS1 element string of pairs: an application identifier without parentheses, and
+    its value.
+
+    `goqlanis.encode_gs1` takes the same pairs and makes the symbol. If an element is wrong, `field`
+    of the exception is its place, e.g. `elements[1]`.
 
     >>> gs1([("01", "03453120000011"), ("17", "191125"), ("10", "ABCD1234"), ("21", "10")])
     b'01034531200000111719112510ABCD1234\\x1d2110'

@@ -1,4 +1,4 @@
-"""Data, texts and segments to symbols."""
+"""Encodes data, text and segments as symbols."""
 from typing import Any, Iterable, List, Optional, Tuple, Union
 
 from . import _asked, _checks, _refusals
@@ -21,7 +21,7 @@ UTF_8, MOST_SET = 26, 999_999
 
 
 def _one(asked: Any, said: str) -> Symbol:
-    """The symbol that is asked for, of data that a refusal calls so."""
+    """Returns the symbol that is asked for; an error message calls its data `said`."""
     answer, symbols = asked.answer()
     if answer:
         raise _refusals.of(asked, answer, said)
@@ -33,15 +33,21 @@ def _one(asked: Any, said: str) -> Symbol:
 def encode(data: Data, level: str = "M", version: Optional[Version] = None, *,
            least_version: Optional[Version] = None, micro: bool = False, boost: bool = False,
            mask: Optional[int] = None, marked: bool = False, eci: Optional[int] = None) -> Symbol:
-    """The symbol of a text or of bytes at a level ("L", "M", "Q", "H"), of the least version of
-    Normal QR that holds it, or of a `version`.
+    """Encodes a str or bytes at a level ("L", "M", "Q" or "H"), in the smallest version of Normal
+    QR that holds the data, or in `version`.
 
-    - `micro`: takes Micro QR, where it holds the data;
-    - `least_version`: takes no lesser version;
-    - `boost`: takes the highest level, from `level` on, for which the least version has room;
-    - `mask`: takes the mask of this number, 0 to 7, of Micro 0 to 3, and not that of least penalty;
-    - `marked`: writes in front that the text is UTF-8, for readers that guess;
-    - `eci`: writes in front the number of the character set of the bytes, as 4 for ISO 8859-2.
+    - `micro`: uses Micro QR if it holds the data;
+    - `least_version`: uses this version or a larger one;
+    - `boost`: uses the highest level, from `level` on, that fits in the same version;
+    - `mask`: uses this mask, 0 to 7 (Micro QR: 0 to 3), instead of the one with the lowest penalty;
+    - `marked`: marks a str as UTF-8 (ECI 26), for readers that guess;
+    - `eci`: marks bytes with the number of their character set, e.g. 4 for ISO 8859-2; then only
+      `level` and `version` may be given too.
+
+    Raises NoRoom if no symbol of this kind holds the data, or TooLong if there are more than
+    1,048,576 bytes and `version` is given; NoSuchLevel, NoSuchVersion, LevelNotInVersion, NoMode,
+    NoSuchMask or NoSuchNumber for an option that does not exist or does not suit the version or
+    the data; ValueError for options that exclude each other.
 
     >>> encode("https://example.org")
     <goqlanis.Symbol 2-M>
@@ -77,17 +83,17 @@ M holds them
 
 
 def _manner(is_text: bool, marked: bool, eci: Optional[int]) -> int:
-    """How data without an ECI number is encoded."""
+    """Returns how the library encodes the data: as bytes, text, or text marked as UTF-8."""
     if _checks.flag("marked", marked) and not is_text:
-        raise TypeError("marked is of a str; of bytes eci=26 says that they are UTF-8")
+        raise TypeError("marked is only for a str; for bytes, eci=26 says that they are UTF-8")
     number = None if eci is None else _checks.whole("eci", eci, 0, MOST_SET, NoSuchNumber)
     if is_text and number not in (None, UTF_8):
-        raise ValueError(f"eci={number} is of bytes: give data.encode(..) in that character set")
+        raise ValueError(f"eci={number} is for bytes: give data.encode(..) in that character set")
     return AS_MARKED_TEXT if marked or number else AS_TEXT if is_text else AS_BYTES
 
 
 def _versions(version: Optional[Version], least: Optional[Version], micro: bool) -> Tuple[int, int]:
-    """The version that is asked for, or 0, and the least."""
+    """Returns the version that is asked for, or 0, and the smallest to try."""
     asked = 0 if version is None else _checks.version(version)
     first = 1 if least is None else _checks.version(least)
     if _checks.flag("micro", micro) and max(asked, first) >= MICRO_1:
@@ -103,7 +109,7 @@ def _mask(mask: Optional[int]) -> int:
 
 
 def encode_text(text: str, level: str = "M", marked: bool = False) -> Symbol:
-    """What `encode` makes of a str; bytes are refused.
+    """Encodes a str as `encode` does, but raises TypeError for bytes.
 
     >>> encode_text("Größe: 5 m²", marked=True).version
     '2'
@@ -115,10 +121,14 @@ def encode_text(text: str, level: str = "M", marked: bool = False) -> Symbol:
 def encode_sequence(data: Data, level: str = "M", version: Optional[Version] = None, *,
                     count: Optional[int] = None, least_version: Optional[Version] = None,
                     greatest_version: Optional[Version] = None) -> List[Symbol]:
-    """The symbols between which data is parted (structured append), at most 16: as few as there can
-    be, and these of the least version; or `count` of them. They are of a `version` of Normal QR, or
-    of one from `least_version` to `greatest_version`. A single symbol has no header. `join` reads
-    them back.
+    """Splits a str or bytes over up to 16 symbols (structured append), which `join` joins again.
+
+    Returns as few symbols as possible, in the smallest version that allows so few; or `count`
+    symbols. All have `version`, or the same version of Normal QR from `least_version` to
+    `greatest_version`. A single symbol has no header.
+
+    Raises NoRoom if these symbols do not hold the data, and NoSuchVersion if a version is Micro QR,
+    or `least_version` is above `greatest_version`.
 
     >>> from goqlanis import join
     >>> symbols = encode_sequence("All that is gold does not glitter", "L", count=3)
@@ -145,10 +155,16 @@ def encode_sequence(data: Data, level: str = "M", version: Optional[Version] = N
 @_checks.named
 def encode_segments(segments: Segments, level: str = "M",
                     version: Optional[Version] = None) -> Symbol:
-    """The symbol of segments, one after another: of a version, or of the least version of Normal
-    QR that holds them. A segment is a mode with its bytes, `("numeric", b"..")`, `"alphanumeric"`,
-    `"byte"` or `"kanji"` (pairs of bytes of Shift JIS); or a header: `("eci", 26)`,
-    `("fnc1_first", None)`, `("fnc1_second", 37)`. A segment without bytes is left out.
+    """Encodes segments, one after another, in `version`, or in the smallest version of Normal QR
+    that holds them.
+
+    A segment is a pair: a mode and its bytes, e.g. `("numeric", b"..")`, also `"alphanumeric"`,
+    `"byte"` or `"kanji"` (pairs of Shift JIS bytes); or a header: `("eci", 26)`,
+    `("fnc1_first", None)` or `("fnc1_second", 37)`. A segment without bytes is left out.
+
+    Raises NotInMode if the mode of a segment lacks one of its bytes, NoSuchNumber if the number of
+    a header is out of range, NoMode if the version lacks a mode, and NoRoom if no version holds
+    them.
 
     >>> encode_segments([("eci", 4), ("byte", "Živjo".encode("iso8859_2"))]).version
     '1'
@@ -168,14 +184,14 @@ def encode_segments(segments: Segments, level: str = "M",
 
 
 def _listed(segments: Segments) -> List[Segment]:
-    """Segments as the library takes them."""
-    given = _checks.listed("segments", segments, "pairs, as ('byte', b'..')")
+    """Returns segments as the library takes them."""
+    given = _checks.listed("segments", segments, "pairs, e.g. ('byte', b'..')")
     return [_segment(f"segment {at + 1}", it) for at, it in enumerate(given)]
 
 
 def _segment(name: str, given: Any) -> Segment:
     if not isinstance(given, (tuple, list)) or len(given) != 2:
-        raise TypeError(f"{name} is a pair, as ('byte', b'..') or ('eci', 26), not "
+        raise TypeError(f"{name} is a pair, e.g. ('byte', b'..') or ('eci', 26), not "
                         f"{_checks.shown(given)}")
     kind, value = given
     if not isinstance(kind, str) or kind not in KINDS:
@@ -196,7 +212,10 @@ def _segment(name: str, given: Any) -> Segment:
 @_checks.named
 def encode_gs1(elements: Elements, level: str = "M", version: Optional[Version] = None, *,
                least_version: Optional[Version] = None, mask: Optional[int] = None) -> Symbol:
-    """The smallest symbol of elements of GS1, as `contents.gs1` takes them.
+    """Encodes GS1 elements, as `contents.gs1` takes them, in the smallest symbol, or in `version`.
+
+    `least_version` and `mask` are as for `encode`. Raises a subclass of `contents.WrongField` for a
+    wrong element, and NoRoom if no such symbol holds the elements; Micro QR holds none.
 
     >>> encode_gs1([("01", "03453120000011"), ("17", "191125"), ("10", "ABCD1234")]).version
     '2'
@@ -212,7 +231,7 @@ def encode_gs1(elements: Elements, level: str = "M", version: Optional[Version] 
 
 
 def least_version(data: Data, level: str = "M") -> str:
-    """The least version of Normal QR that holds a text or bytes at a level.
+    """Returns the smallest version of Normal QR that holds a str or bytes at a level.
 
     >>> least_version(bytes(2953), "L")
     '40'
@@ -221,8 +240,8 @@ def least_version(data: Data, level: str = "M") -> str:
 
 
 def least_version_of_segments(segments: Segments, level: str = "M") -> str:
-    """The least version of Normal QR that holds segments, as `encode_segments` takes them, at a
-    level.
+    """Returns the smallest version of Normal QR that holds segments, as `encode_segments` takes
+    them, at a level.
 
     >>> least_version_of_segments([("eci", 26), ("byte", bytes(2952))], "L")
     '40'
@@ -231,8 +250,8 @@ def least_version_of_segments(segments: Segments, level: str = "M") -> str:
 
 
 def is_functional(version: Version, x: int, y: int) -> bool:
-    """Whether the module in column x and row y of a version belongs to a pattern or to the format
-    word; False where it has no such module.
+    """Returns whether the module in column x and row y of a version belongs to a pattern or to the
+    format information; False if the version has no such module.
 
     >>> is_functional("1", 0, 0), is_functional("1", 20, 20)
     (True, False)

@@ -1,4 +1,4 @@
-"""What the library refuses, each cause under its own name."""
+"""The exceptions of the package, one for each reason."""
 from typing import Dict, Tuple, Type
 
 from . import _numbers as goq
@@ -10,11 +10,11 @@ __all__ = ["Error", "NoSuchLevel", "NoSuchVersion", "LevelNotInVersion", "TooLon
 
 
 class Error(Exception):
-    """The library refused; the text says what would help."""
+    """The base class of all errors of the library; the message says what would help."""
 
 
 class WrongField(Error, ValueError):
-    """The format cannot say a field: `field` is its name, or `text` for the text as a whole."""
+    """The format cannot express a field: `field` is its name, or `text` for the whole text."""
 
     why = "the format cannot say it"
 
@@ -27,15 +27,15 @@ class WrongField(Error, ValueError):
 
 
 class NoSuchLevel(Error, ValueError):
-    """The level is none of L, M, Q and H."""
+    """The level is not L, M, Q or H."""
 
 
 class NoSuchVersion(Error, ValueError):
-    """The version is none of 1 to 40 and M1 to M4."""
+    """The version is not 1 to 40 or M1 to M4, or does not suit the call."""
 
 
 class LevelNotInVersion(Error, ValueError):
-    """The version lacks the level."""
+    """The version does not have the level."""
 
 
 class TooLong(WrongField):
@@ -44,27 +44,27 @@ class TooLong(WrongField):
 
 
 class NoMode(Error, ValueError):
-    """The data needs a mode that the version lacks."""
+    """The data needs a mode that the version does not have."""
 
 
 class NoRoom(Error, ValueError):
-    """No symbol of the asked kind holds the data."""
+    """No symbol of the requested kind holds the data."""
 
 
 class NoSuchMask(Error, ValueError):
-    """The version has no mask of the number."""
+    """The version has no mask with this number."""
 
 
 class OutOfMemory(Error, MemoryError):
-    """Memory was refused."""
+    """Memory ran out."""
 
 
 class NoSuchSize(Error, ValueError):
-    """The scale or the quiet zone is out of its range, or the picture would be too wide."""
+    """The scale or the quiet zone is out of range, or the picture would be too large."""
 
 
 class NotInFormat(Error, ValueError):
-    """The format has no such colours, or no dots per inch."""
+    """The format does not have such colours, or dots per inch."""
 
 
 class NotInMode(Error, ValueError):
@@ -72,19 +72,19 @@ class NotInMode(Error, ValueError):
 
 
 class NoSuchNumber(Error, ValueError):
-    """The number of a character set is above 999,999, or that of an application above 255."""
+    """The number of a character set is not 0 to 999,999, or that of an application not 0 to 255."""
 
 
 class Unread(Error, ValueError):
-    """A square of modules, or a picture, is not read."""
+    """A square of modules, or a picture, cannot be read."""
 
 
 class NoSuchSide(Unread):
-    """No version has that many modules."""
+    """No version has this many modules."""
 
 
 class NoFormat(Unread):
-    """No level and mask are within three bits of each copy of the format word."""
+    """No level and mask have format information within three bits of each copy."""
 
 
 class Damaged(Unread):
@@ -92,19 +92,19 @@ class Damaged(Unread):
 
 
 class NotSpelled(Unread):
-    """The data bits are not segments and an end, as where a header stands in front."""
+    """The data bits are not segments and a terminator, e.g. because they begin with a header."""
 
 
 class NotShown(Unread):
-    """The data bits are not a text that readers show."""
+    """The data bits are not text that readers show."""
 
 
 class NotPicture(Unread):
-    """A file is no picture that is read: no PNG, PBM or PGM file and no half blocks."""
+    """A file is not a PNG, PBM or PGM file, nor half blocks."""
 
 
 class BrokenPicture(Unread):
-    """A picture is cut off, damaged, too large or interlaced."""
+    """A picture is truncated, damaged, interlaced or too large."""
 
 
 class NoSquare(Unread):
@@ -112,7 +112,7 @@ class NoSquare(Unread):
 
 
 class NotJoined(Error, ValueError):
-    """Squares are not all the parts of one sequence."""
+    """Symbols, squares or pictures are not all the parts of one sequence."""
 
 
 class NoSuchArea(Error, ValueError):
@@ -120,7 +120,7 @@ class NoSuchArea(Error, ValueError):
 
 
 class AreaTooLarge(Error, ValueError):
-    """An area takes more of a symbol than may be lost."""
+    """An area takes more of the symbol than may be lost."""
 
 
 _CAUSES: Dict[int, Tuple[Type[Error], str]] = {
@@ -134,23 +134,24 @@ _CAUSES: Dict[int, Tuple[Type[Error], str]] = {
     goq.NO_ROOM: (NoRoom, "the data does not fit: use a lower level or a larger version, or split "
                   "it"),
     goq.OUT_OF_MEMORY: (OutOfMemory, "out of memory"),
-    goq.NO_SUCH_SIZE: (NoSuchSize, "the picture would be too large: take a smaller scale or border"),
+    goq.NO_SUCH_SIZE: (NoSuchSize, "the picture would be too large: take a smaller scale or "
+                       "border"),
     goq.NOT_IN_MODE: (NotInMode, "a segment has bytes that its mode cannot encode: use byte mode"),
     goq.NO_SUCH_NUMBER: (NoSuchNumber, "character sets have numbers up to 999,999, applications up "
                          "to 255"),
-    goq.NO_SUCH_SIDE: (NoSuchSide, "no version has so many modules: give them without a quiet "
+    goq.NO_SUCH_SIDE: (NoSuchSide, "no version has this many modules: give them without a quiet "
                        "zone"),
-    goq.NO_FORMAT: (NoFormat, "no format word is near each of its copies; read_any tries all "
+    goq.NO_FORMAT: (NoFormat, "the format information cannot be read; read_any tries all "
                     "positions"),
     goq.DAMAGED: (Damaged, "the symbol is damaged: a block has more errors than can be corrected"),
-    goq.NOT_SPELLED: (NotSpelled, "the bits are not segments and an end, as behind a header; "
-                      "read_text reads a text that says that it is UTF-8"),
-    goq.NO_SUCH_MASK: (NoSuchMask, "the masks are 0 to 7, in Micro 0 to 3"),
+    goq.NOT_SPELLED: (NotSpelled, "the bits are not segments and a terminator, e.g. after a "
+                      "header; read_text reads a text that is marked as UTF-8"),
+    goq.NO_SUCH_MASK: (NoSuchMask, "the masks are 0 to 7, for Micro QR 0 to 3"),
     goq.NOT_IN_FORMAT: (NotInFormat, "PNG and SVG have colours, EPS, PDF and PPM opaque ones, and "
-                        "PNG alone has dpi"),
+                        "only PNG has dpi"),
     goq.NOT_SHOWN: (NotShown, "the bits are not a text that readers show; read gives the bytes"),
     goq.NOT_READ: (Unread, "the square does not decode in any of the sixteen positions, or has a "
-                   "header: read says more, once it is upright"),
+                   "header: read says more if it is upright"),
     goq.NOT_PICTURE: (NotPicture, "it is neither a PNG, PBM or PGM file nor half blocks; convert "
                       "it to PNG"),
     goq.BROKEN_PICTURE: (BrokenPicture, "the picture is cut off, damaged, interlaced or more than "
@@ -169,20 +170,20 @@ _CAUSES: Dict[int, Tuple[Type[Error], str]] = {
                       "move it"),
 }
 
-# They are shown as the package exports them.
+# Tracebacks show them under the name by which the package exports them.
 for _name in __all__:
     globals()[_name].__module__ = "goqlanis"
 
 
 def refusal(answer: int, text: str = "", of: str = "") -> Error:
-    """The exception that an answer of the library stands for, with a text of its own or the usual
-    one, behind what it is of."""
+    """Returns the exception for an answer of the library, with the message `text` or the usual one,
+    after `of`, which says what is wrong."""
     kind, usual = _CAUSES.get(answer, (Error, f"answer {answer} of the library"))
     said = of + (text or usual)
     return TooLong("data", said) if kind is TooLong else kind(said)
 
 
 def refuse(answer: int, of: str = "") -> None:
-    """Raises what an answer of the library stands for, unless that is success."""
+    """Raises the exception for an answer of the library, unless that is success."""
     if answer:
         raise refusal(answer, of=of)

@@ -1,4 +1,4 @@
-"""Squares of modules and pictures, read back."""
+"""Reads squares of modules, and pictures."""
 import ctypes
 import functools
 import io
@@ -18,11 +18,11 @@ from .encoding import KINDS
 from .errors import NoSuchSide, NotJoined, refusal, refuse
 from .symbol import Symbol
 
-HEADED = ("a header is in front, of several symbols, GS1 or another character set than UTF-8: join "
-          "reads several; read(symbol.png()) reads the others")
-# Answers of calls for which another call reads the square, unless there is such a header.
+HEADED = ("the data begins with a header, of several symbols, GS1 or a character set other than "
+          "UTF-8: join reads several; read(symbol.png()) reads the others")
+# Answers after which another call may read the square, unless there is such a header.
 OTHERS = {goq.NOT_SPELLED: library.goq_read_text, goq.NOT_SHOWN: library.goq_read}
-# The bytes of the largest picture that the library reads, and what is no square.
+# The most bytes of a picture that the library reads, and what else `read` takes.
 MOST_PICTURE = 67_108_864
 PICTURES = "rows of modules, a Symbol, or a picture: a path, bytes or an open file"
 Modules = Union[Symbol, Sequence[Sequence[bool]]]
@@ -33,14 +33,14 @@ PARTS = {**{number: name for name, number in KINDS.items()}, goq.ONE_OF_SEVERAL:
 POSITIONS = ("upright", "rotated left", "upside down", "rotated right", "mirrored", "flipped",
              "transposed", "antitransposed")
 JOINS = {goq.NOT_SEVERAL: "square {place} has no header of one of several symbols",
-         goq.STRANGER: "square {place} is a part of other data than the first",
+         goq.STRANGER: "square {place} belongs to other data than the first",
          goq.MISSING: "part {place} is missing", goq.TWICE: "part {place} is there twice",
          goq.PARITY: "the symbols do not belong together: the parity of their data is wrong"}
 
 
 class Reading(NamedTuple):
-    """What is read of a square: its bytes, version and level, the number of its mask, and how many
-    codewords were wrong.
+    """A decoded square: its data, version and level, the number of its mask, and how many codewords
+    were wrong and corrected.
 
     >>> from goqlanis import encode
     >>> read(encode("01234567"))
@@ -54,10 +54,12 @@ class Reading(NamedTuple):
 
 
 class AnyReading(NamedTuple):
-    """The same of a square in any position: "upright", "rotated left" (by 90 degrees), "upside
-    down", "rotated right", "mirrored" (left and right swapped), "flipped" (top and bottom swapped),
-    "transposed" (columns and rows swapped) or "antitransposed" (the same from the other corner),
-    and whether dark and light are swapped.
+    """A decoded square in any position: a `Reading`, the position, and whether dark and light are
+    swapped.
+
+    The position is "upright", "rotated left" (by 90 degrees), "upside down", "rotated right",
+    "mirrored" (left and right swapped), "flipped" (top and bottom swapped), "transposed" (columns
+    and rows swapped) or "antitransposed" (the same along the other diagonal).
 
     >>> from goqlanis import encode
     >>> read_any([[not dark for dark in row] for row in encode("01234567").matrix])[5:]
@@ -73,11 +75,13 @@ class AnyReading(NamedTuple):
 
 
 class Part(NamedTuple):
-    """A header or a segment of a code: its kind as `encode_segments` has it, or "one_of_several";
-    the number of "eci" (a character set), of "fnc1_second" (an application: two digits as their
-    number, a letter as its code and 100) or of "one_of_several" (the parity of all data); of
-    "one_of_several" its place, from 0 on, and how many symbols they are; and of a segment how many
-    bytes it has. What a part lacks is None.
+    """A header or a segment of a code. What it does not have is None.
+
+    - `kind`: as for `encode_segments`, or "one_of_several" (structured append);
+    - `number`: for "eci" the character set; for "fnc1_second" the application: two digits as their
+      number, a letter as its code plus 100; for "one_of_several" the parity of the whole data;
+    - `place`, `symbols`: for "one_of_several" which symbol it is, from 0, and how many there are;
+    - `length`: for a segment, how many bytes it has.
 
     >>> from goqlanis import encode_segments
     >>> symbol = encode_segments([("fnc1_second", 37), ("numeric", b"0123")])
@@ -96,8 +100,8 @@ _UTF8 = (26, 27, 170)
 
 
 class Code(NamedTuple):
-    """A code that a picture shows: as an AnyReading, and its headers and segments in order. After
-    FNC1 its data has a separator (byte 29) between elements.
+    """A code in a picture: as an `AnyReading`, and its headers and segments in order (`parts`).
+    After FNC1, `data` has a separator (byte 29) between elements.
 
     >>> from goqlanis import encode_gs1
     >>> symbol = encode_gs1([("10", "ABCD1234"), ("17", "191125")])
@@ -116,8 +120,8 @@ class Code(NamedTuple):
 
     @property
     def text(self) -> Optional[str]:
-        """The data where it is UTF-8, or None. Under an ECI header of another character set, and
-        where something is Kanji, it is None.
+        """The data as a str, or None if it is not UTF-8, has an ECI header of another character
+        set, or has a Kanji segment.
 
         >>> from goqlanis import encode, encode_segments
         >>> read(encode("Größe: 5 m²").png())[0].text
@@ -140,9 +144,14 @@ def read(picture: Modules) -> Reading: ...
 @overload
 def read(picture: Picture) -> List[Code]: ...
 def read(picture: Union[Picture, Modules, Any]) -> Union[List[Code], Reading]:
-    """The codes that a picture shows, from the top down, and from the left where they stand side by
-    side. The picture is a path, the bytes of a file, an open file or an image of Pillow: PNG, PBM,
-    PGM or half blocks.
+    """Returns the codes in a picture, or what a single symbol or square says.
+
+    A picture is a path, the bytes of a file, an open file or a Pillow image: PNG, PBM, PGM or half
+    blocks. Its codes are listed from top to bottom, and from left to right if they are side by
+    side. For a symbol, or for rows of modules without a quiet zone, each True or 1 if it is dark,
+    the result is a single `Reading`.
+
+    Raises a subclass of Unread if nothing can be read, and OSError if a file cannot be opened.
 
     >>> from goqlanis import encode, encode_sequence
     >>> encode("https://example.org").save("a.png", scale=4)
@@ -153,10 +162,6 @@ def read(picture: Union[Picture, Modules, Any]) -> Union[List[Code], Reading]:
 Part(kind='byte', number=None, place=None, symbols=None, length=2))
     >>> read(encode_sequence(b"01234567", count=2)[1].png())[0].parts[0]
     Part(kind='one_of_several', number=0, place=1, symbols=2, length=None)
-
-    Or what a square of modules says, as a Reading: of a symbol, or of rows of modules, True or 1
-    where one is dark, without a quiet zone.
-
     >>> rows = [list(row) for row in encode(b"01234567", "H").matrix]
     >>> rows[20][20] = not rows[20][20]
     >>> found = read(rows)
@@ -165,7 +170,7 @@ Part(kind='byte', number=None, place=None, symbols=None, length=2))
     >>> read([[True] * 21] * 21)
     Traceback (most recent call last):
         ...
-    goqlanis.NoFormat: no format word is near each of its copies; read_any tries all positions
+    goqlanis.NoFormat: the format information cannot be read; read_any tries all positions
     """
     file = _file_of(picture)
     if file is not None:
@@ -176,7 +181,7 @@ Part(kind='byte', number=None, place=None, symbols=None, length=2))
 
 
 def _codes(picture: bytes, of: str = "") -> Iterator[Code]:
-    """The codes of a picture: room is made for more of them until there is enough."""
+    """Yields the codes of a picture; makes room for more of them until there is enough."""
     count, answer = 4, goq.SMALL_BUFFER
     while answer == goq.SMALL_BUFFER:
         codes, parts = (KnownCode * count)(), (KnownPart * (count * PARTS_MAX))()
@@ -185,7 +190,8 @@ def _codes(picture: bytes, of: str = "") -> Iterator[Code]:
                                           len(parts), out, len(out), ctypes.byref(scan))
         count *= 8
     if answer == goq.NO_SUCH_SIDE:
-        raise refusal(answer, "the picture shows no code: what it shows has no code's size", of)
+        raise refusal(answer, "the picture shows no code: what it shows is not the size of a code",
+                      of)
     refuse(answer, of)
     said, data = iter(parts[:scan.parts]), io.BytesIO(out[:scan.length])
     for code in codes[:scan.codes]:
@@ -203,7 +209,7 @@ def _part(part: KnownPart) -> Part:
 
 
 def _file_of(given: Any) -> Optional[bytes]:
-    """The bytes of a picture, where it is one."""
+    """Returns the bytes of a picture, or None if `given` is not a picture."""
     if isinstance(given, _checks.BINARY):
         return _checks.exact(given)
     if isinstance(given, (str, os.PathLike)):
@@ -222,7 +228,9 @@ def _file_of(given: Any) -> Optional[bytes]:
 
 
 def read_any(square: Modules) -> AnyReading:
-    """What a square of modules says that may be rotated, mirrored or inverted.
+    """Returns the data of a square of modules that may be rotated, mirrored or inverted.
+
+    Raises Unread if it cannot be read in any position.
 
     >>> from goqlanis import encode
     >>> found = read_any([row[::-1] for row in encode("01234567").matrix])
@@ -235,7 +243,10 @@ def read_any(square: Modules) -> AnyReading:
 
 
 def read_text(square: Modules) -> str:
-    """The text that readers show of a square: that of a symbol that `encode` made of a str.
+    """Returns the text that readers show for a square, e.g. the str that `encode` encoded.
+
+    Raises NotShown if the data is not such a text, and another subclass of Unread if the square
+    cannot be read.
 
     >>> from goqlanis import encode
     >>> read_text(encode("Größe: 5 m²", marked=True))
@@ -248,8 +259,11 @@ def read_text(square: Modules) -> str:
 
 
 def join(squares: Iterable[Union[Modules, Picture]]) -> bytes:
-    """The data of several symbols, which `encode_sequence` made, in any order; or of their pictures,
-    as `read` takes them.
+    """Joins the data of symbols that `encode_sequence` made, in any order, or of their pictures, as
+    `read` takes them.
+
+    Raises NotJoined if they are not all the parts of one sequence, and a subclass of Unread if one
+    cannot be read.
 
     >>> from goqlanis import encode_sequence
     >>> symbols = encode_sequence(b"01234567", count=2)
@@ -287,7 +301,7 @@ def _symbol(given: Any) -> Symbol:
 
 
 def _joined(codes: List[Code]) -> bytes:
-    """The data of codes that each have the header of one of several symbols in front."""
+    """Joins the data of codes, each of which begins with the header of one of several symbols."""
     heads = [code.parts[0] if code.parts else Part("") for code in codes]
     for at, head in enumerate(heads):
         if head.kind != PARTS[goq.ONE_OF_SEVERAL]:
@@ -314,7 +328,7 @@ def _bytes(count: int = 1) -> Any:
 
 
 def _refuse(answer: int, modules: bytes) -> None:
-    """Raises what an answer stands for, and says what reads the modules."""
+    """Raises the error that an answer stands for, and says what reads the modules."""
     other = OTHERS.get(answer)
     if other and other(modules, len(modules), _bytes(), BYTES_MAX, ctypes.byref(Read())):
         raise errors.refusal(answer, HEADED)
@@ -332,7 +346,7 @@ def _position(number: int) -> Tuple[str, bool]:
 
 
 def _modules_of(square: Modules, of: str = "rows of modules, or a Symbol") -> bytes:
-    """The modules of a square, a byte each."""
+    """Returns the modules of a square, a byte each."""
     if isinstance(square, Symbol):
         return square.modules
     if isinstance(square, (str, *_checks.BINARY, os.PathLike)) or hasattr(square, "read"):
@@ -350,5 +364,6 @@ def _row(name: str, given: Any) -> bytes:
         raise TypeError(f"{name} is a list of True and False, not {_checks.shown(given)}")
     modules = list(given)
     if any(module not in (0, 1) for module in modules):
-        raise ValueError(f"{name} has something else than True or 1 (dark) and False or 0 (light)")
+        raise ValueError(f"{name} has something other than True or 1 (dark) and False or 0 "
+                         "(light)")
     return bytes(map(bool, modules))

@@ -1,4 +1,4 @@
-"""A symbol, and how it is drawn."""
+"""Symbols and their drawings."""
 import base64
 import ctypes
 import io
@@ -23,22 +23,22 @@ BLACK_ON_WHITE, USUAL_COLOURS = "\x1b[38;5;16;48;5;231m", "\x1b[0m"
 
 @dataclass(frozen=True, repr=False)
 class Symbol:
-    """A QR or Micro QR symbol: `version` is "1" to "40" or "M1" to "M4", `level` "L", "M", "Q" or
-    "H", and `modules` has a byte for each module, row by row, 1 for a dark one. Equal symbols are
-    equal, and may be kept in sets.
+    """A QR or Micro QR symbol.
 
-    What draws it takes the same arguments everywhere:
+    `version` is "1" to "40" or "M1" to "M4", `level` is "L", "M", "Q" or "H", and `modules` has a
+    byte for each module, row by row, 1 for a dark module. Symbols with the same modules, version,
+    level and logo are equal, and symbols can be members of sets.
 
-    - `scale`: the pixels of a module, 8 unless you say otherwise, and 1 in texts and PIC;
-    - `size`, instead of it: pixels that a side may have, or millimetres, as "30mm", of EPS, of PDF
-      and, with `dpi`, of PNG. Modules are as large as there is room for: the picture is at most so
-      wide;
-    - `border`, or `quiet_zone`: its light modules at each side, 4 unless you say otherwise, and 2
-      for Micro QR;
-    - `dark`, `light`: a colour of CSS by its name, "#rgb", "#rrggbb", "#rrggbbaa", a tuple of red,
-      green, blue and perhaps opacity (0 to 255), or None for a transparent one. EPS, PDF
-      and PPM have opaque ones alone, PBM and the like none. Colours that many readers
-      cannot tell apart draw a UserWarning.
+    All methods that draw it take the same arguments, as far as the format has them:
+
+    - `scale`: pixels per module; the default is 8, for text and PIC 1;
+    - `size`: instead of `scale`, the most pixels that a side may have, or millimetres, e.g. "30mm",
+      for EPS, PDF and, with `dpi`, PNG. Modules are as large as fits;
+    - `border`, or `quiet_zone`: light modules on each side; the default is 4, for Micro QR 2;
+    - `dark`, `light`: the colours of dark and light modules: a CSS name, "#rgb", "#rrggbb",
+      "#rrggbbaa", a tuple (red, green, blue) or (red, green, blue, opacity), each 0 to 255, or None
+      for transparent. EPS, PDF and PPM have only opaque colours; PBM and others have none. Colours
+      that many readers cannot tell apart give a UserWarning.
 
     >>> from goqlanis import encode
     >>> symbol = encode("01234567")
@@ -63,7 +63,7 @@ class Symbol:
 
     @property
     def width(self) -> int:
-        """The modules along a side, without a quiet zone.
+        """The modules per side, without the quiet zone.
 
         >>> from goqlanis import encode
         >>> encode("01234567").width, encode("01234567", version=40).width
@@ -73,7 +73,7 @@ class Symbol:
 
     @property
     def mask(self) -> int:
-        """The number of the mask: 0 to 7, and of Micro QR 0 to 3.
+        """The number of the mask: 0 to 7, for Micro QR 0 to 3.
 
         >>> from goqlanis import encode
         >>> encode("01234567", mask=5).mask
@@ -85,7 +85,7 @@ class Symbol:
 
     @property
     def matrix(self) -> Tuple[Tuple[bool, ...], ...]:
-        """The rows of modules, True where one is dark, without a quiet zone.
+        """The rows of modules, True for a dark module, without the quiet zone.
 
         >>> from goqlanis import encode
         >>> encode("01234567").matrix[0][:8]
@@ -96,7 +96,7 @@ class Symbol:
 
     @property
     def quiet_zone(self) -> int:
-        """The modules of the quiet zone at each side that the standard asks for.
+        """The width of the quiet zone that the standard requires, in modules: 4, for Micro QR 2.
 
         >>> from goqlanis import encode
         >>> encode("01234567").quiet_zone, encode("01234567", micro=True).quiet_zone
@@ -109,17 +109,23 @@ class Symbol:
              scale: Optional[int] = None, border: Optional[int] = None,
              quiet_zone: Optional[int] = None, dark: Colour = "black", light: Colour = "white",
              dpi: Optional[int] = None, size: Size = None) -> None:
-        """Writes a file, whole or not at all: its ending is png, svg, eps, pdf, pbm, pgm, ppm, xbm,
-        pic or txt, and for printers zpl, tspl or escpos, or else `kind` names one of these. `out`
-        may also be a file that is open. A PNG file may name its dots per inch by `dpi`.
+        """Writes the symbol to a file.
+
+        `out` is a path, whose file is written completely or not at all, or a file that is open for
+        writing. The file extension, or `kind`, selects the format: png, svg, eps, pdf, pbm, pgm,
+        ppm, xbm, pic or txt (half blocks), and for printers zpl, tspl or escpos. `dpi` sets the
+        dots per inch that a PNG file states.
+
+        Raises ValueError if neither selects a format, NotInFormat if the format has no such colours
+        or no `dpi`, NoSuchSize if the picture would be too large, and OSError if writing fails.
 
         >>> from goqlanis import encode
         >>> encode("01234567").save("ticket.png", scale=8, border=4, dark="#008", light=None)
         >>> encode("01234567").save("ticket.jpg")
         Traceback (most recent call last):
             ...
-        ValueError: 'ticket.jpg': its ending is none of txt, png, svg, eps, pic, pbm, pgm, pdf, \
-zpl, tspl, escpos, xbm, ppm: save 'ticket.png', and convert that
+        ValueError: 'ticket.jpg': its file extension is none of txt, png, svg, eps, pic, pbm, pgm, \
+pdf, zpl, tspl, escpos, xbm, ppm: save 'ticket.png', and convert that
         """
         if not hasattr(out, "write") and not isinstance(out, (str, bytes, os.PathLike)):
             raise TypeError(f"out is a path or a file that is open for writing, not {shown(out)}")
@@ -132,7 +138,7 @@ zpl, tspl, escpos, xbm, ppm: save 'ticket.png', and convert that
     def png(self, scale: Optional[int] = None, quiet_zone: Optional[int] = None, *,
             border: Optional[int] = None, dark: Colour = "black", light: Colour = "white",
             dpi: Optional[int] = None, size: Size = None) -> bytes:
-        """The bytes of a PNG file of at most 65,535 pixels a side.
+        """Returns the bytes of a PNG file, with at most 65,535 pixels per side.
 
         >>> from goqlanis import encode
         >>> encode("01234567").png()[:8]
@@ -144,7 +150,7 @@ zpl, tspl, escpos, xbm, ppm: save 'ticket.png', and convert that
     def svg(self, scale: Optional[int] = None, quiet_zone: Optional[int] = None, *,
             border: Optional[int] = None, dark: Colour = "black",
             light: Colour = "white", size: Size = None) -> str:
-        """The text of an SVG file, one path.
+        """Returns the text of an SVG file, which has one path.
 
         >>> from goqlanis import encode
         >>> encode("01234567").svg().startswith("<?xml")
@@ -156,7 +162,7 @@ zpl, tspl, escpos, xbm, ppm: save 'ticket.png', and convert that
     def eps(self, scale: Optional[int] = None, quiet_zone: Optional[int] = None, *,
             border: Optional[int] = None, dark: Colour = "black",
             light: Colour = "white", size: Size = None) -> str:
-        """Encapsulated PostScript, a point a pixel.
+        """Returns Encapsulated PostScript, with one point per pixel.
 
         >>> from goqlanis import encode
         >>> encode("01234567").eps(scale=2).splitlines()[1]
@@ -168,7 +174,7 @@ zpl, tspl, escpos, xbm, ppm: save 'ticket.png', and convert that
     def pdf(self, scale: Optional[int] = None, quiet_zone: Optional[int] = None, *,
             border: Optional[int] = None, dark: Colour = "black", light: Colour = "white",
             size: Size = None) -> bytes:
-        """A PDF file of one page, in points: 8 a module, or in a size.
+        """Returns the bytes of a PDF file with one page and one point per pixel.
 
         >>> from goqlanis import encode
         >>> encode("01234567").pdf(size="30mm")[:8]
@@ -179,7 +185,7 @@ zpl, tspl, escpos, xbm, ppm: save 'ticket.png', and convert that
     @named
     def pbm(self, scale: Optional[int] = None, quiet_zone: Optional[int] = None, *,
             border: Optional[int] = None, size: Size = None) -> bytes:
-        """A PBM file: black and white pixels, eight in a byte.
+        """Returns the bytes of a PBM file: black and white pixels, eight per byte.
 
         >>> from goqlanis import encode
         >>> encode("01234567").pbm(scale=1, border=0)[:10]
@@ -190,7 +196,7 @@ zpl, tspl, escpos, xbm, ppm: save 'ticket.png', and convert that
     @named
     def grey(self, scale: Optional[int] = None, quiet_zone: Optional[int] = None, *,
              border: Optional[int] = None, size: Size = None) -> bytes:
-        """Rows of pixels, a byte each: 0 for a dark one and 255 for a light one.
+        """Returns the pixels row by row, a byte each: 0 for a dark pixel, 255 for a light one.
 
         >>> from goqlanis import encode
         >>> encode("01234567").grey(scale=1, border=0)[:8]
@@ -201,7 +207,7 @@ zpl, tspl, escpos, xbm, ppm: save 'ticket.png', and convert that
     @named
     def pic(self, scale: Optional[int] = None, quiet_zone: Optional[int] = None, *,
             border: Optional[int] = None, size: Size = None) -> str:
-        """A PIC text, for troff.
+        """Returns PIC text, for troff.
 
         >>> from goqlanis import encode
         >>> encode("01234567").pic().splitlines()[0]
@@ -211,7 +217,8 @@ zpl, tspl, escpos, xbm, ppm: save 'ticket.png', and convert that
 
     def text(self, light: bool = False, quiet_zone: Optional[int] = None, *,
              border: Optional[int] = None) -> str:
-        """Half blocks, two modules a character; `light` for light text on a dark ground.
+        """Returns half blocks, two modules per character; `light` is for light text on a dark
+        background.
 
         >>> from goqlanis import encode
         >>> print(encode("1", "L", micro=True).text(border=0))
@@ -229,8 +236,10 @@ zpl, tspl, escpos, xbm, ppm: save 'ticket.png', and convert that
         return self._drawn(name, Look(1, border, quiet_zone)).decode()
 
     def terminal(self, out: Optional[IO[str]] = None, *, border: Optional[int] = None) -> None:
-        """Prints the symbol, or writes it to `out`: black on white whatever the colours of the
-        terminal are; and half blocks alone where that is no terminal, or NO_COLOR is set.
+        """Prints the symbol, or writes it to `out`, as half blocks.
+
+        On a terminal they are black on white, whatever its colours are, unless the environment
+        variable NO_COLOR is set.
 
         >>> from goqlanis import encode
         >>> encode("1", "L", micro=True).terminal(border=0)
@@ -250,8 +259,9 @@ zpl, tspl, escpos, xbm, ppm: save 'ticket.png', and convert that
         out.write("\n".join(lines) + "\n")
 
     def to_pil(self, **drawing: Any) -> Any:
-        """What `png` gives as an image of Pillow, which has to be installed:
-        `symbol.to_pil(scale=4).rotate(45)`."""
+        """Returns the picture of `png` as a Pillow image, e.g. `symbol.to_pil(scale=4).rotate(45)`.
+
+        Raises ImportError if Pillow is not installed."""
         try:
             from PIL import Image
         except ImportError:
@@ -259,7 +269,7 @@ zpl, tspl, escpos, xbm, ppm: save 'ticket.png', and convert that
         return Image.open(io.BytesIO(self.png(**drawing)))
 
     def svg_inline(self, **drawing: Any) -> str:
-        """What `svg` gives, without the XML head, to stand in a page of HTML.
+        """Returns the text of `svg` without the XML declaration, for an HTML page.
 
         >>> from goqlanis import encode
         >>> encode("01234567").svg_inline(scale=4, dark="navy")[:4]
@@ -268,7 +278,7 @@ zpl, tspl, escpos, xbm, ppm: save 'ticket.png', and convert that
         return self.svg(**drawing).partition("?>")[2]
 
     def svg_data_uri(self, **drawing: Any) -> str:
-        """What `svg` gives as a data URI, for `src` and `href` of HTML and `url(..)` of CSS.
+        """Returns the SVG as a data URI, for `src` and `href` in HTML and `url(..)` in CSS.
 
         >>> from goqlanis import encode
         >>> encode("01234567").svg_data_uri()[:24]
@@ -277,7 +287,7 @@ zpl, tspl, escpos, xbm, ppm: save 'ticket.png', and convert that
         return "data:image/svg+xml," + urllib.parse.quote(self.svg_inline(**drawing), safe="/:=,")
 
     def png_data_uri(self, **drawing: Any) -> str:
-        """What `png` gives as a data URI.
+        """Returns the bytes of `png` as a data URI.
 
         >>> from goqlanis import encode
         >>> encode("01234567").png_data_uri(scale=4, dpi=300)[:32]
@@ -287,7 +297,10 @@ zpl, tspl, escpos, xbm, ppm: save 'ticket.png', and convert that
 
     @named
     def reserve(self, area: Area) -> Reserve:
-        """What an area takes of the symbol: a rectangle of modules, or several.
+        """Returns how much of the symbol an area takes, and what is left.
+
+        `area` is a `Rectangle`, or four numbers: left, top, width, height; or several of these.
+        Raises NoSuchArea if a rectangle is not inside the symbol, or there is none.
 
         >>> from goqlanis import encode
         >>> encode("01234567", "H").reserve((10, 10, 1, 1))
@@ -298,9 +311,13 @@ zpl, tspl, escpos, xbm, ppm: save 'ticket.png', and convert that
     @named
     def largest_area(self, ratio: Tuple[int, int] = (1, 1), *, reserve: Optional[int] = None,
                      keep_alignment: bool = False) -> Rectangle:
-        """The largest rectangle in the middle that may show anything, of a width and height in a
-        ratio. Besides it, each block can still correct `reserve` wrong codewords, by default half
-        of those that it can. It covers no patterns, but those of alignment, unless these are kept.
+        """Returns the largest rectangle in the middle that may show anything, e.g. a logo.
+
+        Its width and height are in the proportion `ratio`, e.g. (16, 9). Next to it, each block can
+        still correct `reserve` wrong codewords, by default half of those that it can. It covers no
+        patterns, except alignment patterns if `keep_alignment` is False.
+
+        Raises AreaTooLarge if there is no such rectangle.
 
         >>> from goqlanis import encode
         >>> encode("01234567", "H").largest_area(reserve=0)
@@ -310,8 +327,11 @@ zpl, tspl, escpos, xbm, ppm: save 'ticket.png', and convert that
 
     @named
     def with_area(self, area: Optional[Area] = None) -> "Symbol":
-        """The symbol with an area light, by default the largest one (`largest_area()`). Whatever
-        the area then shows, the symbol reads as the same data and nothing else.
+        """Returns the symbol with a light area, by default the largest one (`largest_area()`).
+
+        Whatever the area then shows, the symbol still decodes to the same data and nothing else.
+        Raises NoSuchArea as `reserve` does, and AreaTooLarge if the area takes more of the symbol
+        than may be lost.
 
         >>> from goqlanis import encode, read
         >>> read(encode("01234567", "H").with_area()).data
@@ -330,9 +350,13 @@ take a smaller area
     def with_logo(self, logo: Union[Path, bytes], area: Optional[Rectangle] = None, *,
                   margin: int = 1, reserve: Optional[int] = None,
                   keep_alignment: bool = False) -> "Symbol":
-        """The symbol with a logo, an SVG or a PNG file by its path or its bytes, in an area, by
-        itself the largest one of its ratio. SVG shows it, with a margin of light modules; other
-        formats leave the area light.
+        """Returns the symbol with a logo: the path or the bytes of an SVG or PNG file.
+
+        `area` is a rectangle, by default the largest one in the ratio of the logo, for which
+        `reserve` and `keep_alignment` are as for `largest_area`. Only SVG shows the logo, with
+        `margin` light modules on each side if there is room; other formats leave the area light.
+
+        Raises NoSuchArea or AreaTooLarge as `with_area` does, and ValueError if `logo` is neither.
 
         >>> from goqlanis import encode
         >>> logo = b'<svg xmlns="http://www.w3.org/2000/svg" viewBox="0 0 2 1"/>'
@@ -346,7 +370,7 @@ take a smaller area
         return replace(self.with_area(area), logo=placed)
 
     def _pair(self) -> Tuple[int, int]:
-        """The library's numbers of the version and level."""
+        """Returns the library's numbers of the version and level."""
         return _checks.version(self.version), _checks.level(self.level)
 
     def _drawn(self, name: str, look: Look) -> bytes:

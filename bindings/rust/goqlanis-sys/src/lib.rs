@@ -1,16 +1,16 @@
-//! The calls of `libgoqlanis.a`, as `bindings/c/goqlanis.h` declares and explains them.
+//! The functions of `libgoqlanis.a`, as `bindings/c/goqlanis.h` declares and explains them.
 #![no_std]
 #![warn(missing_docs)]
 #![allow(non_camel_case_types)]
 
-// Constants of a type, with what they are.
+// Constants of one type, with a common comment.
 macro_rules! constants {
     ($type:ty, $about:literal; $($name:ident = $value:literal),+) => {
         $(#[doc = $about] pub const $name: $type = $value;)+
     };
 }
 
-/// A reserve of half of the codewords that may be lost.
+/// A `reserve` of half of the codewords that may be lost.
 pub const GOQ_HALF: u32 = 0xffff_ffff;
 
 // The constants, structs and calls of goqlanis.h, as bindings/same writes them.

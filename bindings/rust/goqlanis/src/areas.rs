@@ -1,43 +1,43 @@
-//! Areas of symbols that may show anything, as a logo does.
+//! Areas of symbols that may show anything, e.g. a logo.
 use crate::QrCode;
 use goqlanis_sys as sys;
 
 /// A rectangle of modules of a symbol.
 #[derive(Clone, Copy, Debug, PartialEq, Eq, Hash)]
 pub struct Rectangle {
-    /// Its left column, from 0 on.
+    /// The left column, counted from 0.
     pub left: usize,
-    /// Its top row, from 0 on.
+    /// The top row, counted from 0.
     pub top: usize,
     /// How many columns it has.
     pub width: usize,
-    /// How many rows.
+    /// How many rows it has.
     pub height: usize,
 }
 
-/// What an area takes of a symbol, and what it leaves.
+/// How much of a symbol an area takes, and what is left.
 #[derive(Clone, Debug, PartialEq, Eq)]
 pub struct Reserve {
-    /// How many codewords of each block it touches.
+    /// How many codewords of each block the area touches.
     pub touched: Vec<usize>,
     /// How many codewords of each block may be lost.
     pub allowed: usize,
-    /// The block that loses most, from 0 on.
+    /// The block that loses most, counted from 0.
     pub worst: usize,
-    /// How many modules it has of each copy of the format word, of which 3 may be lost.
+    /// How many modules of each copy of the format information the area has; 3 may be lost.
     pub format_modules: [usize; 2],
-    /// How many more codewords of each block may be lost; none where the area may not show anything.
+    /// How many more codewords of each block may be lost, or `None` if the area takes too much.
     pub least: Option<usize>,
 }
 
-/// What a rectangle in the middle has to leave.
+/// What `QrCode::largest_area` looks for.
 #[derive(Clone, Copy, Debug, PartialEq, Eq)]
 pub struct Wish {
-    /// Its width and its height are in this proportion.
+    /// The proportion of its width and height.
     pub ratio: (u32, u32),
-    /// How many more codewords of each block may be lost beside it; none for half of them.
+    /// How many more codewords of each block may still be lost; `None` for half of those that may.
     pub reserve: Option<u32>,
-    /// Whether it leaves alignment patterns alone, as all others.
+    /// Whether it covers no alignment patterns, as it covers no other patterns.
     pub keep_alignment: bool,
 }
 
@@ -53,7 +53,7 @@ impl Wish {
             size: std::mem::size_of::<sys::goq_wish>() as u32,
             across: self.ratio.0,
             down: self.ratio.1,
-            // No block has so many codewords as the number that asks the library for half of them.
+            // GOQ_HALF asks for half of them; no block has that many codewords.
             reserve: self.reserve.map_or(sys::GOQ_HALF, |count| count.min(sys::GOQ_HALF - 1)),
             keep_alignment: u32::from(self.keep_alignment),
         }
@@ -63,15 +63,15 @@ impl Wish {
 /// Why an area may not show anything.
 #[derive(Clone, Copy, Debug, PartialEq, Eq)]
 pub enum Excess {
-    /// It has no rectangle, or one that is not inside the symbol.
+    /// The area has no rectangle, or one that is not inside the symbol.
     Outside,
-    /// It touches more codewords of this block than may be lost. Blocks are counted from 0.
+    /// The area touches more codewords of this block than may be lost. Blocks are counted from 0.
     Block(usize),
-    /// It has more than three modules of a copy of the format word.
+    /// The area has more than three modules of a copy of the format information.
     Format,
-    /// No rectangle in the middle leaves what is asked.
+    /// No rectangle in the middle leaves what the `Wish` asks for.
     Nowhere,
-    /// Memory was refused.
+    /// Memory ran out.
     OutOfMemory,
 }
 
@@ -101,7 +101,7 @@ fn given(area: &[Rectangle]) -> Vec<sys::goq_rectangle> {
 }
 
 impl QrCode {
-    /// What an area takes of the symbol, and what it leaves.
+    /// Returns how much of the symbol an area takes, and what is left.
     ///
     /// ```
     /// use goqlanis::{areas::Rectangle, EcLevel, QrCode};
@@ -130,7 +130,8 @@ impl QrCode {
         })
     }
 
-    /// The largest rectangle in the middle that may show anything and leaves what is wished.
+    /// Returns the largest rectangle in the middle that may show anything and leaves what `wish`
+    /// asks for.
     pub fn largest_area(&self, wish: &Wish) -> Result<Rectangle, Excess> {
         let (given, mut found) = (wish.given(), sys::goq_rectangle::default());
         let (version, level) = (self.version.number(), self.ec_level as u32);
@@ -140,8 +141,9 @@ impl QrCode {
         Ok(Rectangle { left, top, width, height })
     }
 
-    /// The symbol with an area light. Whatever it then shows, the symbol reads as the same data and
-    /// nothing else.
+    /// Returns the symbol with a light area.
+    ///
+    /// Whatever the area then shows, the symbol still decodes to the same data and nothing else.
     ///
     /// ```
     /// use goqlanis::{areas::Wish, read, EcLevel, QrCode};

@@ -1,4 +1,4 @@
-//! What of codes departs from the standard.
+//! Reports what departs from the standard in a code.
 use crate::reading::{modules, unread};
 use crate::{Color, EcLevel, Unread, Version};
 use goqlanis_sys as sys;
@@ -7,57 +7,60 @@ use std::fmt;
 /// How many modules of each pattern are wrong.
 pub type WrongModules = sys::goq_wrong_modules;
 
-/// How the mask stands among all of its version.
+/// The rank of the mask among all of its version, by penalty.
 pub type Rank = sys::goq_rank;
 
-/// What of a code departs from the standard, in words by `Display`.
+/// What departs from the standard in a code; `Display` gives it in words.
 #[derive(Clone, Debug, PartialEq, Eq)]
 pub struct Check {
     /// The version.
     pub version: Version,
     /// The error correction level.
     pub ec_level: EcLevel,
-    /// The number of the mask, 0 to 7, in Micro 0 to 3.
+    /// The number of the mask: 0 to 7, for Micro 0 to 3.
     pub mask: u32,
     /// How many codewords of each block are wrong.
     pub wrong_by_block: Vec<usize>,
-    /// How many of each block readers are to correct.
+    /// How many wrong codewords of each block readers must correct.
     pub allowed_by_block: usize,
-    /// The unused error correction of the worst block, in hundredths.
+    /// The unused error correction of the worst block, in percent.
     pub unused_correction: usize,
-    /// Its grade by ISO/IEC 15415, `A` to `D` or `F`.
+    /// The grade of the unused error correction by ISO/IEC 15415: `A` to `D`, or `F`.
     pub grade: char,
     /// The wrong modules of each pattern.
     pub wrong_modules: WrongModules,
-    /// What is said of the data, where its bits are segments and an end.
+    /// The check of the data, or `None` if its bits are not segments and a terminator.
     pub data: Option<DataCheck>,
-    /// How the mask stands by the balance of the standard, in steps of 5 %.
+    /// The rank of the mask by the standard's penalty, which takes the share of dark modules in
+    /// steps of 5 %.
     pub masks: Rank,
-    /// How it stands by the balance of this crate.
+    /// The rank of the mask by the penalty with which this crate chooses masks, without such steps.
     pub masks_here: Rank,
-    /// Whether nothing departs, the mask having the lowest penalty by one of the balances.
+    /// Whether nothing departs and the mask has the lowest penalty by one of the two ranks.
     pub is_standard: bool,
 }
 
-/// What is said of the data of a code.
+/// The check of the data of a code.
 #[derive(Clone, Copy, Debug, PartialEq, Eq)]
 pub struct DataCheck {
-    /// The bits of the segments and the fewest that their bytes need; not behind FNC1, nor with a
+    /// The bits of the segments and the fewest that their bytes need; `None` after FNC1, or with a
     /// header between segments.
     pub bits: Option<(usize, usize)>,
     /// The wrong bits of the terminator, and of the zeros up to a whole byte.
     pub wrong_terminator: usize,
-    /// The wrong bits behind these.
+    /// The wrong bits after these.
     pub wrong_padding: usize,
-    /// How many segments of bytes above 127 have a character set that readers guess.
+    /// How many segments with bytes above 127 have a character set that readers guess.
     pub guessed_segments: usize,
-    /// Whether each of these is UTF-8.
+    /// Whether all of these segments are UTF-8.
     pub guessed_utf8: bool,
 }
 
-/// What of the codes of a picture departs from the standard, in the order of `read_picture`, which
-/// takes the same pictures. Where no code is read, and the bits of a square in an even margin are
-/// no segments and an end, that square is checked.
+/// Returns what departs from the standard in each code of a picture, as `read_picture` takes it and
+/// in its order.
+///
+/// If no code can be read, but there is a square in an even margin whose bits are not segments and
+/// a terminator, that square is checked.
 ///
 /// ```
 /// use goqlanis::{check, render::png, QrCode};
@@ -87,7 +90,7 @@ pub fn check(picture: &[u8]) -> Result<Vec<Check>, Unread> {
     }
 }
 
-// Checks, whose wrong codewords stand one behind the other.
+// Returns checks, whose wrong codewords follow one another.
 fn checks_of(checks: &[sys::goq_checked], wrong: &[usize]) -> Vec<Check> {
     let mut rest = wrong;
     let mut of = |known: &sys::goq_checked| {
@@ -98,8 +101,8 @@ fn checks_of(checks: &[sys::goq_checked], wrong: &[usize]) -> Vec<Check> {
     checks.iter().map(&mut of).collect()
 }
 
-/// What of a square of modules departs from the standard, row by row from the top left corner,
-/// without a quiet zone.
+/// Returns what departs from the standard in a square of modules, row by row from the top left
+/// corner, without a quiet zone.
 ///
 /// ```
 /// use goqlanis::{check_square, Color, EcLevel, QrCode};

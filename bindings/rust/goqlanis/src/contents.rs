@@ -1,5 +1,7 @@
-//! Payloads of QR codes: networks, contacts, payments, links and events. Each is read back as exactly its fields. Account numbers, references,
-//! telephone numbers and secrets may have spaces and small letters.
+//! Writes the payloads of QR codes: Wi-Fi networks, contacts, payments, links and events.
+//!
+//! Each text can be read back as exactly its fields. Account numbers, references, telephone numbers
+//! and secrets may have spaces and lowercase letters.
 //!
 //! ```
 //! use goqlanis::contents::{Cause, ContentError, Payment, Security, Wifi};
@@ -17,7 +19,7 @@
 use goqlanis_sys as sys;
 use std::fmt;
 
-/// What a format cannot say of a field.
+/// Why a format cannot express a field.
 #[derive(Clone, Copy, Debug, PartialEq, Eq)]
 pub enum Cause {
     /// The field may not be empty.
@@ -38,7 +40,7 @@ pub enum Cause {
     Unused,
     /// The number has more digits after its point than the format allows.
     Decimals,
-    /// The field is none of the words that it may be.
+    /// The field is not one of the words that it may be.
     Word,
     /// The application identifier of an element is not in the table.
     UnknownIdentifier,
@@ -69,38 +71,40 @@ impl fmt::Display for Cause {
     }
 }
 
-/// Why a value has no text.
+/// Why a payload has no text.
 #[derive(Clone, Copy, Debug, PartialEq, Eq)]
 pub enum ContentError {
-    /// The format cannot say the field of this name, for this cause; `text` is the text as a whole, and `debtor.city` the town of who pays.
+    /// The format cannot express the field with this name, for this cause. `text` is the whole
+    /// text, and a name such as `debtor.city` is a field of a `Party`.
     Refused(&'static str, Cause),
-    /// The element of GS1 at this place is refused, for this cause.
+    /// The GS1 element at this place, counted from 0, is wrong, for this cause.
     Element(usize, Cause),
-    /// No symbol holds so long a text.
+    /// No symbol holds a text of this length.
     DataTooLong,
-    /// Memory was refused.
+    /// Memory ran out.
     OutOfMemory,
 }
 
 says! { ContentError:
     ContentError::Refused(field, cause) => "{field}: {cause}";
     ContentError::Element(place, cause) => "element {place}: {cause}";
-    ContentError::DataTooLong => "no symbol holds so long a text";
+    ContentError::DataTooLong => "no symbol holds a text of this length";
     ContentError::OutOfMemory => "out of memory";
 }
 
-/// What a value gives: its text, or why it has none.
+/// The text of a payload, or why it has none.
 pub type ContentResult = Result<String, ContentError>;
 
-// A field: its name, and its text.
+// A field: its name and its text.
 type Field<'a> = (&'static str, &'a str);
 
-// The text of a kind, of fields in the library's order.
+// Returns the text of a kind of payload; its fields are in the library's order.
 fn text_of(kind: u32, fields: &[Field<'_>]) -> ContentResult {
     let given: Vec<sys::goq_field> = fields.iter().map(|(_, text)| sys::goq_field { bytes: text.as_ptr(), length: text.len() }).collect();
     let mut out = vec![0; sys::GOQ_BYTES_MAX];
     let (mut count, mut place) = (0, 0);
-    // SAFETY: each field points to a text that outlives the call, and the lengths are those of the buffers.
+    // SAFETY: each field points to a text that outlives the call, and the lengths are those of the
+    // buffers.
     let answer = unsafe { sys::goq_content(kind, given.as_ptr(), given.len(), out.as_mut_ptr(), out.len(), &mut count, &mut place) };
     match answer {
         sys::GOQ_OK => {
@@ -111,7 +115,7 @@ fn text_of(kind: u32, fields: &[Field<'_>]) -> ContentResult {
     }
 }
 
-// What an answer other than `GOQ_OK` means, where a cause is one of a field.
+// Returns the error that an answer other than `GOQ_OK` stands for; `of_field` takes a cause.
 fn refused(answer: u32, of_field: impl FnOnce(Cause) -> ContentError) -> ContentError {
     match CAUSES.iter().find(|row| row.0 == answer) {
         Some(row) => of_field(row.1),
@@ -120,7 +124,10 @@ fn refused(answer: u32, of_field: impl FnOnce(Cause) -> ContentError) -> Content
     }
 }
 
-/// The element string of GS1, of application identifiers without parentheses and their values: bytes that stand behind FNC1 in first position.
+/// Returns the GS1 element string of application identifiers, without parentheses, and their
+/// values.
+///
+/// These bytes follow FNC1 in the first position; `QrCode::of_gs1` makes the symbol.
 ///
 /// ```
 /// use goqlanis::contents::{gs1, Cause, ContentError};
@@ -134,7 +141,8 @@ pub fn gs1(elements: &[(&str, &str)]) -> Result<Vec<u8>, ContentError> {
     let given: Vec<sys::goq_element> = elements.iter().map(element).collect();
     let mut out = vec![0; sys::GOQ_BYTES_MAX];
     let (mut count, mut place) = (0, 0);
-    // SAFETY: each element points to texts that outlive the call, and the lengths are those of the buffers.
+    // SAFETY: each element points to texts that outlive the call, and the lengths are those of the
+    // buffers.
     let answer = unsafe { sys::goq_gs1(given.as_ptr(), given.len(), out.as_mut_ptr(), out.len(), &mut count, &mut place) };
     if answer != sys::GOQ_OK {
         return Err(element_error(answer, place));
@@ -143,7 +151,7 @@ pub fn gs1(elements: &[(&str, &str)]) -> Result<Vec<u8>, ContentError> {
     Ok(out)
 }
 
-// An element as the library takes it.
+// Returns an element as the library takes it.
 pub(crate) fn element((identifier, value): &(&str, &str)) -> sys::goq_element {
     sys::goq_element {
         identifier: identifier.as_ptr(),
@@ -153,12 +161,12 @@ pub(crate) fn element((identifier, value): &(&str, &str)) -> sys::goq_element {
     }
 }
 
-// What an answer of the element at a place means.
+// Returns the error that an answer stands for, of the element at a place.
 pub(crate) fn element_error(answer: u32, place: usize) -> ContentError {
     refused(answer, |cause| ContentError::Element(place, cause))
 }
 
-// An enum of words, with the word of each that the library takes.
+// An enum, with the word that the library takes for each variant.
 macro_rules! words {
     ($(#[$about:meta])* $name:ident: $($(#[$told:meta])* $variant:ident = $word:literal,)+) => {
         $(#[$about])*
@@ -186,31 +194,31 @@ words! {
     Wep = "WEP",
     /// WPA, WPA2, or both with WPA3.
     Wpa = "WPA",
-    /// WPA3 alone.
+    /// Only WPA3.
     Wpa3 = "WPA3",
 }
 
-/// A wireless network. An open network has an empty password.
+/// A Wi-Fi network.
 #[derive(Clone, Copy, Debug, PartialEq, Eq)]
 pub struct Wifi<'a> {
     /// How the network is secured.
     pub security: Security,
     /// The name of the network, 1 to 32 bytes.
     pub ssid: &'a str,
-    /// Its password, empty for an open one.
+    /// The password, empty for an open network.
     pub password: &'a str,
-    /// Whether it does not broadcast its name.
+    /// Whether the network does not broadcast its name.
     pub hidden: bool,
 }
 
 impl Wifi<'_> {
-    /// The text, to be encoded by `QrCode::of_text`.
+    /// Returns the text, to be encoded by `QrCode::of_text`.
     pub fn text(&self) -> ContentResult {
         text_of(sys::GOQ_WIFI, &[("ssid", self.ssid), ("password", self.password), ("security", self.security.word()), ("hidden", if self.hidden { "true" } else { "" })])
     }
 }
 
-// What stands in a field of a payload, as the library takes it.
+// The text of a field of a payload, as the library takes it.
 trait Said {
     fn said(&self) -> String;
 }
@@ -221,7 +229,7 @@ impl Said for &str {
     }
 }
 
-// Hundredths, with a point before them.
+// An amount in hundredths, written with a point before them.
 impl Said for u64 {
     fn said(&self) -> String {
         format!("{}.{:02}", self / 100, self % 100)
@@ -234,7 +242,7 @@ impl<T: Said> Said for Option<T> {
     }
 }
 
-// A payload, whose fields are those of the library in its order, and the call that gives its text.
+// A payload, with the fields of the library in its order, and the method that returns its text.
 macro_rules! payload {
     (
         $(#[$about:meta])*
@@ -258,9 +266,9 @@ macro_rules! payload {
 }
 
 payload! {
-    /// A contact, as MECARD. What is empty is left out.
+    /// A contact, as MECARD. Empty fields are left out.
     Contact of GOQ_MECARD {
-        /// The family name.
+        /// The family name, or the only name.
         family: &'a str,
         /// The given name.
         given: &'a str,
@@ -268,9 +276,9 @@ payload! {
         phone: &'a str,
         /// An e-mail address.
         email: &'a str,
-        /// The address of a page.
+        /// The URL of a web page.
         url: &'a str,
-        /// As `1970-01-31` or `19700131`.
+        /// The birthday, e.g. `1970-01-31` or `19700131`.
         birthday: &'a str,
         /// A note.
         note: &'a str,
@@ -285,14 +293,14 @@ payload! {
         /// The country.
         country: &'a str,
     }
-    /// The text, as MECARD.
+    /// Returns the text, to be encoded by `QrCode::of_text`.
     fn mecard
 }
 
 payload! {
-    /// A contact, as vCard 3.0. What is empty is left out.
+    /// A contact, as vCard 3.0. Empty fields are left out.
     Card of GOQ_VCARD {
-        /// The full name.
+        /// The full name, as it is displayed.
         name: &'a str,
         /// The family name.
         family: &'a str,
@@ -304,7 +312,7 @@ payload! {
         phone: &'a str,
         /// An e-mail address.
         email: &'a str,
-        /// The address of a page.
+        /// The URL of a web page.
         url: &'a str,
         /// The street.
         street: &'a str,
@@ -320,49 +328,49 @@ payload! {
         note: &'a str,
         /// The title or function.
         title: &'a str,
-        /// A day, as `1970-01-31`.
+        /// The birthday, e.g. `1970-01-31`.
         birthday: &'a str,
-        /// Telephone numbers beside `phone`.
+        /// The number of the mobile phone.
         mobile: &'a str,
         /// The number at work.
         work_phone: &'a str,
         /// The number at home.
         home_phone: &'a str,
     }
-    /// The text, to be encoded by `QrCode::of_text`.
+    /// Returns the text, to be encoded by `QrCode::of_text`.
     fn text
 }
 
 payload! {
-    /// A SEPA credit transfer, of version 001 with a BIC and of 002 without.
+    /// A SEPA credit transfer (EPC QR code), for a symbol of level M and at most version 13.
     Payment of GOQ_PAYMENT {
         /// The payee, up to 70 characters.
         name: &'a str,
         /// The account number.
         iban: &'a str,
-        /// The amount in cents of a euro.
+        /// The amount in euro cents.
         cents: u64,
-        /// The code of the bank; with it the text is one of version 001.
+        /// The code of the bank. With it the text has version 001, without it version 002.
         bic: &'a str,
-        /// Up to four letters and digits.
+        /// The purpose: up to four letters and digits.
         purpose: &'a str,
-        /// A reference of ISO 11649, in place of a message.
+        /// A reference of ISO 11649, instead of a message.
         reference: &'a str,
         /// A message to the payee, up to 140 characters.
         message: &'a str,
         /// A note to the payer, up to 70 characters.
         information: &'a str,
     }
-    /// The text, to be encoded by `QrCode::of_text`.
+    /// Returns the text, to be encoded by `QrCode::of_text`.
     fn text
 }
 
 words! {
     /// The currency of a bill.
     Currency:
-    /// CHF.
+    /// Swiss francs, CHF.
     Franc = "CHF",
-    /// EUR.
+    /// Euros, EUR.
     Euro = "EUR",
 }
 
@@ -379,31 +387,31 @@ pub struct Party<'a> {
     pub code: &'a str,
     /// The city.
     pub city: &'a str,
-    /// Two letters, as `CH`.
+    /// The country: two letters, e.g. `CH`.
     pub country: &'a str,
 }
 
-/// A Swiss QR bill.
+/// A Swiss QR bill, for a symbol of level M and at most version 25, without the Swiss cross.
 #[derive(Clone, Copy, Debug, PartialEq, Eq)]
 pub struct Bill<'a> {
-    /// An account of Switzerland or Liechtenstein.
+    /// The number of an account in Switzerland or Liechtenstein.
     pub iban: &'a str,
-    /// Who is paid.
+    /// The payee.
     pub creditor: Party<'a>,
-    /// The amount in hundredths, or left open.
+    /// The amount in hundredths, or `None` to leave it open.
     pub cents: Option<u64>,
     /// The currency.
     pub currency: Currency,
-    /// Who pays; all fields empty where nobody is named.
+    /// The payer; all fields are empty if nobody is named.
     pub debtor: Party<'a>,
-    /// 27 digits for a QR-IBAN; `RF..` or none for another account.
+    /// The reference: 27 digits for a QR-IBAN; `RF..` or empty for another account.
     pub reference: &'a str,
     /// A message to the payee, up to 140 characters.
     pub message: &'a str,
 }
 
 impl Bill<'_> {
-    /// The text, to be encoded by `QrCode::of_text`.
+    /// Returns the text, to be encoded by `QrCode::of_text`.
     pub fn text(&self) -> ContentResult {
         let (creditor, debtor) = (&self.creditor, &self.debtor);
         text_of(
@@ -432,20 +440,20 @@ impl Bill<'_> {
 }
 
 payload! {
-    /// A mail. What is empty is left out.
+    /// A link that writes an e-mail. Empty fields are left out.
     Mail of GOQ_MAIL {
-        /// The address of who gets it.
+        /// The address of the recipient.
         address: &'a str,
         /// The subject.
         subject: &'a str,
         /// The text.
         body: &'a str,
     }
-    /// The text, to be encoded by `QrCode::of_text`.
+    /// Returns the text, to be encoded by `QrCode::of_text`.
     fn text
 }
 
-/// A place on the earth, in millionths of a degree north of the equator and east of Greenwich.
+/// A place on the earth.
 #[derive(Clone, Copy, Debug, PartialEq, Eq)]
 pub struct Place {
     /// Millionths of a degree north of the equator.
@@ -454,14 +462,14 @@ pub struct Place {
     pub longitude: i32,
 }
 
-// Millionths of a degree, with a point before them.
+// Returns millionths of a degree as degrees with six decimal places.
 fn degrees(millionths: i32) -> String {
     let (sign, digits) = (if millionths < 0 { "-" } else { "" }, millionths.unsigned_abs());
     format!("{sign}{}.{:06}", digits / 1_000_000, digits % 1_000_000)
 }
 
 impl Place {
-    /// The text, to be encoded by `QrCode::of_text`.
+    /// Returns the text, to be encoded by `QrCode::of_text`.
     pub fn text(&self) -> ContentResult {
         text_of(sys::GOQ_GEO, &[("latitude", &degrees(self.latitude)), ("longitude", &degrees(self.longitude))])
     }
@@ -475,35 +483,36 @@ pub struct Phone<'a> {
 }
 
 impl Phone<'_> {
-    /// The link that calls the number.
+    /// Returns a link that calls the number.
     pub fn tel(&self) -> ContentResult {
         text_of(sys::GOQ_TEL, &[("number", self.number)])
     }
 
-    /// The link that writes to the number.
+    /// Returns a link that writes a text message to the number.
     pub fn sms(&self) -> ContentResult {
         self.message("")
     }
 
-    /// The link that writes this body to the number; an empty one is left out.
+    /// Returns a link that writes a text message with this body to the number. An empty body is
+    /// left out.
     pub fn message(&self, body: &str) -> ContentResult {
         text_of(sys::GOQ_SMS, &[("number", self.number), ("body", body)])
     }
 }
 
-/// What one-time passwords change with.
+/// What makes one-time passwords change.
 #[derive(Clone, Copy, Debug, PartialEq, Eq)]
 pub enum Factor {
-    /// The time; each holds for so many seconds.
+    /// The time: each is valid for this number of seconds.
     Time(u32),
-    /// A counter, which begins here.
+    /// A counter, which begins at this number.
     Counter(u64),
 }
 
 words! {
-    /// The hash of one-time passwords.
+    /// The hash function of one-time passwords.
     Algorithm:
-    /// SHA-1, the usual one.
+    /// SHA-1, the usual function.
     Sha1 = "SHA1",
     /// SHA-256.
     Sha256 = "SHA256",
@@ -520,25 +529,25 @@ words! {
     Eight = "8",
 }
 
-/// One-time passwords of an account.
+/// One-time passwords of an account, for authenticator apps.
 #[derive(Clone, Copy, Debug, PartialEq, Eq)]
 pub struct OneTime<'a> {
-    /// What makes a new password.
+    /// What makes the passwords change.
     pub factor: Factor,
-    /// Who gives the account.
+    /// The provider of the account.
     pub issuer: &'a str,
     /// The name of the account.
     pub account: &'a str,
-    /// In base 32, without `=` at its end.
+    /// The secret in base 32, without `=` at the end.
     pub secret: &'a str,
-    /// The algorithm.
+    /// The hash function.
     pub algorithm: Algorithm,
     /// How long a password is.
     pub digits: Digits,
 }
 
 impl OneTime<'_> {
-    /// The text, to be encoded by `QrCode::of_text`.
+    /// Returns the text, to be encoded by `QrCode::of_text`.
     pub fn text(&self) -> ContentResult {
         let (period, counter) = match self.factor {
             Factor::Time(seconds) => (seconds.to_string(), String::new()),
@@ -550,21 +559,21 @@ impl OneTime<'_> {
     }
 }
 
-/// A day of the calendar.
+/// A date.
 #[derive(Clone, Copy, Debug, PartialEq, Eq)]
 pub struct Day {
     /// The year.
     pub year: u16,
-    /// The month, from 1 on.
+    /// The month, 1 to 12.
     pub month: u8,
-    /// The day.
+    /// The day of the month.
     pub day: u8,
 }
 
-/// A second of a day, in UTC.
+/// A date and time of day, in UTC.
 #[derive(Clone, Copy, Debug, PartialEq, Eq)]
 pub struct Moment {
-    /// The day.
+    /// The date.
     pub day: Day,
     /// The hour.
     pub hour: u8,
@@ -589,31 +598,31 @@ impl Moment {
 /// When an event begins and ends.
 #[derive(Clone, Copy, Debug, PartialEq, Eq)]
 pub enum Span {
-    /// From a day until before another.
+    /// Whole days: the first day, and the day after the last.
     Days(Day, Day),
-    /// From a moment until a later one.
+    /// From one time to a later one.
     Times(Moment, Moment),
 }
 
-/// An event of a calendar. What is empty is left out.
+/// A calendar event. Empty fields are left out.
 #[derive(Clone, Copy, Debug, PartialEq, Eq)]
 pub struct Event<'a> {
     /// An identifier that no other event has, or empty.
     pub uid: &'a str,
-    /// When it was written.
+    /// The time when this was written.
     pub stamp: Option<Moment>,
-    /// From when until when.
+    /// When the event begins and ends.
     pub span: Span,
-    /// What it is.
+    /// What the event is.
     pub summary: &'a str,
-    /// Where it is.
+    /// Where the event is.
     pub location: &'a str,
-    /// More about it.
+    /// More about the event.
     pub description: &'a str,
 }
 
 impl Event<'_> {
-    /// The text, to be encoded by `QrCode::of_text`.
+    /// Returns the text, to be encoded by `QrCode::of_text`.
     pub fn text(&self) -> ContentResult {
         let (begin, end) = match self.span {
             Span::Days(first, end) => (first.text(), end.text()),
@@ -635,7 +644,7 @@ impl Event<'_> {
 }
 
 payload! {
-    /// A payment by UPI, in rupees. What is empty is left out.
+    /// A payment by UPI (India), in rupees. Empty fields are left out.
     ///
     /// ```
     /// use goqlanis::contents::{Cause, ContentError, Upi};
@@ -646,25 +655,25 @@ payload! {
     /// # Ok::<(), ContentError>(())
     /// ```
     Upi of GOQ_UPI {
-        /// An address as name@bank.
+        /// The address of the payee, e.g. name@bank.
         payee: &'a str,
         /// The name of the payee.
         name: &'a str,
-        /// The amount in paise; without one the payer says it.
+        /// The amount in paise; with `None`, the payer enters it.
         cents: Option<u64>,
         /// A note.
         note: &'a str,
-        /// As the number of an order.
+        /// A reference, e.g. an order number.
         reference: &'a str,
         /// The category of a merchant, four digits.
         category: &'a str,
     }
-    /// The text, to be encoded by `QrCode::of_text`.
+    /// Returns the text, to be encoded by `QrCode::of_text`.
     fn text
 }
 
 payload! {
-    /// A static payment by Pix, in reais, of characters of ASCII.
+    /// A static payment by Pix (Brazil), in reais. All fields are ASCII.
     ///
     /// ```
     /// use goqlanis::contents::{Cause, ContentError, Pix};
@@ -675,25 +684,25 @@ payload! {
     /// # Ok::<(), ContentError>(())
     /// ```
     Pix of GOQ_PIX {
-        /// A key.
+        /// The Pix key of the payee.
         payee: &'a str,
         /// The name of the payee, up to 25 bytes of ASCII.
         name: &'a str,
         /// The city, up to 15 bytes of ASCII.
         city: &'a str,
-        /// The amount in centavos; without one the payer says it.
+        /// The amount in centavos; with `None`, the payer enters it.
         cents: Option<u64>,
-        /// Letters and digits (txid).
+        /// A reference (txid) of letters and digits.
         reference: &'a str,
-        /// With the key up to 73 bytes of ASCII.
+        /// A description; together with the key, up to 73 bytes of ASCII.
         description: &'a str,
     }
-    /// The text, to be encoded by `QrCode::of_text`.
+    /// Returns the text, to be encoded by `QrCode::of_text`.
     fn text
 }
 
 payload! {
-    /// A payment by PromptPay, in baht.
+    /// A payment by PromptPay (Thailand), in baht.
     ///
     /// ```
     /// use goqlanis::contents::{Cause, ContentError, PromptPay};
@@ -704,11 +713,11 @@ payload! {
     /// # Ok::<(), ContentError>(())
     /// ```
     PromptPay of GOQ_PROMPTPAY {
-        /// The ten digits of a telephone number, the thirteen of a national or tax ID, or the fifteen of an electronic wallet.
+        /// The 10 digits of a telephone number, 13 of a national or tax ID, or 15 of an e-wallet.
         payee: &'a str,
-        /// The amount in satang; without one the payer says it.
+        /// The amount in satang; with `None`, the payer enters it.
         cents: Option<u64>,
     }
-    /// The text, to be encoded by `QrCode::of_text`.
+    /// Returns the text, to be encoded by `QrCode::of_text`.
     fn text
 }

@@ -1,4 +1,5 @@
-//! QR and Micro QR symbols by a library that is proved correct, under the names of the crate `qrcode`.
+//! Creates and reads QR and Micro QR codes with a library that is proved correct. Names are those
+//! of the crate `qrcode`.
 //!
 //! ```
 //! use goqlanis::{render::svg, EcLevel, QrCode, Version};
@@ -16,7 +17,7 @@
 use goqlanis_sys as sys;
 use std::ops::{Index, Not};
 
-// What the values of an error say.
+// The messages of an error type.
 macro_rules! says {
     ($name:ident: $($value:pat => $($said:expr),+;)+) => {
         impl std::fmt::Display for $name {
@@ -42,20 +43,20 @@ pub mod several;
 pub use checking::{check, check_square, Check};
 pub use reading::{read, read_any, read_picture, read_text, Code, Part, Position, Reading, Unread};
 
-/// Why no symbol is made.
+/// Why a symbol cannot be made.
 #[derive(Clone, Copy, Debug, PartialEq, Eq)]
 pub enum QrError {
-    /// No symbol of the asked kind holds the data, or it is more than 1,048,576 bytes.
+    /// No symbol of the requested kind holds the data, or there are more than 1,048,576 bytes.
     DataTooLong,
-    /// There is no such version, or it lacks the level or the mask.
+    /// There is no such version, or it does not have the level or the mask.
     InvalidVersion,
-    /// The data needs a mode that the version lacks.
+    /// The data needs a mode that the version does not have.
     UnsupportedCharacterSet,
-    /// A character set has no number above 999,999.
+    /// The number of a character set is above 999,999.
     InvalidEciDesignator,
     /// The mode of a segment lacks one of its bytes, or a text is not UTF-8.
     InvalidCharacter,
-    /// Memory was refused.
+    /// Memory ran out.
     OutOfMemory,
 }
 
@@ -63,17 +64,17 @@ says! { QrError:
     QrError::DataTooLong => "data too long: take a larger version, a lower level, or several symbols";
     QrError::InvalidVersion => "invalid version: take one that has the level and the mask";
     QrError::UnsupportedCharacterSet =>
-        "unsupported character set: Normal versions, and Micro 3 and 4, write any bytes";
+        "unsupported character set: Normal versions, and Micro 3 and 4, hold any bytes";
     QrError::InvalidEciDesignator => "invalid ECI designator: take one below 1,000,000";
     QrError::InvalidCharacter =>
         "invalid character: the mode of a segment lacks it, or a text is not UTF-8";
     QrError::OutOfMemory => "out of memory";
 }
 
-/// What a request for a symbol gives.
+/// The result of making a symbol.
 pub type QrResult<T> = Result<T, QrError>;
 
-// What an answer to a request for a symbol means.
+// Returns the error that an answer of the library stands for.
 fn accepted(answer: u32) -> QrResult<()> {
     match answer {
         sys::GOQ_OK => Ok(()),
@@ -88,17 +89,17 @@ fn accepted(answer: u32) -> QrResult<()> {
     }
 }
 
-/// A version: `Normal` 1 to 40, `Micro` 1 to 4.
+/// A version of QR (`Normal`) or Micro QR (`Micro`).
 #[derive(Clone, Copy, Debug, PartialEq, Eq, Hash)]
 pub enum Version {
-    /// 1 to 40.
+    /// A QR version, 1 to 40.
     Normal(i16),
-    /// 1 to 4.
+    /// A Micro QR version, 1 to 4.
     Micro(i16),
 }
 
 impl Version {
-    // The library's number; 0 for a version that is none.
+    // Returns the library's number, or 0 if there is no such version.
     fn number(self) -> u32 {
         match self {
             Version::Normal(number @ 1..=40) => number as u32,
@@ -115,12 +116,12 @@ impl Version {
         }
     }
 
-    /// Whether it is one of Micro QR.
+    /// Returns `true` for a version of Micro QR.
     pub fn is_micro(self) -> bool {
         matches!(self, Version::Micro(_))
     }
 
-    /// The least Normal version that holds segments, one behind the other, at a level.
+    /// Returns the smallest Normal version that holds `segments`, one after another, at a level.
     ///
     /// ```
     /// use goqlanis::{EcLevel, Segment, Version};
@@ -135,7 +136,7 @@ impl Version {
         Ok(Version::named(version))
     }
 
-    /// The modules along a side; 0 for a version that is none.
+    /// Returns the number of modules per side, or 0 if there is no such version.
     pub fn width(self) -> i16 {
         unsafe { sys::goq_width(self.number()) as i16 }
     }
@@ -144,13 +145,13 @@ impl Version {
 /// An error correction level.
 #[derive(Clone, Copy, Debug, PartialEq, Eq, PartialOrd, Ord, Hash)]
 pub enum EcLevel {
-    /// Corrects some 7 % of the codewords.
+    /// Corrects about 7 % of the codewords.
     L,
-    /// Corrects some 15 %.
+    /// Corrects about 15 % of the codewords.
     M,
-    /// Corrects some 25 %.
+    /// Corrects about 25 % of the codewords.
     Q,
-    /// Corrects some 30 %.
+    /// Corrects about 30 % of the codewords.
     H,
 }
 
@@ -160,7 +161,7 @@ impl EcLevel {
     }
 }
 
-/// A segment: bytes in a mode, or a header for what stands after it. Without bytes it is left out.
+/// A segment: bytes in a mode, or a header for what follows. A mode without bytes is left out.
 #[derive(Clone, Copy, Debug, PartialEq, Eq)]
 pub enum Segment<'a> {
     /// Digits.
@@ -171,11 +172,11 @@ pub enum Segment<'a> {
     Byte(&'a [u8]),
     /// Pairs of bytes of Shift JIS.
     Kanji(&'a [u8]),
-    /// The number of the character set of what follows, below 1,000,000.
+    /// A header: the number of the character set of what follows, below 1,000,000.
     Eci(u32),
-    /// FNC1 in the first position, as GS1 wants it.
+    /// A header: FNC1 in the first position, for GS1.
     Fnc1First,
-    /// FNC1 in the second position, with the indicator of the application.
+    /// A header: FNC1 in the second position, with the indicator of the application.
     Fnc1Second(u8),
 }
 
@@ -194,31 +195,33 @@ impl Segment<'_> {
     }
 }
 
-/// How the data of a symbol is written.
+/// How the data of a symbol is encoded.
 #[derive(Clone, Copy, Debug, PartialEq, Eq)]
 pub enum Writing {
-    /// As `QrCode::new` writes it.
+    /// As bytes, like `QrCode::new`.
     Bytes,
-    /// As `QrCode::of_text` does: it has to be UTF-8.
+    /// As text, like `QrCode::of_text`: the data must be UTF-8.
     Text,
-    /// As `QrCode::of_marked_text` does.
+    /// As text that is marked as UTF-8, like `QrCode::of_marked_text`.
     MarkedText,
 }
 
-/// What is asked of a symbol.
+/// Options for `QrCode::with_options` and `QrCode::of_gs1`.
 #[derive(Clone, Copy, Debug)]
 pub struct Options {
     /// The error correction level.
     pub ec_level: EcLevel,
-    /// How the data is written.
+    /// How the data is encoded.
     pub writing: Writing,
-    /// The version, or none for the least that holds the data.
+    /// The version, or `None` for the smallest that holds the data.
     pub version: Option<Version>,
-    /// The first that is tried then, where Micro comes before Normal.
+    /// The smallest version to try if `version` is `None`. Micro comes before Normal.
     pub least_version: Version,
-    /// Whether the level is the highest, from `ec_level` on, at which that version holds the data.
+    /// If `version` is `None`: whether to use the highest level, from `ec_level` on, that fits in
+    /// the version.
     pub boost: bool,
-    /// The number of the mask, 0 to 7, of Micro 0 to 3, or none for the one of least penalty.
+    /// The number of the mask, 0 to 7 (Micro: 0 to 3), or `None` for the one with the lowest
+    /// penalty.
     pub mask: Option<u32>,
 }
 
@@ -259,14 +262,14 @@ impl Options {
 /// The colour of a module.
 #[derive(Clone, Copy, Debug, PartialEq, Eq, PartialOrd, Ord, Hash)]
 pub enum Color {
-    /// A light one.
+    /// A light module.
     Light,
-    /// A dark one.
+    /// A dark module.
     Dark,
 }
 
 impl Color {
-    /// The first for a dark module, and the second for a light one.
+    /// Returns `dark` for a dark module and `light` for a light one.
     pub fn select<T>(self, dark: T, light: T) -> T {
         match self {
             Color::Dark => dark,
@@ -283,12 +286,12 @@ impl Not for Color {
     }
 }
 
-/// The types of symbols, as the crate `qrcode` has them.
+/// The types of this crate under the path of the crate `qrcode`.
 pub mod types {
     pub use crate::{Color, EcLevel, QrError, QrResult, Version};
 }
 
-/// A symbol.
+/// A QR or Micro QR symbol.
 #[derive(Clone, Debug, PartialEq, Eq, Hash)]
 pub struct QrCode {
     modules: Vec<u8>,
@@ -298,7 +301,7 @@ pub struct QrCode {
     logo: Option<logos::Logo>,
 }
 
-// The symbol that a call of the library makes of what it is given.
+// Makes a symbol by a call of the library with these arguments.
 macro_rules! made {
     ($call:ident($($given:expr),+)) => {
         Self::made(|modules, known| unsafe {
@@ -308,34 +311,36 @@ macro_rules! made {
 }
 
 impl QrCode {
-    /// The symbol of bytes at level `M`, of the least Normal version that holds them.
+    /// Encodes `data` at level `M`, in the smallest Normal version that holds it.
     pub fn new<D: AsRef<[u8]>>(data: D) -> QrResult<Self> {
         Self::with_error_correction_level(data, EcLevel::M)
     }
 
-    /// The symbol of bytes at a level, of the least Normal version that holds them.
+    /// Encodes `data` at a level, in the smallest Normal version that holds it.
     pub fn with_error_correction_level<D: AsRef<[u8]>>(data: D, ec_level: EcLevel) -> QrResult<Self> {
         let data = data.as_ref();
         made!(goq_encode(data.as_ptr(), data.len(), ec_level as u32))
     }
 
-    /// The symbol of bytes, of a version and level.
+    /// Encodes `data` in a version and level.
     pub fn with_version<D: AsRef<[u8]>>(data: D, version: Version, ec_level: EcLevel) -> QrResult<Self> {
         let data = data.as_ref();
         made!(goq_encode_in(data.as_ptr(), data.len(), version.number(), ec_level as u32))
     }
 
-    /// The symbol of a text at a level, of the least Normal version that holds it. Readers show the text, where they take bytes for UTF-8.
+    /// Encodes text at a level, in the smallest Normal version that holds it.
+    ///
+    /// Readers show the text if they take bytes for UTF-8; see `of_marked_text` for others.
     pub fn of_text(text: &str, ec_level: EcLevel) -> QrResult<Self> {
         made!(goq_encode_text(text.as_ptr(), text.len(), ec_level as u32))
     }
 
-    /// The same with the number 26 of UTF-8 (ECI) in front, for readers that guess.
+    /// Encodes text as `of_text` does, marked as UTF-8 (ECI 26), for readers that guess.
     pub fn of_marked_text(text: &str, ec_level: EcLevel) -> QrResult<Self> {
         made!(goq_encode_marked_text(text.as_ptr(), text.len(), ec_level as u32))
     }
 
-    /// The symbol of segments, one behind the other, of a version and level.
+    /// Encodes `segments`, one after another, in a version and level.
     ///
     /// ```
     /// use goqlanis::{EcLevel, QrCode, Segment, Version};
@@ -351,12 +356,13 @@ impl QrCode {
         made!(goq_encode_segments(given.as_ptr(), given.len(), version, level))
     }
 
-    /// The symbol of segments, one behind the other, at a level, of the least Normal version that holds them.
+    /// Encodes `segments`, one after another, at a level, in the smallest Normal version that holds
+    /// them.
     pub fn of_segments(segments: &[Segment<'_>], ec_level: EcLevel) -> QrResult<Self> {
         Self::with_segments(segments, Version::least_of_segments(segments, ec_level)?, ec_level)
     }
 
-    /// The symbol of data that options ask for.
+    /// Encodes `data` as the options say.
     ///
     /// ```
     /// use goqlanis::{EcLevel, Options, QrCode, Version};
@@ -371,8 +377,10 @@ impl QrCode {
         made!(goq_encode_with(data.as_ptr(), data.len(), &given))
     }
 
-    /// The symbol of elements of GS1 in segments of the fewest bits; writing and boost are not looked
-    /// at. An element that is wrong is a `ContentError`, and what else is refused a `QrError`.
+    /// Encodes GS1 elements (application identifiers and values) in segments with the fewest bits.
+    ///
+    /// The options `writing` and `boost` are ignored. A wrong element gives a `ContentError`,
+    /// anything else a `QrError`.
     ///
     /// ```
     /// use goqlanis::{Options, QrCode, Version};
@@ -402,7 +410,11 @@ impl QrCode {
         }
     }
 
-    /// The number of the mask, 0 to 7, in Micro 0 to 3.
+    /// Returns the number of the mask: 0 to 7, for Micro 0 to 3.
+    ///
+    /// # Panics
+    ///
+    /// Panics if memory runs out.
     pub fn mask(&self) -> u32 {
         let mut mask = 0;
         let (modules, length) = (self.modules.as_ptr(), self.modules.len());
@@ -424,53 +436,58 @@ impl QrCode {
         QrCode { modules, version, ec_level, width: known.width as usize, logo: None }
     }
 
-    /// The version.
+    /// Returns the version.
     pub fn version(&self) -> Version {
         self.version
     }
 
-    /// The error correction level.
+    /// Returns the error correction level.
     pub fn error_correction_level(&self) -> EcLevel {
         self.ec_level
     }
 
-    /// The modules along a side, without a quiet zone.
+    /// Returns the number of modules per side, without the quiet zone.
     pub fn width(&self) -> usize {
         self.width
     }
 
-    /// Whether a module belongs to a pattern or to the format word; `false` outside the symbol.
+    /// Returns whether a module belongs to a pattern or to the format information; `false` outside
+    /// the symbol.
     pub fn is_functional(&self, x: usize, y: usize) -> bool {
         let is_inside = x < self.width && y < self.width;
         is_inside && unsafe { sys::goq_is_functional(self.version.number(), x as u32, y as u32) }
     }
 
-    /// Whether each module is dark, row by row.
+    /// Returns the modules row by row, `true` for a dark module.
     pub fn to_vec(&self) -> Vec<bool> {
         self.modules.iter().map(|module| *module != 0).collect()
     }
 
-    /// Whether each module is dark, row by row.
+    /// Returns the modules row by row, `true` for a dark module.
     pub fn into_vec(self) -> Vec<bool> {
         self.to_vec()
     }
 
-    /// The colour of each module, row by row.
+    /// Returns the colours of the modules, row by row.
     pub fn to_colors(&self) -> Vec<Color> {
         self.modules.iter().map(|module| if *module != 0 { Color::Dark } else { Color::Light }).collect()
     }
 
-    /// The colour of each module, row by row.
+    /// Returns the colours of the modules, row by row.
     pub fn into_colors(self) -> Vec<Color> {
         self.to_colors()
     }
 
-    /// The modules as lines of characters, without a quiet zone.
+    /// Returns the modules as lines of characters, without a quiet zone.
+    ///
+    /// # Panics
+    ///
+    /// Panics if memory runs out.
     pub fn to_debug_str(&self, on_char: char, off_char: char) -> String {
         self.render().quiet_zone(false).dark_color(on_char).light_color(off_char).build()
     }
 
-    /// A renderer, with a quiet zone of four modules, or of two for Micro.
+    /// Returns a renderer, with a quiet zone of four modules, for Micro two.
     pub fn render<P: render::Pixel>(&self) -> render::Renderer<'_, P> {
         render::Renderer::new(self, if self.version.is_micro() { 2 } else { 4 })
     }

@@ -3,17 +3,16 @@ use crate::areas::{Excess, Rectangle, Wish};
 use crate::QrCode;
 use std::iter;
 
-/// Where a logo stands.
+/// The area and margin of a logo.
 #[derive(Clone, Copy, Debug, PartialEq, Eq)]
 pub struct LogoOptions {
-    /// Its area, or none for the largest one in the middle of its ratio.
+    /// The area, or `None` for the largest one in the middle with the ratio of the logo.
     pub area: Option<Rectangle>,
-    /// The light modules on each side of it, where there is room.
+    /// The light modules on each side of the logo, if there is room.
     pub margin: usize,
-    /// Without an area, how many more codewords of each block may be lost beside it; none for half of
-    /// them.
+    /// If `area` is `None`: as in `Wish`.
     pub reserve: Option<u32>,
-    /// Without an area, whether it leaves alignment patterns alone, as all others.
+    /// If `area` is `None`: as in `Wish`.
     pub keep_alignment: bool,
 }
 
@@ -23,17 +22,17 @@ impl Default for LogoOptions {
     }
 }
 
-/// Why a symbol gets no logo.
+/// Why a symbol cannot get a logo.
 #[derive(Clone, Copy, Debug, PartialEq, Eq)]
 pub enum LogoError {
-    /// It is neither an SVG file with a `viewBox`, or a width and a height, nor a PNG file.
+    /// The logo is neither an SVG file with a `viewBox` or a width and a height, nor a PNG file.
     NoSides,
-    /// The area may not show anything.
+    /// The area may not show anything, or there is no such area.
     Area(Excess),
 }
 
 says! { LogoError:
-    LogoError::NoSides => "a logo is a PNG file, or SVG with a viewBox, or a width and a height";
+    LogoError::NoSides => "a logo is a PNG file, or SVG with a viewBox or a width and a height";
     LogoError::Area(excess) => "{excess}";
 }
 
@@ -43,7 +42,7 @@ impl From<Excess> for LogoError {
     }
 }
 
-// A picture in an area of a symbol, as the address of its data.
+// A picture in an area of a symbol, as a data URI.
 #[derive(Clone, Debug, PartialEq, Eq, Hash)]
 pub(crate) struct Logo {
     area: [usize; 4],
@@ -51,7 +50,8 @@ pub(crate) struct Logo {
 }
 
 impl Logo {
-    // An SVG text with so many modules of quiet zone, of so many units each, and the picture in it.
+    // Returns an SVG file with the picture added. Its quiet zone has `zone` modules, and a module
+    // has `unit` units.
     pub(crate) fn over(&self, svg: &str, zone: usize, unit: usize) -> String {
         let [left, top, width, height] = self.area;
         let (x, y) = (unit * (zone + left), unit * (zone + top));
@@ -62,9 +62,10 @@ impl Logo {
 }
 
 impl QrCode {
-    /// The symbol with a logo, which is the bytes of an SVG or a PNG file, in an area, by itself the
-    /// largest one of its ratio. SVG shows it, with a margin of light modules; other formats leave the
-    /// area light.
+    /// Returns the symbol with a logo: the bytes of an SVG or PNG file.
+    ///
+    /// Without an area in the options, the logo gets the largest one in the middle with its ratio.
+    /// Only SVG shows the logo, with a margin of light modules; other formats leave the area light.
     ///
     /// ```
     /// use goqlanis::{logos::LogoOptions, read, render::svg, EcLevel, QrCode};
@@ -96,7 +97,7 @@ fn is_png(logo: &[u8]) -> bool {
     logo.starts_with(b"\x89PNG") && logo.len() > 24
 }
 
-// The width and height of a picture in a ratio of numbers of which the smaller is at most 100.
+// Returns the ratio of the width and height of a picture; the smaller number is at most 100.
 fn ratio_of(logo: &[u8]) -> Option<(u32, u32)> {
     let side = |at: usize| f64::from(u32::from_be_bytes([logo[at], logo[at + 1], logo[at + 2], logo[at + 3]]));
     let (width, height) = if is_png(logo) { (side(16), side(20)) } else { sides(std::str::from_utf8(logo).ok()?)? };
@@ -111,7 +112,7 @@ fn ratio_of(logo: &[u8]) -> Option<(u32, u32)> {
     })
 }
 
-// The fraction next to a number whose denominator is at most 100.
+// Returns the nearest fraction whose denominator is at most 100.
 fn near(ratio: f64) -> (u32, u32) {
     let fraction = |down: u32| ((ratio * f64::from(down)).round(), down);
     let distance = |it: &(f64, u32)| (it.0 / f64::from(it.1) - ratio).abs();
@@ -120,7 +121,7 @@ fn near(ratio: f64) -> (u32, u32) {
     (across as u32, down)
 }
 
-// The width and height of an SVG file, whose comments are left out.
+// Returns the width and height of an SVG file; comments are skipped.
 fn sides(text: &str) -> Option<(f64, f64)> {
     let (first, rest) = text.split_once("<!--").unwrap_or((text, ""));
     let behind = rest.split("<!--").filter_map(|it| it.split_once("-->"));
@@ -135,7 +136,7 @@ fn sides(text: &str) -> Option<(f64, f64)> {
     }
 }
 
-// The value of an attribute in the head of an element.
+// Returns the value of an attribute in the start tag of an element.
 fn attribute<'a>(head: &'a str, name: &str) -> Option<&'a str> {
     head.match_indices(name).find_map(|(at, _)| {
         let behind = head[at + name.len()..].trim_start().strip_prefix('=')?.trim_start();
@@ -145,13 +146,13 @@ fn attribute<'a>(head: &'a str, name: &str) -> Option<&'a str> {
     })
 }
 
-// The number with which a text begins.
+// Returns the number at the beginning of a text.
 fn number(text: &str) -> Option<f64> {
     let end = text.find(|it: char| !it.is_ascii_digit() && it != '.').unwrap_or(text.len());
     text[..end].parse().ok()
 }
 
-// Bytes in the alphabet of base 64.
+// Returns bytes in base 64.
 fn base64(bytes: &[u8]) -> String {
     const ALPHABET: &[u8; 64] = b"ABCDEFGHIJKLMNOPQRSTUVWXYZabcdefghijklmnopqrstuvwxyz0123456789+/";
     let mut text = String::new();

@@ -1,32 +1,32 @@
-//! Squares of modules and pictures read back.
+//! Reads squares of modules, and pictures.
 use crate::{Color, EcLevel, Version};
 use goqlanis_sys as sys;
 use std::fmt;
 
-/// Why a square is not read.
+/// Why a square or a picture cannot be read.
 #[derive(Clone, Copy, Debug, PartialEq, Eq)]
 pub enum Unread {
-    /// No version has so many modules.
+    /// No version has this many modules.
     NoSuchSide,
-    /// No level and mask are within three bits of each copy of the format word.
+    /// No level and mask have format information within three bits of each copy.
     NoFormat,
     /// A block has too many wrong codewords.
     Damaged,
-    /// The data bits are not segments and an end, as where a header stands in front.
+    /// The data bits are not segments and a terminator, e.g. because they begin with a header.
     NotSpelled,
-    /// The data bits are not a text that readers show.
+    /// The data bits are not text that readers show.
     NotShown,
-    /// The square is read in none of the sixteen positions.
+    /// The square cannot be read in any of the sixteen positions.
     NotRead,
-    /// It is no PNG, PBM or PGM file and no half blocks.
+    /// The picture is not a PNG, PBM or PGM file, nor half blocks.
     NotPicture,
-    /// The picture is cut off, damaged, interlaced or too wide.
+    /// The picture is truncated, damaged, interlaced or too wide.
     BrokenPicture,
     /// The picture shows no code.
     NoSquare,
     /// The picture is more than 67,108,864 bytes.
     LargePicture,
-    /// Memory was refused.
+    /// Memory ran out.
     OutOfMemory,
 }
 
@@ -53,22 +53,22 @@ impl fmt::Display for Unread {
 
 impl std::error::Error for Unread {}
 
-/// What is read of a square.
+/// A decoded square.
 #[derive(Clone, Debug, PartialEq, Eq)]
 pub struct Reading {
-    /// The bytes of its segments.
+    /// The bytes of the segments.
     pub data: Vec<u8>,
     /// The version.
     pub version: Version,
     /// The error correction level.
     pub ec_level: EcLevel,
-    /// The number of the mask, 0 to 7, in Micro 0 to 3.
+    /// The number of the mask: 0 to 7, for Micro 0 to 3.
     pub mask: u32,
-    /// How many codewords were wrong.
+    /// How many codewords were wrong and corrected.
     pub wrong: usize,
 }
 
-/// The bytes of a square of modules, row by row from the top left corner, without a quiet zone.
+/// Decodes a square of modules, row by row from the top left corner, without a quiet zone.
 ///
 /// ```
 /// use goqlanis::{read, Color, QrCode};
@@ -85,7 +85,8 @@ pub fn read(colors: &[Color]) -> Result<Reading, Unread> {
     .map(|(data, known)| Reading::named(data, known))
 }
 
-/// The same of a square in any position, in the first of the sixteen in which it is read.
+/// Decodes a square that may be rotated, mirrored or inverted, in the first of the sixteen
+/// positions in which it can be read.
 ///
 /// ```
 /// use goqlanis::{read_any, Color, Position, QrCode};
@@ -103,7 +104,8 @@ pub fn read_any(colors: &[Color]) -> Result<(Reading, Position), Unread> {
     .map(|(data, known)| (Reading::named(data, known.reading), Position(known.position)))
 }
 
-/// The text that readers show of a square: that of a symbol of a text, marked or not.
+/// Returns the text that readers show for a square, e.g. of a symbol by `QrCode::of_text` or
+/// `QrCode::of_marked_text`.
 ///
 /// ```
 /// use goqlanis::{read_text, EcLevel, QrCode};
@@ -122,13 +124,13 @@ pub fn read_text(colors: &[Color]) -> Result<String, Unread> {
     })
 }
 
-/// A header or a segment of a code. Of a segment it says how many bytes it has.
+/// A header or a segment of a code. For a segment, the number is how many bytes it has.
 #[derive(Clone, Copy, Debug, PartialEq, Eq)]
 pub enum Part {
     /// Digits.
     Numeric(usize),
-    /// Digits, capitals, the space and `$%*+-./:`. Behind FNC1 two percent signs are one byte of the
-    /// data.
+    /// Digits, capitals, the space and `$%*+-./:`. After FNC1, two percent signs are one byte of
+    /// the data.
     Alphanumeric(usize),
     /// Any bytes.
     Byte(usize),
@@ -136,18 +138,18 @@ pub enum Part {
     Kanji(usize),
     /// The number of the character set of what follows.
     Eci(u32),
-    /// FNC1 in the first position, as GS1 wants it.
+    /// FNC1 in the first position, for GS1.
     Fnc1First,
     /// FNC1 in the second position, with the indicator of the application: two digits as their
-    /// number, a letter as its code and 100.
+    /// number, a letter as its code plus 100.
     Fnc1Second(u8),
-    /// The symbol is one of several.
+    /// The symbol is one of several (structured append).
     OneOfSeveral {
-        /// Which it is, from 0 on.
+        /// Which symbol it is, counted from 0.
         place: u32,
-        /// How many they are.
+        /// How many symbols there are.
         symbols: u32,
-        /// The parity of the data of all.
+        /// The parity of the data of all symbols.
         parity: u8,
     },
 }
@@ -171,20 +173,21 @@ impl Part {
     }
 }
 
-/// A code that a picture shows.
+/// A code in a picture.
 #[derive(Clone, Debug, PartialEq, Eq)]
 pub struct Code {
-    /// What it says.
+    /// The decoded data, version, level and mask.
     pub reading: Reading,
-    /// How it stands in the picture.
+    /// The position of the code in the picture.
     pub position: Position,
     /// Its headers and segments in order.
     pub parts: Vec<Part>,
 }
 
-/// The codes of a picture, which is a PNG, PBM or PGM file or half blocks: the one in an even margin,
-/// or those between finder patterns, from the top down, and from the left where they stand side by
-/// side.
+/// Returns the codes in a picture, which is a PNG, PBM or PGM file or half blocks.
+///
+/// These are the one in an even margin, or those between finder patterns, from top to bottom, and
+/// from left to right if they are side by side.
 ///
 /// ```
 /// use goqlanis::{read_picture, render::png, Part, QrCode};
@@ -218,7 +221,7 @@ pub fn read_picture(picture: &[u8]) -> Result<Vec<Code>, Unread> {
     }
 }
 
-// Codes, whose parts and bytes stand one behind the other.
+// Returns codes, whose parts and bytes follow one another.
 fn codes_of(codes: &[sys::goq_code], parts: &[sys::goq_part], bytes: &[u8]) -> Vec<Code> {
     let (mut parts, mut bytes) = (parts, bytes);
     let mut of = |code: &sys::goq_code| {
@@ -234,9 +237,11 @@ fn codes_of(codes: &[sys::goq_code], parts: &[sys::goq_part], bytes: &[u8]) -> V
     codes.iter().map(&mut of).collect()
 }
 
-/// How a symbol stands in a square: by a quarter rotated to the left so many times, up to 3; 4 with
-/// left and right, 5 with top and bottom, 6 with columns and rows exchanged, 7 with these from the
-/// other corner; and 8 more where dark and light are exchanged. `Display` says it in words.
+/// The position of a symbol in a square; `Display` gives it in words.
+///
+/// 0 to 3 are quarter turns to the left; 4 is mirrored (left and right swapped), 5 flipped (top and
+/// bottom swapped), 6 transposed (columns and rows swapped), and 7 the same along the other
+/// diagonal. 8 is added if dark and light are swapped.
 #[derive(Clone, Copy, Debug, PartialEq, Eq)]
 pub struct Position(pub u32);
 
@@ -266,7 +271,7 @@ impl Reading {
     }
 }
 
-// What a call reads of a square: a buffer that begins with the bytes, and what is known beside them.
+// Reads a square by a call: returns a buffer that begins with the bytes, and what else is known.
 fn read_by<T: Default>(
     colors: &[Color],
     call: impl FnOnce(&[u8], &mut [u8], &mut T) -> u32,
@@ -279,12 +284,12 @@ fn read_by<T: Default>(
     }
 }
 
-// Modules as the library takes them.
+// Returns modules as the library takes them.
 pub(crate) fn modules(colors: &[Color]) -> Vec<u8> {
     colors.iter().map(|color| u8::from(*color == Color::Dark)).collect()
 }
 
-// What an answer other than success means.
+// Returns the error that an answer other than success stands for.
 pub(crate) fn unread(answer: u32) -> Unread {
     CAUSES.iter().find(|row| row.0 == answer).map_or(Unread::OutOfMemory, |row| row.1)
 }

@@ -1,4 +1,5 @@
-//! Pictures of a symbol: characters, half blocks, SVG, PIC, EPS, PNG, PBM, PGM, rows of grey pixels and more, drawn by the library.
+//! Draws symbols: characters, half blocks, SVG, PIC, EPS, PNG, PBM, PGM, rows of grey pixels and
+//! more.
 use crate::logos::Logo;
 use crate::QrCode;
 use goqlanis_sys as sys;
@@ -7,12 +8,14 @@ mod sealed {
     pub trait Sealed {}
 }
 
-/// Why a picture is not drawn.
+/// Why a picture cannot be drawn.
 #[derive(Clone, Copy, Debug, PartialEq, Eq)]
 pub enum RenderError {
-    /// A PNG file would have more than 65,535 pixels a side, rows of pixels and of dots more than 16,384, half blocks and characters more than 4,096, or any picture more than 65,535 modules a side.
+    /// A PNG file would have more than 65,535 pixels per side, rows of pixels or dots more than
+    /// 16,384, half blocks or characters more than 4,096, or any picture more than 65,535 modules
+    /// per side.
     TooLarge,
-    /// Memory was refused.
+    /// Memory ran out.
     OutOfMemory,
 }
 
@@ -21,9 +24,10 @@ says! { RenderError:
     RenderError::OutOfMemory => "out of memory";
 }
 
-/// What a picture is drawn in: one of the types of this module. A value of it stands for dark or for light modules.
+/// A format of pictures: one of the types of this module. A value is the colour, or whatever the
+/// format has instead, of dark or light modules.
 pub trait Pixel: Copy + sealed::Sealed {
-    /// What a picture is.
+    /// The type of a picture.
     type Image;
 
     #[doc(hidden)]
@@ -36,7 +40,7 @@ pub trait Pixel: Copy + sealed::Sealed {
     fn picture(renderer: &Renderer<'_, Self>) -> Result<Self::Image, RenderError>;
 }
 
-/// Draws a symbol as it is set.
+/// Draws a symbol with its settings; `QrCode::render` makes one.
 #[derive(Clone, Copy, Debug)]
 pub struct Renderer<'a, P> {
     modules: &'a [u8],
@@ -67,13 +71,13 @@ impl<'a, P: Pixel> Renderer<'a, P> {
         }
     }
 
-    /// What stands for dark modules.
+    /// Sets the colour, or the character, of dark modules.
     pub fn dark_color(&mut self, color: P) -> &mut Self {
         self.dark = color;
         self
     }
 
-    /// What stands for light modules and the quiet zone.
+    /// Sets the colour, or the character, of light modules and the quiet zone.
     pub fn light_color(&mut self, color: P) -> &mut Self {
         self.light = color;
         self
@@ -85,58 +89,64 @@ impl<'a, P: Pixel> Renderer<'a, P> {
         self
     }
 
-    /// The pixels of a module across and down, 1 to 65,535.
+    /// Sets the pixels per module, across and down, 1 to 65,535. Other numbers are clamped.
     pub fn module_size(&mut self, size: u32) -> &mut Self {
         self.across = size.clamp(1, 65_535);
         self.down = self.across;
         self
     }
 
-    /// The smallest module size at which the picture has that many pixels across and down. A module is as wide as it is high.
+    /// Sets the smallest module size for which the picture has at least this many pixels across and
+    /// down. A module is as wide as it is high.
     pub fn min_dimensions(&mut self, width: u32, height: u32) -> &mut Self {
         let side = self.side();
         self.module_size((width.max(height).max(1) - 1) / side + 1)
     }
 
-    /// The largest module size at which the picture has no more pixels across and down, but at least 1.
+    /// Sets the largest module size for which the picture has at most this many pixels across and
+    /// down, but at least 1.
     pub fn max_dimensions(&mut self, width: u32, height: u32) -> &mut Self {
         let side = self.side();
         self.module_size(width.min(height) / side)
     }
 
-    // The modules along a side, with the quiet zone.
+    // Returns the number of modules per side, with the quiet zone.
     fn side(&self) -> u32 {
         self.width as u32 + 2 * self.zone
     }
 
-    /// The picture.
+    /// Draws the picture.
     ///
     /// # Panics
     ///
-    /// Where `try_build` gives an error.
+    /// Panics if `try_build` returns an error.
     pub fn build(&self) -> P::Image {
         self.try_build().unwrap_or_else(|error| panic!("{error}"))
     }
 
-    /// The picture, as `build` gives it.
+    /// Draws the picture, as `build` does.
+    ///
+    /// # Panics
+    ///
+    /// Panics if `try_build` returns an error.
     pub fn to_image(&self) -> P::Image {
         self.build()
     }
 
-    /// The picture, or why it is not drawn.
+    /// Draws the picture, or returns an error if it would be too large or memory runs out.
     pub fn try_build(&self) -> Result<P::Image, RenderError> {
         P::picture(self)
     }
 
-    // Refuses a picture that has more pixels along a side than there may be in a format: those of PPM
-    // take 0.8 GB.
+    // Rejects a picture with more pixels per side than the format may have; the largest PPM file
+    // takes 0.8 GB.
     fn check_side(&self, format: u32) -> Result<(), RenderError> {
         let pixels = u64::from(self.side()) * u64::from(self.across.max(self.down));
         let is_too_large = SIDES.iter().any(|row| row.0 == format && u64::from(row.1) < pixels);
         if is_too_large { Err(RenderError::TooLarge) } else { Ok(()) }
     }
 
-    // The bytes of the picture in a format of the library, in these colours.
+    // Draws the picture in a format of the library, in these colours.
     fn drawn(&self, format: u32, dark: u32, light: u32) -> Result<Vec<u8>, RenderError> {
         self.check_side(format)?;
         let drawing = sys::goq_drawing { format, zone: self.zone, scale: self.across, dark, light, dpi: self.dpi, ..sys::GOQ_DRAWING };
@@ -153,12 +163,12 @@ impl<'a, P: Pixel> Renderer<'a, P> {
         Ok(bytes)
     }
 
-    // The same in black on white.
+    // Draws the picture in a format of the library, black on white.
     fn plain(&self, format: u32) -> Result<Vec<u8>, RenderError> {
         self.drawn(format, sys::GOQ_DRAWING.dark, sys::GOQ_DRAWING.light)
     }
 
-    // The same as a text.
+    // Draws the picture in a text format of the library, black on white.
     fn text(&self, format: u32) -> Result<String, RenderError> {
         Ok(String::from_utf8(self.plain(format)?).expect("the library writes UTF-8"))
     }
@@ -172,7 +182,8 @@ fn accepted(answer: u32) -> Result<(), RenderError> {
     }
 }
 
-// How a type is drawn: what a picture is, the pixels of a module, black and white, and the picture.
+// How a type is drawn: the type of a picture, the default pixels per module, the default colours,
+// and the picture.
 macro_rules! pixel {
     (
         $(#[$about:meta])*
@@ -195,7 +206,7 @@ macro_rules! pixel {
     };
 }
 
-// A format whose values have no colours.
+// A format without colours.
 macro_rules! file_format {
     ($about:literal, $module:ident::$type:ident, $image:ty, $size:expr, $number:ident, $drawn:ident) => {
         #[doc = $about]
@@ -211,24 +222,24 @@ macro_rules! file_format {
     };
 }
 
-file_format!("A PIC text.", pic::Color, String, 8, GOQ_PIC, text);
+file_format!("PIC text, for troff.", pic::Color, String, 8, GOQ_PIC, text);
 file_format!("The bytes of a PBM file.", pbm::Bit, Vec<u8>, 8, GOQ_PBM, plain);
 file_format!("The bytes of a PGM file.", pgm::Grey, Vec<u8>, 8, GOQ_PGM, plain);
-file_format!("Rows of pixels, a byte each: 0 for a dark one, 255 for a light one.", grey::Luma, Vec<u8>, 8, GOQ_GREY, plain);
+file_format!("Rows of pixels, a byte each: 0 for a dark pixel, 255 for a light one.", grey::Luma, Vec<u8>, 8, GOQ_GREY, plain);
 
 pub use grey::Luma;
 
-// Black or white.
+// Returns black or white.
 fn grey(is_dark: bool) -> u8 {
     if is_dark { 0 } else { 255 }
 }
 
-// A colour as the library takes it: transparency, red, green and blue.
+// Returns a colour as the library takes it: transparency, red, green and blue.
 fn word(parts: [u8; 4]) -> u32 {
     u32::from_be_bytes(parts)
 }
 
-// A format of red, green and blue, from 0 to 255.
+// A format with colours of red, green and blue, from 0 to 255.
 macro_rules! colour_format {
     ($about:literal, $module:ident, $number:ident) => {
         #[doc = $about]
@@ -259,7 +270,8 @@ file_format!("XBM text.", xbm::Dot, String, 8, GOQ_XBM, text);
 colour_format!("A PPM file, three bytes per pixel.", ppm, GOQ_PPM);
 // Up to here.
 
-// A format of SVG, whose colours are texts, and the units of its view that a module of so many pixels has.
+// An SVG format, whose colours are text, and the units of its view box that a module of this number
+// of pixels has.
 macro_rules! svg_format {
     ($about:literal, $module:ident, $number:ident, $unit:expr) => {
         #[doc = $about]
@@ -282,10 +294,10 @@ macro_rules! svg_format {
     };
 }
 
-svg_format!("A colour of an SVG text, as CSS has it: `svg::Color(\"#800000\")`, `svg::Color(\"navy\")`.", svg, GOQ_SVG, |pixels| pixels);
-svg_format!("A colour of an SVG text of one path, as CSS has it.", svg_path, GOQ_SVG_PATH, |_| 1);
+svg_format!("A CSS colour in an SVG file, e.g. `svg::Color(\"#800000\")` or `svg::Color(\"navy\")`.", svg, GOQ_SVG, |pixels| pixels);
+svg_format!("A CSS colour in an SVG file with one path.", svg_path, GOQ_SVG_PATH, |_| 1);
 
-// A black and white SVG text in other colours.
+// Returns a black and white SVG file in other colours.
 fn filled(text: &str, dark: &str, light: &str) -> String {
     let escaped = |color: &str| color.replace('&', "&amp;").replace('"', "&quot;").replace('<', "&lt;");
     let parts: Vec<&str> = text.split("fill=\"#").collect();
@@ -299,7 +311,7 @@ fn filled(text: &str, dark: &str, light: &str) -> String {
 
 /// Encapsulated PostScript.
 pub mod eps {
-    /// A colour of an Encapsulated PostScript text.
+    /// A colour in an Encapsulated PostScript file.
     #[derive(Clone, Copy, Debug, PartialEq, Eq)]
     pub struct Color {
         /// Red, 0 to 255.
@@ -322,7 +334,7 @@ pixel! { eps::Color: String, 8,
 
 /// PNG files.
 pub mod png {
-    /// Red, green, blue and opacity of a PNG file, each from 0 to 255.
+    /// A colour in a PNG file: red, green, blue and opacity, each from 0 to 255.
     #[derive(Clone, Copy, Debug, PartialEq, Eq)]
     pub struct Color(pub [u8; 4]);
 }
@@ -336,7 +348,7 @@ pixel! { png::Color: Vec<u8>, 8,
 }
 
 impl Renderer<'_, png::Color> {
-    /// The dots per inch that the file names; none where it is 0.
+    /// Sets the dots per inch that the file states; 0 for none.
     pub fn dots_per_inch(&mut self, dpi: u16) -> &mut Self {
         self.dpi = u32::from(dpi);
         self
@@ -345,12 +357,12 @@ impl Renderer<'_, png::Color> {
 
 /// Half blocks.
 pub mod unicode {
-    /// Half blocks, two modules a character: whether there is a block, or none.
+    /// Half blocks, two modules per character: whether a module is a block or a space.
     #[derive(Clone, Copy, Debug, PartialEq, Eq)]
     pub enum Dense1x2 {
         /// A block.
         Dark,
-        /// None.
+        /// A space.
         Light,
     }
 }
@@ -363,7 +375,7 @@ pixel! { unicode::Dense1x2: String, 1,
         match (renderer.dark, renderer.light) {
             (Dark, Light) => renderer.text(sys::GOQ_HALF_BLOCKS),
             (Light, Dark) => renderer.text(sys::GOQ_LIGHT_HALF_BLOCKS),
-            // One thing for all modules, as if all were dark or all light.
+            // The same for all modules, as if all were dark or all light.
             (one, _) => {
                 let side = renderer.side() as usize;
                 let modules = vec![u8::from(one == Dark); side * side];
@@ -374,7 +386,7 @@ pixel! { unicode::Dense1x2: String, 1,
 }
 
 pixel! {
-    /// A character a pixel, and a newline between two rows.
+    /// One character per pixel, with a newline between rows.
     char: String, 1,
     |is_dark| if is_dark { '\u{2588}' } else { ' ' },
     |renderer| {
@@ -389,7 +401,8 @@ pixel! {
 }
 
 impl Renderer<'_, char> {
-    /// The characters of a module across and down, each 1 to 65,535.
+    /// Sets the characters per module, across and down, each 1 to 65,535. Other numbers are
+    /// clamped.
     pub fn module_dimensions(&mut self, width: u32, height: u32) -> &mut Self {
         self.across = width.clamp(1, 65_535);
         self.down = height.clamp(1, 65_535);

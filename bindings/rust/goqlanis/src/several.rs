@@ -1,20 +1,20 @@
-//! Several symbols between which data is parted (structured append), and their data joined again.
+//! Splits data over several symbols (structured append), and joins it again.
 use crate::reading::unread;
 use crate::{accepted, Color, EcLevel, QrCode, QrError, QrResult, Unread, Version};
 use goqlanis_sys as sys;
 
-/// What is asked of symbols between which data is parted.
+/// Options for `encode_several`.
 #[derive(Clone, Copy, Debug)]
 pub struct Several {
     /// The error correction level.
     pub ec_level: EcLevel,
-    /// Whether the data is a text in UTF-8, of which no character is divided.
+    /// Whether the data is UTF-8 text, whose characters are not split.
     pub is_text: bool,
-    /// The versions of Normal that may be taken, from one to another.
+    /// The smallest Normal version to use.
     pub least_version: Version,
-    /// The greatest version.
+    /// The largest Normal version to use.
     pub greatest_version: Version,
-    /// How many symbols, 1 to 16, or `None` for as few as there can be.
+    /// How many symbols, 1 to 16, or `None` for as few as possible.
     pub count: Option<u32>,
 }
 
@@ -38,14 +38,19 @@ impl Several {
             manner: if self.is_text { sys::GOQ_AS_TEXT } else { sys::GOQ_AS_BYTES },
             least_version: self.least_version.number(),
             greatest_version: self.greatest_version.number(),
-            // 0 asks the library for as few as there can be; none hold any data.
+            // 0 would ask the library for as few as possible, but a count of 0 is an error.
             count: self.count.map_or(0, |count| if count == 0 { u32::MAX } else { count }),
         }
     }
 }
 
-/// The symbols between which data is parted, in order; a single one has no header. A count of 0 or
-/// above 16 is refused as `DataTooLong`.
+/// Splits `data` over several symbols, which are returned in order.
+///
+/// A single symbol has no header. Without a `count`, they are as few as possible, in the smallest
+/// version that allows so few; otherwise they have the smallest version that holds the data.
+///
+/// Errors: `DataTooLong` also for a `count` of 0 or above 16, and `InvalidVersion` also for Micro
+/// versions, or if the smallest version is above the largest.
 ///
 /// ```
 /// use goqlanis::several::{encode_several, join, Several};
@@ -73,36 +78,36 @@ pub fn encode_several<D: AsRef<[u8]>>(data: D, several: &Several) -> QrResult<Ve
     Ok(codes.map(|modules| QrCode::named(modules.to_vec(), known)).collect())
 }
 
-/// Why squares are not joined. Places are counted from 0.
+/// Why squares cannot be joined. Places are counted from 0.
 #[derive(Clone, Copy, Debug, PartialEq, Eq)]
 pub enum Unjoined {
-    /// The square at this place is not read.
+    /// The square at this place cannot be read.
     Square(usize, Unread),
-    /// The square at this place has no header of one of several symbols in front.
+    /// The square at this place does not begin with the header of one of several symbols.
     NotSeveral(usize),
-    /// The square at this place is a part of other data than the first.
+    /// The square at this place belongs to other data than the first.
     Stranger(usize),
     /// No square has the part at this place.
     Missing(usize),
     /// More than one square has the part at this place.
     Twice(usize),
-    /// The parts are not those of the data that their headers name.
+    /// The parity of the parts is not the one in their headers.
     Parity,
-    /// Memory was refused.
+    /// Memory ran out.
     OutOfMemory,
 }
 
 says! { Unjoined:
     Unjoined::Square(place, why) => "square {place}: {why}";
-    Unjoined::NotSeveral(place) => "square {place} is none of several symbols";
-    Unjoined::Stranger(place) => "square {place} is a part of other data";
+    Unjoined::NotSeveral(place) => "square {place} is not one of several symbols";
+    Unjoined::Stranger(place) => "square {place} belongs to other data";
     Unjoined::Missing(place) => "part {place} is missing";
     Unjoined::Twice(place) => "part {place} is there twice";
-    Unjoined::Parity => "the parts are not those of the data that they name";
+    Unjoined::Parity => "the parts do not belong together: the parity of their data is wrong";
     Unjoined::OutOfMemory => "out of memory";
 }
 
-/// The data of several symbols, whose squares come in any order, each as `read` takes it.
+/// Joins the data of several symbols, whose squares may be in any order, each as `read` takes it.
 pub fn join<S: AsRef<[Color]>>(squares: &[S]) -> Result<Vec<u8>, Unjoined> {
     let modules: Vec<_> = squares.iter().map(|square| crate::reading::modules(square.as_ref())).collect();
     let given: Vec<_> = modules
