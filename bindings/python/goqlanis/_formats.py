@@ -1,5 +1,5 @@
-"""The formats of files, written by bindings/same: of each ending the number of goqlanis.h,
-whether it is a text, the usual pixels of a module, and whether it has colours."""
+"""The file formats, by file extension; bindings/same writes them: the number in
+goqlanis.h, whether it is text, the default pixels per module, and whether it has colours."""
 FORMATS = {
     "txt": (0, True, 1, False),
     "png": (5, False, 8, True),
@@ -15,6 +15,6 @@ FORMATS = {
     "xbm": (14, True, 8, False),
     "ppm": (15, False, 8, True),
 }
-# The most pixels along a side by these numbers, where there is a limit.
+# The maximum pixels per side, by these numbers, if there is a limit.
 SIDES = {0: 4096, 1: 4096, 4: 16384, 5: 65535, 7: 16384, 9: 16384, 12: 16384, 13: 16384, 14: 16384,
     15: 16384, 16: 4096}

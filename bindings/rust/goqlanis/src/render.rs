@@ -259,7 +259,7 @@ macro_rules! colour_format {
 }
 
 // From goqlanis.h, by bindings/same:
-// The most pixels along a side by the numbers of formats, where there is a limit.
+// The maximum pixels per side, by format number, if there is a limit.
 const SIDES: [(u32, u32); 11] = [(0, 4096), (1, 4096), (4, 16384), (5, 65535), (7, 16384),
     (9, 16384), (12, 16384), (13, 16384), (14, 16384), (15, 16384), (16, 4096)];
 colour_format!("A PDF file of one page, one point per pixel.", pdf, GOQ_PDF);
