@@ -1,8 +1,8 @@
-"""What bench/run and bench/peers count with, over what a green gate left in crates/*/out.
+"""Counts instructions and heap for bench/run and bench/peers, over what a green gate left in
+crates/*/out.
 
-A command is a function that takes a count and gives the words of a command line which makes a thing
-so many times. What one thing costs is the difference of two runs, so that what a run does before
-its first is not counted.
+A command is a function that takes a count and returns a command line that makes something that many
+times. The cost of one is the difference of two runs, so that start-up is not counted.
 """
 import functools
 import os
@@ -27,7 +27,7 @@ KANJI = b"\x93\xfa\x96\x7b\x8c\xea\x93\x5f\xe4\xaa\x93\xfa\x96\x7b\x8c\xea"
 MIXED = b"left at noon: ORDER 7 OF 12, no. 2026112208150042 %s, paid EUR 149.90; " % KANJI * 20
 FORMATS = {"half-blocks": 0, "svg": 2, "pic": 3, "pixels": 4, "png": 5, "eps": 6, "pbm": 7,
            "path": 8}
-# The bytes of the pictures' symbols at level M, by what stands behind the name of the format.
+# The data of the symbols that are drawn, at level M, by the number after the name of the format.
 SYMBOLS = {"1": WORDS[:14], "10": WORDS[:213], "17": WORDS[:504], "40": WORDS[:2331],
            "100": WORDS[:100]}
 CASES = {
@@ -40,7 +40,7 @@ CASES = {
     "mixed-1000": ("symbol", MIXED[:1000], 0, 1),
     "least-mixed-1000": ("least", MIXED[:1000], 0, 1),
 }
-# The symbols that are read: a name, the version, and how many bytes they hold at level M.
+# The symbols that are read: a name, the version, and the number of bytes at level M.
 READ = {"read-1": ("1", 14), "read-10": ("10", 213), "read-40": ("40", 2331)}
 
 
@@ -51,15 +51,15 @@ def exit_if_not_there(*paths):
 
 
 def command_of(folder, kind, data, *numbers):
-    """The command of a call of the library for C (bench/calls.c)."""
+    """Returns the command of a call of the C library (bench/calls.c)."""
     program, file = build_calls(folder), folder / f"{zlib.crc32(data):08x}"
     file.write_bytes(data)
     return lambda count: [program, kind, count, file, *numbers]
 
 
 def case(folder, name, pixels=None):
-    """The command of a case: of a symbol, or of a picture with 8 by 8 pixels a module, 1 in half
-    blocks, or with so many, as in `png-40-at-3`."""
+    """Returns the command of a case: a symbol, or a picture as `png-40` or `png-40-at-3`. A module
+    has 8 by 8 pixels, 1 in half blocks, unless `pixels` or the name says otherwise."""
     if name in CASES:
         return command_of(folder, *CASES[name])
     form, symbol, at = re.fullmatch(r"(\D+)-(\d+)(?:-at-(\d+))?", name).groups()
@@ -68,7 +68,7 @@ def case(folder, name, pixels=None):
 
 
 def valgrind(tool, words, *flags, given=b"", cwd=None):
-    """What a tool of valgrind writes to its file and says of a run, or None if the run fails."""
+    """Runs a command under valgrind; returns the tool's file and messages, or None on failure."""
     with tempfile.NamedTemporaryFile() as out:
         command = ["valgrind", f"--tool={tool}", f"--{tool}-out-file={out.name}", *flags, *words]
         ran = subprocess.run(list(map(str, command)), input=given, capture_output=True, cwd=cwd)
@@ -76,20 +76,20 @@ def valgrind(tool, words, *flags, given=b"", cwd=None):
 
 
 def run_instructions(words, **how):
-    """The instructions of a whole run, or None if it fails."""
+    """Returns the instructions of a whole run, or None if it fails."""
     said = valgrind("callgrind", words, **how)
     return said and int(re.search(r"Collected : (\d+)", said[1])[1])
 
 
 def instructions(command, **how):
-    """The instructions of one thing that a command makes, or None if it is refused."""
+    """Returns the instructions of one thing that a command makes, or None if it fails."""
     with ThreadPoolExecutor() as pool:
         one, three = pool.map(lambda count: run_instructions(command(count), **how), (1, 3))
     return None if one is None or three is None else (three - one) / 2
 
 
 def snapshots(words):
-    """The bytes of heap that a run holds, each with how many it has asked for and given back."""
+    """Returns snapshots of a run's heap: the bytes allocated and freed so far, and those held."""
     flags = ["--time-unit=B", "--peak-inaccuracy=0.0", "--max-snapshots=1000"]
     text, _ = valgrind("massif", words, *flags)
     pairs = re.findall(r"time=(\d+)\nmem_heap_B=(\d+)", text)
@@ -97,20 +97,20 @@ def snapshots(words):
 
 
 def heap(command):
-    """The most heap that one thing takes, beside the most of a run that makes none."""
+    """Returns the most heap that making one thing takes, less the most of a run that makes none."""
     none, one = (max(held for _, held in snapshots(command(count))) for count in (0, 1))
     return one - none
 
 
 def heap_from_then_on(command):
-    """The most heap while one thing is made, beside what the run holds when it begins."""
+    """Returns the most heap while one thing is made, less what the run holds when that begins."""
     none, one = (snapshots(command(count)) for count in (0, 1))
     same = next(at for at, pair in enumerate(one) if pair not in none)
     return max(held for _, held in one[same:]) - one[same - 1][1]
 
 
 def growth(folder):
-    """The instructions of a symbol of each Normal version that bytes fill at level M."""
+    """Returns the instructions of a symbol of each Normal version, filled with bytes at level M."""
     answers = (TOP / "evidence" / "oracle" / "answers").read_text()
     most = re.findall(r"(?m)^most normal (\d+) M: \d+ \d+ (\d+) \d+$", answers)
     return [instructions(command_of(folder, "symbol", WORDS[:int(count)], version, 1))
@@ -118,14 +118,14 @@ def growth(folder):
 
 
 def greatest_step(spent):
-    """How much more a module costs than in the version before, at most, and in which version."""
+    """Returns the largest ratio of a module's cost to that in the version before, and where."""
     each = [it / (4 * version + 17) ** 2 for version, it in enumerate(spent, 1)]
     return max((after / before, v) for v, before, after in zip(range(3, 41), each[1:], each[2:]))
 
 
 @functools.cache
 def build_calls(folder):
-    """Makes the program of bench/calls.c, over the library for C that lies in out/."""
+    """Builds the program of bench/calls.c with the C library in out/."""
     exit_if_not_there(*(CRATES / it / "out" / "rlib" for it in all_below("goqlanis_c")))
     subprocess.run([TOP / "bindings" / "c" / "build", "--proved", folder], check=True)
     words = ["gcc", "-std=c11", "-O2", f"-I{folder}", "-o", folder / "calls", HERE / "calls.c"]
@@ -135,7 +135,7 @@ def build_calls(folder):
 
 @functools.cache
 def squares(folder):
-    """Squares to be read, by name: undamaged, and with all damage that each block bears."""
+    """Returns squares to read by name: undamaged, and with the most damage that is corrected."""
     os.environ["GOQLANIS_LIB"] = str(folder / "libgoqlanis.so.1")
     import goqlanis
     import looks
@@ -152,7 +152,7 @@ def squares(folder):
 
 @functools.cache
 def png_file(folder):
-    """The PNG file of Normal 40, 8 by 8 pixels for each module."""
+    """Returns a PNG file of Normal 40, with 8 by 8 pixels a module."""
     build_calls(folder)
     os.environ["GOQLANIS_LIB"] = str(folder / "libgoqlanis.so.1")
     import goqlanis
@@ -160,7 +160,7 @@ def png_file(folder):
 
 
 def short(number):
-    """A number with three digits, in thousands or millions if it is so large."""
+    """Returns a number with three digits, in thousands (k) or millions (M) if it is large."""
     for unit, name in ((1e6, " M"), (1e3, " k")):
         if number >= unit:
             return f"{number / unit:.{max(3 - len(str(int(number / unit))), 0)}f}{name}"

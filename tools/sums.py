@@ -1,7 +1,8 @@
-"""What scripts share: the crates, how the compiler finds them, and what a green gate proved.
+"""Shared by scripts: the crates, the compiler's command, and what a green gate proved.
 
-A green gate leaves crates/NAME/out/sum: a sum over the sources that it proved, and when it made
-what lies beside it. Who takes a library or a program from out/ knows by it what was proved.
+A green gate leaves crates/NAME/out/sum: a checksum of the sources that it proved, and the times of
+the files that it built next to it. By these a script knows whether a library or program in out/ is
+that of the sources as they are.
 """
 import functools
 import hashlib
@@ -16,27 +17,27 @@ GATE = CRATES / "goqlanis" / "out" / "gate"
 
 @functools.cache
 def kit():
-    """The folder of the kit, from the page that `rt doc` names."""
+    """Returns the folder of the kit, which holds the page that `rt doc` names."""
     ran = subprocess.run(["rt", "doc"], capture_output=True, text=True, check=True)
     return Path(ran.stdout.strip()).parent
 
 
 @functools.cache
 def crates():
-    """Each crate of crates.txt, with the crates and libraries of the kit that it names."""
+    """Returns each crate of crates.txt with the crates and kit libraries that it depends on."""
     lines = (TOP / "crates.txt").read_text().splitlines()
     rows = [line.partition("#")[0].partition(":") for line in lines]
     return {head.split()[0]: below.split() for head, _, below in rows if head.split()}
 
 
 def all_below(name):
-    """All crates that a crate stands on, over any others."""
+    """Returns all crates that a crate depends on, directly or not."""
     near = [each for each in crates()[name] if each in crates()]
     return {it for each in near for it in (each, *all_below(each))}
 
 
 def words_over(name, command, *more):
-    """The compiler's command for a crate, over what lies in out/ of the crates below."""
+    """Returns the compiler's command for a crate, with the libraries in out/ of crates below it."""
     libraries, logic = f"{kit()}/rlibs", f"{kit()}/rattle/logic/antt-project.json"
     words = [kit() / "bin" / "rattle", command, "--crate-name", name, "src/lib.rt"]
     words += ["--extern", f"std={libraries}/std.rlib", "-L", f"dependency={libraries}"]
@@ -50,7 +51,7 @@ def words_over(name, command, *more):
 
 
 def sources(name):
-    """The sum over the sources of a crate, each with its name."""
+    """Returns the checksum of the sources of a crate and of their names."""
     folder, total = CRATES / name, hashlib.sha256()
     paths = [it for part in ("src", "specs", "proofs") for it in (folder / part).rglob("*")]
     for path in sorted(it for it in paths if it.is_file()):
@@ -60,37 +61,37 @@ def sources(name):
 
 
 def made(name):
-    """When the library of a crate and its program were made: what is made anew has another time."""
+    """Returns the times of the library and the program of a crate; a rebuild changes them."""
     files = {"library": f"rlib/{name}.rlib/format", "program": name}
     paths = {kind: CRATES / name / "out" / file for kind, file in files.items()}
     return {kind: path.stat().st_mtime_ns for kind, path in paths.items() if path.exists()}
 
 
 def leave(name, proved):
-    """Leaves the sum over the sources that were proved, unless they changed since."""
+    """Writes the checksum `proved` to out/sum, unless the sources changed since."""
     now = made(name)
     if now and sources(name) == proved:
         (CRATES / name / "out" / "sum").write_text(json.dumps([proved, now]))
 
 
 def is_left(name, kind):
-    """Whether a green gate left the `library` or `program` of a crate, of its sources as they are."""
+    """Whether the `library` or `program` in out/ is one that a green gate left of these sources."""
     path = CRATES / name / "out" / "sum"
     proved, then = json.loads(path.read_text()) if path.exists() else ("", {})
     return kind in then and then[kind] == made(name).get(kind) and proved == sources(name)
 
 
 def are_libraries_left(name):
-    """Whether a green gate left all libraries that a crate stands on."""
+    """Whether a green gate left all libraries that a crate depends on."""
     return all(is_left(each, "library") for each in all_below(name))
 
 
 def program(name):
-    """The program of a crate that a green gate left, or None."""
+    """Returns the path of the program that a green gate left, or None."""
     path = CRATES / name / "out" / name
     return path if is_left(name, "program") and are_libraries_left(name) else None
 
 
 def gate():
-    """What a green gate said at its end, or nothing."""
+    """Returns the last lines of the green gate, or an empty text."""
     return GATE.read_text() if GATE.exists() else ""

@@ -1,4 +1,5 @@
-/* Areas that may show anything: every answer, the first of two causes, and outputs untouched on each refusal. */
+/* Tests areas that may be covered: every answer, the first of two errors, and outputs that stay
+   untouched on each error. */
 #define _GNU_SOURCE
 #include "goqlanis.h"
 #include "looks.h"
@@ -7,7 +8,7 @@ static uint8_t modules[GOQ_MODULES_MAX], before[GOQ_MODULES_MAX], bytes[GOQ_BYTE
 static goq_symbol symbol;
 static size_t place, touched[GOQ_BLOCKS_MAX];
 
-/* The modules of an area are light, dark, or neither; the others are as they were. */
+/* Makes the modules of an area light, dark or mixed; the others stay as they are. */
 static void fill(goq_rectangle r, uint32_t how)
 {
     for (size_t y = r.top; y < r.top + r.height; y++)
@@ -21,7 +22,7 @@ static int is_read(const char *data)
     return !goq_read(modules, symbol.width * symbol.width, bytes, sizeof bytes, &found) && found.length == strlen(data) && !memcmp(bytes, data, found.length);
 }
 
-/* Whatever the largest area of a symbol shows, the symbol is read. */
+/* The symbol is read whatever its largest area shows. */
 static void largest(uint32_t version, uint32_t level)
 {
     const char *data = "01234567";
@@ -52,7 +53,7 @@ static void largest(uint32_t version, uint32_t level)
     }
 }
 
-/* Whether each call answers; of Normal, symbols to the last version. */
+/* Makes each call; symbols of Normal up to version `last`. */
 static void areas(uint32_t last)
 {
     const uint32_t size = sizeof(goq_wish);
@@ -100,7 +101,7 @@ static void areas(uint32_t last)
                 largest(version, level);
 }
 
-/* With any word it looks at small symbols alone: valgrind takes minutes for the others. */
+/* With any argument it tests small symbols only, since valgrind takes minutes for the others. */
 int main(int count, char **words)
 {
     (void)words;

@@ -1,5 +1,5 @@
-/* What goq_content and goq_gs1 answer: a printed example of each format, each cause with the place
-   that is told, and outputs untouched on each refusal. Rows of fields stand in contents.inc. */
+/* Tests goq_content and goq_gs1: a printed example of each format, each error with the place that
+   it names, and outputs that stay untouched on each error. The rows are in contents.inc. */
 #define _GNU_SOURCE
 #include "goqlanis.h"
 #include "looks.h"
@@ -51,7 +51,8 @@ static uint32_t ask(uint32_t kind, const goq_field *fields, size_t fields_length
     return goq_content(kind, fields, fields_length, out, room, &count, &place);
 }
 
-/* The text, in a buffer of just its length and in a large one; a byte less is too small. */
+/* The text fits a buffer of just its length and a large one; a buffer one byte shorter is too
+   small. */
 static void says(uint32_t kind, const goq_field *fields, size_t fields_length, const char *text)
 {
     const size_t length = strlen(text);
@@ -90,8 +91,8 @@ static void without_fields(void)
     refuses(1000, network, 2, GOQ_NO_SUCH_CONTENT, 99, "kind 1000");
 }
 
-/* As many digits as sixteen symbols of 7,089 hold, which are more than the buffer does, and one
-   more; and a payment of more than 331 bytes. */
+/* As many digits as sixteen symbols of 7,089 hold, which is more than the buffer holds, and one
+   digit more; and a payment of more than 331 bytes. */
 static void lengths(void)
 {
     static uint8_t digits[16 * 7089 + 1];
@@ -119,7 +120,7 @@ static uint32_t ask_elements(const goq_element *elements, size_t elements_length
 
 #define ELEMENT(identifier, value) {(identifier), strlen(identifier), (value), strlen(value)}
 
-/* The elements of the GS1 DataMatrix Guideline, and a wrong one of each cause as the second. */
+/* The elements of the GS1 DataMatrix Guideline; then each error, with the wrong element second. */
 static void elements(void)
 {
     const char *text = "010345312000001117191125" "10ABCD1234\x1d" "2110";

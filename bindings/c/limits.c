@@ -1,4 +1,5 @@
-/* Which of two causes is answered; structs that end where memory does; lengths of pictures, and what pictures and squares cost. */
+/* Tests which of two errors is answered, structs that end where memory ends, the lengths of
+   pictures, and the memory that pictures and squares take. */
 #define _GNU_SOURCE
 #include "goqlanis.h"
 #include "looks.h"
@@ -36,7 +37,7 @@ static void orders(void)
     if (size < sizeof(type)) \
         expect(call == GOQ_NO_SUCH_STRUCT, #type);
 
-/* No call reads a struct further than to its size, where that is not its own: here the next page may not be read. */
+/* No call reads a struct beyond the size that it names: the next page cannot be read. */
 static void structs(void)
 {
     const goq_element element = {out, 0, out, 0};
@@ -57,13 +58,14 @@ static void structs(void)
     }
 }
 
-/* Whether a format has characters for pixels, of which there are at most 4,096 a side. */
+/* Whether the pixels of a format are characters, of which a side has at most 4,096. */
 static int is_of_characters(uint32_t format)
 {
     return format <= GOQ_LIGHT_HALF_BLOCKS || format == GOQ_ASCII;
 }
 
-/* At each of these scales a buffer of as many bytes as goq_draw_length says is enough for the largest symbol, and one of a byte less is not. */
+/* At each of these scales a buffer of the length that goq_draw_length returns is enough for the
+   largest symbol, and one a byte shorter is not. */
 static void lengths(void)
 {
     memset(data, 0xa5, 2953);
@@ -85,8 +87,9 @@ static void lengths(void)
         }
 }
 
-/* With no more memory than 300 MB: pictures of 4 GB have a length, and are not drawn into short buffers; a single dark module in half blocks of 4,096 pixels a
-   side has 2,048 lines; and squares of more modules than any symbol has are refused by their number alone. */
+/* With at most 300 MB of memory: pictures of 4 GB have a length, and are not drawn into short
+   buffers; one dark module in half blocks, 4,096 pixels a side, has 2,048 lines; and squares with
+   more modules than any symbol are rejected by their number alone. */
 static void costs(void)
 {
     const struct rlimit most = {300000000, 300000000};

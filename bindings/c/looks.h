@@ -1,5 +1,5 @@
-/* What the tests in C share: looks, of which those that are wrong are printed and counted; and where
-   a struct ends with the memory that may be read. */
+/* Shared by the tests in C: expectations, which are counted and printed if they fail; and memory at
+   whose end a struct can be put. */
 #include <stdint.h>
 #include <stdio.h>
 #include <stdlib.h>
@@ -17,7 +17,7 @@ static inline void expect(int holds, const char *what)
     }
 }
 
-/* The end of a page of zeros, behind which nothing may be read. */
+/* Returns the end of a page of zeros; the page after it cannot be read. */
 static inline uint8_t *end_of_memory(void)
 {
     const size_t page = (size_t)sysconf(_SC_PAGESIZE);

@@ -1,4 +1,5 @@
-/* Calls with options: what each asks for, every answer, outputs untouched on each refusal. */
+/* Tests calls with options: what each option does, every answer, and outputs that stay untouched on
+   each error. */
 #define _GNU_SOURCE
 #include "goqlanis.h"
 #include "looks.h"
@@ -27,8 +28,8 @@ static void makes(const char *data, goq_options options, uint32_t version, uint3
     expect(symbol.width == goq_width(version) && modules[symbol.width * symbol.width] == 7, data);
 }
 
-/* Digits at each level of Normal 1: 17, 27, 34, 41; 5 in Micro 1 at L, 8 in Micro 2 and 18 in
-   Micro 3 at M (ISO/IEC 18004:2006, table 7). */
+/* The most digits in Normal 1 are 41 at L, 34 at M, 27 at Q and 17 at H; 5 in Micro 1 at L, 8 in
+   Micro 2 and 18 in Micro 3 at M (ISO/IEC 18004:2006, table 7). */
 static void choices(void)
 {
     static const char digits[] = "01234567890123456789012345678901234567890";
@@ -70,7 +71,7 @@ static void refusals(void)
         "a module too few");
 }
 
-/* Each mask is the one that its format word names. */
+/* A symbol under a requested mask has that mask in its format word. */
 static void masks(void)
 {
     goq_options o = GOQ_OPTIONS;
@@ -153,7 +154,7 @@ static void positions(void)
     expect(goq_read_any(modules, 440, bytes, 8, &any) == GOQ_NOT_READ, "440 modules");
     expect(bytes[0] == 7 && any.position == 97 && any.reading.length == 98, "untouched");
     for (int i = 0; i < 441; i++)
-        other[i] = !modules[i % 21 * 21 + 20 - i / 21]; /* the row from above is a column */
+        other[i] = !modules[i % 21 * 21 + 20 - i / 21]; /* rows become columns: the square is rotated and inverted */
     expect(goq_read_any(other, 441, bytes, 8, &any) == GOQ_OK, "turned and inverted");
     expect(any.position == GOQ_ROTATED_LEFT + GOQ_INVERTED && any.reading.length == 8, "how");
     expect(!memcmp(bytes, "01234567", 8) && any.reading.level == GOQ_M, "what it is");
@@ -173,7 +174,8 @@ static void positions(void)
 
 #define WORD(text) (text), sizeof(text) - 1
 
-/* 24 digits, "10ABCD" and the mark take 98 + 46 + 4 bits at least, and Normal 1 has 152 at L. */
+/* 24 digits, "10ABCD" and the FNC1 indicator take at least 98 + 46 + 4 bits of 152 in Normal 1-L.
+   */
 static void elements(void)
 {
     goq_options o = GOQ_OPTIONS;
@@ -204,7 +206,7 @@ static void elements(void)
     expect(goq_encode_gs1(parts, 3, &o, modules, 441, &symbol, &place) == GOQ_NO_SUCH_MASK, "8");
 }
 
-/* Normal 2 holds 32 bytes at L, and 20 bits of a header leave room for 30 (272 bits, table 7). */
+/* Normal 2 holds 32 bytes at L (272 bits, table 7), and 30 after a header of 20 bits. */
 static void several(void)
 {
     goq_several o = {sizeof o, GOQ_L, GOQ_AS_BYTES, 2, 2, 0};
@@ -256,7 +258,7 @@ static uint32_t join(const goq_square *squares, size_t length, size_t room, size
     return answer;
 }
 
-/* Twice two parts of two bytes: both have the parity 0, and "ab" with "cd" has another. */
+/* Two parts of two bytes, twice: both sets have the parity 0; "ab" with "cd" has another. */
 static void joined(void)
 {
     static uint8_t more[3 * 441];

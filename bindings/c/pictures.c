@@ -1,5 +1,5 @@
-/* Pictures that are read and checked: each format, several codes in order, headers by their places, every answer, the first of two causes, and outputs untouched
-   on each refusal. */
+/* Tests reading and checking pictures: each format, several codes in order, headers by their
+   places, every answer, the first of two errors, and outputs that stay untouched on each error. */
 #define _GNU_SOURCE
 #include "goqlanis.h"
 #include "looks.h"
@@ -13,13 +13,13 @@ static struct outputs {
     uint8_t bytes[400];
     goq_scan scan;
 } outputs, before;
-static struct { /* what is said of pictures */
+static struct { /* the findings of goq_check */
     goq_checked codes[4];
     size_t wrong[8];
     goq_checks counts;
 } said, unsaid;
 
-/* Reads bytes into buffers that are marked, but for the size of the struct. */
+/* Reads a picture into buffers filled with a mark, except for the size of the struct. */
 static uint32_t scanned(const void *bytes, size_t length)
 {
     memset(&outputs, 7, sizeof outputs);
@@ -28,7 +28,7 @@ static uint32_t scanned(const void *bytes, size_t length)
     return goq_read_picture(bytes, length, outputs.codes, 4, outputs.parts, 40, outputs.bytes, sizeof outputs.bytes, &outputs.scan);
 }
 
-/* The same of what is said. */
+/* Checks a picture, with its outputs marked in the same way. */
 static uint32_t checked(const void *bytes, size_t length, size_t codes, size_t blocks)
 {
     memset(&said, 7, sizeof said);
@@ -47,7 +47,8 @@ static int refuses(const void *bytes, size_t length, uint32_t answer)
     return scanned(bytes, length) == answer && !memcmp(&outputs, &before, sizeof outputs) && refuses_check(bytes, length, 4, 8, answer);
 }
 
-/* The codes, parts and bytes are as many, what they say is in order, and nothing is written behind them. */
+/* Whether there are that many codes and parts and this data, in order, and nothing is written after
+   them. */
 static int says(size_t codes, size_t parts, const char *data)
 {
     const goq_scan *s = &outputs.scan;
@@ -109,7 +110,7 @@ static void headers(void)
     expect(is_part(0, GOQ_ONE_OF_SEVERAL, '0' ^ '1' ^ '2' ^ '3' ^ '4' ^ '5' ^ '6' ^ '7', 1, 3, 0), "which it is");
 }
 
-/* The most parts that a code can have: the shortest is FNC1, of four bits. */
+/* The most parts that a code can have: the shortest part is FNC1, of four bits. */
 static void most_parts(void)
 {
     static goq_segment marks[GOQ_PARTS_MAX + 1];
@@ -123,7 +124,7 @@ static void most_parts(void)
     expect(!goq_read_picture(file, length, outputs.codes, 1, found, GOQ_PARTS_MAX, NULL, 0, &scan) && scan.parts == GOQ_PARTS_MAX && scan.length == 0, "all of them are read");
 }
 
-/* Three codes, two side by side and one below: drawn in another order than they are read in. */
+/* Three codes, two side by side and one below, drawn in another order than they are read. */
 static void several(void)
 {
     enum { SIDE = 29 * 3 };
@@ -158,15 +159,16 @@ static void several(void)
     expect(refuses_check(picture, length, 2, 8, GOQ_SMALL_BUFFER) && refuses_check(picture, length, 4, 2, GOQ_SMALL_BUFFER), "two checks, and two blocks");
 }
 
-/* A square of 21 rows of modules as numbers, the first module highest of 24 bits. */
+/* Sets the modules to 21 rows, each a number of 24 bits with the first module in the highest. */
 static void square_of(const uint32_t *rows)
 {
     for (int i = 0; i < 441; i++)
         modules[i] = rows[i / 21] >> (23 - i % 21) & 1;
 }
 
-/* What departs is known of three squares: one in which we turn modules, and two by segno 1.4.1, of which evidence/program/symbols says how they are made: there
-   a byte of zeros too many stands before the padding, and segments of one mode that are joined are no segments. */
+/* Three squares whose departures from the standard are known: one in which we invert modules, and
+   two by segno 1.4.1 (evidence/program/symbols says how they are made): one has a byte of zeros too
+   many before its padding, and one joins segments of a mode so that the bits are no segments. */
 static void checks(void)
 {
     static const uint32_t zeros[] = {0xFE2BF8, 0x82AA08, 0xBAB2E8, 0xBA0AE8, 0xBAFAE8, 0x82E208, 0xFEABF8, 0x008000, 0xD33BB0, 0xA877D8, 0x8F3708, 0x816AC8, 0x8F1188, 0x00E348, 0xFEFD90, 0x820580, 0xBA4F10, 0xBAA7D8, 0xBA13A8, 0x82D880, 0xFEA1D0};
@@ -180,7 +182,7 @@ static void checks(void)
     expect(!goq_check_square(modules, 37 * 37, blocks, 4, &check) && check.standard == 1, "a symbol of the library");
     expect(check.version == 5 && check.level == GOQ_Q && check.mask == mask && check.blocks == 4 && check.allowed == 9 && check.unused == 100 && check.grade == 'A', "what it is");
     expect(check.data.segments == 1 && check.data.compared == 1 && check.data.bits == 4 + 10 + 27 && check.data.fewest == 41, "eight digits");
-    modules[0] ^= 1; /* of a finder pattern, a timing pattern, the alignment pattern, the dark module, and the first codeword */
+    modules[0] ^= 1; /* finder pattern, timing pattern, alignment pattern, dark module, first codeword */
     modules[6 * 37 + 10] ^= 1;
     modules[30 * 37 + 30] ^= 1;
     modules[29 * 37 + 8] ^= 1;

@@ -1,13 +1,13 @@
-/* The library's memory from a static pool, with no malloc: the three functions that it asks.
-   Requests are served one behind the other; when nothing is out, all is free again. It is for one
-   thread. For tests some requests can be refused, from a number on. */
+/* Serves the library's memory from a static pool, without malloc, by the three functions that it
+   calls. Blocks follow each other; once all are given back, the whole pool is free again. It is for
+   one thread. For tests, requests can be made to fail from a given number on. */
 #include <stdbool.h>
 #include <stddef.h>
 #include <string.h>
 
 struct rattle_request {
     bool served;
-    unsigned char *bytes; /* not null, even where it is not served */
+    unsigned char *bytes; /* not null, even if it is not served */
 };
 
 #ifndef POOL_BYTES

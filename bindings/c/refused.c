@@ -1,5 +1,6 @@
-/* Memory from a static pool: each call is made with all requests served, and then with each request in turn refused, which it has to answer with all outputs
-   untouched and nothing kept. */
+/* Tests running out of memory: each call is made with all requests served, and then with each
+   request in turn failing, when it has to report that, leave all outputs untouched and keep no
+   memory. */
 #include "goqlanis.h"
 #include <stdio.h>
 #include <string.h>
@@ -7,7 +8,7 @@
 extern size_t pool_requests, pool_refused, pool_most;
 size_t pool_live(void);
 
-/* The last number of a call below, how many contents follow, and how many calls with options. */
+/* The number of the last of the calls below; how many payloads and calls with options follow it. */
 enum { LAST = 9 + GOQ_FORMATS, CONTENTS = 5, OPTIONS = 16 };
 
 static uint8_t data[500], text[500], square[GOQ_MODULES_MAX], shown[21 * 21];
@@ -31,7 +32,7 @@ static struct outputs {
     goq_checks counts;
 } outputs, before;
 
-/* A content of each way in which its text is written. */
+/* Makes a payload for each way in which the text of one is written. */
 static uint32_t content(int number)
 {
     const goq_field network[] = {GOQ_TEXT("mynetwork"), GOQ_TEXT("my;pass")};
@@ -137,7 +138,7 @@ int main(void)
         return 1;
     for (int number = 0; number <= LAST + CONTENTS + OPTIONS; number++, calls++) {
         size_t all = 1, answered = 0;
-        for (size_t i = 0; i <= all; i++) { /* at first none is refused */
+        for (size_t i = 0; i <= all; i++) { /* in the first round none fails */
             pool_requests = 0;
             pool_refused = i - 1;
             memcpy(&outputs, &before, sizeof outputs);
@@ -146,7 +147,7 @@ int main(void)
                 all = pool_requests;
             if (i > 0 && answer == GOQ_OUT_OF_MEMORY && !memcmp(&outputs, &before, sizeof outputs))
                 answered++;
-            else if (answer != GOQ_OK) /* a list that could not be made shorter serves as it is */
+            else if (answer != GOQ_OK) /* a list that could not be shrunk is used as it is */
                 wrong++;
             wrong += pool_live() != 0;
         }

@@ -1,5 +1,6 @@
-/* What the library for C answers: every call, every answer, outputs untouched on each refusal. It prints the digest of a symbol of each pair of version and
-   level, which `bindings/c/test` compares with those of other encoders. */
+/* Tests every call of the C library and every answer, and that outputs stay untouched on each
+   error. It prints a checksum of a symbol of each version and level, which `bindings/c/test`
+   compares with those of other encoders. */
 #define _GNU_SOURCE
 #include "goqlanis.h"
 #include "looks.h"
@@ -50,7 +51,8 @@ static void encodings(void)
     refuses(goq_encode_in(bytes, 8, 2, GOQ_L, modules, 624, &symbol), GOQ_SMALL_BUFFER, "a module too few of Normal 2");
 }
 
-/* Texts: 72 bytes that pair up as Kanji take version 5 as a text, and 12 bits in front of 14 bytes pass version 1. */
+/* Text: 72 bytes that could be Kanji pairs need version 5 as text, and with 12 bits in front 14
+   bytes no longer fit version 1. */
 static void texts(void)
 {
     static uint8_t kana[72];
@@ -136,7 +138,7 @@ static uint32_t encode_one(uint32_t kind, uint32_t number, const void *bytes, si
     return goq_encode_segments(&segment, 1, version, level, modules, sizeof modules, &symbol);
 }
 
-/* An empty segment is left out: the square is that of segno.make("12", version="M2", error="L"). */
+/* Empty segments are left out: the square is that of segno.make("12", version="M2", error="L"). */
 static void empty_segments(void)
 {
     static const char twelve[] = "#######.#.#.##.....#..##.##.###.#..#..##.###.#..#..##.###.#..#.###.....#...##########...###........#...###.######.##...###.......####.#...#####.##.##..###.##..#..##.####";
@@ -151,7 +153,7 @@ static void empty_segments(void)
 #define SEGMENT(kind, number, bytes, length, version, level, answer, what) \
     refuses(encode_one(kind, number, bytes, length, version, level), answer, what);
 
-/* Segments by hand. That their symbols are those of other encoders bindings/c/facts says. */
+/* Segments chosen by the caller; bindings/c/facts compares their symbols with other encoders. */
 static void by_hand(void)
 {
     goq_segment segments[] = {{GOQ_FNC1_SECOND, 37, NULL, 0}, {GOQ_ECI, 26, NULL, 0}, {GOQ_BYTES, 0, (const uint8_t *)"\xc3\xa9", 2}, {GOQ_NUMERIC, 0, NULL, 0}};
@@ -192,7 +194,7 @@ static void refuses_to_read(uint32_t answer, uint32_t wanted, const char *what)
     expect(found[0] == 7 && reading.version == 99 && reading.length == 98, what);
 }
 
-/* Squares read back, whole and damaged. */
+/* Reads squares, undamaged and damaged. */
 static void readings(void)
 {
     size_t count = 5;
@@ -201,7 +203,7 @@ static void readings(void)
     found[8] = 7;
     expect(goq_read(modules, 441, found, 8, &reading) == GOQ_OK && !memcmp(found, "01234567", 8) && found[8] == 7, "a reading, and the rest as it was");
     expect(reading.version == 1 && reading.level == GOQ_M && reading.mask < 8 && reading.wrong == 0 && reading.length == 8, "what it is");
-    for (int row = 12; row <= 20; row += 4) /* a module of each of the first three codewords, which stand upwards from the lower right corner */
+    for (int row = 12; row <= 20; row += 4) /* one module in each of the first three codewords, which go up from the lower right corner */
         modules[row * 21 + 20] ^= 1;
     expect(goq_read(modules, 441, found, sizeof found, &reading) == GOQ_OK && reading.wrong == 3 && !memcmp(found, "01234567", 8), "a damaged one");
     found[0] = 7;
@@ -225,7 +227,7 @@ static void readings(void)
     expect(goq_read(modules, GOQ_MODULES_MAX, found, sizeof found, &reading) == GOQ_OK && reading.length == GOQ_BYTES_MAX && !memcmp(found, out, GOQ_BYTES_MAX), "all of them");
 }
 
-/* A line of a symbol: version, level, width and a sum over its modules; or the answer that refuses it. */
+/* Prints the line of a symbol: version, level, width and checksum; or the error. */
 static void print_sum(uint32_t answer)
 {
     uint32_t sum = 0;
@@ -237,7 +239,7 @@ static void print_sum(uint32_t answer)
         printf("answer %u\n", answer);
 }
 
-/* Such a line for each pair of version and level, of five digits. */
+/* Prints a line for the symbol of five digits in each version and level. */
 static void pairs(void)
 {
     for (uint32_t version = 1; version <= GOQ_MICRO(4); version++)
@@ -251,7 +253,7 @@ static void pairs(void)
         }
 }
 
-/* The same in 7-Q and in M4-Q under each mask, behind its number. */
+/* Prints such lines for 7-Q and M4-Q under each mask, each after the number of the mask. */
 static void masks(void)
 {
     goq_options o = {sizeof o, GOQ_Q, GOQ_AS_BYTES, 0, 1, 0, 0};

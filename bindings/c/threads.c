@@ -1,4 +1,5 @@
-/* Eight threads make symbols at once and read them back, each of its own bytes again and again, and each finds the same symbol and its bytes every time. */
+/* Eight threads at once make and read symbols, each of its own data again and again; every time
+   each gets the same symbol and its data. */
 #include "goqlanis.h"
 #include <pthread.h>
 #include <stdio.h>

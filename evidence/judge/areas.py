@@ -1,17 +1,17 @@
-"""The largest square of each pair, all of it turned, and with one codeword more. What else it may
-show, `bindings/c/areas.c` asks."""
+"""Inverts the largest area that may be covered in each version and level, and then an area with one
+codeword more. `bindings/c/areas.c` covers it in other ways."""
 import goqlanis
 from forms import pairs
 from looks import answered, square_of
 
-# Below these squares there are too few modules to touch a codeword more.
+# Here the modules below the largest square are too few to touch one more codeword.
 BOUNDED = [("1", "Q"), ("1", "H"), ("13", "H")]
-# More codewords than a block may lose.
+# The excess of an area that is no area of the symbol.
 OUTSIDE = 99
 
 
 def is_read(symbol, area):
-    """Whether a symbol of the digit 1 is read with all modules of an area turned."""
+    """Whether a symbol of the digit 1 is read with all modules of an area inverted."""
     square = bytearray(square_of(symbol))
     for left, top, across, down in area:
         for begin in range(top * symbol.width + left, (top + down) * symbol.width, symbol.width):
@@ -21,14 +21,14 @@ def is_read(symbol, area):
 
 
 def grown(area, more):
-    """An area and so many modules more, row by row below it."""
+    """Returns an area with `more` modules added, row by row below it."""
     left, top, across, down = area
     rows, rest = divmod(more - 1, across)
     return [(left, top, across, down + rows), (left, top + down + rows, rest + 1, 1)]
 
 
 def excess(symbol, area):
-    """How many codewords more than it may lose a block loses."""
+    """Returns by how many codewords the worst block exceeds what it may lose."""
     try:
         found = symbol.reserve(area)
     except goqlanis.NoSuchArea:
@@ -37,7 +37,7 @@ def excess(symbol, area):
 
 
 def too_large(symbol, area):
-    """An area with the fewest modules more that is too large."""
+    """Returns the area with the fewest modules added that is too large."""
     few, many = 0, 1000
     while many - few > 1:
         more = (few + many) // 2
@@ -46,8 +46,8 @@ def too_large(symbol, area):
 
 
 def area_complaint(version, level):
-    """What is wrong with the largest square of a symbol: all of it may be turned; with so many
-    modules more that it touches a codeword too many, the symbol is not read."""
+    """Returns what is wrong with the largest square of a symbol: inverted as a whole it must not
+    prevent reading; enlarged until it touches one codeword too many it must."""
     symbol = goqlanis.encode(b"1", level, version)
     area = symbol.largest_area(reserve=0)
     if not is_read(symbol, [area]):
@@ -61,7 +61,7 @@ def area_complaint(version, level):
 
 
 def largest_squares():
-    """All of the largest squares may be turned, but not a codeword more"""
+    """The largest squares may be inverted, but not one codeword more"""
     normal = [it for it in pairs() if not it[0].startswith("M")]
     found = [f"{version}-{level}: {it}" for version, level in normal
              if (it := area_complaint(version, level))]
@@ -69,7 +69,7 @@ def largest_squares():
 
 
 def no_squares():
-    """In Micro the middle belongs to patterns"""
+    """Micro symbols have no area, since their middle belongs to patterns"""
     found, micro = [], [it for it in pairs() if it[0].startswith("M")]
     for version, level in micro:
         try:

@@ -1,4 +1,4 @@
-"""Random squares, which library and judge must both read alike, or refuse for the same cause."""
+"""Random squares, which the library and the judge must read alike, or reject for the same cause."""
 from random import Random
 
 import goqlanis
@@ -9,7 +9,7 @@ SMALL = ["M1", "M2", "M3", "M4", "1", "2", "3", "4", "5", "6", "7"]
 
 
 def symbol(version, chance):
-    """The square of a symbol of some digits, or in Normal of some bytes, and its level."""
+    """Returns the square and level of a symbol of a few random bytes, or digits in Micro."""
     level = chance.choice(levels(version))
     data = chance.randbytes(chance.randrange(1, 5))
     if version.startswith("M"):
@@ -18,7 +18,7 @@ def symbol(version, chance):
 
 
 def turned(square, version, level, chance):
-    """A symbol with random modules turned: from none to twice as many as can be corrected."""
+    """Inverts up to about twice as many random modules as wrong codewords can be corrected."""
     parts = blocks(version, level)
     for _ in range(chance.randrange(min(parts.ec // 2 * parts.count * 2 + 3, 1000))):
         square[chance.randrange(len(square))] ^= 1
@@ -26,17 +26,16 @@ def turned(square, version, level, chance):
 
 
 def noise(square, version, chance, everywhere):
-    """A square of noise, or a symbol with noise except for the row and column of the format
-    word."""
+    """Returns a square of noise, or one that keeps the row and column of the format word."""
     width = form(version).width
     return bytes(chance.randrange(2) if everywhere or 8 not in divmod(place, width) else module
                  for place, module in enumerate(square))
 
 
 def square_by_chance(chance, versions):
-    """One square. Of ten, seven are symbols with modules turned, one has as many wrong codewords
-    in each block as can be corrected and up to two more in the last, and two are noise, one of them
-    with a format word."""
+    """Returns a random square. Of ten, seven are symbols with modules inverted; one has as many
+    wrong codewords in each block as can be corrected, and up to two more in the last; two are
+    noise, one of them with a format word."""
     version = chance.choice(versions)
     square, level = symbol(version, chance)
     kind = chance.randrange(10)
@@ -48,7 +47,7 @@ def square_by_chance(chance, versions):
 
 
 def compared(count, seed, versions):
-    """What is wrong with so many random squares, and how many were read, or refused for which
+    """Returns what is wrong with `count` random squares, and how many were read or rejected, by
     cause."""
     chance, found, counts = Random(seed), [], {}
     for number in range(count):
@@ -66,7 +65,7 @@ def summary(counts):
 
 
 def small_squares():
-    """Random squares are read alike, or refused alike"""
+    """The library reads or rejects small random squares as the judge does"""
     found, counts = compared(5000, 2006, SMALL)
     rare = [kind for kind, least in (("read", 2000), ("Damaged", 1000), ("NoFormat", 200))
             if counts.get(kind, 0) < least]
@@ -74,13 +73,13 @@ def small_squares():
 
 
 def large_squares():
-    """And larger ones"""
+    """The library reads or rejects random squares of any version as the judge does"""
     found, counts = compared(120, 18004, list(WIDTHS.values()))
     return found, summary(counts)
 
 
 def other_sides():
-    """Squares with a side that no version has"""
+    """Squares with a side that no version has are rejected"""
     sides = [side for side in range(185) if side not in WIDTHS]
     found = [f"side {side}" for side in sides
              if not judged(bytes(side * side)) == answered(bytes(side * side)) == "NoSuchSide"]

@@ -1,4 +1,4 @@
-"""Short data takes as many bits as the best of all ways to cut it into segments."""
+"""Short data takes as many bits as the best of all ways to cut it into segments, and no more."""
 from itertools import product
 
 import goqlanis
@@ -8,24 +8,25 @@ from looks import square_of
 from spelling import count_bits
 from tables import CHARACTERS, MICRO_MODES
 
-# A digit, a letter, another byte, and two that are pairs of Kanji in three orders of four; in texts
-# a character of two bytes.
+# A digit, a letter, another byte, and two lead bytes, which are Kanji pairs with each other and with
+# a letter after them; in text a character of two bytes.
 BYTES = [b"1", b"A", b"a", b"\x81", b"\x9f"]
 LETTERS = ["1", "A", "a", "\u00e9"]
 
-# Versions, and how long the data is at most.
+# Versions, and the longest data to try in each.
 LENGTHS = [("1", 5), ("M1", 4), ("M2", 5), ("M3", 5), ("40", 2)]
 
 
 def is_pair(pair):
-    """Whether two bytes are a pair of Shift JIS that Kanji has."""
+    """Whether two bytes are a Shift JIS pair of Kanji mode."""
     number = int.from_bytes(pair, "big")
     is_within = 0x8140 <= number <= 0x9ffc or 0xe040 <= number <= 0xebbf
     return is_within and 0x40 <= pair[1] <= 0xfc and pair[1] != 0x7f
 
 
 def data_bits(mode, data):
-    """The bits of bytes in a mode after the count of characters, or None if it has not all."""
+    """Returns the bits of data in a mode, without its header, or None if the mode lacks a
+    character."""
     count = len(data)
     if mode == "numeric":
         return count // 3 * 10 + (0, 4, 7)[count % 3] if data.isdigit() else None
@@ -38,7 +39,7 @@ def data_bits(mode, data):
 
 
 def segment_bits(shape, modes, data):
-    """The fewest bits of one segment of bytes, or None."""
+    """Returns the fewest bits of the data as one segment, or None if no mode has it."""
     indicator = shape.number - 1 if shape.is_micro else 4
     found = [indicator + count_bits(shape, mode) + bits for mode in modes
              if count_bits(shape, mode) and (bits := data_bits(mode, data)) is not None]
@@ -46,7 +47,8 @@ def segment_bits(shape, modes, data):
 
 
 def least(shape, modes, data):
-    """The fewest bits of all cuts, or None: at each place, of the cuts that end there."""
+    """Returns the fewest bits of all cuts, or None. It finds the best cut up to each place in
+    turn."""
     best = [0]
     for end in range(1, len(data) + 1):
         ends = [(best[begin], segment_bits(shape, modes, data[begin:end])) for begin in range(end)]
@@ -56,7 +58,8 @@ def least(shape, modes, data):
 
 
 def bits_of(make, *words):
-    """How many bits the data of a symbol takes, and None where its version lacks a mode for it."""
+    """Returns the bits that the data takes in a symbol, or None if the version lacks a mode for
+    it."""
     try:
         square = square_of(make(*words))
     except goqlanis.NoMode:
@@ -78,7 +81,7 @@ def short_data():
 
 
 def short_texts():
-    """Short texts take as many bits as their best cut without Kanji"""
+    """Short text takes as many bits as its best cut without Kanji"""
     texts = ["".join(letters) for length in range(6) for letters in product(LETTERS, repeat=length)]
     best = {text: least(form("1"), MICRO_MODES[:3], text.encode()) for text in texts}
     found = [text for text in texts if bits_of(goqlanis.encode_text, text, "L") != best[text]]

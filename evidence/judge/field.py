@@ -1,7 +1,7 @@
-"""Bytes as polynomials over two elements, modulo x^8 + x^4 + x^3 + x^2 + 1, and the correction of
-blocks by Euclid's algorithm.
+"""The field of 256 elements, modulo x^8 + x^4 + x^3 + x^2 + 1, and the correction of blocks by
+Euclid's algorithm.
 
-A polynomial over the field is a list of its coefficients, the lowest first.
+A polynomial is a list of its coefficients, the lowest first.
 """
 POWERS = [1]
 for _ in range(254):
@@ -11,7 +11,7 @@ LOGARITHMS = {power: exponent for exponent, power in enumerate(POWERS[:255])}
 
 
 class Uncorrected(Exception):
-    """No list of bytes near the block vanishes."""
+    """The block has more errors than can be corrected."""
 
 
 def product(a, b):
@@ -30,7 +30,7 @@ def value(polynomial, point):
 
 
 def syndromes(block, count):
-    """The values at the first powers of 2 of a block, whose first byte is the highest
+    """Returns the values of a block at the first `count` powers of 2; its first byte is the highest
     coefficient."""
     found = []
     for exponent in range(count):
@@ -42,14 +42,14 @@ def syndromes(block, count):
 
 
 def trimmed(polynomial):
-    """Without zeros at the highest powers."""
+    """Removes zeros at the highest powers."""
     while polynomial and polynomial[-1] == 0:
         polynomial.pop()
     return polynomial
 
 
 def added(first, second, factor, shift):
-    """The sum of a polynomial and of a multiple of another that is moved up by some powers."""
+    """Returns `first` plus `factor` times `second` times x^shift."""
     total = first + [0] * (len(second) + shift - len(first))
     for i, coefficient in enumerate(second):
         total[i + shift] ^= product(coefficient, factor)
@@ -57,8 +57,8 @@ def added(first, second, factor, shift):
 
 
 def key(values, count):
-    """The first remainder below half of the degree in Euclid's algorithm on x^count and the
-    syndromes, and its factor."""
+    """Runs Euclid's algorithm on x^count and the syndromes; returns the first remainder below half
+    of the degree (the evaluator), and its factor (the locator)."""
     before, now = [0] * count + [1], trimmed(list(values))
     factor_before, factor = [], [1]
     while 2 * (len(now) - 1) >= count:
@@ -71,8 +71,8 @@ def key(values, count):
 
 
 def corrected(block, count):
-    """The list of bytes that vanishes at the first `count` powers of 2 and differs from the block
-    in at most half as many places, and in how many."""
+    """Returns the bytes that vanish at the first `count` powers of 2 and differ from the block in
+    at most half as many places, and the number of these."""
     values = syndromes(block, count)
     if not any(values):
         return block, 0

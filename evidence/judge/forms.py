@@ -1,8 +1,8 @@
-"""Versions: which modules of the square of a version hold data, in which order, and where the
-format word and the blocks stand.
+"""The layout of each version: which modules hold data, in which order, and the places of the format
+word and of the blocks.
 
-A square is its modules row by row, a byte each, 1 for a dark one. A place is the number of a module
-in it.
+A square is its modules row by row, one byte each, 1 for a dark one. A place is the index of a
+module.
 """
 from functools import lru_cache
 
@@ -10,7 +10,7 @@ from tables import CENTRES, LEVELS, MASKS, MICRO_BLOCKS, MICRO_MASKS, NORMAL_BLO
 
 
 class Form:
-    """The form of a version: "1" to "40", "M1" to "M4"."""
+    """The layout of a version: "1" to "40", "M1" to "M4"."""
 
     def __init__(self, version):
         self.version, self.is_micro = version, version.startswith("M")
@@ -28,7 +28,7 @@ class Form:
         return row * self.width + column
 
     def _format_copies(self):
-        """The places of the fifteen bits of each copy of the format word, the highest first
+        """Returns the places of the fifteen bits of each copy of the format word, highest first
         (Figures 25 and 26)."""
         last, place = self.width - 1, self._place
         if self.is_micro:
@@ -39,7 +39,7 @@ class Form:
         return [corner, edges + [place(8, last - 7 + k) for k in range(8)]]
 
     def _reserved(self):
-        """The places of patterns, of the format word and of the version word."""
+        """Returns the places of patterns, of the format word and of the version word."""
         width, found = self.width, set()
 
         def area(top, left, height, breadth):
@@ -61,15 +61,15 @@ class Form:
         return found
 
     def _centres(self):
-        """The centres of alignment patterns: each row with each column, except in finder
+        """Returns the centres of alignment patterns: each row with each column, except at finder
         patterns."""
         lines = list(map(int, CENTRES[self.number - 2])) if self.number > 1 else []
         corners = {(6, 6), (6, self.width - 7), (self.width - 7, 6)}
         return [(i, j) for i in lines for j in lines if (i, j) not in corners]
 
     def _places(self):
-        """The places of data in the order of the bits: in pairs of columns from the right,
-        alternately upwards and downwards."""
+        """Returns the places of data in the order of the bits: in pairs of columns from the right,
+        alternately up and down."""
         reserved, found, width = self._reserved(), [], self.width
         rights = range(width - 1, 0, -2) if self.is_micro else [*range(width - 1, 6, -2), 5, 3, 1]
         for turn, right in enumerate(rights):
@@ -80,7 +80,7 @@ class Form:
         return found
 
     def _turned(self, mask):
-        """The places of data that a mask turns, as the bits of a number, the first place
+        """Returns which places of data a mask inverts, as the bits of a number, the first place
         highest."""
         return number_of(mask(*divmod(place, self.width)) for place in self.places)
 
@@ -88,11 +88,12 @@ class Form:
         return range(len(self.masks))
 
     def stream(self, square, mask):
-        """The bits of a square under a mask in the order of the places, as a number."""
+        """Returns the bits of a square under a mask, in the order of the places, as a number."""
         return number_of(map(square.__getitem__, self.places)) ^ self.turned[mask]
 
     def remasked(self, square, mask, other, word):
-        """A symbol under a mask as it would be under another one, with its format word."""
+        """Returns a symbol under a mask as it would be under another, whose format word is
+        `word`."""
         square, changes = bytearray(square), self.turned[mask] ^ self.turned[other]
         for place, change in zip(self.places, f"{changes:0{len(self.places)}b}"):
             square[place] ^= change == "1"
@@ -103,7 +104,7 @@ class Form:
 
 
 def number_of(bits):
-    """The number of bits, the highest first."""
+    """Returns bits as a number, the highest first."""
     return int("0" + "".join("1" if bit else "0" for bit in bits), 2)
 
 
@@ -122,8 +123,8 @@ class Blocks:
         self.lengths = [short] * (self.count - long) + [short + 1] * long
 
     def shares(self):
-        """The numbers that the codewords of each block have in the stream: data and then error
-        correction, both interleaved."""
+        """Returns the indices in the stream of each block's codewords: data, then error correction,
+        both interleaved."""
         found, number = [[] for _ in self.lengths], 0
         for i in range(self.lengths[-1]):
             for share, length in zip(found, self.lengths):
@@ -137,7 +138,7 @@ class Blocks:
         return found
 
     def word_bits(self, number):
-        """Where in the stream a codeword begins, and how many bits it has."""
+        """Returns the bit at which a codeword begins in the stream, and how many bits it has."""
         behind_half = self.has_half and number >= self.data
         return number * 8 - 4 * behind_half, 4 if self.has_half and number == self.data - 1 else 8
 
@@ -158,11 +159,11 @@ WIDTHS |= {9 + 2 * number: f"M{number}" for number in range(1, 5)}
 
 
 def levels(version):
-    """The levels that a version has."""
+    """Returns the levels that a version has."""
     known = form(version)
     return LEVELS[:len((MICRO_BLOCKS if known.is_micro else NORMAL_BLOCKS)[known.number - 1])]
 
 
 def pairs():
-    """All 168 pairs of a version and a level."""
+    """Returns all 168 pairs of a version and a level."""
     return [(version, level) for version in VERSIONS for level in levels(version)]

@@ -1,5 +1,5 @@
-"""The judge itself: it reads symbols of other encoders as what they were asked for, corrects as
-a trial of all wrong codewords does, counts published penalties, and sees wrong inputs."""
+"""Tests of the judge itself: it reads symbols of other encoders as what they were asked for,
+corrects blocks as trying all changes does, counts published penalties, and notices wrong input."""
 from itertools import product
 from pathlib import Path
 from random import Random
@@ -15,13 +15,13 @@ from masks import not_beyond, not_decided
 
 HERE = Path(__file__).resolve().parent
 OTHERS = HERE.parent / "others" / "symbols"
-# The printed symbols of printed.txt: two of `01234567`, and one whose penalty is published.
+# The symbols of printed.txt: two printed ones of `01234567`, and one whose penalty is published.
 DIGITS_NORMAL, DIGITS_MICRO, PUBLISHED = (
     part.split() for part in (HERE / "printed.txt").read_text().split("\n\n")[1::2])
 
 
 def other_squares():
-    """The squares of evidence/others/symbols, each with what its encoder was asked for."""
+    """Yields the squares of evidence/others/symbols, each with what its encoder was asked for."""
     lines = (OTHERS / "squares").read_text().splitlines()
     squares = [line.split() for line in lines if line and not line.startswith("#")]
     readings = (OTHERS / "readings").read_text().splitlines()
@@ -31,7 +31,7 @@ def other_squares():
 
 
 def told_header(kind, *numbers):
-    """A header, in the words of evidence/others/symbols/make."""
+    """Returns a header as evidence/others/symbols/make writes it."""
     if kind == "symbol":
         return "symbol {} of {}, parity {}".format(*numbers)
     if kind == "FNC1":
@@ -40,15 +40,15 @@ def told_header(kind, *numbers):
 
 
 def told_of(square):
-    """A reading, in the words of evidence/others/symbols/make."""
+    """Returns what the judge reads, as evidence/others/symbols/make writes it."""
     bits, found = reading.read_headed(square)
     name = f"{'Micro' if bits.version.startswith('M') else 'Normal'} {bits.version.lstrip('M')} {bits.level}, mask {bits.mask}"
     return f"{', '.join([name] + [told_header(*header) for header in found.headers])}: {found.data.hex()}" if bits.wrong == 0 else "wrong codewords"
 
 
 def other_encoders():
-    """The judge reads symbols of segno, qrcodegen, zint, qrencode and zxing as they were asked for,
-    and the library as the judge"""
+    """The judge reads symbols of segno, qrcodegen, zint, qrencode and zxing as what they were asked
+    for, and so does the library"""
     found, count = [], 0
     for square, wanted in other_squares():
         count += 1
@@ -70,8 +70,8 @@ def printed_symbols():
 
 
 def known_penalties():
-    """The judge counts published penalties, and those of plain squares and of a chessboard by
-    hand"""
+    """The judge counts published penalties, and those of plain squares and a chessboard as counted
+    by hand"""
     width = 21
     light = {"runs": 42 * 19, "blocks": 400 * 3, "finders": 0, "balance": 100}
     chessboard = bytes((i + j) % 2 for i in range(width) for j in range(width))
@@ -89,9 +89,9 @@ def known_penalties():
 
 
 def found_by_trial(block):
-    """Of a block with two error correction codewords, and of all that differ from it in one byte,
-    those that vanish at 1 and 2. The values of a block with one changed byte are those of the block
-    and of the change."""
+    """Returns which of a block with two error correction codewords, and of all blocks that differ
+    from it in one byte, vanish at 1 and 2. The syndromes of a changed block are the XOR of those of
+    the block and of the change."""
     values, found = syndromes(block, 2), [] if any(syndromes(block, 2)) else [block]
     for place, change in product(range(len(block)), range(1, 256)):
         if ALONE[place, change] == values:
@@ -104,7 +104,7 @@ ALONE = {(place, change): syndromes(bytes(change * (k == place) for k in range(5
 
 
 def corrected_by_trial():
-    """Each wrong codeword of Micro 1 is corrected as a trial of all single changes corrects it"""
+    """Each wrong codeword of Micro 1 is corrected as trying all single changes corrects it"""
     shape, parts, found, count = form("M1"), blocks("M1", "L"), [], 0
     square = square_of(goqlanis.encode(b"123", "L", "M1"))
     for number in range(parts.total):
@@ -128,8 +128,8 @@ def not_corrected(block, count):
 
 
 def seen(square, second):
-    """What each look says of a wrong input: an empty text if it does not see what is wrong. The
-    square is the symbol of `01234567` in Normal 1 at M; the second has other digits."""
+    """Yields a complaint for each wrong input, empty if the judge does not notice it. `square` is
+    the symbol of `01234567` in Normal 1 at M; `second` has other digits."""
     bits, shape = reading.read_bits(square), form("1")
     costs = [sum(terms.values()) for terms in reading.penalties(square, bits)]
     worst = max(shape.mask_numbers(), key=costs.__getitem__)
@@ -148,7 +148,7 @@ def seen(square, second):
 
 
 def what_is_wrong():
-    """Each look sees what is wrong"""
+    """The judge notices each wrong input"""
     square, second = (square_of(goqlanis.encode(data, "M", "1"))
                       for data in (b"01234567", b"76543210"))
     told = list(seen(square, second))

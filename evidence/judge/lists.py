@@ -1,6 +1,6 @@
-"""Data bits of symbols: printed ones, headers, and lists of segments of each length where a
-codeword has four bits; segments in any order; damage without finder patterns; wrong bits of the
-format word."""
+"""Data bits of symbols: printed ones, headers, and lists of segments of each length in versions
+with a codeword of four bits; segments in any order; damage without finder patterns; wrong bits of
+the format word."""
 from itertools import combinations, product
 
 import goqlanis
@@ -15,7 +15,7 @@ def hexadecimal(bits):
 
 
 def printed_codewords():
-    """Data bits are those that are printed"""
+    """Data bits are the printed ones"""
     found = []
     rows = listed("codewords")
     for data, version, level, words in rows:
@@ -27,7 +27,7 @@ def printed_codewords():
 
 
 def least_cuts():
-    """Data takes as many bits as its least cut"""
+    """Data takes as many bits as its best cut"""
     found = []
     rows = listed("least cuts")
     for data, version, level, length in rows:
@@ -37,15 +37,15 @@ def least_cuts():
 
 
 def written(shape, count):
-    """The bits of a segment of so many sevens in Micro."""
+    """Returns the bits of a segment of `count` sevens in Micro."""
     bits = "0" * (shape.number - 1) + f"{count:0{count_bits(shape, 'numeric')}b}"
     bits += f"{777:010b}" * (count // 3)
     return bits + ("", f"{7:04b}", f"{77:07b}")[count % 3]
 
 
 def lists_of_each_length(shape, room):
-    """For each length up to the room that lists of segments of digits can have, the counts of
-    digits in one such list. A segment without digits is left out."""
+    """Returns a list of segments of digits for each length that such lists can have, up to `room`
+    bits: the number of digits in each segment. No segment is empty."""
     most, found = 2 ** count_bits(shape, "numeric"), {0: []}
     for length in range(room + 1):
         for count in range(1, most if length in found else 0):
@@ -56,8 +56,9 @@ def lists_of_each_length(shape, room):
 
 
 def ended(shape, bits, room):
-    """Bits with their end: zeros, one more than twice the number of the version; zeros up to a
-    whole codeword; 11101100 and 00010001 in turn; and four zeros for a codeword of four bits."""
+    """Ends bits as the standard says: a terminator of one zero more than twice the version's
+    number, zeros up to a whole codeword, 11101100 and 00010001 in turn, and four zeros for a
+    codeword of four bits."""
     bits += "0" * min(2 * shape.number + 1, room - len(bits))
     bits += "0" * min(-len(bits) % 8, room - len(bits))
     while len(bits) + 8 <= room:
@@ -72,7 +73,7 @@ def not_ended(square, expected):
 
 
 def lists_are_ended():
-    """Lists of each length are ended where a codeword has four bits"""
+    """Lists of each length end as they must in versions with a codeword of four bits"""
     found, counts = [], []
     for version, level in (("M1", "L"), ("M3", "L"), ("M3", "M")):
         shape, room = form(version), blocks(version, level).capacity
@@ -88,7 +89,7 @@ def lists_are_ended():
 
 
 def segments_in_any_order():
-    """Segments in modes of no least cut are read; empty ones are left out"""
+    """Segments that no best cut has are read; empty ones are left out"""
     segments = [("alphanumeric", b"AB"), ("numeric", b"12"), ("byte", b"2A"), ("numeric", b"12"),
                 ("kanji", b"\x93\x5f"), ("byte", b"\x93\x5f")]
     it = not_read(square_of(goqlanis.encode_segments(segments, "L", "2")), "2", "L",
@@ -101,7 +102,7 @@ def segments_in_any_order():
 
 
 def headers_are_read():
-    """Headers are read as they were given, and a reading of bytes alone is refused"""
+    """Headers are read as they were given, and reading them as plain bytes fails"""
     found = []
     rows = listed("headers")
     for segments, version, level, headers, data in rows:
@@ -126,7 +127,7 @@ def usual_symbols():
 
 
 def without_finders():
-    """Five wrong codewords without finder patterns"""
+    """Five wrong codewords are corrected without finder patterns"""
     shape, parts = form("1"), blocks("1", "M")
     square = bytearray(square_of(goqlanis.encode(b"01234567", "M", "1")))
     for number, bits in enumerate([0xff, 0x01, 0x80, 0x5a, 0x11]):
@@ -139,12 +140,13 @@ def without_finders():
     return [it] if it else [], "a symbol"
 
 
-# The error correction codewords that the standard and the chapter print of these.
+# Data, and its error correction as printed in the standard and in "Reed-Solomon codes for coders".
 CORRECTION = [(b"01234567", "a524d4c1ed36c7872c55"), (b"'Twas brillig", "bc2a90136bafeffd4be0")]
 
 
 def wrong_codewords():
-    """Printed blocks are corrected wherever up to five codewords in a row of steps are wrong"""
+    """Printed blocks are corrected with up to five wrong codewords, five places apart, from each
+    place"""
     shape, parts, found, count = form("1"), blocks("1", "M"), [], 0
     for (data, printed), first, wrong in product(CORRECTION, range(26), range(6)):
         square = square_of(goqlanis.encode(data, "M", "1"))
@@ -160,7 +162,8 @@ def wrong_codewords():
 
 
 def wrong_bits_of_a_copy():
-    """Any three wrong bits of either copy of the format word are corrected; any four are refused"""
+    """Any three wrong bits of either copy of the format word are corrected; any four are
+    rejected"""
     square, found, count = square_of(goqlanis.encode(b"01234567", "M", "1")), [], 0
     for copy, (wrong, expected) in product(form("1").copies,
                                            ((3, answered(square)), (4, "NoFormat"))):

@@ -1,4 +1,4 @@
-"""What is looked at in a square. Each look answers what is wrong, or an empty text."""
+"""Checks of a square. Each check returns what is wrong, or an empty text."""
 import re
 from pathlib import Path
 
@@ -11,31 +11,31 @@ MOST_WRONG_IN_FORMAT = 3
 
 
 def listed(name):
-    """The rows of a part of symbols.txt."""
+    """Returns the rows of a section of symbols.txt."""
     text = Path(__file__).with_name("symbols.txt").read_text(encoding="utf-8")
     part = re.search(rf"\$ {name}\n((?:[^#$\n].*\n)+)", re.sub(r"\n +", " ", text))[1]
     return [eval(line) for line in part.splitlines()]
 
 
 def square_of(symbol):
-    """The modules of a symbol of the library, a byte each."""
+    """Returns the modules of a symbol of the library, one byte each."""
     return bytes(map(int, (module for row in symbol.matrix for module in row)))
 
 
 def drawn(rows):
-    """The square of rows of `#` and `.`."""
+    """Returns the square of rows of `#` and `.`."""
     return bytes(letter == "#" for letter in "".join(rows))
 
 
 def rows_of(square):
-    """Rows of modules, as the library reads them."""
+    """Returns the rows of a square, as the library takes them."""
     width = int(len(square) ** 0.5)
     return [square[i:i + width] for i in range(0, len(square), width)] if width else []
 
 
 def judged(square):
-    """What the judge reads: version, level, mask, number of wrong codewords and bytes; or the name
-    of its refusal."""
+    """Returns what the judge reads: version, level, mask, number of wrong codewords and data; or
+    the name of its error."""
     try:
         bits, data = reading.read(square)
     except (reading.NoSuchSide, reading.NoFormat, reading.Damaged, reading.NotSpelled) as refusal:
@@ -44,7 +44,7 @@ def judged(square):
 
 
 def answered(square):
-    """What the library reads, in the same form."""
+    """Returns what the library reads, in the form of `judged`."""
     try:
         found = goqlanis.read(rows_of(square))
     except goqlanis.Unread as refusal:
@@ -53,7 +53,7 @@ def answered(square):
 
 
 def differs(judge, library):
-    """What is wrong if the library and the judge read something else."""
+    """Returns a complaint if the library and the judge disagree."""
     return "" if judge == library else f"the judge says {judge}, and the library {library}"
 
 
@@ -62,8 +62,8 @@ def not_alike(square):
 
 
 def not_read(square, version, level, data, wrong=0):
-    """What is wrong if judge and library do not read a square as these data, with so many wrong
-    codewords. If there are any, each copy of the format word must have three wrong bits."""
+    """Returns a complaint unless judge and library read this data with `wrong` wrong codewords. If
+    there are any, each copy of the format word must have three wrong bits."""
     said = judged(square)
     if said[:2] != (version, level) or said[3:] != (wrong, data):
         return f"the judge reads {said} of {version}-{level}"
@@ -75,31 +75,32 @@ def not_read(square, version, level, data, wrong=0):
 
 
 def not_least(square):
-    """What is wrong if the mask of a symbol is not the first of least penalty."""
+    """Returns a complaint unless the mask of a symbol is the first of lowest penalty."""
     bits = reading.read_bits(square)
     first = penalty.first_least(reading.penalties(square, bits))
     return "" if bits.mask == first else f"mask {bits.mask} of {bits.version}-{bits.level}, and not {first}"
 
 
 def turn_word(square, shape, parts, number, bits):
-    """Changes the bits of a codeword that a byte has, or its first four if it has no more."""
+    """XORs a codeword with the byte `bits`, or with its first four bits if it has no more."""
     begin, count = parts.word_bits(number)
     for k in range(count):
         square[shape.places[begin + k]] ^= bits >> (7 - k) & 1
 
 
 def turn_format(square, shape, numbers):
-    """Turns the bits of these numbers in each copy of the format word."""
+    """Inverts these bits in each copy of the format word."""
     for copy in shape.copies:
         for number in numbers:
             square[copy[number]] ^= 1
 
 
 def damaged(square, version, level, chance, more=0):
-    """A symbol with random damage, as much as can be read, and how many codewords are wrong.
+    """Returns a symbol with the most damage that can be corrected, and its number of wrong
+    codewords.
 
-    Three bits in each copy of the format word are wrong, and in each block half as many codewords
-    as it has for error correction; in the last block some more, if that is asked for.
+    Three random bits in each copy of the format word are wrong, and in each block half as many
+    codewords as it has for error correction; in the last block `more` in addition.
     """
     shape, parts, square, wrong = form(version), blocks(version, level), bytearray(square), 0
     for copy in shape.copies:

@@ -1,18 +1,18 @@
-"""Masks of symbols in which one term of the penalty decides alone, of symbols that several masks
-suit alike, and of symbols with penalties of more than 16 bits."""
+"""Masks of symbols in which one term of the penalty decides, of symbols in which several masks tie,
+and of symbols with penalties of more than 16 bits."""
 import goqlanis
 import penalty
 import reading
 from forms import blocks, form
 from looks import listed, not_least, square_of
 
-# Symbols that are mostly light under a mask: version, mask, and how many codewords are noise. The
-# penalty under the mask is a little more than 16 bits hold, and cut to 16 bits it would be the least.
+# Symbols that are mostly light under a mask: version, mask, and how many codewords are noise. Under
+# that mask the penalty just exceeds 16 bits, and truncated to 16 bits it would be the lowest.
 LIGHT = [("36", 3, 950), ("38", 7, 1300), ("40", 5, 1650)]
 
 
 def not_decided(square, term):
-    """Whether the mask would be the same without a term, or another one without another term."""
+    """Returns a complaint unless `term` is the only one without which another mask would win."""
     costs = reading.penalties(square, reading.read_bits(square))
     first = penalty.first_least(costs)
     deciding = [it for it in costs[0] if penalty.first_least(costs, it) != first]
@@ -20,7 +20,7 @@ def not_decided(square, term):
 
 
 def one_term_decides():
-    """Symbols in which one term of the penalty decides alone"""
+    """Each term of the penalty decides the mask of some symbols"""
     found = []
     rows = listed("terms")
     for data, version, level, term in rows:
@@ -31,7 +31,7 @@ def one_term_decides():
 
 
 def first_of_several():
-    """Symbols that several masks suit alike have the first"""
+    """If several masks tie, a symbol has the first"""
     found = []
     rows = listed("ties")
     for data, version, level, masks in rows:
@@ -45,14 +45,14 @@ def first_of_several():
 
 
 def noise(row, column):
-    """A bit for a place, without any order."""
+    """Returns a pseudo-random bit for a place."""
     mixed = (column * 0x9e3779b1 ^ row * 0x85ebca6b) % 2 ** 32
     return mixed * 0xc2b2ae35 % 2 ** 32 >> 17 & 1
 
 
 def light_data(version, mask, noisy):
-    """The bytes of a segment that makes the codewords of data, except for the first ones, light
-    under a mask, in a symbol at L."""
+    """Returns the bytes of a segment whose data codewords are light under a mask at L, except for
+    the first ones, which are noise."""
     shape, parts, bits = form(version), blocks(version, "L"), ""
     turned = f"{shape.turned[mask]:0{len(shape.places)}b}"
     for share, length in zip(parts.shares(), parts.lengths):
@@ -66,15 +66,15 @@ def light_data(version, mask, noisy):
 
 
 def not_beyond(square, mask):
-    """Whether the penalty under a mask fits 16 bits, or is not the least when it is cut to
-    them."""
+    """Returns a complaint unless the penalty under a mask exceeds 16 bits, and would be the lowest
+    if truncated to them."""
     costs = [sum(terms.values()) for terms in reading.penalties(square, reading.read_bits(square))]
     cut = costs.pop(mask)
     return "" if cut >= 2 ** 16 and cut % 2 ** 16 < min(costs) else f"{cut} beside {costs}"
 
 
 def more_than_16_bits():
-    """Penalties of more than 16 bits are compared"""
+    """Penalties of more than 16 bits are compared in full"""
     found = []
     for version, mask, noisy in LIGHT:
         square = square_of(goqlanis.encode_segments([("byte", light_data(version, mask, noisy))],

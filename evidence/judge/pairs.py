@@ -1,4 +1,5 @@
-"""Symbols of all 168 pairs of version and level, undamaged and damaged, and what is refused."""
+"""Symbols of all 168 pairs of version and level, undamaged and damaged, and data that is too
+long."""
 from random import Random
 
 import goqlanis
@@ -9,7 +10,8 @@ from tables import LEVELS
 
 
 def most(version, level, mode):
-    """The most digits or small letters that a symbol holds; 0 if the version lacks the mode."""
+    """Returns the most digits or lower-case letters a symbol holds; 0 if the version lacks the
+    mode."""
     shape = form(version)
     width = count_bits(shape, mode)
     bits = blocks(version, level).capacity - (shape.number - 1 if shape.is_micro else 4) - width
@@ -19,7 +21,7 @@ def most(version, level, mode):
 
 
 def refusal(call, *words):
-    """The name of a call's refusal, empty where it refuses nothing."""
+    """Returns the name of the error that a call raises, or an empty text."""
     try:
         call(*words)
     except goqlanis.Error as error:
@@ -28,14 +30,15 @@ def refusal(call, *words):
 
 
 def not_drawn(symbol):
-    """Whether a picture in greys of one pixel a module has others than the symbol's modules."""
+    """Returns a complaint unless a grey picture of one pixel a module shows the symbol's
+    modules."""
     pixels = bytes(0 if module else 255 for module in square_of(symbol))
     return "" if symbol.grey(scale=1, quiet_zone=0) == pixels else "the picture is another one"
 
 
 def symbol_complaint(version, level, data, chance):
-    """What is wrong if a symbol is not drawn, has not the mask of least penalty, or is not read,
-    undamaged and with the most damage."""
+    """Returns a complaint unless a symbol is drawn, has the mask of lowest penalty, and is read
+    both undamaged and with the most damage."""
     symbol = goqlanis.encode(data, level, version)
     square = square_of(symbol)
     worst, wrong = damaged(square, version, level, chance)
@@ -43,8 +46,8 @@ def symbol_complaint(version, level, data, chance):
 
 
 def pair_complaints(version, level, chance):
-    """What is wrong with symbols of no digit, of one, of the most digits and of the most letters;
-    one more is refused. Beyond the bound, damage is read or refused alike."""
+    """Returns what is wrong with symbols of no digit, one, the most digits and the most letters;
+    one more must be too long, and more damage must be read or rejected as by the judge."""
     count = most(version, level, "numeric")
     digits = bytes(chance.choices(b"0123456789", k=count + 1))
     found = [symbol_complaint(version, level, digits[1:], chance)]
@@ -64,7 +67,7 @@ def pair_complaints(version, level, chance):
 
 
 def all_pairs():
-    """Symbols of all pairs, with no damage and with the most, under the mask of least penalty"""
+    """Symbols of all pairs have the mask of lowest penalty, and are read undamaged and damaged"""
     chance = Random(168)
     found = [f"{version}-{level}: {it}" for version, level in pairs()
              for it in pair_complaints(version, level, chance) if it]
@@ -72,7 +75,7 @@ def all_pairs():
 
 
 def missing_levels():
-    """Pairs that there are not are refused"""
+    """Levels that a version lacks are rejected"""
     missing = [(version, level) for version in VERSIONS for level in LEVELS
                if level not in levels(version)]
     found = [f"{version}-{level}" for version, level in missing
@@ -81,7 +84,7 @@ def missing_levels():
 
 
 def least_version(rooms, count):
-    """The least version of Normal that holds so many bytes in one segment, or 41."""
+    """Returns the smallest Normal version that holds `count` bytes as one segment, or 41."""
     for number, room in enumerate(rooms, 1):
         if count == 0 or count * 8 + 4 + count_bits(form(str(number)), "byte") <= room:
             return number
@@ -89,7 +92,7 @@ def least_version(rooms, count):
 
 
 def least_versions():
-    """Letters are held by the least version with room for them"""
+    """Letters get the smallest version with room for them"""
     found, asked = [], 0
     for level in LEVELS:
         rooms = [blocks(str(number), level).capacity for number in range(1, 41)]

@@ -1,4 +1,4 @@
-"""Penalties of squares, term by term, with rows and columns as texts of `0` and `1` (6.8.2)."""
+"""Penalties of squares, term by term (6.8.2), with rows and columns as text of `0` and `1`."""
 import re
 
 RUNS = re.compile("0{5,}|1{5,}")
@@ -8,7 +8,7 @@ MICRO_TERMS = ("both sides", "greater side")
 
 
 def lines(square, width):
-    """The rows, and the columns."""
+    """Returns the rows and the columns of a square."""
     text = square.translate(LETTERS).decode()
     rows = [text[i * width:(i + 1) * width] for i in range(width)]
     return rows, [text[j::width] for j in range(width)]
@@ -18,12 +18,12 @@ LETTERS = bytes([48, 49]) + bytes(254)
 
 
 def runs(line):
-    """Three for five modules of one colour in a line, and one for each further."""
+    """Counts 3 for five modules of one colour in a line, and 1 for each further one."""
     return sum(len(run) - 2 for run in RUNS.findall(line))
 
 
 def blocks(rows):
-    """Three for each two by two modules of one colour."""
+    """Counts 3 for each block of two by two modules of one colour."""
     count = 0
     for colour in (rows, [row.translate({48: 49, 49: 48}) for row in rows]):
         both = [int(above, 2) & int(below, 2) for above, below in zip(colour, colour[1:])]
@@ -33,7 +33,7 @@ def blocks(rows):
 
 
 def finders(line):
-    """Forty for each form of a finder pattern with four light modules on a side; all modules
+    """Counts 40 for each finder-like pattern with four light modules before or after it; modules
     outside the square are light."""
     wide = "0000" + line + "0000"
     return sum(40 for found in FINDERS.finditer(wide)
@@ -42,8 +42,8 @@ def finders(line):
 
 
 def normal(square, width):
-    """The four terms of Normal. The last is how far 200 times the share of dark modules, rounded
-    down, is from 100."""
+    """Returns the four terms of Normal. The balance is the distance of 200 times the share of dark
+    modules, rounded down, from 100."""
     rows, columns = lines(square, width)
     both = rows + columns
     balance = abs(200 * square.count(1) // len(square) - 100)
@@ -51,15 +51,15 @@ def normal(square, width):
 
 
 def micro(square, width):
-    """The two terms of Micro: the light modules of the last row and column, without the first of
-    each, and 15 times the greater of both. The standard takes the mask with the greatest sum of
-    dark ones, sixteen times the lesser and the greater: that is the least sum here."""
+    """Returns the two terms of Micro: the light modules of the last row and column, without the
+    first of each, and 15 times the larger of both numbers. The standard takes the mask with the
+    largest 16 * min + max of the dark ones, which has the smallest sum here."""
     rows, columns = lines(square, width)
     row, column = rows[-1][1:].count("0"), columns[-1][1:].count("0")
     return dict(zip(MICRO_TERMS, (row + column, 15 * max(row, column))))
 
 
 def first_least(penalties, left_out=None):
-    """The number of the first of least sum, all terms or all but one being counted."""
+    """Returns the index of the first with the lowest sum, counting all terms except `left_out`."""
     sums = [sum(cost for term, cost in terms.items() if term != left_out) for terms in penalties]
     return sums.index(min(sums))

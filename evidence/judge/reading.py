@@ -1,4 +1,4 @@
-"""What is read of a square of modules, errors corrected."""
+"""Reads a square of modules, and corrects its errors."""
 from typing import NamedTuple
 
 import penalty
@@ -9,11 +9,11 @@ from tables import MICRO_SYMBOLS, NORMAL_LEVELS
 
 
 class NoSuchSide(Exception):
-    """No version has so many modules."""
+    """No version has this number of modules."""
 
 
 class NoFormat(Exception):
-    """No format word is near each of its copies."""
+    """No format word differs in at most three bits from each copy."""
 
 
 class Damaged(Exception):
@@ -21,11 +21,11 @@ class Damaged(Exception):
 
 
 class NotSpelled(Exception):
-    """The data bits are not segments and an end, or have a header."""
+    """The data bits are not segments and a terminator, or have a header."""
 
 
 class Bits(NamedTuple):
-    """The data bits of a square, with its version, level, mask and number of wrong codewords."""
+    """The version, level, mask, number of wrong codewords, and data bits of a square."""
 
     version: str
     level: str
@@ -35,7 +35,7 @@ class Bits(NamedTuple):
 
 
 def divided(five):
-    """The format word of five bits: they and the remainder by 10100110111 (Annex C)."""
+    """Returns five bits with their remainder by 10100110111, before the mask (Annex C)."""
     rest = five << 10
     for k in range(4, -1, -1):
         if rest >> (10 + k) & 1:
@@ -44,7 +44,7 @@ def divided(five):
 
 
 def named(version, five):
-    """The level and the mask that five bits name in a version, if they do."""
+    """Returns the level and mask that five bits name in a version, or None."""
     if not version.startswith("M"):
         return NORMAL_LEVELS[five >> 3], five & 7
     owner, level = MICRO_SYMBOLS[five >> 2]
@@ -52,7 +52,7 @@ def named(version, five):
 
 
 def words(version):
-    """Each format word of a version with its level and mask."""
+    """Returns the format words of a version by level and mask."""
     turned = 0b100010001000101 if version.startswith("M") else 0b101010000010010
     return {named(version, five): divided(five) ^ turned for five in range(32)
             if named(version, five)}
@@ -62,12 +62,12 @@ WORDS = {version: words(version) for version in WIDTHS.values()}
 
 
 def wrong_bits(square, copy, word):
-    """How many bits of a copy of the format word are not those of a word."""
+    """Returns in how many bits a copy of the format word differs from `word`."""
     return sum(square[place] != word >> (14 - k) & 1 for k, place in enumerate(copy))
 
 
 def read_format(square, shape):
-    """The level and the mask whose word differs in at most three bits from each copy."""
+    """Returns the level and mask whose format word differs in at most three bits from each copy."""
     for found, word in WORDS[shape.version].items():
         if all(wrong_bits(square, copy, word) <= 3 for copy in shape.copies):
             return found
@@ -75,7 +75,7 @@ def read_format(square, shape):
 
 
 def words_of(stream, count, parts):
-    """The codewords of a stream of so many bits. One of four bits is filled with zeros."""
+    """Returns the codewords of a stream of `count` bits; one of four bits is filled with zeros."""
     if not parts.has_half:
         return (stream >> count % 8).to_bytes(parts.total, "big")
     bits, cut = f"{stream:0{count}b}", parts.data * 8 - 4
@@ -83,7 +83,7 @@ def words_of(stream, count, parts):
 
 
 def read_bits(square):
-    """The data bits of a square."""
+    """Returns the data bits of a square, corrected."""
     version = WIDTHS.get(int(len(square) ** 0.5))
     if version is None or form(version).width ** 2 != len(square):
         raise NoSuchSide
@@ -102,7 +102,7 @@ def read_bits(square):
 
 
 def read_headed(square):
-    """What a square says, with its headers."""
+    """Returns the data bits of a square, and their bytes and headers."""
     bits = read_bits(square)
     try:
         return bits, spelled(form(bits.version), bits.bits)
@@ -111,7 +111,7 @@ def read_headed(square):
 
 
 def read(square):
-    """The bits and bytes of a square without headers, as the library reads it."""
+    """Returns the bits and bytes of a square; like the library's `read` it rejects headers."""
     bits, found = read_headed(square)
     if found.headers:
         raise NotSpelled
@@ -119,7 +119,7 @@ def read(square):
 
 
 def penalties(square, bits):
-    """The terms of the penalty of a symbol as it would be under each mask of its version."""
+    """Returns the terms of the penalty of a symbol under each mask of its version."""
     shape, found = form(bits.version), []
     for mask in shape.mask_numbers():
         other = shape.remasked(square, bits.mask, mask, WORDS[bits.version][bits.level, mask])

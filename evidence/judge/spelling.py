@@ -1,4 +1,4 @@
-"""The bytes and headers that data bits spell. Bits are a text of `0` and `1`."""
+"""Decodes data bits to bytes and headers. Bits are text of `0` and `1`."""
 from typing import NamedTuple
 
 from tables import CHARACTERS, COUNT_BITS, MICRO_COUNT_BITS, MICRO_MODES, MODES
@@ -7,12 +7,12 @@ ECI, FNC1_FIRST, FNC1_SECOND, STRUCTURED_APPEND = 7, 5, 9, 3
 
 
 class Unspelled(Exception):
-    """The bits are not segments and an end."""
+    """The bits are not segments and a terminator."""
 
 
 class Spelled(NamedTuple):
-    """The bytes of all segments; the headers before them, `("ECI", 26)`, `("FNC1",)`,
-    `("FNC1", 37)`, `("symbol", place, last, parity)`; and how many bits they take."""
+    """The bytes of all segments; the headers, as `("ECI", 26)`, `("FNC1",)`, `("FNC1", 37)` or
+    `("symbol", place, count, parity)`; and the number of bits that both take."""
 
     data: bytes
     headers: list
@@ -20,7 +20,7 @@ class Spelled(NamedTuple):
 
 
 class Front:
-    """Bits that are taken from the front."""
+    """Takes bits from the front."""
 
     def __init__(self, bits):
         self.bits, self.at = bits, 0
@@ -37,7 +37,7 @@ class Front:
 
 
 def digits(front, count):
-    """Three digits in ten bits, two that are left in seven, and one in four."""
+    """Decodes digits: three in ten bits, two remaining ones in seven, one in four."""
     found = ""
     while count > 0:
         taken = min(count, 3)
@@ -49,7 +49,7 @@ def digits(front, count):
 
 
 def letters(front, count):
-    """Two letters in eleven bits, and one that is left in six."""
+    """Decodes letters: two in eleven bits, a remaining one in six."""
     found = []
     for _ in range(count // 2):
         found += divmod(front.number(11), 45)
@@ -65,8 +65,8 @@ def plain(front, count):
 
 
 def pairs(front, count):
-    """A pair of Shift JIS in thirteen bits: less 0x8140 or 0xc140, 192 times the first byte and
-    the second."""
+    """Decodes Shift JIS pairs of thirteen bits: the pair less 0x8140 or 0xc140, as 192 times its
+    first byte plus the second."""
     found = b""
     for _ in range(count):
         first, second = divmod(front.number(13), 0xc0)
@@ -82,14 +82,14 @@ READERS = {"numeric": digits, "alphanumeric": letters, "byte": plain, "kanji": p
 
 
 def count_bits(form, mode):
-    """The bits of the count of characters."""
+    """Returns the length of the character count."""
     if form.is_micro:
         return MICRO_COUNT_BITS[mode][form.number - 1]
     return COUNT_BITS[mode][(form.number >= 10) + (form.number >= 27)]
 
 
 def number_of_set(front):
-    """The number of a character set, in one, two or three bytes."""
+    """Decodes an ECI designator of one, two or three bytes."""
     if front.number(1) == 0:
         return front.number(7)
     if front.number(1) == 0:
@@ -100,7 +100,7 @@ def number_of_set(front):
 
 
 def header(indicator, front):
-    """The header of an indicator."""
+    """Decodes the header of a mode indicator."""
     if indicator == ECI:
         return "ECI", number_of_set(front)
     if indicator == FNC1_FIRST:
@@ -113,7 +113,7 @@ def header(indicator, front):
 
 
 def spelled(form, bits):
-    """What data bits of a version spell."""
+    """Decodes the data bits of a version."""
     front, data, headers = Front(bits), b"", []
     while not front.is_end(form.number * 2 + 1 if form.is_micro else 4):
         indicator = front.number(form.number - 1 if form.is_micro else 4)

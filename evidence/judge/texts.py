@@ -1,4 +1,4 @@
-"""Symbols of texts that other readers were shown (evidence/others/texts/look)."""
+"""Symbols of text that other readers were shown (evidence/others/texts/look)."""
 from pathlib import Path
 
 import goqlanis
@@ -9,7 +9,7 @@ PRIME = 4294967291
 
 
 def digest(square):
-    """The digest by which evidence/others/texts/digests names a symbol."""
+    """Returns the digest of a symbol, as evidence/others/texts/digests has it."""
     total = 0
     for module in square:
         total = (total * 257 + module + 1) % PRIME
@@ -17,8 +17,8 @@ def digest(square):
 
 
 def not_shown(text, wanted):
-    """What is wrong if the two symbols of a text are not those that were shown, or if the one
-    without a header is not read as the text."""
+    """Returns a complaint unless the two symbols of a text are those that were shown, and the one
+    without a header is read as the text."""
     plain, marked = (goqlanis.encode_text(text, "M", is_marked) for is_marked in (False, True))
     digests = " ".join(digest(square_of(symbol)) for symbol in (plain, marked))
     if digests != wanted:
@@ -27,7 +27,7 @@ def not_shown(text, wanted):
 
 
 def texts_that_were_shown():
-    """Symbols of texts, without and with the number of UTF-8, are those that readers were shown"""
+    """Symbols of texts, without and with the ECI of UTF-8, are those that readers were shown"""
     texts, digests = (
         (TEXTS / name).read_text(encoding="utf-8").splitlines() for name in ("texts", "digests"))
     looks = ((text, not_shown(text, it)) for text, it in zip(texts, digests, strict=True))

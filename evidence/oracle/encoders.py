@@ -1,5 +1,6 @@
-"""How scripts ask other encoders for symbols: Debian 12's python3-segno (1.4.1), python3-qrcodegen
-(1.8.0), zint (2.11.1) and qrencode (4.1.1). A part of data is ("numeric", bytes), ("eci", number) .."""
+"""Asks other encoders for symbols: Debian 12's python3-segno (1.4.1), python3-qrcodegen (1.8.0),
+zint (2.11.1) and qrencode (4.1.1). A part of data is ("numeric", bytes), ("eci", number) and so
+on."""
 import subprocess
 import tempfile
 
@@ -18,7 +19,7 @@ SEGNO_MODES = dict(zip(MODES, (consts.MODE_NUMERIC, consts.MODE_ALPHANUMERIC, co
 
 
 def gen_segment(mode, value):
-    """A part as a segment of qrcodegen."""
+    """Returns a part as a segment of qrcodegen."""
     if mode == "eci":
         return Segment.make_eci(value)
     if mode == "numeric":
@@ -27,13 +28,13 @@ def gen_segment(mode, value):
         return Segment.make_alphanumeric(value.decode())
     if mode == "byte":
         return Segment.make_bytes(value)
-    # this port of qrcodegen has no call for pairs: their bits are segno's
+    # qrcodegen for Python has no call for Kanji: segno makes their bits
     found = segno_encoder.make_segment(value, consts.MODE_KANJI)
     return Segment(Segment.Mode.KANJI, found.char_count, list(found.bits))
 
 
 def with_file(data, command):
-    """What a command writes that is given a file of data."""
+    """Returns the output of a command that is given a file of data."""
     with tempfile.NamedTemporaryFile() as file:
         file.write(data)
         file.flush()
@@ -41,13 +42,13 @@ def with_file(data, command):
 
 
 def zint_rows(text):
-    """The rows of # and . of what zint dumps."""
+    """Returns the rows of # and . of a dump of zint."""
     lines = [line.replace(" ", "") for line in text.split("\n") if line]
     return [f"{int(line, 16):0{4 * len(line)}b}"[:len(lines)].replace("1", "#").replace("0", ".")
             for line in lines]
 
 
 def qrencode_rows(command, data):
-    """The rows of # and . of what a command of qrencode writes of data as ASCII."""
+    """Returns the rows of # and . that qrencode draws of data, by a command that writes ASCII."""
     text = subprocess.run(command, input=data, capture_output=True, check=True).stdout.decode()
     return [line[::2] for line in text.replace(" ", ".").split("\n") if line]

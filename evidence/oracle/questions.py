@@ -1,4 +1,5 @@
-"""What the questions of evidence/oracle/answers ask: contents that look random, and sums of squares."""
+"""The data and checksums of evidence/oracle/answers: data that looks random, checksums of
+squares."""
 import zlib
 
 MODES = ("numeric", "alphanumeric", "byte", "kanji")
@@ -6,7 +7,7 @@ ALPHABET = b"0123456789ABCDEFGHIJKLMNOPQRSTUVWXYZ $%*+-./:"
 
 
 def pair(number):
-    """A pair of Shift JIS bytes."""
+    """Returns the Kanji pair of a number."""
     first, second = number % 43, number // 43
     first = 0x81 + first if first < 31 else 0xE0 + first - 31
     second %= 127 if first == 0xEB else 188
@@ -14,7 +15,7 @@ def pair(number):
 
 
 def content(mode, count):
-    """So many characters of a mode, which look random."""
+    """Returns `count` characters of a mode, which look random."""
     state, found = count, bytearray()
     for _ in range(count):
         state = (state * 1103515245 + 12345) % 2**31
@@ -29,10 +30,10 @@ def content(mode, count):
 
 
 def rows_of(matrix):
-    """Rows of modules as texts of # and ."""
+    """Returns the rows of modules as text of # and ."""
     return ["".join("#" if module else "." for module in row) for row in matrix]
 
 
 def checksum(rows):
-    """The sum of such rows, as lines."""
+    """Returns the CRC-32 of such rows, as lines."""
     return f"{zlib.crc32(chr(10).join(rows).encode()):08x}"

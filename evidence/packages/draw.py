@@ -1,4 +1,4 @@
-"""Draws a text as a PNG file, takes the modules out of the file, and reads them."""
+"""Draws a text as a PNG file, takes the modules from the file, and reads them."""
 import struct
 import sys
 import zlib

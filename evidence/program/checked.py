@@ -1,4 +1,4 @@
-"""What `goqlanis check --json` must say of a square, reckoned by the judge of evidence/judge."""
+"""Computes what `goqlanis check --json` must print for a square, by the judge of evidence/judge."""
 import os
 import sys
 
@@ -10,16 +10,16 @@ from forms import blocks, form, number_of
 from spelling import ECI, FNC1_FIRST, FNC1_SECOND, READERS, Front, Unspelled, count_bits, header
 from tables import CHARACTERS, MICRO_MODES, MODES
 
-# Codewords of error correction that readers keep to tell wrong corrections (Table 9).
+# Error correction codewords that are reserved against misdecoding (Table 9).
 PROTECTION = {("1", "L"): 3, ("1", "M"): 2, ("1", "Q"): 1, ("1", "H"): 1, ("2", "L"): 2,
               ("3", "L"): 1, ("M1", "L"): 2, ("M2", "L"): 3, ("M2", "M"): 2, ("M3", "L"): 2,
               ("M4", "L"): 2}
-# Sixths of a bit that a byte takes in a mode.
+# The cost of a byte in a mode, in sixths of a bit.
 SIXTHS = {"numeric": 20, "alphanumeric": 33, "byte": 48, "kanji": 39}
 
 
 def corner(square, shape, left, top, count):
-    """The wrong modules of a finder pattern with its separator; it begins so far out."""
+    """Returns the number of wrong modules of a finder pattern and its separator."""
     width, wrong = shape.width, 0
     for y in range(top - 1, top + 8):
         for x in range(left - 1, left + 8):
@@ -30,14 +30,14 @@ def corner(square, shape, left, top, count):
 
 
 def finder(square, shape):
-    """The wrong modules of all finder patterns."""
+    """Returns the number of wrong modules of all finder patterns."""
     far = shape.width - 7
     places = [(0, 0)] if shape.is_micro else [(0, 0), (far, 0), (0, far)]
     return sum(corner(square, shape, left, top, 7) for left, top in places)
 
 
 def alignment(square, shape):
-    """The wrong modules of the alignment patterns."""
+    """Returns the number of wrong modules of the alignment patterns."""
     if shape.is_micro:
         return 0
     return sum(square[(i + y) * shape.width + j + x] != (max(abs(x), abs(y)) != 1)
@@ -45,7 +45,7 @@ def alignment(square, shape):
 
 
 def timing(square, shape):
-    """The wrong modules of the timing patterns."""
+    """Returns the number of wrong modules of the timing patterns."""
     width = shape.width
     line, last = (0, width) if shape.is_micro else (6, width - 8)
     return sum((square[line * width + k] != (k % 2 == 0)) + (square[k * width + line] != (k % 2 == 0))
@@ -53,13 +53,13 @@ def timing(square, shape):
 
 
 def format_bits(square, shape, word):
-    """The wrong bits of the format word, and the module that is always dark."""
+    """Returns the number of wrong bits of the format word, with the module that is always dark."""
     dark = 0 if shape.is_micro else 1 - square[(shape.width - 8) * shape.width + 8]
     return sum(reading.wrong_bits(square, copy, word) for copy in shape.copies) + dark
 
 
 def version_bits(square, shape):
-    """The wrong bits of the version word (Annex D)."""
+    """Returns the number of wrong bits of the version word (Annex D)."""
     if shape.is_micro or shape.number < 7:
         return 0
     rest = shape.number << 12
@@ -74,7 +74,8 @@ def version_bits(square, shape):
 
 
 def corrections(square, shape, level, mask):
-    """The wrong codewords by block, the data bits, and the ones among the remainder bits."""
+    """Returns the wrong codewords of each block, the data bits, and the number of dark remainder
+    bits."""
     parts, stream = blocks(shape.version, level), shape.stream(square, mask)
     words = reading.words_of(stream, len(shape.places), parts)
     data, wrong = b"", []
@@ -87,7 +88,8 @@ def corrections(square, shape, level, mask):
 
 
 def parts_of(shape, bits):
-    """Headers and segments, each with its bits and bytes, and where the end begins."""
+    """Returns headers and segments, each with its length in bits and its bytes, and where they
+    end."""
     front, parts = Front(bits), []
     while not front.is_end(shape.number * 2 + 1 if shape.is_micro else 4):
         at, indicator = front.at, front.number(shape.number - 1 if shape.is_micro else 4)
@@ -107,7 +109,7 @@ def parts_of(shape, bits):
 
 
 def may_be(mode, data, at):
-    """Whether a mode has the byte at a place, or the pair that begins there."""
+    """Whether a mode has the byte at a place, or the Kanji pair that begins there."""
     if mode == "numeric":
         return data[at:at + 1].isdigit()
     if mode == "alphanumeric":
@@ -120,7 +122,8 @@ def may_be(mode, data, at):
 
 
 def fewest(shape, modes, data):
-    """The fewest bits of segments of bytes in these modes, or None: in sixths, byte by byte."""
+    """Returns the fewest bits of segments of the data in these modes, or None. It goes byte by
+    byte, and counts in sixths of a bit."""
     none = float("inf")
     ended, going = [0] + [none] * len(data), {mode: [none] * (len(data) + 1) for mode in modes}
     for at in range(len(data)):
@@ -135,8 +138,8 @@ def fewest(shape, modes, data):
 
 
 def taken(shape, parts):
-    """The bits of the segments and the fewest, where no other header than ECI and structured append
-    stands in front of them, and none behind one."""
+    """Returns the bits of the segments and the fewest possible, if all headers precede the segments
+    and are ECI or structured append."""
     kinds = [part[0] for part in parts]
     modes = [it for it in kinds if isinstance(it, str)]
     if kinds[len(kinds) - len(modes):] != modes or {FNC1_FIRST, FNC1_SECOND} & set(kinds):
@@ -147,7 +150,8 @@ def taken(shape, parts):
 
 
 def ending(shape, bits, used):
-    """The wrong bits of the terminator with the zeros to a whole byte, and of the padding."""
+    """Returns the wrong bits of the terminator and the zeros up to a whole byte, and of the
+    padding."""
     behind = min(used + (2 * shape.number + 1 if shape.is_micro else 4), len(bits))
     behind = min((behind + 7) // 8 * 8, len(bits))
     count = (len(bits) - behind) // 8
@@ -165,14 +169,15 @@ def is_utf8(data):
 
 
 def guesses(parts):
-    """The segments of bytes above 127 before the first number of a character set."""
+    """Returns how many Byte segments before the first ECI have bytes above 127, and whether these
+    are UTF-8."""
     until = next((k for k, part in enumerate(parts) if part[0] == ECI), len(parts))
     found = [part[2] for part in parts[:until] if part[0] == "byte" and max(part[2], default=0) > 127]
     return {"guessed_segments": len(found), "guessed_utf8": all(map(is_utf8, found))}
 
 
 def content(shape, bits):
-    """What is said of data bits."""
+    """Returns the findings on data bits."""
     try:
         parts, used = parts_of(shape, bits)
     except Unspelled:
@@ -181,12 +186,13 @@ def content(shape, bits):
 
 
 def rank(numbers, at):
-    """How many numbers are lower than one, and how many before it are the same."""
+    """Returns how many numbers are lower than the one at index `at`, and how many before it equal
+    it."""
     return {"lower": sum(it < numbers[at] for it in numbers), "same_before": numbers[:at].count(numbers[at])}
 
 
 def ranks(square, bits):
-    """How the mask stands by the balance of the standard, and by that of goqlanis."""
+    """Returns the rank of the mask by the standard's balance term, and by that of goqlanis."""
     terms, stepped = reading.penalties(square, bits), []
     shape = form(bits.version)
     for mask, each in enumerate(terms):
@@ -200,7 +206,7 @@ def ranks(square, bits):
 
 
 def checked(square):
-    """What is said of a square of modules, a byte each, 1 for a dark one."""
+    """Returns all findings on a square of modules, one byte each, 1 for a dark one."""
     version = reading.WIDTHS[int(len(square) ** 0.5)]
     shape = form(version)
     level, mask = reading.read_format(square, shape)

@@ -1,18 +1,21 @@
-"""Carries out what label printers take, in place of a printer, as the makers' pages say (TSC "TSPL/TSPL2
-Programming", Zebra "ZPL II Programming Guide", ^GF): where the picture stands, and its rows of dots."""
+"""Carries out the commands of label printers as a printer would, by the makers' manuals (TSC
+"TSPL/TSPL2 Programming"; Zebra "ZPL II Programming Guide", ^GF); finds the place of the picture and
+its rows of dots."""
 import re
 
 
 def rows_of(bits, across, count):
-    """Rows of so many bytes: of each the dots of its bits, the highest first."""
+    """Splits bits into `count` rows of `across` bytes; returns the dots of each, highest bit
+    first."""
     assert len(bits) == across * count
     return [[byte >> (7 - i) & 1 for byte in bits[y * across:(y + 1) * across] for i in range(8)]
             for y in range(count)]
 
 
 def tspl(file):
-    """Commands end with CR LF; the data of BITMAP x,y,width,height,mode is counted, not searched:
-    width bytes across, height dots, and in mode 0 (OVERWRITE) a dot prints where its bit is 0."""
+    """Carries out TSPL. Commands end with CR LF. The length of the data of BITMAP
+    x,y,width,height,mode follows from its numbers: width bytes across, height dots down; in mode 0
+    (OVERWRITE) a dot is printed if its bit is 0."""
     label, place, at, printed = None, None, 0, False
     while at < len(file):
         if file.startswith(b"BITMAP ", at):
@@ -42,9 +45,9 @@ def tspl(file):
 
 
 def zpl(file):
-    """^FOx,y places the field. ^GFA,b,c,d,data: b bytes in all, c of the field, d in a row; G to Y
-    repeat the next digit 1 to 19 times and g to z 20 to 400 times, `,` and `!` fill the row with 0 and
-    1, `:` repeats it."""
+    """Carries out ZPL II. ^FOx,y places the field. ^GFA,b,c,d,data has b bytes in all, c in the
+    field and d in a row. G to Y repeat the next digit 1 to 19 times, and g to z 20 to 400 times;
+    `,` and `!` fill the row with 0 and 1, and `:` repeats the row before."""
     text = re.fullmatch(r"\^XA\^FO(\d+),(\d+)\^GFA,(\d+),(\d+),(\d+),([^^~]*)\^FS\^XZ\s*",
                         file.decode("ascii"))
     left, top, total, field, across = map(int, text.groups()[:5])

@@ -1,11 +1,11 @@
-"""Drawings with colours of parts: what their modules show, against the parts that segno names."""
+"""Compares drawings in which each part of a symbol has its own colour with the parts by segno."""
 import re
 
 import png
 
 OPTIONS = {"F": "finder", "A": "alignment", "T": "timing", "W": "format", "V": "version",
            ".": "data"}
-# A colour for each part: of dark modules, and of light ones.
+# The colours of dark and of light modules of each part.
 INKS = {(letter, tone): f"#{10 * at + 5:02x}0028" if tone else f"#{250 - 10 * at:02x}e6c8"
         for at, letter in enumerate(OPTIONS) for tone in (1, 0)}
 WORDS = [it for (letter, tone), ink in INKS.items()
@@ -14,8 +14,9 @@ DARK, LIGHT = "#012345", "#fedcba"
 
 
 def parts_of(path):
-    """The letters of evidence/others/parts/types, by version. segno counts the module to the left of
-    the format word's second copy to it as well: there the standard has data, which segno draws."""
+    """Returns the rows of evidence/others/parts/types by version. segno names the module to the
+    left of the second copy of the format word as part of it, but draws data there, as the standard
+    says."""
     with open(path, encoding="ascii") as it:
         sheets = re.findall(r"^\$ (\S+)\n((?:[^$\n]+\n)+)", it.read(), re.MULTILINE)
     found = {version: rows.split() for version, rows in sheets}
@@ -32,7 +33,7 @@ def rgb(name):
 
 
 def png_cells(file, scale):
-    """The colours of the modules of a PNG file; None where one has two."""
+    """Returns the colours of the modules of a PNG file, or None if a module has two."""
     dots = png.pixels_of(file)
     cells = [line[::scale] for line in dots[::scale]]
     whole = [[it for it in line for _ in range(scale)] for line in cells for _ in range(scale)]
@@ -41,7 +42,7 @@ def png_cells(file, scale):
 
 
 def rectangles(path):
-    """The left, top, width and height of the subpaths of a path, each a rectangle."""
+    """Yields left, top, width and height of the subpaths of a path, which are rectangles."""
     x = y = 0
     corners = []
     for letter, body in re.findall(r"([MmhvHV])([^MmhvHV]*)", path):
@@ -67,13 +68,13 @@ def box(corners):
 
 
 def svg_cells(text, side):
-    """The colours of the modules of an SVG text, with so many modules a side."""
+    """Returns the colours of the modules of an SVG drawing, with `side` modules a side."""
     cells = [[None] * side for _ in range(side)]
     units, sides = [], []
     for name, rest in re.findall(r"<(/?\w+)([^>]*)>", text.split("?>")[1]):
         given = dict(re.findall(r'(\w+)="([^"]*)"', rest))
         if name == "svg":
-            # The side of the element in modules of the whole, and that of its units.
+            # The side of this element in modules, and the modules of one of its units.
             whole = int(given["width"]) * units[-1] if units else side
             units.append(whole / int(given["viewBox"].split()[2]))
             sides.append(whole)
@@ -96,7 +97,7 @@ def fill(cells, place, color):
 
 
 def eps_cells(text, side, scale):
-    """The same of an EPS text, whose rows are counted from above behind its ground."""
+    """Returns the colours of the modules of an EPS drawing, which counts rows from the top."""
     cells = [[None] * side for _ in range(side)]
     color = None
     for line in text.splitlines():
@@ -109,7 +110,8 @@ def eps_cells(text, side, scale):
 
 
 def pdf_cells(file, side):
-    """The same of a PDF file, whose unit is a module and whose rows are counted from above."""
+    """Returns the colours of the modules of a PDF file, whose unit is a module and whose rows are
+    counted from the top."""
     cells = [[None] * side for _ in range(side)]
     color, boxes = None, []
     for word in file.split(b"stream\n")[1].decode().split("\n"):
@@ -125,7 +127,7 @@ def pdf_cells(file, side):
 
 
 def wanted(rows, letters, zone, is_inverted):
-    """The colours of modules in a quiet zone: by their parts, and else dark or light."""
+    """Returns the expected colours: of modules by their parts, and light for the quiet zone."""
     light = rgb(DARK if is_inverted else LIGHT)
     across = len(rows) + 2 * zone
     inner = [[light] * zone + [rgb(INKS[letter, tone != is_inverted]) for letter, tone
@@ -134,8 +136,8 @@ def wanted(rows, letters, zone, is_inverted):
 
 
 def are_drawn(run, path):
-    """Whether each module has the colour of its part in PNG, SVG, EPS and PDF, where `run` writes
-    what a command line does."""
+    """Whether each module has the colour of its part in PNG, SVG, EPS and PDF; `run` returns the
+    output of a command line."""
     for version, letters in parts_of(path).items():
         plain = ["-v", version, "-l", "L", "12"]
         bits = run([*plain, "-f", "pbm", "-s", "8", "-q", "0"]).split(b"\n", 2)[2]

@@ -1,4 +1,7 @@
-"""What runs the program goqlanis: the cases, the files of its room, and how it is started there."""
+"""Runs the program goqlanis: reads the cases, makes the files of a room, and starts it there.
+
+A room is a temporary folder with the files that the cases name.
+"""
 import contextlib
 import os
 import pty
@@ -17,13 +20,13 @@ PROGRAM = f"{TOP}/crates/goqlanis/out/goqlanis"
 
 
 def rows_of(dump):
-    """Rows of modules of their digits to the base 16."""
+    """Returns the rows of modules of a dump in hexadecimal digits."""
     rows = [[int(it) for digit in row for it in f"{int(digit, 16):04b}"] for row in dump.split()]
     return [it[:len(rows)] for it in rows]
 
 
 def file_of(rows, zone, scale):
-    """A PBM file of bits of rows of modules, 1 for dark."""
+    """Returns a binary PBM file of rows of modules, 1 for dark."""
     side = (len(rows) + 2 * zone) * scale
     row = [0] * (len(rows) + 2 * zone)
     wide = [row] * zone + [[0] * zone + it + [0] * zone for it in rows] + [row] * zone
@@ -34,8 +37,9 @@ def file_of(rows, zone, scale):
 
 
 def page(*codes):
-    """A PBM file of figures: a page with symbols, each at a column, a row and a scale, below a line
-    that looks like text. Of one whose name ends in ! the lower right quarter is dark."""
+    """Returns a plain PBM file (P1) of a page with symbols, each a name, column, row and scale,
+    below a line that looks like text. If a name ends in !, the lower right quarter of it is
+    dark."""
     ink = [[int(4 <= y < 12 and 9 * x * x % 7 < y % 5) for x in range(200)] for y in range(180)]
     for name, left, top, scale in codes:
         rows = SYMBOLS[name.strip("!")]
@@ -46,33 +50,33 @@ def page(*codes):
     return b"P1\n200 180\n" + "\n".join("".join(map(str, row)) for row in ink).encode()
 
 
-# A logo whose pixels all differ, and of which some are not opaque.
+# A logo whose pixels all differ, and some of which are transparent.
 COLOURS = [[(60 * x, 90 * y, 255 - 60 * x, 255 - 85 * (x + y) % 256) for x in range(4)]
            for y in range(3)]
 
 
 def table(name):
-    """The rows of a table, each a name and a text."""
+    """Returns the rows of a table, each a name and a text."""
     text = re.sub(r"\n  +", " ", (HERE / name).read_text(encoding="utf-8"))
     return [it.split(": ", 1) for it in text.splitlines() if it and it[0] != "#"]
 
 
 def blocks():
-    """The half blocks that other programs print, which evidence/program/blocks holds by name."""
+    """Returns the half blocks that other programs print, by name, from evidence/program/blocks."""
     text = (HERE / "blocks").read_text(encoding="utf-8").replace("\\e", "\x1b")
     return {name: shown.encode() for name, shown in
             re.findall(r"(?m)^\$ ([^:\n]*).*\n((?:(?!\$ ).*\n)*)", text)}
 
 
-# The rows of symbols, by what the cases call them.
+# The rows of symbols, by the names that the cases use.
 SYMBOLS = {name.replace("^", "\x1d"): rows_of(dump) for name, dump in table("symbols")}
 FILES = {**{name: file_of(rows, 0, 1) for name, rows in SYMBOLS.items() if name.endswith(".pbm")},
          **{name: eval(held) for name, held in table("files")}, **blocks()}
 
 
 class Case(NamedTuple):
-    """A command line, or a script of a shell, its standard input, and what is looked at: marks with
-    their texts."""
+    """A command line or shell script, its standard input (or the command line that writes it), and
+    the checks: marks with their texts."""
 
     words: str
     is_script: bool
@@ -82,7 +86,7 @@ class Case(NamedTuple):
 
 
 def cases():
-    """The cases of the table."""
+    """Returns the cases of the table."""
     found = []
     for line in (HERE / "cases").read_text(encoding="utf-8").splitlines():
         mark, rest = line[:1], line[2:] if line[1:2] == " " else line[1:]
@@ -98,7 +102,7 @@ def cases():
 
 
 def squares():
-    """The rows of the symbols of other encoders, with what each holds."""
+    """Yields the rows of the symbols of other encoders, with what each holds."""
     folder = TOP / "evidence" / "others" / "symbols"
     lines = [it.split() for it in (folder / "squares").read_text().splitlines() if it[:1].isdigit()]
     held_there = (folder / "readings").read_text().splitlines()
@@ -108,7 +112,7 @@ def squares():
 
 
 def empty(place=None):
-    """A folder for a run."""
+    """Makes an empty temporary folder."""
     return tempfile.TemporaryDirectory(prefix="program-", dir=place)
 
 
@@ -119,7 +123,7 @@ def put(folder, name, data):
 
 @contextlib.contextmanager
 def room():
-    """A folder with the files, a link and a folder in it."""
+    """Makes a temporary folder with the files, a link and a folder in it."""
     with empty() as folder:
         for name, data in FILES.items():
             put(folder, name, data)
@@ -130,18 +134,18 @@ def room():
 
 
 def piped(words, given=b"", **more):
-    """Runs a command to its end."""
+    """Runs a command, and waits for its end."""
     return subprocess.run(words, input=given, capture_output=True, timeout=60, check=False, **more)
 
 
 def run(program, words, folder, given=b"", **more):
-    """Runs the program in a folder, under its own name, which its texts show."""
+    """Runs the program in a folder, under the name goqlanis, which its messages show."""
     env = {"PATH": "/usr/bin:/bin", "LANG": "C.UTF-8", **more.pop("env", {})}
     return piped(["goqlanis", *words], given, executable=program, cwd=folder, env=env, **more)
 
 
 def by_shell(program, script, folder, given=b""):
-    """Runs a script of a shell in a folder, in which `goqlanis` is the program."""
+    """Runs a shell script in a folder, with the program as `goqlanis`."""
     with empty() as beside:
         os.symlink(program, f"{beside}/goqlanis")
         env = {"PATH": f"{beside}:/usr/bin:/bin", "LANG": "C.UTF-8"}
@@ -149,13 +153,14 @@ def by_shell(program, script, folder, given=b""):
 
 
 def written(program, words):
-    """What a command line writes to standard output, in a room of its own."""
+    """Returns what a command line writes to standard output, in a room of its own."""
     with room() as folder:
         return run(program, shlex.split(words), folder).stdout
 
 
 def figures(program, given):
-    """A picture of data as a PBM file of figures, one a module, without a quiet zone."""
+    """Returns the symbol of data as a plain PBM file (P1), one pixel a module, without a quiet
+    zone."""
     words = ["-l", "L", "-f", "pbm", "-s", "1", "-q", "0", "--micro"]
     side, bits = run(program, words, "/", given).stdout[3:].split(b"\n", 1)
     side = int(side.split()[0])
@@ -165,13 +170,14 @@ def figures(program, given):
 
 
 def held(folder, name):
-    """What a file holds, or None."""
+    """Returns the bytes of a file, or None if there is none."""
     path = Path(folder, name)
     return path.read_bytes() if path.exists() else None
 
 
 def in_terminal(program, words, given=b"", **env):
-    """What the program shows in a terminal where something is typed, and its exit status."""
+    """Runs the program in a terminal and types `given`; returns what it shows, and its exit
+    status."""
     shown = bytearray()
     child, terminal = pty.fork()
     if child == 0:

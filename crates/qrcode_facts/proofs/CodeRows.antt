@@ -1,4 +1,4 @@
--- Data with error correction vanishes.
+-- Published data with its error correction vanishes.
 use Rattle.std.proofs.Common.{ℕ, List, [], ◌∷◌, ◌++◌, lit<, refl}
 use Rattle.qrcode_types.specs.Bits.{AreBytes}
 use Rattle.qrcode_ec.specs.Codes.{Vanishes}

@@ -1,4 +1,4 @@
--- A damaged square is read as the same bits, and one with too much damage is none.
+-- The damaged square decodes to the same bits; the squares with more damage do not count as damaged.
 use Rattle.std.proofs.Common.{pos, [], ◌∷◌, ◌≤◌, refl, lit≤, arith}
 use Rattle.qrcode_types.specs.Bits.{number_bits, number_of, byte_at, bytes_of}
 use Rattle.qrcode_types.specs.Polynomials.{carryless, xor_sum, remainder_from, remainder}

@@ -1,4 +1,4 @@
--- The masks of the printed symbols are the first ones of least penalty.
+-- The masks of the printed symbols are the first of lowest penalty.
 use Rattle.std.proofs.Common.{pos, lit<, lit≤, arith, true≢false, sym}
 use Rattle.qrcode_types.specs.Polynomials.{remainder_from, remainder}
 use Rattle.qrcode_types.specs.declared.types.Version.TheVariants.{Normal, Micro}

@@ -1,4 +1,4 @@
--- The printed symbols are symbols of their bits, and are read as these.
+-- The printed symbols are the symbols of their bits, and decode to these bits.
 use Rattle.std.proofs.Common.{◌≡◌, ℕ, ◌<◌, Bool, true, false, pos, [], ◌∷◌, Some, None, Option, refl, lit≤, sym, true≢false}
 use Rattle.std.specs.Prelude.{List, IfSome}
 use Rattle.std.specs.List.{range_with_len, list_all}
@@ -34,7 +34,7 @@ is_color Light Light = true
 is_color Dark Light = false
 is_color Light Dark = false
 
--- a place has the colour of its pattern, if it has one
+-- the module at a place has the colour of its pattern, if a pattern is there
 abbrev is_shown : Version → List Color → ℕ → ℕ → Bool
 is_shown v s y x = elim (pattern v x y) [ Some c ↦ is_color c (color_at v s x y) | None ↦ true ]
 

@@ -1,15 +1,15 @@
--- Files in which other programs drew one symbol, and what it looks like.
+-- PNG files of one symbol by other programs, and the picture that they show.
 use Rattle.std.specs.Prelude.{ℕ, ◌*◌, ◌==◌, List, [], ◌∷◌, Option, None, flat_map, replicate, codes, if◌then◌else◌}
 use Rattle.std.specs.List.{range_with_len}
 use Rattle.qrcode_png.specs.Image.{Image, grey_shade}
 
-abbrev pub drawn : List (List ℕ)  -- the rows of the symbol Micro 1 of the digit 1, a # for each dark module
+abbrev pub drawn : List (List ℕ)  -- the rows of the Micro 1 symbol of the digit 1, # for a dark module
 drawn =
     codes "#######.#.#" ∷ codes "#.....#.#.." ∷ codes "#.###.#..##" ∷ codes "#.###.#.#.." ∷
     codes "#.###.#..##" ∷ codes "#.....#...." ∷ codes "#######..##" ∷ codes "........#.#" ∷
     codes "##...#...##" ∷ codes ".#.######.#" ∷ codes "########.##" ∷ []
 
--- it in black on white with so many pixels along a module, and with so many pixels a metre where they are told
+-- its picture in black on white: scale pixels along a module, and the pixels per metre if the file has them
 abbrev pub symbol : ℕ → Option (ℕ × ℕ) → Image
 symbol scale density = record {
   across = 11 * scale;
@@ -19,7 +19,7 @@ symbol scale density = record {
   density = density;
 }
 
-abbrev pub zint_file : List ℕ  -- zint 2.11.1: a block of its own codes, and a palette of white and black
+abbrev pub zint_file : List ℕ  -- zint 2.11.1: a block of dynamic codes, and a palette of white and black
 zint_file =
     137 ∷ 80 ∷ 78 ∷ 71 ∷ 13 ∷ 10 ∷ 26 ∷ 10 ∷ 0 ∷ 0 ∷ 0 ∷ 13 ∷ 73 ∷ 72 ∷ 68 ∷ 82 ∷ 0 ∷ 0 ∷ 0 ∷ 11 ∷
     0 ∷ 0 ∷ 0 ∷ 11 ∷ 1 ∷ 3 ∷ 0 ∷ 0 ∷ 0 ∷ 147 ∷ 98 ∷ 229 ∷ 101 ∷ 0 ∷ 0 ∷ 0 ∷ 6 ∷ 80 ∷ 76 ∷ 84 ∷
@@ -29,7 +29,7 @@ zint_file =
     15 ∷ 206 ∷ 188 ∷ 12 ∷ 17 ∷ 202 ∷ 190 ∷ 7 ∷ 89 ∷ 0 ∷ 0 ∷ 0 ∷ 0 ∷ 73 ∷ 69 ∷ 78 ∷ 68 ∷ 174 ∷ 66 ∷
     96 ∷ 130 ∷ []
 
--- qrencode 4.1.1: a block of the fixed codes, a palette of black and white, opacities, and 2,834 pixels a metre
+-- qrencode 4.1.1: a block of fixed codes, a palette of black and white, transparency, and 2,834 pixels per metre
 abbrev pub qrencode_file : List ℕ
 qrencode_file =
     137 ∷ 80 ∷ 78 ∷ 71 ∷ 13 ∷ 10 ∷ 26 ∷ 10 ∷ 0 ∷ 0 ∷ 0 ∷ 13 ∷ 73 ∷ 72 ∷ 68 ∷ 82 ∷ 0 ∷ 0 ∷ 0 ∷ 11 ∷
@@ -42,7 +42,7 @@ qrencode_file =
     155 ∷ 27 ∷ 9 ∷ 219 ∷ 25 ∷ 49 ∷ 217 ∷ 20 ∷ 0 ∷ 0 ∷ 0 ∷ 0 ∷ 73 ∷ 69 ∷ 78 ∷ 68 ∷ 174 ∷ 66 ∷ 96 ∷
     130 ∷ []
 
-abbrev pub segno_file : List ℕ  -- segno 1.4.1, four pixels for each module: a block of its own codes with copies, grey
+abbrev pub segno_file : List ℕ  -- segno 1.4.1, four pixels along a module: a block of dynamic codes with copies, grey
 segno_file =
     137 ∷ 80 ∷ 78 ∷ 71 ∷ 13 ∷ 10 ∷ 26 ∷ 10 ∷ 0 ∷ 0 ∷ 0 ∷ 13 ∷ 73 ∷ 72 ∷ 68 ∷ 82 ∷ 0 ∷ 0 ∷ 0 ∷ 44 ∷
     0 ∷ 0 ∷ 0 ∷ 44 ∷ 1 ∷ 0 ∷ 0 ∷ 0 ∷ 0 ∷ 54 ∷ 255 ∷ 103 ∷ 172 ∷ 0 ∷ 0 ∷ 0 ∷ 63 ∷ 73 ∷ 68 ∷ 65 ∷
@@ -52,7 +52,7 @@ segno_file =
     196 ∷ 105 ∷ 158 ∷ 125 ∷ 238 ∷ 169 ∷ 123 ∷ 20 ∷ 111 ∷ 3 ∷ 30 ∷ 169 ∷ 22 ∷ 180 ∷ 114 ∷ 3 ∷ 252 ∷
     245 ∷ 0 ∷ 0 ∷ 0 ∷ 0 ∷ 73 ∷ 69 ∷ 78 ∷ 68 ∷ 174 ∷ 66 ∷ 96 ∷ 130 ∷ []
 
-abbrev pub stored_file : List ℕ  -- segno 1.4.1 over a zlib that does not compress: a stored block, grey
+abbrev pub stored_file : List ℕ  -- segno 1.4.1 with compression off: a stored block, grey
 stored_file =
     137 ∷ 80 ∷ 78 ∷ 71 ∷ 13 ∷ 10 ∷ 26 ∷ 10 ∷ 0 ∷ 0 ∷ 0 ∷ 13 ∷ 73 ∷ 72 ∷ 68 ∷ 82 ∷ 0 ∷ 0 ∷ 0 ∷ 11 ∷
     0 ∷ 0 ∷ 0 ∷ 11 ∷ 1 ∷ 0 ∷ 0 ∷ 0 ∷ 0 ∷ 129 ∷ 215 ∷ 74 ∷ 139 ∷ 0 ∷ 0 ∷ 0 ∷ 44 ∷ 73 ∷ 68 ∷ 65 ∷
@@ -61,7 +61,7 @@ stored_file =
     0 ∷ 0 ∷ 128 ∷ 133 ∷ 203 ∷ 8 ∷ 134 ∷ 181 ∷ 14 ∷ 77 ∷ 191 ∷ 0 ∷ 0 ∷ 0 ∷ 0 ∷ 73 ∷ 69 ∷ 78 ∷ 68 ∷
     174 ∷ 66 ∷ 96 ∷ 130 ∷ []
 
--- Python's zlib, over rows by each of the five filters in turn: two blocks of the fixed codes and an empty stored one between them, in two chunks, grey
+-- Python's zlib, each of the five filters in turn: two blocks of fixed codes with an empty stored one between them, in two chunks, grey
 abbrev pub filtered_file : List ℕ
 filtered_file =
     137 ∷ 80 ∷ 78 ∷ 71 ∷ 13 ∷ 10 ∷ 26 ∷ 10 ∷ 0 ∷ 0 ∷ 0 ∷ 13 ∷ 73 ∷ 72 ∷ 68 ∷ 82 ∷ 0 ∷ 0 ∷ 0 ∷ 11 ∷

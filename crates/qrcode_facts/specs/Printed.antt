@@ -1,4 +1,4 @@
--- The words that the standard prints, and how the rows below go through versions, levels and masks.
+-- Words that the standard prints, and the lists of versions, levels, masks and modes that the rows go through.
 use Rattle.std.specs.Prelude.{ℕ, pos, nat_le, ◌&&◌, Bool, true, List, [], ◌∷◌}
 use Rattle.std.specs.List.{list_all}
 use Rattle.qrcode_types.specs.Bits.{number_bits, bit_distance}
@@ -11,7 +11,7 @@ use Rattle.qrcode_types.specs.declared.types.Version.TheVariants.{Normal, Micro}
 use Rattle.qrcode_layout.specs.declared.masks.MaskPattern.{MaskPattern}
 use Rattle.qrcode_layout.specs.declared.masks.MaskPattern.TheVariants.{Checkerboard, HorizontalLines, VerticalLines, DiagonalLines, LargeCheckerboard, Fields, Diamonds, Meadow}
 
--- the format words of Normal: a line for each of the levels M, L, H and Q, and in it a word for each mask
+-- the format words of Normal: one line for each of the levels M, L, H and Q, with a word for each mask
 abbrev pub normal_words : List ℕ
 normal_words =
     0x5412 ∷ 0x5125 ∷ 0x5e7c ∷ 0x5b4b ∷ 0x45f9 ∷ 0x40ce ∷ 0x4f97 ∷ 0x4aa0 ∷
@@ -19,7 +19,7 @@ normal_words =
     0x1689 ∷ 0x13be ∷ 0x1ce7 ∷ 0x19d0 ∷ 0x0762 ∷ 0x0255 ∷ 0x0d0c ∷ 0x083b ∷
     0x355f ∷ 0x3068 ∷ 0x3f31 ∷ 0x3a06 ∷ 0x24b4 ∷ 0x2183 ∷ 0x2eda ∷ 0x2bed ∷ []
 
--- the format words of Micro: a line for each version and level, and in it a word for each mask
+-- the format words of Micro: one line for each version and level, with a word for each mask
 abbrev pub micro_words : List ℕ
 micro_words =
     0x4445 ∷ 0x4172 ∷ 0x4e2b ∷ 0x4b1c ∷
@@ -39,10 +39,10 @@ version_words =
     0x1f250 ∷ 0x209d5 ∷ 0x216f0 ∷ 0x228ba ∷ 0x2379f ∷ 0x24b0b ∷ 0x2542e ∷ 0x26a64 ∷
     0x27541 ∷ 0x28c69 ∷ []
 
-abbrev pub masks : List MaskPattern  -- the masks by their numbers
+abbrev pub masks : List MaskPattern  -- the masks in the order of their numbers
 masks = Checkerboard ∷ HorizontalLines ∷ VerticalLines ∷ DiagonalLines ∷ LargeCheckerboard ∷ Fields ∷ Diamonds ∷ Meadow ∷ []
 
-abbrev pub micro_masks : List MaskPattern  -- the masks of Micro by their numbers there
+abbrev pub micro_masks : List MaskPattern  -- the masks of Micro in the order of their numbers there
 micro_masks = HorizontalLines ∷ LargeCheckerboard ∷ Diamonds ∷ Meadow ∷ []
 
 abbrev pub levels : List EcLevel  -- the levels in the order of their two bits
@@ -52,7 +52,7 @@ levels = M ∷ L ∷ H ∷ Q ∷ []
 abbrev pub micro_pairs : List (ℕ × EcLevel)
 micro_pairs = (1, L) ∷ (2, L) ∷ (2, M) ∷ (3, L) ∷ (3, M) ∷ (4, L) ∷ (4, M) ∷ (4, Q) ∷ []
 
--- each two of the numbers differ in at least so many of their eighteen lowest bits
+-- any two of the numbers differ in at least that many of their eighteen lowest bits
 abbrev pub are_apart : ℕ → List ℕ → Bool
 are_apart least [] = true
 are_apart least (w ∷ ws) = list_all (λ u. nat_le least (bit_distance (number_bits 18 w) (number_bits 18 u))) ws && are_apart least ws
@@ -66,8 +66,8 @@ band_ends = Normal (pos 1) ∷ Normal (pos 9) ∷ Normal (pos 10) ∷ Normal (po
 abbrev pub micro_versions : List Version  -- the versions of Micro
 micro_versions = Micro (pos 1) ∷ Micro (pos 2) ∷ Micro (pos 3) ∷ Micro (pos 4) ∷ []
 
-abbrev pub ends_of_pairs : List ℕ  -- the pairs of Shift JIS bytes at the ends of the ranges of first and second bytes
+abbrev pub ends_of_pairs : List ℕ  -- Kanji pairs at the ends of the ranges of first and second bytes
 ends_of_pairs = 0x8140 ∷ 0x817e ∷ 0x8180 ∷ 0x81fc ∷ 0x9f40 ∷ 0x9ffc ∷ 0xe040 ∷ 0xe07e ∷ 0xea80 ∷ 0xeafc ∷ 0xeb40 ∷ 0xeb7e ∷ 0xeb80 ∷ 0xebbf ∷ []
 
-abbrev pub beside_pairs : List ℕ  -- two bytes beside these, which are none
+abbrev pub beside_pairs : List ℕ  -- two bytes next to these ranges, which are no Kanji pair
 beside_pairs = 0x8040 ∷ 0x80fc ∷ 0x813f ∷ 0x817f ∷ 0x81fd ∷ 0x9ffd ∷ 0xa040 ∷ 0xdffc ∷ 0xe03f ∷ 0xea7f ∷ 0xeafd ∷ 0xeb3f ∷ 0xeb7f ∷ 0xebc0 ∷ 0xec40 ∷ []

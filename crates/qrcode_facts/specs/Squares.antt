@@ -1,10 +1,10 @@
--- Printed symbols.
+-- Printed symbols, and damaged ones.
 use Rattle.std.specs.Prelude.{ℕ, ◌==◌, List, [], ◌∷◌, ◌++◌, codes, map, flat_map, take, drop}
 use Rattle.qrcode_types.specs.Colors.{color_of}
 use Rattle.qrcode_types.specs.declared.types.Color.{Color}
 use Rattle.qrcode_types.specs.declared.types.Color.TheVariants.{Light}
 
-abbrev pub colors_in : List (List ℕ) → List Color  -- the colours of printed rows, in which # is dark
+abbrev pub colors_in : List (List ℕ) → List Color  -- the modules of rows of text, # for a dark one
 colors_in rows = flat_map (λ row. map (λ c. color_of (c == 35)) row) rows
 
 abbrev pub normal_square : List Color  -- the digits 01234567 in Normal 1 at M
@@ -72,7 +72,7 @@ damaged_square = colors_in (
     codes "........#......##.##." ∷
     codes "........####.#..#.#.#" ∷ [])
 
-abbrev pub too_damaged_square : List Color  -- the same with a wrong module in a sixth codeword, in column 9 of row 14
+abbrev pub too_damaged_square : List Color  -- the damaged square with a wrong module in a sixth codeword, in column 9 of row 14
 too_damaged_square = take 303 damaged_square ++ (Light ∷ drop 304 damaged_square)
 
 -- the damaged square with a fourth wrong bit in the first copy of the format word, in column 0 of row 8

@@ -1,4 +1,4 @@
-//! Data as segments and as bits.
+//! Worked rows for segments and data bits.
 #![tactic(auto, unfolding(qrcode_types::specs::Bits::number_bits, qrcode_types::specs::Bits::number_of, qrcode_types::specs::Bits::byte_at, qrcode_types::specs::Bits::bytes_of, qrcode_types::specs::Tables::block_table, qrcode_types::specs::Versions::blocks_entry, qrcode_types::specs::Versions::block_lengths, qrcode_types::specs::Versions::data_length, qrcode_types::specs::Versions::capacity, qrcode_types::specs::Characters::alphabet, qrcode_types::specs::Characters::is_alphanumeric, qrcode_types::specs::Characters::alphanumeric_number, qrcode_types::specs::Characters::is_kanji, qrcode_types::specs::Characters::kanji_number, qrcode_bits::specs::Written::padding, qrcode_bits::specs::Written::ending, qrcode_bits::specs::Written::terminated, qrcode_bits::specs::StructuredAppend::append_header))]
 
 ghost use Rattle.std.specs.Prelude.{◌≡◌, pos, [], ◌∷◌, ◌++◌, codes, map, replicate};
@@ -15,8 +15,8 @@ ghost use Rattle.qrcode_bits.specs.Spelling.{Spells};
 ghost use Rattle.qrcode_bits.specs.StructuredAppend.{parity, append_front};
 ghost use Rattle.qrcode_facts.specs.Data.{segment, piece, digits, normal_bits, micro_bits, normal_data, hello_data, first_of_pi, second_of_pi, eleventh_of_pi, part_of_pi};
 
-/// Digits before a letter are joined with it in Normal 1 and not in Micro 2, and lone bytes that
-/// could begin a pair are runs of their own.
+/// Runs of data, and how they are joined: digits before a letter join it in Normal 1 but not in
+/// Micro 2; a lone byte that could begin a Kanji pair is a run of its own.
 pub fn runs_and_groups()
     ensures digits { runs (codes "1234567A") ≡ segment Numeric 0 7 ∷ segment Alphanumeric 7 8 ∷ [] }
     ensures joined { grouping (Normal (pos 1)) (runs (codes "1234567A"))
@@ -31,7 +31,7 @@ pub fn runs_and_groups()
         ≡ segment Kanji 0 4 ∷ segment Alphanumeric 4 5 ∷ segment Byte 5 6 ∷ segment Kanji 6 8 ∷ [] }
 {}
 
-/// What the segments cost, apart and joined, and that joining runs does not give the least cost.
+/// The bits that segments take, apart and joined; joining runs does not always give the fewest.
 pub fn costs()
     ensures apart { map (cost (Normal (pos 1))) (runs (codes "1234567A")) ≡ 38 ∷ 19 ∷ [] }
     ensures joined { cost (Normal (pos 1)) (segment Alphanumeric 0 8) ≡ 57 }
@@ -42,7 +42,7 @@ pub fn costs()
     ensures one_segment { cost (Normal (pos 1)) (segment Byte 0 6) ≡ 60 }
 {}
 
-/// Digits in three versions, as they are written and ended.
+/// The bits of digits in three versions, without and with terminator and padding.
 pub fn written_digits()
     ensures written { bytes_of (written_piece (Normal (pos 1)) digits)
         ≡ 0x10 ∷ 0x20 ∷ 0x0C ∷ 0x56 ∷ 0x61 ∷ 0x80 ∷ [] }
@@ -55,7 +55,7 @@ pub fn written_digits()
         ≡ 0xBF ∷ 0x3E ∷ 0x30 ∷ [] }
 {}
 
-/// Text, pairs, and a symbol whose last codeword has four bits.
+/// The bits of letters, Kanji and bytes, and of symbols whose last codeword has four bits.
 pub fn written_text()
     ensures hello { bytes_of (terminated (Normal (pos 1)) Q
         (written_piece (Normal (pos 1)) (piece Alphanumeric (codes "HELLO WORLD"))))
@@ -74,8 +74,8 @@ pub fn written_text()
         ≡ 0x22 ∷ 0x44 ∷ 0x00 ∷ [] }
 {}
 
-/// Sixty digits of pi in two symbols and in sixteen, and a parity, as segno writes them; a symbol
-/// that is the only one has nothing in front.
+/// Structured append as segno writes it: a parity, and sixty digits of pi in two and in sixteen
+/// symbols. A single symbol has no header.
 pub fn parts_of_digits()
     ensures parity { parity (codes "0123456789" ++ (0x93 ∷ 0xFA ∷ 0x96 ∷ 0x7B ∷ [])) ≡ 0x85 }
     ensures first { bytes_of (part_of_pi 0 1 (codes "314159265358979323846264338327"))
@@ -86,7 +86,7 @@ pub fn parts_of_digits()
     ensures alone { append_front 0 0 0x85 ≡ [] }
 {}
 
-/// Table 7: the bits that some versions hold at level L.
+/// Table 7: the data bits of some versions at level L.
 pub fn capacities()
     ensures { map (λ n. capacity (Normal (pos n)) L) (1 ∷ 2 ∷ 4 ∷ 5 ∷ 39 ∷ 40 ∷ [])
         ≡ 152 ∷ 272 ∷ 640 ∷ 864 ∷ 22496 ∷ 23648 ∷ [] }

@@ -1,5 +1,5 @@
-//! Worked rows, computed over the definitions by the checker: each function does nothing, and its
-//! contract is a row.
+//! Worked examples that the prover computes from the definitions. Each function does nothing; its
+//! contract is the example.
 #![tactic(auto)]
 
 pub mod data;

@@ -1,4 +1,4 @@
-//! Printed symbols, and what is counted and computed in them.
+//! Worked rows for symbols: places, error correction, penalties, printed symbols and damage.
 
 ghost use Rattle.std.specs.Prelude.{◌≡◌, pos, false, [], ◌∷◌, ◌++◌, map, length};
 ghost use Rattle.std.specs.List.{range_with_len};
@@ -15,14 +15,14 @@ ghost use Rattle.qrcode_facts.specs.Printed.{masks, micro_masks};
 ghost use Rattle.qrcode_facts.specs.Data.{normal_bits, micro_bits, hello_data};
 ghost use Rattle.qrcode_facts.specs.Squares.{normal_square, micro_square, damaged_square, too_damaged_square, wrong_format_square};
 
-/// How many places are free in Normal 1 and in the four versions of Micro.
+/// The number of data modules in Normal 1 and in the four Micro versions.
 pub fn free_places()
     ensures normal { length (free_places (Normal (pos 1))) ≡ 208 }
     ensures micro { map (λ n. length (free_places (Micro (pos n)))) (range_with_len 1 4)
         ≡ 36 ∷ 80 ∷ 132 ∷ 192 ∷ [] }
 {}
 
-/// Published error correction: data, and then the bytes with which it vanishes.
+/// Published blocks: data and then error correction, which together vanish.
 #[tactic(auto, using(crate::proofs::CodeRows::ten, crate::proofs::CodeRows::thirteen))]
 pub fn corrections()
     ensures ten { Vanishes
@@ -33,7 +33,7 @@ pub fn corrections()
         ∷ 0xB4 ∷ 0x7A ∷ 0x10 ∷ [])) 13 }
 {}
 
-/// The penalties of a light square, and of the printed symbols under each mask.
+/// The penalties of an all-light square, and of the printed symbols under each mask.
 pub fn penalties()
     ensures light { normal_penalty 21 (λ x y. false) ≡ 2098 }
     ensures normal { map (λ k. penalty (Normal (pos 1))
@@ -44,8 +44,8 @@ pub fn penalties()
         ≡ 132 ∷ 68 ∷ 68 ∷ 136 ∷ [] }
 {}
 
-/// The printed symbol of digits in Normal 1 is the symbol of their bits under the first mask of
-/// least penalty, and is read as these bits.
+/// The printed symbol of `01234567` in Normal 1 is the symbol of its bits under the first mask of
+/// lowest penalty, and decodes to these bits.
 #[tactic(auto, using(crate::proofs::SymbolRows::normal_symbol, crate::proofs::LeastRows::normal, crate::proofs::SymbolRows::normal_read))]
 pub fn normal_symbol()
     ensures symbol { IsSymbol (Normal (pos 1)) M normal_bits VerticalLines normal_square }
@@ -53,29 +53,28 @@ pub fn normal_symbol()
     ensures read { ReadsBits normal_square (Normal (pos 1)) M normal_bits }
 {}
 
-/// A square that differs from that symbol in five codewords, in three bits of each copy of the
-/// format word and in all finder patterns is one of its damaged squares, and is read as the same
-/// bits.
+/// A square that differs from that symbol in five codewords, three bits of each copy of the format
+/// word and all finder patterns still counts as that symbol damaged, and decodes to the same bits.
 #[tactic(auto, using(crate::proofs::DamageRows::damaged, crate::proofs::DamageRows::read))]
 pub fn damaged_symbol()
     ensures damaged { IsDamaged (Normal (pos 1)) M VerticalLines normal_square damaged_square }
     ensures read { ReadsBits damaged_square (Normal (pos 1)) M normal_bits }
 {}
 
-/// With a sixth wrong codeword, one more than half of its error correction codewords, it is none of
-/// them.
+/// With a sixth wrong codeword, one more than half of the error correction codewords, the damage is
+/// too large.
 #[tactic(auto, using(crate::proofs::DamageRows::too_damaged))]
 pub fn too_damaged_symbol()
     ensures { ¬ IsDamaged (Normal (pos 1)) M VerticalLines normal_square too_damaged_square }
 {}
 
-/// Nor with a fourth wrong bit in a copy of the format word.
+/// So it is with a fourth wrong bit in a copy of the format word.
 #[tactic(auto, using(crate::proofs::DamageRows::wrong_format))]
 pub fn wrong_format()
     ensures { ¬ IsDamaged (Normal (pos 1)) M VerticalLines normal_square wrong_format_square }
 {}
 
-/// The printed symbol of the same digits in Micro 2.
+/// The same as `normal_symbol` for the printed symbol of these digits in Micro 2.
 #[tactic(auto, using(crate::proofs::SymbolRows::micro_symbol, crate::proofs::LeastRows::micro, crate::proofs::SymbolRows::micro_read))]
 pub fn micro_symbol()
     ensures symbol { IsSymbol (Micro (pos 2)) L micro_bits LargeCheckerboard micro_square }

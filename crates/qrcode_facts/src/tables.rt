@@ -1,4 +1,4 @@
-//! Cells of tables that the standard prints (ISO/IEC 18004:2006).
+//! Worked rows from the tables of the standard (ISO/IEC 18004:2006).
 #![tactic(auto, unfolding(qrcode_types::specs::Bits::number_bits, qrcode_bits::specs::Written::eci_bits, qrcode_types::specs::Characters::alphabet, qrcode_types::specs::Characters::is_alphanumeric, qrcode_types::specs::Characters::alphanumeric_number, qrcode_types::specs::Characters::is_kanji, qrcode_types::specs::Characters::kanji_number, qrcode_types::specs::Tables::block_table, qrcode_types::specs::Versions::blocks_entry))]
 
 ghost use Rattle.std.specs.Prelude.{◌≡◌, ◌-◌, ◌/◌, ◌%◌, pos, true, false, [], ◌∷◌, codes, map, flat_map};
@@ -14,7 +14,8 @@ ghost use Rattle.qrcode_ec.specs.Allowed.{misdecode_protection};
 ghost use Rattle.qrcode_bits.specs.Written.{eci_bits, terminator_length};
 ghost use Rattle.qrcode_facts.specs.Printed.{modes, band_ends, micro_versions, ends_of_pairs, beside_pairs};
 
-/// Table 5: the numbers of the characters behind the letters, in the standard's order.
+/// Table 5: the numbers of the characters after the letters, and of the first and last digit and
+/// letter; characters next to these are not in the alphabet.
 pub fn marks()
     ensures numbers { map alphanumeric_number (codes " $%*+-./:")
         ≡ 36 ∷ 37 ∷ 38 ∷ 39 ∷ 40 ∷ 41 ∷ 42 ∷ 43 ∷ 44 ∷ [] }
@@ -24,7 +25,8 @@ pub fn marks()
     ensures digits { map is_digit (codes "/09:") ≡ false ∷ true ∷ true ∷ false ∷ [] }
 {}
 
-/// Table 2: the mode indicators of Normal, and how many bits they have; those of Micro.
+/// Table 2: the mode indicators and their lengths in Normal and Micro, and the modes of each Micro
+/// version.
 pub fn indicators()
     ensures normal { map (indicator (Normal (pos 1))) modes ≡ 1 ∷ 2 ∷ 4 ∷ 8 ∷ [] }
     ensures micro { map (indicator (Micro (pos 4))) modes ≡ 0 ∷ 1 ∷ 2 ∷ 3 ∷ [] }
@@ -35,7 +37,7 @@ pub fn indicators()
         ∷ (true ∷ true ∷ true ∷ true ∷ []) ∷ (true ∷ true ∷ true ∷ true ∷ []) ∷ [] }
 {}
 
-/// Table 3: the bits of the character count, at both ends of each band of versions.
+/// Table 3: the length of the character count, in the first and last version of each band.
 pub fn length_fields()
     ensures numeric { map (length_bits_count Numeric) band_ends ≡ 10 ∷ 10 ∷ 12 ∷ 12 ∷ 14 ∷ 14 ∷ [] }
     ensures alphanumeric { map (length_bits_count Alphanumeric) band_ends
@@ -47,7 +49,7 @@ pub fn length_fields()
         ∷ (2 ∷ 3 ∷ 4 ∷ 5 ∷ []) ∷ (1 ∷ 2 ∷ 3 ∷ 4 ∷ []) ∷ [] }
 {}
 
-/// Table 1: the modules along a side and the remainder bits.
+/// Table 1: the modules along a side and the remainder bits; and which versions exist.
 pub fn sizes()
     ensures sides { map side (Normal (pos 1) ∷ Normal (pos 7) ∷ Normal (pos 40) ∷ micro_versions)
         ≡ 21 ∷ 45 ∷ 177 ∷ 11 ∷ 13 ∷ 15 ∷ 17 ∷ [] }
@@ -60,21 +62,21 @@ pub fn sizes()
         ≡ false ∷ true ∷ true ∷ false ∷ [] }
 {}
 
-/// 6.4.2: a number of a character set in one, two and three bytes, at the bounds of these.
+/// 6.4.2: ECI designators of one, two and three bytes, at the bounds of each.
 pub fn character_sets()
     ensures one { flat_map eci_bits (0 ∷ 127 ∷ []) ≡ number_bits 16 0x007f }
     ensures two { flat_map eci_bits (128 ∷ 16383 ∷ []) ≡ number_bits 32 0x8080bfff }
     ensures three { flat_map eci_bits (16384 ∷ 999999 ∷ []) ≡ number_bits 48 0xc04000cf423f }
 {}
 
-/// Tables 2 and 3, 6.4.9: the bits of the terminator.
+/// Tables 2 and 3, 6.4.9: the length of the terminator.
 pub fn terminators()
     ensures normal { terminator_length (Normal (pos 1)) ≡ 4 }
     ensures micro { map terminator_length micro_versions ≡ 3 ∷ 5 ∷ 7 ∷ 9 ∷ [] }
 {}
 
-/// 6.4.6: the pairs at the ends of each range of bytes, and those beside them; and the numbers of
-/// six, of which the standard prints 0xd9f and 0x1aaa.
+/// 6.4.6: Kanji pairs at the ends of each range of bytes, and pairs next to these, which are none;
+/// and the numbers of six pairs (the standard prints 0xd9f and 0x1aaa).
 pub fn pairs()
     ensures ends { map (λ p. is_kanji (p / 256) (p % 256)) ends_of_pairs
         ≡ map (λ p. true) ends_of_pairs }
@@ -85,7 +87,7 @@ pub fn pairs()
         ≡ 0 ∷ 0xd9f ∷ 0x173c ∷ 0x1740 ∷ 0x1aaa ∷ 0x1fff ∷ [] }
 {}
 
-/// The least mode that can write what either of two can, in the order of `modes`.
+/// The smallest mode that holds what either of two modes holds, in the order of `modes`.
 pub fn joined_modes()
     ensures { map (λ a. map (mode_max a) modes) modes
         ≡ (Numeric ∷ Alphanumeric ∷ Byte ∷ Byte ∷ [])
@@ -93,8 +95,8 @@ pub fn joined_modes()
         ∷ (Byte ∷ Byte ∷ Byte ∷ Byte ∷ []) ∷ (Byte ∷ Byte ∷ Byte ∷ Kanji ∷ []) ∷ [] }
 {}
 
-/// Table 9: how many wrong codewords are corrected in the versions in which some error correction
-/// codewords correct nothing, and in their neighbours.
+/// Table 9: how many wrong codewords are corrected in versions that reserve some error correction
+/// codewords against misdecoding, and in their neighbours.
 pub fn errors()
     ensures normal { map (λ v. map (λ l. (ec_length v l - misdecode_protection v l) / 2)
         (L ∷ M ∷ Q ∷ H ∷ []))

@@ -1,4 +1,4 @@
-//! Format words and version words.
+//! Worked rows for format words and version words.
 #![tactic(auto, unfolding(qrcode_types::specs::Bits::number_bits, qrcode_layout::specs::Words::format_word, qrcode_layout::specs::Words::version_word, qrcode_layout::specs::Words::with_check_bits, qrcode_types::specs::Polynomials::remainder_from, qrcode_types::specs::Polynomials::remainder))]
 
 ghost use Rattle.std.specs.Prelude.{◌≡◌, pos, map, flat_map, IsTrue};
@@ -7,8 +7,7 @@ ghost use Rattle.qrcode_types.specs.declared.types.Version.TheVariants.{Normal, 
 ghost use Rattle.qrcode_layout.specs.Words.{format_word, version_word};
 ghost use Rattle.qrcode_facts.specs.Printed.{normal_words, micro_words, version_words, masks, micro_masks, levels, micro_pairs, are_apart};
 
-/// The format words are the printed ones, and those of Micro are far from one another, whatever
-/// their versions.
+/// The format words are the printed ones; any two of Micro differ in at least seven bits.
 pub fn format_words()
     ensures normal { flat_map (λ l. map (format_word (Normal (pos 1)) l) masks) levels
         ≡ normal_words }

@@ -1,4 +1,4 @@
-//! The tests of bits: pushes to a list, and segments of data.
+//! Tests of bit lists and of segments.
 
 mod optimizer;
 mod pushes;

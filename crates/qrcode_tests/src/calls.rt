@@ -1,5 +1,5 @@
-//! Refusals that other languages cannot ask for. What calls make, the library for C and
-//! `evidence/memory/cases` are asked.
+//! Errors that a caller from C cannot cause. The tests of the C library and `evidence/memory/cases`
+//! ask for what the calls make.
 
 use crate::common::Push::{self, Byte, Designator, Terminator};
 use crate::common::of_pushes;
@@ -15,7 +15,7 @@ static GREEK: [Push<'static>; 3] = [
     Terminator(L),
 ];
 
-// Versions that there are not, and bits that are ended for L and drawn at H.
+// Versions that do not exist, and bits that end for L but are drawn at H.
 #[test]
 fn calls_refuse(rt: HostRuntime) {
     let alloc = rt.alloc();

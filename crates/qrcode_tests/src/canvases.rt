@@ -1,4 +1,4 @@
-//! A user's own canvas. What each call of a canvas draws, `evidence/memory/cases` asks.
+//! A user-defined canvas. `evidence/memory/cases` asks what each call of a canvas draws.
 
 use crate::common::are_bars;
 use qrcode::Color;
@@ -7,10 +7,10 @@ use qrcode::types::{QrError, QrResult};
 use qrcode_examples::label::{Bar, Dot};
 use std::alloc::Global;
 
-// Two modules along a side, of which the first and the last are dark.
+// A square of two modules a side; the first and the last are dark.
 static DIAGONAL: [Color; 4] = [Color::Dark, Color::Light, Color::Light, Color::Dark];
 
-// The bars of the diagonal with a quiet zone of one module, each module of two pixels by one.
+// Draws the diagonal as bars, in a quiet zone of one module, each module two pixels by one.
 fn diagonal_bars(alloc: Global) -> QrResult<Vec<Bar>> {
     let mut renderer = Renderer::<Dot>::new(&DIAGONAL, 2, 1);
     renderer.module_dimensions(2, 0).quiet_zone(true);

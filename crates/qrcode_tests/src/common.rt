@@ -1,4 +1,4 @@
-//! What the tests have in common: rows of tables, lists of bits, and drawings.
+//! Shared helpers: rows of tables, bit lists, checksums and drawings.
 
 ghost use Rattle.std.specs.Prelude.{◌≡◌};
 
@@ -13,30 +13,30 @@ use std::process::Abort;
 
 /// A row of a table.
 pub trait Row {
-    /// Whether what it says is so.
+    /// Whether the code answers as the row says.
     fn holds(&self, alloc: Global) -> bool;
 }
 
-/// Each row holds, or is named by its number.
+/// Asserts that each row holds; a failure names its number.
 pub fn check<R: Row>(rt: &impl Abort, alloc: Global, rows: &[R]) {
     for (i, row) in rows.iter().enumerate() {
         check_row(rt, i, row.holds(alloc));
     }
 }
 
-/// A row holds, or is named by its number.
+/// Asserts that a row holds; a failure names its `number`.
 pub fn check_row(rt: &impl Abort, number: usize, holds: bool) {
     assert!(rt; holds, "row {number}");
 }
 
-/// A segment.
+/// Makes a segment.
 pub fn range(mode: Mode, begin: usize, end: usize) -> Segment
     ensures { result ≡ record { mode = mode; begin = begin; end = end } }
 {
     Segment { mode, begin, end }
 }
 
-/// A call that appends to a list of bits, or ends it.
+/// A call that appends to a bit list, or ends it.
 #[derive(Clone, Copy)]
 pub enum Push<'a> {
     Designator(u32),
@@ -51,7 +51,7 @@ pub enum Push<'a> {
     Terminator(EcLevel),
 }
 
-/// Makes a call.
+/// Makes the call `push` on `bits`.
 pub fn make_push(bits: &mut Bits, push: Push<'_>) -> QrResult<()> {
     match push {
         Push::Designator(number) => bits.push_eci_designator(number),
@@ -67,7 +67,7 @@ pub fn make_push(bits: &mut Bits, push: Push<'_>) -> QrResult<()> {
     }
 }
 
-// Makes all pushes.
+// Makes all pushes, in order.
 fn push_all(bits: &mut Bits, pushes: &[Push<'_>]) -> QrResult<()> {
     for push in pushes {
         make_push(bits, *push)?;
@@ -75,7 +75,7 @@ fn push_all(bits: &mut Bits, pushes: &[Push<'_>]) -> QrResult<()> {
     Ok(())
 }
 
-/// A list of bits for a version, with these pushes.
+/// Makes a bit list for `version` with these pushes.
 pub fn list(alloc: Global, version: Version, pushes: &[Push<'_>]) -> QrResult<Bits> {
     if !version.is_valid() {
         return Err(InvalidVersion);
@@ -85,7 +85,7 @@ pub fn list(alloc: Global, version: Version, pushes: &[Push<'_>]) -> QrResult<Bi
     Ok(bits)
 }
 
-/// The symbol of pushes, in which the last is a terminator.
+/// Makes the symbol of `pushes`, the last of which has to be a terminator.
 pub fn of_pushes(
     alloc: Global,
     version: Version,
@@ -99,7 +99,7 @@ pub fn of_pushes(
     }
 }
 
-/// The checksum CRC-32 of zlib.
+/// Returns the CRC-32 of `bytes`, as zlib counts it.
 pub fn checksum_of_bytes(bytes: &[u8]) -> u32 {
     let mut crc = u32::MAX;
     for byte in bytes {
@@ -108,7 +108,7 @@ pub fn checksum_of_bytes(bytes: &[u8]) -> u32 {
     !crc
 }
 
-/// That of modules as lines of `#` and `.`, so many along a side.
+/// Returns the CRC-32 of modules drawn as lines of `#` and `.`, `width` to a line.
 pub fn checksum(width: usize, modules: &[bool]) -> u32 {
     let mut crc = u32::MAX;
     for (i, dark) in modules.iter().enumerate() {
@@ -129,12 +129,12 @@ fn with_byte(crc: u32, byte: u8) -> u32 {
     crc
 }
 
-/// That of a symbol.
+/// Returns the CRC-32 of a symbol drawn as lines of `#` and `.`.
 pub fn checksum_of(alloc: Global, code: &QrCode) -> QrResult<u32> {
     Ok(checksum(code.width(), &code.to_vec(alloc)?))
 }
 
-/// Whether colours and modules are dark where a drawing says so, by `#` or by `*`.
+/// Whether `colors` and `modules` are dark exactly where `drawing` has a `#` or `*`.
 pub fn are_dark(drawing: &str, colors: &[Color], modules: &[bool]) -> bool {
     let mut i = 0usize;
     for letter in drawing.bytes() {
@@ -150,7 +150,7 @@ pub fn are_dark(drawing: &str, colors: &[Color], modules: &[bool]) -> bool {
     colors.len() == i && modules.len() == i
 }
 
-/// Whether the first bars begin there and have these sides: left, top, width, height.
+/// Whether the first bars have these places and sides: left, top, width, height.
 pub fn are_bars(bars: &[Bar], sides: &[(u32, u32, u32, u32)]) -> bool {
     for (bar, (left, top, width, height)) in bars.iter().zip(sides) {
         if bar.left != *left || bar.top != *top || bar.width != *width || bar.height != *height {

@@ -1,4 +1,4 @@
-//! The tests of contents: symbols of applications, data in several symbols, and texts of refusals.
+//! Tests of payloads, FNC1 symbols, structured append, and the text of errors.
 
 mod joining;
 mod refusals;

@@ -1,5 +1,5 @@
-//! The tests of public calls that neither the library for C nor a program makes, each with what
-//! other encoders or the standard's examples have.
+//! Tests of public calls that neither the C library nor a program makes. Expected values come from
+//! other encoders, the standard's examples, or by hand.
 #![tactic(auto)]
 
 #[cfg(test)]

@@ -1,4 +1,4 @@
-//! The tests of pictures of modules: worked pictures, an element of a user, plain code of callers.
+//! Tests of pictures: worked examples, a user-defined element, and callers that need no proof.
 
 mod callers;
 mod drawings;

@@ -1,4 +1,4 @@
-//! The symbols of the digits `01234567` that the standard prints (ISO/IEC 18004), module by module.
+//! The symbols of the digits `01234567` that the standard (ISO/IEC 18004) prints.
 
 /// Normal 1 at M, under mask 2.
 pub const DIGITS_NORMAL: &str = "\

@@ -1,5 +1,4 @@
-//! The tests of what symbols are made of: types, error correction and the correction of blocks,
-//! penalties of squares of many kinds, and symbols as they are drawn on a canvas.
+//! Tests of types, error correction, the correction of blocks, penalties, and the canvas.
 
 mod canvas;
 mod correction;

@@ -1,4 +1,4 @@
-//! Each call to copy from, once.
+//! Runs each example of `qrcode_examples` once.
 
 use crate::common::are_bars;
 use qrcode::EcLevel::{self, H, L, M, Q};
@@ -14,12 +14,12 @@ use qrcode_examples::{plain, texts};
 use std::alloc::Global;
 use std::process::Abort;
 
-// The symbol of the digits that the standard prints.
+// Makes the symbol of `01234567`, which the standard prints.
 fn digits(rt: &impl Abort, alloc: Global) -> QrCode {
     QrCode::new(alloc, b"01234567").expect(rt, "a symbol")
 }
 
-// Whether a text has this line, counted from 0.
+// Whether line `number` of the text, counted from 0, is `line`.
 fn has_line(text: QrResult<String>, number: usize, line: &str) -> bool {
     match text {
         Ok(text) => text.as_str().split('\n').nth(number) == Some(line),
@@ -27,7 +27,7 @@ fn has_line(text: QrResult<String>, number: usize, line: &str) -> bool {
     }
 }
 
-// Whether a text has this part.
+// Whether the text contains `part`.
 fn has(text: QrResult<String>, part: &str) -> bool {
     match text {
         Ok(text) => text.as_str().contains(part),
@@ -104,8 +104,8 @@ fn greek_texts_are_marked(rt: HostRuntime) {
     assert!(rt; long == Some(QrError::DataTooLong));
 }
 
-// Where the first bars begin, how wide they are and how high: the first two rows of the printed
-// symbol are `#######..#.##.#######` and `#.....#..####.#.....#`.
+// Left, top, width and height of the first bars: the first two rows of the printed symbol are
+// `#######..#.##.#######` and `#.....#..####.#.....#`.
 #[rattlefmt::skip]
 static FIRST_BARS: [(u32, u32, u32, u32); 9] = [
     (16, 16, 28, 4), (52, 16, 4, 4), (60, 16, 8, 4), (72, 16, 28, 4),
@@ -122,7 +122,7 @@ const CITY: &str = "Z\u{fc}rich";
 
 const GREETING: &str = "\u{3053}\u{3093}\u{306b}\u{3061}\u{306f}\u{4e16}\u{754c}";
 
-// Whether a symbol is of a version and level, and some of its modules are dark, and not all.
+// Whether a symbol has this version and level, and both dark and light modules.
 fn is_of(code: QrResult<QrCode>, version: Version, ec_level: EcLevel) -> bool {
     let Ok(code) = code else {
         return false;

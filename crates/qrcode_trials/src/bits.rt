@@ -1,4 +1,4 @@
-//! Lists of bits: each push.
+//! Makes the pushes of a bit list.
 
 use crate::digest::Digest;
 use crate::words::{Asked, Given};
@@ -7,18 +7,18 @@ use qrcode::optimize::Parser;
 use qrcode::types::{EcLevel, Mode, QrError, QrResult};
 use std::alloc::Global;
 
-/// What became of a list of bits after a refusal.
+/// What a failed push did to the bit list.
 #[derive(Clone, Copy)]
 pub enum Note {
-    /// Nothing was refused.
+    /// No push failed.
     Whole,
-    /// The list was what it was before the refused call, which was made again.
+    /// The failed push left the length of the list as it was, and was made again.
     Unchanged,
-    /// A part of what the refused call appends was kept; nothing was pushed behind it.
+    /// The list kept a part of what the failed push appends; nothing was pushed after it.
     Kept,
 }
 
-/// The list of a version after pushes, each made again where memory was refused to it.
+/// Makes all pushes on a list of the version that is asked for, each once more if memory runs out.
 pub fn run(alloc: Global, asked: &Asked<'_>) -> QrResult<(Digest, Note)> {
     let version = asked.version();
     if !version.is_valid() {
@@ -29,7 +29,7 @@ pub fn run(alloc: Global, asked: &Asked<'_>) -> QrResult<(Digest, Note)> {
     Ok((digest_of(bits), note))
 }
 
-// Makes all pushes, up to one of which a part was kept.
+// Makes the pushes in order, and stops after one that was kept in part.
 fn push_all(bits: &mut Bits, given: &[Given<'_>], level: EcLevel) -> QrResult<Note> {
     let mut note = Note::Whole;
     for each in given {
@@ -42,7 +42,7 @@ fn push_all(bits: &mut Bits, given: &[Given<'_>], level: EcLevel) -> QrResult<No
     Ok(note)
 }
 
-// Makes a push, and once more where memory was refused to it and the list has its length.
+// Makes a push, and makes it again if memory ran out and the list is as long as before.
 fn push_again(bits: &mut Bits, given: &Given<'_>, level: EcLevel) -> QrResult<Note> {
     let length = bits.len();
     match push(bits, given, level) {
@@ -55,7 +55,7 @@ fn push_again(bits: &mut Bits, given: &Given<'_>, level: EcLevel) -> QrResult<No
     Ok(Note::Unchanged)
 }
 
-// Makes a push of data.
+// Pushes data in the way that `given.kind` names.
 fn push(bits: &mut Bits, given: &Given<'_>, level: EcLevel) -> QrResult<()> {
     match given.kind {
         "numeric" => bits.push_numeric_data(&given.bytes),
@@ -70,7 +70,7 @@ fn push(bits: &mut Bits, given: &Given<'_>, level: EcLevel) -> QrResult<()> {
     }
 }
 
-// Makes a push of what is no data.
+// Pushes a mode indicator, a header or the terminator.
 fn push_mark(bits: &mut Bits, given: &Given<'_>, level: EcLevel) -> QrResult<()> {
     match given.kind {
         "indicator" => bits.push_mode_indicator(mode_of(given.text())),
@@ -82,7 +82,7 @@ fn push_mark(bits: &mut Bits, given: &Given<'_>, level: EcLevel) -> QrResult<()>
     }
 }
 
-// Pushes the runs of data, joined.
+// Pushes the segments that the parser and the optimizer make of `bytes`.
 fn push_runs(bits: &mut Bits, bytes: &[u8]) -> QrResult<()> {
     if bytes.len() > DATA_LIMIT {
         return Err(QrError::DataTooLong);
@@ -91,7 +91,7 @@ fn push_runs(bits: &mut Bits, bytes: &[u8]) -> QrResult<()> {
     bits.push_segments(bytes, Parser::new(bytes).optimize(version))
 }
 
-// The mode of a name.
+// Returns the mode called `name`; Kanji for any other name.
 fn mode_of(name: &str) -> ExtendedMode {
     match name {
         "eci" => ExtendedMode::Eci,
@@ -105,7 +105,7 @@ fn mode_of(name: &str) -> ExtendedMode {
     }
 }
 
-/// The digest of a list: how many bits it has, and the checksum of its bytes.
+/// Returns the number of bits of the list, and the checksum of its bytes.
 pub fn digest_of(bits: Bits) -> Digest {
     let length = bits.len();
     let Digest { sum, .. } = Digest::of(&bits.into_bytes());

@@ -1,4 +1,4 @@
-//! Symbols while they are drawn.
+//! Makes the calls of a canvas.
 
 ghost use Rattle.std.specs.Prelude.{◌≡◌, IsTrue};
 ghost use Rattle.qrcode_types.specs.Versions.{has_level};
@@ -9,8 +9,8 @@ use qrcode::canvas::{Canvas, MaskPattern};
 use qrcode::types::{Color, QrError, QrResult, Version};
 use std::alloc::Global;
 
-/// Makes a call of a canvas of a version and level: of one on which nothing is drawn, or else of
-/// one with patterns and data.
+/// Makes the call that `asked.kind` names on a canvas of the version and level: for `new` an empty
+/// one, else one with patterns and data.
 pub fn run(alloc: Global, asked: &Asked<'_>) -> QrResult<Digest> {
     let (version, level) = (asked.version(), asked.level());
     if !version.is_valid() || !version.has_level(level) {
@@ -33,12 +33,12 @@ pub fn run(alloc: Global, asked: &Asked<'_>) -> QrResult<Digest> {
     }
 }
 
-// The digest of colours.
+// Returns the digest of the colours.
 fn of_colors(colors: QrResult<Vec<Color>>) -> QrResult<Digest> {
     Ok(Digest::of(&colors?))
 }
 
-// Two corners, and two modules between.
+// Returns the digest of two corners and of two modules between them.
 #[tactic(auto, using(crate::proofs::Sides::side_least))]
 fn corners(canvas: &Canvas) -> Digest {
     Digest::of(&[
@@ -49,7 +49,7 @@ fn corners(canvas: &Canvas) -> Digest {
     ])
 }
 
-// What takes no memory.
+// Makes the calls that need no memory.
 #[tactic(auto, using(crate::proofs::Sides::side_least))]
 fn draws(canvas: Canvas, version: Version) -> QrResult<Digest>
     requires version { canvas.version ≡ version }

@@ -1,5 +1,4 @@
-//! Constructors of symbols that stand on those which the library for C calls, and parts that are
-//! joined.
+//! Calls the constructors that the C library does not call directly, and joins parts.
 
 use crate::digest::Digest;
 use crate::words::Asked;
@@ -13,7 +12,7 @@ use qrcode_gs1::symbol::errors::SymbolError;
 use qrcode_gs1::symbol::{for_application, gs1};
 use std::alloc::Global;
 
-/// The digest of one symbol, or of several.
+/// Returns the digest of the symbol, symbols or joined data that `asked.kind` names.
 pub fn run(alloc: Global, asked: &Asked<'_>) -> QrResult<Digest> {
     let (version, level) = (asked.version(), asked.level());
     match asked.kind {
@@ -26,7 +25,7 @@ pub fn run(alloc: Global, asked: &Asked<'_>) -> QrResult<Digest> {
     }
 }
 
-// A symbol.
+// Makes one symbol.
 fn constructed(alloc: Global, asked: &Asked<'_>) -> QrResult<QrCode> {
     let (data, text) = (asked.data(), asked.text());
     let (version, level) = (asked.version(), asked.level());
@@ -42,7 +41,7 @@ fn constructed(alloc: Global, asked: &Asked<'_>) -> QrResult<QrCode> {
     }
 }
 
-// The symbol of two elements with this value.
+// Makes the GS1 symbol of two elements (91), both with the text that is asked for.
 fn of_elements(alloc: Global, asked: &Asked<'_>) -> QrResult<QrCode> {
     let element = Element {
         identifier: "91",
@@ -56,7 +55,7 @@ fn of_elements(alloc: Global, asked: &Asked<'_>) -> QrResult<QrCode> {
     }
 }
 
-// The digest of symbols.
+// Returns the digest of all symbols.
 fn of_codes(codes: &[QrCode]) -> Digest {
     let mut digest = Digest::of::<u8>(&[]);
     for code in codes {
@@ -65,7 +64,8 @@ fn of_codes(codes: &[QrCode]) -> Digest {
     digest
 }
 
-// So many parts joined, an even number or of no bytes, each with this data.
+// Joins `count` parts that all hold `data`. Their parity is 0, so `count` has to be even, or `data`
+// has to have the parity 0.
 fn joined(alloc: Global, data: &[u8], count: u8) -> QrResult<Digest> {
     let mut parts = Vec::new(alloc);
     for place in 0..count {

@@ -1,4 +1,4 @@
-//! Error correction.
+//! Makes error correction codewords.
 
 use crate::digest::Digest;
 use crate::words::Asked;
@@ -7,7 +7,7 @@ use qrcode::types::{EcLevel, QrError, QrResult, Version};
 use qrcode_types::tables::Blocks;
 use std::alloc::Global;
 
-/// The correction bytes of a block, or all codewords of data.
+/// Returns the digest of the error correction of one block, or of all codewords of a symbol.
 pub fn run(alloc: Global, asked: &Asked<'_>) -> QrResult<Digest> {
     match asked.kind {
         "block" => of_block(alloc, asked.data(), asked.number(1) as usize),
@@ -15,7 +15,7 @@ pub fn run(alloc: Global, asked: &Asked<'_>) -> QrResult<Digest> {
     }
 }
 
-// The correction bytes of a block.
+// Makes the `count` error correction codewords of a block.
 fn of_block(alloc: Global, data: &[u8], count: usize) -> QrResult<Digest> {
     if count > 69 {
         return Err(QrError::InvalidCharacter);
@@ -24,7 +24,7 @@ fn of_block(alloc: Global, data: &[u8], count: usize) -> QrResult<Digest> {
     Ok(Digest::of(&code))
 }
 
-// The codewords of data that fills the blocks of a version and level, where it has the level.
+// Makes the codewords of `data`, which has to fill the blocks of the version and level exactly.
 fn codewords(alloc: Global, data: &[u8], version: Version, level: EcLevel) -> QrResult<Digest> {
     if let Some(blocks) = Blocks::of(version, level)
         && blocks.data_length() != data.len()

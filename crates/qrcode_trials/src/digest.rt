@@ -1,4 +1,4 @@
-//! Digests: a length and a checksum, by which the program says what was made.
+//! Sums up what a call made: its length and a checksum.
 
 ghost use Rattle.std.specs.Prelude.{◌<◌};
 
@@ -6,7 +6,7 @@ use qrcode::types::Color;
 use std::io;
 use std::io::Print;
 
-/// The greatest prime below 2^32.
+/// The largest prime below 2^32.
 const PRIME: u64 = 4_294_967_291;
 
 /// A length and a checksum.
@@ -17,9 +17,9 @@ pub struct Digest {
     ghost small: { sum < 4294967291 },
 }
 
-/// An item of what is digested.
+/// An item that a digest can count.
 pub trait Item: Copy {
-    /// The number that stands for it.
+    /// Returns the number that the digest counts for the item.
     fn number(self) -> u32;
 }
 
@@ -48,7 +48,7 @@ impl Item for Color {
 }
 
 impl Digest {
-    /// The digest of a list.
+    /// Returns the digest of `items`.
     pub fn of<T: Item>(items: &[T]) -> Digest {
         let mut sum = 0;
         for item in items {
@@ -60,7 +60,7 @@ impl Digest {
         }
     }
 
-    /// The digest of a list of which only its length and one item are looked at.
+    /// Returns a digest of a length and a single item.
     pub fn of_one<T: Item>(length: usize, item: T) -> Digest {
         Digest {
             length,
@@ -68,7 +68,7 @@ impl Digest {
         }
     }
 
-    /// The digest of a list with this checksum.
+    /// Returns a digest of a length and a checksum that was computed elsewhere.
     pub fn of_sum(length: usize, sum: u32) -> Digest {
         Digest {
             length,
@@ -76,7 +76,7 @@ impl Digest {
         }
     }
 
-    /// The digest of two digests.
+    /// Combines two digests, in this order.
     pub fn and(self, other: Digest) -> Digest {
         Digest {
             length: self.length.saturating_add(other.length),
@@ -85,7 +85,7 @@ impl Digest {
     }
 }
 
-/// Prints a digest, in one line with what follows.
+/// Prints `digest` without ending the line.
 pub fn print_digest<R: Print>(rt: &R, digest: Digest) -> io::Result<()> {
     let Digest { length, sum } = digest;
     print!(rt; "length {length}, checksum {sum:08x}")

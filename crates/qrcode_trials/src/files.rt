@@ -1,4 +1,4 @@
-//! PNG files that no call for C makes: of pixels, and of modules that are no squares.
+//! Makes PNG files that the C library cannot make (of pixels, of oblong modules), and reads others.
 
 use crate::digest::Digest;
 use crate::words::Asked;
@@ -9,13 +9,14 @@ use qrcode_png::sums::crc;
 use qrcode_png::{Color, Unread, full_color, grey, read, with_density};
 use std::alloc::Global;
 
-// Three rows of three modules.
+// A square of three modules a side.
 const THREE: &[Module] = &[Dark, Light, Dark, Light, Light, Dark, Dark, Dark, Light];
 
-/// The length of a file and its CRC-32: of so many pixels across and down, of which each third or
-/// the like is dark, or blue in full colour; or of a square of modules of so many pixels across and
-/// down, with so many on a metre, where that is given. Or what a file shows: how many pixels
-/// across, and the CRC-32 of all.
+/// Makes a PNG file, and returns its length and CRC-32; or reads one (`shown`), and returns its
+/// width and the CRC-32 of its pixels.
+///
+/// The numbers of `grey` and `colors`: width, height, and a step (3 marks every third pixel). Those
+/// of the other kinds: width and height of a module in pixels, and pixels per metre or 0.
 pub fn run(alloc: Global, asked: &Asked<'_>) -> QrResult<Digest> {
     match asked.kind {
         "grey" | "colors" => of_file(&of_pixels(alloc, asked)?),
@@ -25,13 +26,12 @@ pub fn run(alloc: Global, asked: &Asked<'_>) -> QrResult<Digest> {
     }
 }
 
-// The length of a file and its CRC-32.
+// Returns the length of a file and its CRC-32.
 fn of_file(bytes: &[u8]) -> QrResult<Digest> {
     Ok(Digest::of_sum(bytes.len(), crc(bytes)))
 }
 
-// The pixels across of the picture of a file, and the CRC-32 of the red, green, blue and opacity of
-// each.
+// Reads `file`, and returns the width of its picture and the CRC-32 of its RGBA bytes.
 fn of_picture(alloc: Global, file: &[u8]) -> QrResult<Digest> {
     let picture = match read(alloc, file) {
         Ok(picture) => picture,
@@ -45,7 +45,7 @@ fn of_picture(alloc: Global, file: &[u8]) -> QrResult<Digest> {
     Ok(Digest::of_sum(picture.sides().0 as usize, crc(&bytes)))
 }
 
-// The file of pixels.
+// Makes a file of pixels: each `step`-th is marked.
 fn of_pixels(alloc: Global, asked: &Asked<'_>) -> QrResult<Vec<u8>> {
     let (Ok(across), Ok(down)) = (
         u16::try_from(asked.number(0)),
@@ -71,7 +71,7 @@ fn of_pixels(alloc: Global, asked: &Asked<'_>) -> QrResult<Vec<u8>> {
     Ok(grey(alloc, &marks, u32::from(across), u32::from(down))?)
 }
 
-// The file of pixels in full colour, blue where they are marked and clear elsewhere.
+// Makes a full-colour file: marked pixels are blue, the others transparent.
 fn of_colors(alloc: Global, marks: &[bool], across: u16, down: u16) -> QrResult<Vec<u8>> {
     let mut pixels = Vec::with_capacity(alloc, marks.len())?;
     for mark in marks {
@@ -88,7 +88,7 @@ fn of_colors(alloc: Global, marks: &[bool], across: u16, down: u16) -> QrResult<
     Ok(full_color(alloc, &pixels, across, down, Some(11811))?)
 }
 
-// The file of a square of modules with no quiet zone.
+// Makes the file of a square of modules without a quiet zone.
 fn of_modules(
     alloc: Global,
     modules: &[Module],

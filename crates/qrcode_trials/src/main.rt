@@ -1,5 +1,5 @@
-//! Makes a call of the library that its words name, and prints a line: how many items it made and
-//! their checksum, or the error. `evidence/memory/run` refuses the memory that it asks for.
+//! Makes one call of the library, as its arguments say, and prints a line: the length and checksum
+//! of what the call made, or its error. `evidence/memory/run` makes its allocations fail.
 #![tactic(auto)]
 
 mod bits;
@@ -31,7 +31,7 @@ fn main(rt: HostRuntime) -> ExitCode {
     }
 }
 
-// Prints what the call of the command line made.
+// Makes the call of the command line, and prints its line.
 fn print_answer(rt: &HostRuntime) -> io::Result<()> {
     let Ok(arguments) = env::args(rt) else {
         return println!(rt; "out of memory");
@@ -42,7 +42,7 @@ fn print_answer(rt: &HostRuntime) -> io::Result<()> {
     }
 }
 
-// Prints a digest, and what was refused.
+// Prints a digest, and what a failed push did.
 fn print_made<R: Print>(rt: &R, digest: Digest, note: Note) -> io::Result<()> {
     print_digest(rt, digest)?;
     match note {
@@ -52,8 +52,7 @@ fn print_made<R: Print>(rt: &R, digest: Digest, note: Note) -> io::Result<()> {
     }
 }
 
-// What the call makes that these arguments name: the call, which of its kind, a version, a level,
-// and data.
+// Makes the call that the arguments name: call, kind, version, level, and then data.
 fn answer(alloc: Global, arguments: env::Args) -> QrResult<(Digest, Note)> {
     let words: Vec<String> = arguments.collect(alloc)?;
     let mut given = Vec::new(alloc);
@@ -72,7 +71,7 @@ fn answer(alloc: Global, arguments: env::Args) -> QrResult<(Digest, Note)> {
     }
 }
 
-// A word, or an empty one where there are fewer.
+// Returns the word at index `at`, or an empty one if there are fewer.
 fn word_at(words: &[String], at: usize) -> &str {
     match words.get(at) {
         Some(word) => word.as_str(),
@@ -80,7 +79,7 @@ fn word_at(words: &[String], at: usize) -> &str {
     }
 }
 
-// What a call makes; `alone` makes nothing but its data.
+// Makes the call. Any other name, as `alone`, only reads the data.
 fn made(alloc: Global, call: &str, asked: &Asked<'_>) -> QrResult<Digest> {
     match call {
         "segments" => segments::run(alloc, asked),

@@ -1,4 +1,4 @@
-//! Pictures of each kind.
+//! Draws pictures in each format.
 
 use crate::digest::Digest;
 use crate::symbols::of_digits;
@@ -14,7 +14,7 @@ use qrcode::types::{Color, QrError, QrResult, Version};
 use qrcode_examples::label::Dot;
 use std::alloc::Global;
 
-/// The digest of a picture.
+/// Draws a picture in the format that `asked.kind` names, and returns its digest.
 pub fn run(alloc: Global, asked: &Asked<'_>) -> QrResult<Digest> {
     match asked.kind {
         "Luma" => pixels::<Luma>(alloc, asked),
@@ -36,7 +36,7 @@ pub fn run(alloc: Global, asked: &Asked<'_>) -> QrResult<Digest> {
     }
 }
 
-// The digest of a picture that is a text.
+// Returns the digest of a picture in a text format.
 fn text_of(alloc: Global, asked: &Asked<'_>) -> QrResult<Digest> {
     match asked.kind {
         "char" => text::<char>(alloc, asked),
@@ -51,22 +51,22 @@ fn text_of(alloc: Global, asked: &Asked<'_>) -> QrResult<Digest> {
     }
 }
 
-// A picture that is a text.
+// Draws a picture that is a string.
 fn text<P: Pixel<Image = String>>(alloc: Global, asked: &Asked<'_>) -> QrResult<Digest> {
     Ok(Digest::of(picture::<P>(alloc, asked)?.as_bytes()))
 }
 
-// A picture that is a file.
+// Draws a picture that is the bytes of a file.
 fn file<P: Pixel<Image = Vec<u8>>>(alloc: Global, asked: &Asked<'_>) -> QrResult<Digest> {
     Ok(Digest::of(&picture::<P>(alloc, asked)?))
 }
 
-// A picture that is bytes of pixels.
+// Draws a picture that is an image buffer.
 fn pixels<P: Pixel<Image = ImageBuffer<P>>>(alloc: Global, asked: &Asked<'_>) -> QrResult<Digest> {
     Ok(Digest::of(&picture::<P>(alloc, asked)?.into_raw()))
 }
 
-// A picture that is bars.
+// Draws a picture that is the bars of a label.
 fn bars(alloc: Global, asked: &Asked<'_>) -> QrResult<Digest> {
     let mut digest = Digest::of::<u8>(&[]);
     for bar in &picture::<Dot>(alloc, asked)? {
@@ -75,8 +75,8 @@ fn bars(alloc: Global, asked: &Asked<'_>) -> QrResult<Digest> {
     Ok(digest)
 }
 
-// A picture: of no module, of a wide symbol, of each call of the canvas, or of the symbol of digits
-// of a version.
+// Draws no module (`none`), a wide symbol (`wide`), each call of the canvas (`calls`), or the
+// symbol of digits in the version that is asked for.
 fn picture<P: Pixel>(alloc: Global, asked: &Asked<'_>) -> QrResult<P::Image> {
     match asked.version {
         "none" => built(alloc, &Renderer::<P>::new(&[], 0, 0)),
@@ -86,7 +86,7 @@ fn picture<P: Pixel>(alloc: Global, asked: &Asked<'_>) -> QrResult<P::Image> {
     }
 }
 
-// The picture of a renderer, where it fits.
+// Draws the picture of a renderer, if it fits.
 fn built<P: Pixel>(alloc: Global, renderer: &Renderer<P>) -> QrResult<P::Image> {
     if !renderer.fits() {
         return Err(QrError::DataTooLong);
@@ -94,7 +94,7 @@ fn built<P: Pixel>(alloc: Global, renderer: &Renderer<P>) -> QrResult<P::Image> 
     renderer.build(alloc)
 }
 
-// The picture of a symbol of Normal 40 and five modules around, with so many pixels a module.
+// Draws a symbol of Normal 40 in a quiet zone of five modules, `size` pixels a module.
 fn wide<P: Pixel>(alloc: Global, size: u32) -> QrResult<P::Image> {
     let colors = of_digits(alloc, Version::Normal(40))?.into_colors();
     if colors.len() != 177 * 177 {
@@ -105,7 +105,7 @@ fn wide<P: Pixel>(alloc: Global, size: u32) -> QrResult<P::Image> {
     built(alloc, &renderer)
 }
 
-// The picture of a symbol in grey pixels, by another call.
+// Draws grey pixels by `to_image`.
 fn image(alloc: Global, asked: &Asked<'_>) -> QrResult<Digest> {
     let code = of_digits(alloc, asked.version())?;
     let renderer = code.render::<Luma>();
@@ -118,7 +118,7 @@ fn image(alloc: Global, asked: &Asked<'_>) -> QrResult<Digest> {
 // A row of modules.
 static LINE: [Color; 4] = [Color::Dark, Color::Light, Color::Dark, Color::Dark];
 
-// What each call of a canvas of nine by nine pixels draws.
+// Makes each call of a canvas of nine by nine pixels.
 fn drawn<P: Pixel>(alloc: Global) -> QrResult<P::Image> {
     let dark = P::default_color(Color::Dark);
     let light = P::default_color(Color::Light);

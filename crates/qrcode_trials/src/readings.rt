@@ -1,4 +1,4 @@
-//! Readings of squares that no call for C makes by itself.
+//! Makes the calls of the reader that have no call of their own in C.
 
 use crate::digest::Digest;
 use crate::words::Asked;
@@ -8,7 +8,7 @@ use qrcode_reader::spell::{Unspelled, pieces};
 use qrcode_reader::{BitReading, Unread, read_any_parts, read_bits};
 use std::alloc::Global;
 
-/// Reads the symbol of data of a version at level L, its last module turned over.
+/// Reads the symbol of the data in the version at level L, with its last module inverted.
 pub fn run(alloc: Global, asked: &Asked<'_>) -> QrResult<Digest> {
     let code = QrCode::with_version(alloc, asked.data(), asked.version(), EcLevel::L)?;
     let mut colors = code.into_colors();
@@ -25,18 +25,18 @@ pub fn run(alloc: Global, asked: &Asked<'_>) -> QrResult<Digest> {
     }
 }
 
-// What is read as headers and segments, in any position.
+// Reads headers and segments, in any position.
 fn of_parts(alloc: Global, colors: &[Color]) -> QrResult<Digest> {
     let read = read_any_parts(alloc, colors).map_err(refusal)?.reading;
     Ok(Digest::of(&read.parts.bytes).and(Digest::of_one(read.wrong.len(), true)))
 }
 
-// What is read as bits.
+// Reads the data bits.
 fn bits_of(alloc: Global, colors: &[Color]) -> QrResult<BitReading> {
     read_bits(alloc, colors).map_err(refusal)
 }
 
-// The headers and segments of bits.
+// Splits the data bits into headers and segments.
 fn of_pieces(alloc: Global, read: &BitReading) -> QrResult<Digest> {
     if !read.version.is_valid() {
         return Err(QrError::InvalidVersion);
@@ -48,7 +48,7 @@ fn of_pieces(alloc: Global, read: &BitReading) -> QrResult<Digest> {
     }
 }
 
-// The refusal in the words of symbols.
+// Turns an error of the reader into one of `QrError`.
 fn refusal(unread: Unread) -> QrError {
     match unread {
         Unread::OutOfMemory => QrError::OutOfMemory,

@@ -1,4 +1,4 @@
-//! Data in segments.
+//! Cuts data into segments.
 
 ghost use Rattle.std.specs.Iterator.{IsFinite};
 
@@ -9,7 +9,7 @@ use qrcode::optimize::{Modes, Parser, Segment, least_segments, least_segments_in
 use qrcode::types::{QrError, QrResult};
 use std::alloc::Global;
 
-/// Segments of data in a version.
+/// Returns the digest of the segments of the data in the version that is asked for.
 pub fn run(alloc: Global, asked: &Asked<'_>) -> QrResult<Digest> {
     let (data, version) = (asked.data(), asked.version());
     if !version.is_valid() {
@@ -27,7 +27,7 @@ pub fn run(alloc: Global, asked: &Asked<'_>) -> QrResult<Digest> {
     }
 }
 
-// The digest of segments: of each a number for the mode, and its ends.
+// Returns the digest of segments; each counts a number for its mode, its begin and its end.
 fn of_segments<I: Iterator<Item = Segment> + Drop>(segments: I) -> Digest
     requires can { I.can_next segments }
     requires finite { IsFinite (I.remaining segments) }

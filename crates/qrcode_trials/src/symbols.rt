@@ -1,4 +1,4 @@
-//! Calls of a symbol.
+//! Makes the calls of a symbol.
 
 use crate::digest::Digest;
 use crate::words::Asked;
@@ -7,7 +7,7 @@ use qrcode::canvas::MaskPattern;
 use qrcode::types::{Color, EcLevel, QrError, QrResult, Version};
 use std::alloc::Global;
 
-/// The symbol of a digit of a version at level L, and of eight where it has room.
+/// Makes the symbol of eight digits in `version` at level L, or of one digit in Micro 1.
 pub fn of_digits(alloc: Global, version: Version) -> QrResult<QrCode> {
     let digits = match version {
         Version::Micro(1) => b"1".as_slice(),
@@ -16,7 +16,7 @@ pub fn of_digits(alloc: Global, version: Version) -> QrResult<QrCode> {
     QrCode::with_version(alloc, digits, version, EcLevel::L)
 }
 
-/// Makes a call of the symbol of digits of a version.
+/// Makes the call that `asked.kind` names on the symbol of digits in the version.
 pub fn run(alloc: Global, asked: &Asked<'_>) -> QrResult<Digest> {
     let version = asked.version();
     let code = of_digits(alloc, version)?;
@@ -32,7 +32,7 @@ pub fn run(alloc: Global, asked: &Asked<'_>) -> QrResult<Digest> {
     }
 }
 
-// The digest of a symbol's modules under a mask that all versions have.
+// Returns the digest of the symbol under a mask that all versions have.
 fn under_mask(alloc: Global, code: &QrCode) -> QrResult<Digest> {
     let mask = MaskPattern::Diamonds;
     if !mask.exists_in(code.version()) {
@@ -41,7 +41,7 @@ fn under_mask(alloc: Global, code: &QrCode) -> QrResult<Digest> {
     Ok(Digest::of(&code.under_mask(alloc, mask)?))
 }
 
-// What takes no memory.
+// Makes the calls that need no memory.
 fn asked_of(code: &QrCode, version: Version) -> QrResult<Digest> {
     let Some(last) = code.width().checked_sub(1) else {
         return Err(QrError::InvalidVersion);

@@ -1,4 +1,4 @@
-//! An element of a user: a word for dark, and one for light.
+//! A user-defined element: one word for dark modules, another for light ones.
 
 ghost use Rattle.std.proofs.Common.{rules};
 
@@ -6,7 +6,7 @@ use qrcode::render::string::Element;
 use qrcode::render::{Pixel, string};
 use qrcode::types::{Color, QrResult};
 
-/// A word for dark, and one for light.
+/// The word `ink` for a dark module, `-` for a light one.
 #[derive(Clone, Copy)]
 pub struct Word(pub bool);
 

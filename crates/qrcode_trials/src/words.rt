@@ -1,16 +1,16 @@
-//! What the words of the command line say.
+//! Reads the arguments of the command line.
 
 use qrcode::types::{EcLevel, QrResult, Version};
 use std::alloc::Global;
 
-/// Data, and what is named in front of it.
+/// One data argument: its bytes, and the kind before its `=`.
 #[derive(Drop)]
 pub struct Given<'a> {
     pub kind: &'a str,
     pub bytes: Vec<u8>,
 }
 
-/// What a call is asked: which of its kind, the names of a version and a level, and data.
+/// The arguments of a call: a kind, the names of a version and a level, and data.
 #[derive(Clone, Copy)]
 pub struct Asked<'a> {
     pub kind: &'a str,
@@ -20,8 +20,8 @@ pub struct Asked<'a> {
 }
 
 impl Given<'_> {
-    /// Reads a word KIND=TEXT or TEXT: a byte for each character, its number modulo 256. With
-    /// `*` and a number after it, TEXT stands so many times.
+    /// Reads an argument `KIND=TEXT` or `TEXT`. Each character is a byte, its code modulo 256;
+    /// `TEXT*N` repeats TEXT N times.
     pub fn read<'a>(alloc: Global, word: &'a str) -> QrResult<Given<'a>> {
         let (kind, text) = word.split_once('=').unwrap_or(("", word));
         let (unit, count) = repeated(text);
@@ -32,18 +32,18 @@ impl Given<'_> {
         Ok(Given { kind, bytes })
     }
 
-    /// The text of the data, where it is UTF-8.
+    /// Returns the data as text, or an empty text if it is not UTF-8.
     pub fn text(&self) -> &str {
         str::from_utf8(&self.bytes).unwrap_or("")
     }
 
-    /// The number that the data is.
+    /// Returns the data as a number, or 0 if it is none.
     pub fn number(&self) -> u32 {
         number(self.text())
     }
 }
 
-// A text, and how many times it stands.
+// Splits `TEXT*N` into the text and the number of times to repeat it.
 fn repeated(text: &str) -> (&str, usize) {
     match text.rsplit_once('*') {
         Some((unit, count)) => match count.parse::<usize>() {
@@ -54,7 +54,7 @@ fn repeated(text: &str) -> (&str, usize) {
     }
 }
 
-// Appends a byte for each character.
+// Appends one byte for each character.
 fn push_each(bytes: &mut Vec<u8>, text: &str) -> QrResult<()> {
     for character in text.chars() {
         bytes.push((u32::from(character) % 256) as u8)?;
@@ -62,13 +62,13 @@ fn push_each(bytes: &mut Vec<u8>, text: &str) -> QrResult<()> {
     Ok(())
 }
 
-/// The number that a word is, or 0.
+/// Returns `word` as a number, or 0 if it is none.
 pub fn number(word: &str) -> u32 {
     word.parse::<u32>().unwrap_or(0)
 }
 
 impl<'a> Asked<'a> {
-    /// The version of the name, as `40` or `M4`; one that there is not where it names none.
+    /// Returns the version of a name such as `40` or `M4`, or an invalid version for other names.
     pub fn version(&self) -> Version {
         match self.version.strip_prefix('M') {
             Some(number) => Version::Micro(number.parse::<i16>().unwrap_or(0)),
@@ -76,7 +76,7 @@ impl<'a> Asked<'a> {
         }
     }
 
-    /// The level of the name.
+    /// Returns the level of the name; L for other names.
     pub fn level(&self) -> EcLevel {
         match self.level {
             "M" => EcLevel::M,
@@ -86,7 +86,7 @@ impl<'a> Asked<'a> {
         }
     }
 
-    /// The bytes of the first data.
+    /// Returns the bytes of the first data argument.
     pub fn data(&self) -> &'a [u8] {
         match self.given.first() {
             Some(given) => &given.bytes,
@@ -94,12 +94,12 @@ impl<'a> Asked<'a> {
         }
     }
 
-    /// Their text, where they are UTF-8.
+    /// Returns the first data argument as text, or an empty text if it is not UTF-8.
     pub fn text(&self) -> &'a str {
         str::from_utf8(self.data()).unwrap_or("")
     }
 
-    /// The number that the data at a place is, or 0.
+    /// Returns the data argument at index `place` as a number, or 0.
     pub fn number(&self, place: usize) -> u32 {
         match self.given.get(place) {
             Some(given) => given.number(),

@@ -1,4 +1,4 @@
-"""Ways to look at what goqlanis draws: parts in colours, labels, covered squares and logos."""
+"""Tests of what goqlanis draws: colours of parts, labels, covered squares and logos."""
 import re
 import shlex
 
@@ -9,13 +9,14 @@ from room import COLOURS, SYMBOLS, TOP, empty, file_of, put, run, written
 
 
 def parts_have_their_colours(program):
-    """In PNG, SVG, EPS and PDF: those that segno says each module is of."""
+    """In PNG, SVG, EPS and PDF each module has the colour of its part, by segno."""
     return parts.are_drawn(lambda words: written(program, shlex.join(words)),
                            f"{TOP}/evidence/others/parts/types")
 
 
 def labels_show_the_dots(program):
-    """A second reader of what label printers take: where a picture stands, and each of its dots."""
+    """ZPL and TSPL, carried out as a printer would, put the dots of the PBM file at the right
+    place."""
     for words in ("01234567", "-l H -s 3 https://example.org", "-v 40 -s 5 A", "-q 1 -s 5 A",
                   "-s 88 A", "-s 1 -q 0 --invert A"):
         dots = written(program, f"-f pbm {words}")
@@ -29,7 +30,7 @@ def labels_show_the_dots(program):
 
 
 def labels_are_those_of_zint(program):
-    """Elements have the symbols of zint, and these are read as their element strings."""
+    """GS1 elements get the symbols that zint draws, and these are read as their element strings."""
     found = [(name.split(" "), rows) for name, rows in SYMBOLS.items() if name[0].isdigit()]
     for (level, elements, string), rows in found:
         words = ["gs1", elements, "-l", "LMQH"[int(level) - 1], "-f", "pbm", "-s", "1", "-q", "0"]
@@ -43,7 +44,8 @@ def labels_are_those_of_zint(program):
 
 
 def covered_squares_are_those_that_others_read(program):
-    """The largest squares that zxing and zbar were shown are light and as large; nothing else."""
+    """The squares that zxing and zbar were shown (evidence/others/areas) are covered, nothing else
+    changes, and larger ones are rejected."""
     found = (TOP / "evidence" / "others" / "areas" / "found").read_text()
     lines = [line.split() for line in found.splitlines()]
     for version, level, size, _, _ in lines:
@@ -63,15 +65,15 @@ def covered_squares_are_those_that_others_read(program):
 
 
 def _greys(pgm):
-    """The pixels of a grey map, as opaque ones of red, green and blue."""
+    """Returns the pixels of a PGM file, as opaque RGBA."""
     side = int(pgm.split()[1])
     grey = pgm[-side * side:]
     return [[(it, it, it, 255) for it in grey[side * y:side * (y + 1)]] for y in range(side)]
 
 
 def a_logo_in_png_is_drawn_in_its_area_alone(program):
-    """Each of its pixels shows what lies at its middle, over white; outside they are as before. The
-    area has 9 by 5 modules of 37: the logo, 4 by 3, has 53 by 40 pixels there."""
+    """Each pixel of the logo shows the colour at its middle, over white; other pixels are as
+    before. The area has 9 by 5 of 37 modules; in it the logo, 4 by 3, takes 53 by 40 pixels."""
     words = ["-v", "5", "-l", "H", "--logo-size", "9", "GOQLANIS"]
     rows = _greys(run(program, [*words[:4], words[-1], "-f", "pgm"], "/").stdout)
     for row in rows[160:200]:
@@ -87,16 +89,16 @@ def a_logo_in_png_is_drawn_in_its_area_alone(program):
         drawn = run(program, [*words, *more], folder).stdout
         far = run(program, [*words, *more[:2], "--logo-margin", "1", "-f", "png"], folder).stdout
     is_read = run(program, ["read"], "/", drawn).stdout == b"GOQLANIS"
-    # With a margin of a module 24 pixels are left of the height.
+    # With a margin of one module the logo is 24 pixels high.
     coloured = [y for y, row in enumerate(png.pixels_of(far))
                 if any(len({*it[:3]}) > 1 for it in row)]
     return png.pixels_of(drawn) == rows and is_read and coloured[0] >= 168 and coloured[-1] < 192
 
 
 def the_cross_of_a_bill(program):
-    """In PNG: 7 of 46 parts of the side, of which a pixel shows what lies at its middle: a white
-    frame, and in black a cross by the bars that the style guide for bills has. In SVG, EPS and PDF
-    its square."""
+    """In PNG the Swiss cross takes 7/46 of the side, and each pixel shows the colour at its middle:
+    a white frame, and on black a white cross with the bars of the style guide for bills. In SVG,
+    EPS and PDF its square is in the right place."""
     words = ["bill", "--iban", "CH5800791123000889012", "--name", "a", "--code", "2501", "--city",
              "Biel", "--country", "CH"]
     plain = run(program, [*words, "-f", "pgm"], "/")
@@ -122,8 +124,8 @@ def the_cross_of_a_bill(program):
     return png.pixels_of(drawn.stdout) == rows and warned and shapes
 
 
-# How many modules a unit is in each format, or of how many units a module is; where in units the
-# square of the cross begins; and how many of them are a 252nd of its side.
+# In each format: the modules of a unit, or the units of a module; where the square of the cross
+# begins, in units; and how many units are a 252nd of its side.
 CROSSES = {
     "svg": rb"scale\(1\) scale\((?P<unit>\S+)\) translate\((?P<left>\d+) (?P=left)\) "
            rb"scale\((?P<part>\d+)\)",
@@ -134,7 +136,8 @@ CROSSES = {
 
 
 def _is_in_the_middle(ran, pattern, side):
-    """A square of 7 mm, where the code has 46 mm, in the middle, with a quiet zone of 4 modules."""
+    """Whether the cross is 7 mm of a code of 46 mm, in the middle, with a quiet zone of 4
+    modules."""
     found = re.search(pattern, ran.stdout)
     if not found or ran.stderr:
         return False

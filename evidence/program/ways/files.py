@@ -1,5 +1,5 @@
-"""Ways to have goqlanis write files: by lists of access, over files of others and in folders of
-others."""
+"""Tests of how goqlanis writes files: with access control lists, and over files and in folders of
+other users."""
 import os
 import re
 import struct
@@ -10,19 +10,21 @@ NOBODY = 65534
 
 
 def _access_list(entries):
-    """A list of access (ACL), as Linux stores it: kinds, permissions and users."""
+    """Returns an access control list (ACL) as Linux stores it; an entry is a kind, rights and a
+    user."""
     rows = [struct.pack("<HHI", kind, rights, user) for kind, rights, user in entries]
     return struct.pack("<I", 2) + b"".join(rows)
 
 
-# The owner, another user, the group, the mask and others.
+# Entries for the owner, another user, the group, the mask, and all others.
 FOR_A_USER = _access_list(((1, 6, 0xffffffff), (2, 4, 1001), (4, 0, 0xffffffff),
                            (16, 4, 0xffffffff), (32, 0, 0xffffffff)))
 
 
 def lists_of_access_give_nobody_more(program):
-    """One of a file shows as rights of the group, which had none; one of a folder says what new
-    files have, whatever the umask. (Where the file system has them.)"""
+    """The ACL of a file shows as rights of its group, which had none, and must not become such;
+    that of a folder gives the rights of new files, whatever the umask. (Passes if there are no
+    ACLs.)"""
     with room() as folder:
         try:
             os.setxattr(f"{folder}/old.svg", "system.posix_acl_access", FOR_A_USER)
@@ -40,13 +42,13 @@ def lists_of_access_give_nobody_more(program):
                 and found == [0o600, 0o640, 0o640] and new == FOR_A_USER)
 
 
-# How a program runs as another user than root.
+# The options that run a program as another user than root.
 AS_NOBODY = {"user": NOBODY, "group": NOBODY, "extra_groups": []}
 
 
 def owners_are_not_shut_out(program):
-    """Root keeps the owner and the group of a file. Another user, who cannot, takes its place only
-    where its owner can still read it. (Only root can try it.)"""
+    """Root keeps the owner and group of a file. Another user, who cannot, replaces it only if its
+    owner can still read the new one. (Only root can try it; for others it passes.)"""
     if os.getuid() != 0:
         return True
     with room() as folder:
@@ -72,8 +74,9 @@ def owners_are_not_shut_out(program):
 
 
 def files_of_others_in_a_folder_for_everybody(program):
-    """As in /tmp: links, pipes and files of another user are refused; one's own links and those of
-    the folder's owner are followed. (Only root can try it.)"""
+    """In a folder such as /tmp, links, pipes and files of another user are rejected; one's own
+    links and those of the folder's owner are followed. (Only root can try it; for others it
+    passes.)"""
     if os.getuid() != 0:
         return True
     with empty() as folder:
@@ -105,7 +108,7 @@ def files_of_others_in_a_folder_for_everybody(program):
 
 
 def a_folder_that_takes_no_file_is_named(program):
-    """As where a file may be written, and the folder that it stands in may not."""
+    """If the folder cannot be written, the message names it, even if the file could be written."""
     with room() as folder:
         os.chmod(f"{folder}/old.svg", 0o666)
         os.chmod(folder, 0o555)
@@ -122,8 +125,8 @@ def a_folder_that_takes_no_file_is_named(program):
 
 
 def a_folder_that_cannot_be_read_is_refused(program):
-    """Though files can be made there: whoever exchanged it meanwhile would be given them. A link
-    that leads there is refused too, and so is the folder that the program stands in."""
+    """A folder that can be written but not read is rejected, since someone could exchange it
+    meanwhile and get the files; also at the end of a link, and as the current folder."""
     with room() as folder:
         os.chmod(folder, 0o755)
         os.mkdir(f"{folder}/in")

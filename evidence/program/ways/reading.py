@@ -1,4 +1,5 @@
-"""Ways to have goqlanis read what others drew, and pictures of each form, position and size."""
+"""Tests of how goqlanis reads symbols of other encoders, and pictures of each form, position and
+size."""
 import json
 import random
 import re
@@ -23,7 +24,8 @@ POSITIONS = (
 
 
 def checks_are_those_of_the_judge(program):
-    """Of every fifth of these symbols, with no, two and six modules turned, where they are read."""
+    """Checks every fifth symbol of other encoders, whole and with modules inverted at two and at
+    eight random places, if it can still be read."""
     chance = random.Random(1)
     for number, (rows, _) in enumerate(squares()):
         if number % 5 == 0:
@@ -41,7 +43,7 @@ def checks_are_those_of_the_judge(program):
 
 
 def _headers_said(headers):
-    """What `read --verbose` says of headers, which are in the words of evidence/others/symbols."""
+    """Returns what `read --verbose` prints for headers, given as in evidence/others/symbols."""
     words = ", ".join(headers)
     sets, other = {"ECI 0": "IBM437", "ECI 26": "UTF-8"}, "a character set without a known name"
     words = re.sub(r"ECI \d+", lambda it: f"{it[0]}, {sets.get(it[0], other)}", words)
@@ -52,14 +54,15 @@ def _headers_said(headers):
 
 
 def _read(program, picture):
-    """What a picture says, in hexadecimal digits, and what is said of it, but for its segments."""
+    """Returns the data of a picture in hexadecimal digits, and the lines about it except segments
+    and warnings."""
     ran = run(program, ["read", "--verbose"], "/", picture)
     lines = ran.stderr.decode().splitlines()
     return ran.stdout.hex(), [it for it in lines if not it.startswith(NOT_HEADERS)]
 
 
 def symbols_of_other_encoders_are_read(program):
-    """Each by a file of its own scale and quiet zone; every third without a header is turned."""
+    """Scales and quiet zones vary; every third symbol, if it has no header, is rotated."""
     for number, (rows, words) in enumerate(squares()):
         (symbol, mask, *headers), data = words.split(": ")[0].split(", "), words.split(": ")[1]
         kind, version, level = symbol.split()
@@ -73,7 +76,8 @@ def symbols_of_other_encoders_are_read(program):
 
 
 def large_pictures_are_read(program):
-    """Of the most digits: a grey map of 32 MB, as many bits, figures, a text of half blocks."""
+    """Symbols of the most digits are read as a PGM file of 32 MB, a PBM file of the same size in
+    pixels, half blocks, and a plain PBM file."""
     digits, words = FILES["digits"], ["-l", "L", "-q", "80", "-f"]
     forms = (["pgm", "-s", "17"], ["pbm", "-s", "17"], ["half-blocks"])
     pictures = [run(program, [*words, *form], "/", digits).stdout for form in forms]
@@ -83,8 +87,8 @@ def large_pictures_are_read(program):
 
 
 def headers_are_read_in_all_positions(program):
-    """Symbols of other encoders with headers, in eight positions, each with the colours as they
-    are, with those of the modules exchanged, and with those of the whole picture."""
+    """Symbols of other encoders with headers, in eight positions, each as it is, with the modules
+    inverted, and with the whole picture inverted."""
     with_headers = [it for it in squares() if it[1].split(": ")[0].count(",") > 1]
     for rows, words in with_headers[::3]:
         (_, _, *headers), data = words.split(": ")[0].split(", "), words.split(": ")[1]
@@ -103,7 +107,8 @@ def headers_are_read_in_all_positions(program):
 
 
 def png_files_of_every_kind_are_read(program):
-    """A symbol of zint in PNG files of every type, depth and filter; and files that are damaged."""
+    """A symbol of zint is read in PNG files of every colour type, depth and filter; damaged files
+    are rejected."""
     (name, rows), *_ = ((it.split(" "), rows) for it, rows in SYMBOLS.items() if it[0].isdigit())
     for color, depth in png.KINDS:
         if run(program, ["read"], "/", png.file_of(rows, color, depth)).stdout != name[2].encode():
@@ -121,14 +126,14 @@ def png_files_of_every_kind_are_read(program):
 
 
 def a_percent_sign_is_a_separator_behind_fnc1_alone(program):
-    """Whatever other headers there are."""
+    """So it is with any other headers too."""
     rows = {name[6:].encode(): it for name, it in SYMBOLS.items() if name.startswith("bytes ")}
     read = [run(program, ["read"], "/", file_of(it, 4, 2)).stdout for it in rows.values()]
     return len(read) == 4 and read == [*rows]
 
 
 def _square(program, *words):
-    """The rows of modules of a symbol."""
+    """Returns the rows of modules of a symbol."""
     words = ["-f", "pbm", "-s", "1", "-q", "0", *words]
     _, sides, bits = run(program, words, "/").stdout.split(b"\n", 2)
     step = (int(sides.split()[0]) + 7) // 8
@@ -136,8 +141,8 @@ def _square(program, *words):
 
 
 def _tiled(rows, count, pitch):
-    """A PBM file of so many by so many copies of a square, so many pixels apart, and a dark line,
-    so that it shows no square in an even margin."""
+    """Returns a PBM file of `count` by `count` copies of a square, each `pitch` pixels from the
+    last. A dark line at the end keeps it from being a single square in an even margin."""
     wide = [(it + [0] * (pitch - len(it))) * count for it in rows]
     wide += [[0] * (pitch * count)] * (pitch - len(rows))
     wide = wide * count + [[1] * (pitch * count)]
@@ -146,7 +151,8 @@ def _tiled(rows, count, pitch):
 
 
 def crowded_pages_are_read(program):
-    """All of 121 codes; and nothing in 1,024 finder patterns without codes, or in noise."""
+    """All of 121 codes are read, and nothing in 1,024 finder patterns without codes, or in
+    noise."""
     code = _square(program, "-v", "1", "hi")
     finder = [it[:7] for it in code[:7]]
     noise = b"P4\n400 400\n" + random.Random(1).randbytes(20000)
@@ -159,8 +165,8 @@ def crowded_pages_are_read(program):
 
 
 def wrong_codewords_of_micro_codes_on_a_page(program):
-    """One is corrected in M2, but none in M1, as the standard has it; in a picture of one code, one
-    is corrected in M1 too, with a warning."""
+    """On a page one is corrected in M2 but none in M1, as the standard says; in a picture of a
+    single code, one is corrected in M1 too, with a warning."""
     for version, wrong, on_page in (("M1", 0, b"12"), ("M1", 1, b""), ("M2", 1, b"12")):
         rows = _square(program, "-v", version, "12")
         rows[-1][-1] ^= wrong

@@ -1,4 +1,4 @@
-"""Ways to look at what goqlanis says of itself: help, manual, completions, names."""
+"""Tests of what goqlanis says about itself: help, manual, completions, version and colours."""
 import os
 import re
 import shlex
@@ -10,7 +10,7 @@ PAGES = HERE / "pages"
 
 
 def one_version_is_named(program):
-    """By the program, by ./install, which reads the program's, and by the packages."""
+    """The packages have the version of the program, from which ./install reads it."""
     packages = ("python/goqlanis/__init__.py", "rust/goqlanis/Cargo.toml",
                 "rust/goqlanis-sys/Cargo.toml")
     named = set()
@@ -21,7 +21,7 @@ def one_version_is_named(program):
 
 
 def examples_of_the_help_run(program):
-    """A shell runs each, in a room with the files that it names."""
+    """A shell runs each example, in a folder with the files that they name."""
     with empty() as folder:
         put(folder, "ticket.txt", b"seat 12\n")
         put(folder, "seats.txt", b"1\n2\n")
@@ -34,14 +34,14 @@ def examples_of_the_help_run(program):
 
 
 def _tasks(program):
-    """The commands that the manual has."""
+    """Returns the commands that the manual lists."""
     manual = written(program, "--manual").decode()
     return re.findall(r"^\.SS goqlanis (\S+)$", manual, re.MULTILINE)
 
 
 def every_option_has_a_case(program):
-    """The table has a command line of each subcommand with each option that its help names; options
-    of drawing may have one with another subcommand."""
+    """The table has a case for each option of each command, by its help; an option for drawing
+    needs only one case without a command."""
     tasks = ["", *_tasks(program)]
     given = {task: set() for task in tasks}
     lines = [it.piped if it.is_script else f"{it.words}\n{it.piped}" for it in cases()]
@@ -64,8 +64,8 @@ def help_has_lines_of_80_characters(program):
 
 
 def _pages(program):
-    """What the program says of itself, by the file that stores it: all help, the manual page, and
-    the completions of each shell."""
+    """Returns all help, the manual page and the completions of each shell, by the name of the file
+    that stores them."""
     asked = ["--help", *(f"{it} --help" for it in _tasks(program))]
     shown = [f"$ goqlanis {it}\n".encode() + written(program, it) for it in asked]
     shells = {it: written(program, f"--completions {it}") for it in ("bash", "zsh", "fish")}
@@ -73,7 +73,7 @@ def _pages(program):
 
 
 def pages_are_those_that_are_stored(program):
-    """So that no change of them goes unseen: `--write` stores them anew."""
+    """No change of help, manual and completions goes unnoticed; `--write` stores them anew."""
     others = [name for name, it in _pages(program).items() if (PAGES / name).read_bytes() != it]
     print(*(f"program: it is not so of evidence/program/pages/{it}\n" for it in others), end="")
     return not others
@@ -85,8 +85,8 @@ def _store_pages(program):
 
 
 def shells_complete(program):
-    """bash and fish complete a name, a word, and nothing after a number, and each shell that is
-    there reads its completions."""
+    """bash completes options and values, and nothing after an option that takes a number or has no
+    value; zsh and fish, if they are installed, read their completions."""
     asked = """. /dev/stdin; for words in '--lev' '--format p' '-l' '--scale 1' 'wi' 'wifi --s' \
         'read --v' 'read -v' 'bill --currency E' 'epc --le'; do
         COMP_WORDS=(goqlanis $words); COMP_CWORD=$((${#COMP_WORDS[@]} - 1))
@@ -103,8 +103,8 @@ def shells_complete(program):
 
 
 def _are_quoted(program):
-    """In the completions of zsh and fish each line with the help of an option closes its quotes,
-    also where these shells are not there to read it."""
+    """Whether each line with the help of an option closes its quotes in the completions of zsh and
+    fish; this needs no shell."""
     found = 0
     for shell, ends in (("zsh", "\\;"), ("fish", "")):
         for line in written(program, f"--completions {shell}").decode().splitlines():
@@ -117,7 +117,7 @@ def _are_quoted(program):
 
 
 def _reads_completions(program, shell):
-    """A shell reads its completions, and fish completes by them what bash does."""
+    """Whether a shell reads its completions, and fish completes with them as bash does."""
     given = written(program, f"--completions {shell}")
     read = piped([shell, "-n", "/dev/stdin"], given)
     if shell != "fish" or read.returncode or read.stderr:
@@ -130,7 +130,7 @@ def _reads_completions(program, shell):
 
 
 def man_shows_the_manual(program):
-    """Without a warning, where man is there."""
+    """man shows the manual without a warning. (Passes if man is not installed.)"""
     if not shutil.which("man"):
         return True
     with empty() as folder:
@@ -148,7 +148,7 @@ def the_symbol_of_the_gallery(program):
 
 
 def python_has_the_same_colours(program):
-    """The names of CSS in the package for Python are those of the program, and each is drawn."""
+    """The Python package has the CSS colour names of the program, and each draws its colour."""
     python = (TOP / "bindings/python/goqlanis/colours.txt").read_text(encoding="utf-8")
     rattle = (TOP / "crates/goqlanis_core/src/colours.rt").read_text(encoding="utf-8")
     named = dict(re.findall(r"\b([a-z]+)=([0-9a-f]{6})\b", python))

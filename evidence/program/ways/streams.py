@@ -1,4 +1,4 @@
-"""Ways to run goqlanis in terminals, into pipes and with memory refused; and to run qrencode."""
+"""Tests of goqlanis in terminals, into pipes and when memory runs out; and of qrencode."""
 import os
 import re
 import resource
@@ -20,7 +20,7 @@ def colours_on_a_terminal_alone(program):
 
 
 def no_bytes_to_a_terminal(program):
-    """In none of their formats, unless it is asked for."""
+    """No binary format goes to a terminal, unless `--output -` asks for it."""
     said = (b"goqlanis: this format is not for a terminal: add --output FILE, or --output - to "
             b"write it there anyway\n")
     heads = {"pgm": b"P5\n", "pbm": b"P4\n", "ppm": b"P6\n", "png": b"\x89PNG\r\n",
@@ -34,7 +34,7 @@ def no_bytes_to_a_terminal(program):
 
 
 def a_terminal_is_asked_for_what_is_wanted(program):
-    """Before the program waits for it: text, lines and a picture. Ctrl-D ends each."""
+    """Before it waits for input the program says what it needs: text, lines or a picture."""
     for words, what in (([], b"the text"), (["--lines"], b"the lines"), (["read"], b"a picture"),
                         (["several"], b"the text"), (["join", "-"], b"a picture")):
         shown, _ = in_terminal(program, words, given=b"\x04")
@@ -44,7 +44,7 @@ def a_terminal_is_asked_for_what_is_wanted(program):
 
 
 def a_closed_pipe_ends_a_run_quietly(program):
-    """With --lines too, which then reads no more of them."""
+    """A closed output ends the run without a message, also with --lines and --help."""
     reader, writer = os.pipe()
     os.close(reader)
     more = {"input": b"1\n2\n3\n", "stdout": writer, "stderr": subprocess.PIPE, "timeout": 60}
@@ -54,7 +54,7 @@ def a_closed_pipe_ends_a_run_quietly(program):
 
 
 def lines_are_drawn_as_they_come(program):
-    """The first one before the second one is there."""
+    """The first line is drawn before the second is written."""
     pipes = {"stdin": subprocess.PIPE, "stdout": subprocess.PIPE}
     with subprocess.Popen([program, "--lines"], **pipes) as ran:
         wanted = [written(program, it) for it in ("one", "two")]
@@ -68,8 +68,8 @@ def lines_are_drawn_as_they_come(program):
 
 
 def a_line_says_how_many_lines_are_done(program):
-    """On a terminal that the drawings do not go to, and not on one that takes no control sequences;
-    a refused line takes its place."""
+    """The count shows if the drawings do not go to the terminal and the terminal takes control
+    sequences; the message of a line that fails replaces it."""
     with room() as folder:
         words = ["--lines", "-i", f"{folder}/lines", "-o", f"{folder}/a.svg"]
         refusal = (b"goqlanis: line 2: 3,000 bytes at level M: at most 2,331 fit, more of digits "
@@ -84,22 +84,22 @@ def a_line_says_how_many_lines_are_done(program):
 
 
 # The ends of the ranges of Unicode's Default_Ignorable_Code_Point (DerivedCoreProperties) that are
-# no format characters: fillers, selectors of variants, and what has no character yet.
+# not format characters: fillers, variation selectors, and unassigned code points.
 IGNORED = ("\u034f\u115f\u1160\u17b4\u17b5\u180b\u180f\u2065\u3164\ufe00\ufe0f\uffa0\ufff0\ufff8"
            "\U000e0000\U000e0002\U000e001f\U000e0080\U000e0fff")
 
 
 def _unseen():
-    """All format and control characters, by the tables of Python, separators of lines, and those
-    that are ignored; without line breaks and tabs."""
+    """Returns all format and control characters and line separators, by Python's tables, except
+    newline and tab; and the ignored ones."""
     kinds = ("Cc", "Cf", "Zl", "Zp")
     found = [chr(it) for it in range(sys.maxunicode) if unicodedata.category(chr(it)) in kinds]
     return [it for it in found if it not in "\t\n"] + [*IGNORED]
 
 
 def strangers_turn_nothing_round_on_a_terminal(program):
-    """No character that hides or moves others is shown as it is, by `read`, `join`, a drawing or a
-    message; a pipe and a file get all of them."""
+    """`read`, `join`, drawings and messages escape all characters that hide or move others; pipes
+    and files get them as they are."""
     text = "".join(_unseen()).replace("\0", "")
     with empty() as folder:
         put(folder, "data", text.encode())
@@ -117,7 +117,7 @@ def strangers_turn_nothing_round_on_a_terminal(program):
 
 
 def strangers_send_no_control_characters_to_a_terminal(program):
-    """Neither in messages nor as what is read, which a pipe gets as it is."""
+    """Messages and data that is read are escaped on a terminal; a pipe gets the data as it is."""
     name, shown = b"a\x1b]0;b\x07\xc2\x9bc\nd", rb"a\u{1b}]0;b\u{7}\u{9b}c\nd"
     said = [piped([program, *it]).stderr for it in (
         [b"-i", name], [b"-o", name, b"1"], [b"read", name], [b"--" + name], [b"-l", name, b"1"],
@@ -138,13 +138,13 @@ def strangers_send_no_control_characters_to_a_terminal(program):
 
 
 def _at_most_100_bytes():
-    """Lets a program write no larger file."""
+    """Limits the files of a process to 100 bytes."""
     signal.signal(signal.SIGXFSZ, signal.SIG_IGN)
     resource.setrlimit(resource.RLIMIT_FSIZE, (100, 100))
 
 
 def _qrencode(program, text, **more):
-    """Runs the program qrencode, as the compiler of this one made it."""
+    """Runs the program qrencode, built by the compiler that built `program`."""
     made = f"{TOP}/crates/qrencode/out/qrencode" + program.removeprefix(PROGRAM)
     return subprocess.run(["qrencode", text], executable=made, stderr=subprocess.PIPE, timeout=60,
                           check=False, **more)
@@ -156,8 +156,8 @@ def qrencode_draws_the_longest_text(program):
 
 
 def qrencode_reports_a_refused_write(program):
-    """To a full device; and into a file of at most 100 bytes, of which all are written. Three
-    thousand digits are a symbol, though as many bytes are not: the write alone fails."""
+    """qrencode fails to write to a full device, and into a file of at most 100 bytes, all of which
+    are written. Three thousand digits fit a symbol, so only the write fails."""
 
     with open("/dev/full", "wb") as full, tempfile.TemporaryFile() as short:
         ran = [_qrencode(program, it, stdout=full) for it in ("1", "7" * 3000)]
@@ -169,13 +169,13 @@ def qrencode_reports_a_refused_write(program):
 
 REFUSED = ("1", "-o old.svg --trim", "-f png --eci 1", "-s 0", "--manual", "read -v blank.pbm",
            "check --json three.pbm", "check run.pbm", "gs1 --application 37 1")
-# Words that draw a picture, of which reading it is refused memory.
+# Arguments that draw pictures, which are then read while requests for memory fail.
 READ = ("-f pbm -s 2 --micro 1", "-f pgm -s 2 --micro 1", "-f png -s 2 --micro 1", "--micro 1")
 
 
 def _with_a_request_refused(program, library, words, at, given=b"01234567\n"):
-    """What a run answers and says whose at-th request for memory is refused, what its room then
-    holds, and whether a request was refused. No block may be left."""
+    """Runs the program in a room, with request number `at` for memory failing. Returns the status,
+    output and files; the messages; and whether a request failed. No block may be leaked."""
     with room() as folder:
         env = {"LD_PRELOAD": library, "REFUSE": str(at)}
         ran = run(program, words, folder, given, env=env)
@@ -186,8 +186,8 @@ def _with_a_request_refused(program, library, words, at, given=b"01234567\n"):
 
 
 def refused_memory_is_reported_in_a_line(program):
-    """Each request of some runs is refused in turn: a run reports it and writes nothing, or answers
-    as with ample memory."""
+    """In some runs each request for memory fails in turn: the run reports it and writes nothing, or
+    answers as with ample memory."""
     with room() as folder:
         nothing = (1, b"", sorted(os.listdir(folder)), FILES["old.svg"])
         library = f"{folder}/refuse.so"

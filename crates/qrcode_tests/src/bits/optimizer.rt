@@ -1,4 +1,4 @@
-//! Data cut into segments, and segments joined.
+//! Tests of how data is cut into segments, and of how segments are joined.
 
 ghost use Rattle.std.specs.Prelude.{◌≤◌, length, IsTrue};
 ghost use Rattle.qrcode_types.specs.Versions.{is_valid};
@@ -12,23 +12,23 @@ use qrcode_types::types::QrResult;
 use qrcode_types::types::Version::{self, Micro, Normal};
 use std::alloc::Global;
 
-/// Which segments of data are asked for.
+/// A way to cut data into segments.
 #[derive(Clone, Copy)]
 enum Way {
-    /// Its runs of bytes of one kind.
+    /// Runs of bytes of one kind.
     Runs,
     /// The runs, joined where that takes no more bits.
     Joined,
-    /// The least of all cuts.
+    /// The cut with the fewest bits.
     Least,
 }
 
 use Way::{Joined, Least, Runs};
 
-// The mode of a segment, where it begins and where it ends.
+// The mode, begin and end of a segment.
 type Cut = (Mode, usize, usize);
 
-// Data, the version that it is cut for, the way, and the cuts or why there are none.
+// Data, the version that it is cut for, the way to cut it, and the segments or the error.
 struct Cutting(&'static [u8], Version, Way, Result<&'static [Cut], QrError>);
 
 #[rattlefmt::skip]
@@ -78,19 +78,19 @@ static CUTS: [Cutting; 23] = [
         b"01049123451234591597033130128%10ABC123", Normal(9), Joined,
         Ok(&[(Numeric, 0, 29), (Alphanumeric, 29, 38)]),
     ),
-    // Other least cuts are asked of the library for C.
+    // The tests of the C library ask for other cuts with the fewest bits.
     Cutting(b"123A", Micro(2), Least, Ok(&[(Numeric, 0, 3), (Alphanumeric, 3, 4)])),
     Cutting(b"", Micro(1), Least, Ok(&[])),
 ];
 
-// The runs of data.
+// Cuts data into runs.
 fn runs(alloc: Global, bytes: &[u8]) -> QrResult<Vec<Segment>>
     requires length { length bytes.now ≤ 1048576 }
 {
     Ok(Parser::new(bytes).collect(alloc)?)
 }
 
-// The same, joined.
+// Cuts data into runs, and joins them.
 fn joined(alloc: Global, bytes: &[u8], version: Version) -> QrResult<Vec<Segment>>
     requires valid { IsTrue (is_valid version) }
     requires length { length bytes.now ≤ 1048576 }
@@ -98,7 +98,7 @@ fn joined(alloc: Global, bytes: &[u8], version: Version) -> QrResult<Vec<Segment
     Ok(Parser::new(bytes).optimize(version).collect(alloc)?)
 }
 
-// The segments of data.
+// Cuts data in the way that is asked for.
 fn segments(alloc: Global, data: &[u8], version: Version, way: Way) -> QrResult<Vec<Segment>> {
     if !version.is_valid() {
         return Err(InvalidVersion);
@@ -113,7 +113,7 @@ fn segments(alloc: Global, data: &[u8], version: Version, way: Way) -> QrResult<
     }
 }
 
-// Whether segments are these cuts.
+// Whether `segments` are exactly `cuts`.
 fn are_cuts(segments: &[Segment], cuts: &[Cut]) -> bool {
     let mut given = segments.iter();
     for (mode, begin, end) in cuts {
@@ -140,7 +140,7 @@ fn data_is_cut(rt: HostRuntime) {
     check(&rt, rt.alloc(), &CUTS);
 }
 
-// Whether segments are joined into these in Normal 1.
+// Whether the optimizer joins `given` into `cuts` in Normal 1.
 fn joins(alloc: Global, given: &[Segment], cuts: &[Cut]) -> bool
     requires joinable { IsJoinable given.now }
 {
@@ -150,8 +150,8 @@ fn joins(alloc: Global, given: &[Segment], cuts: &[Cut]) -> bool
     }
 }
 
-// No parser gives such segments: none, empty ranges, pairs with a byte left over, and neighbours in
-// one mode.
+// Segments that no parser gives: none at all, empty ones, Kanji with a byte left over, and
+// neighbours of one mode.
 #[test]
 fn odd_segments_are_joined(rt: HostRuntime) {
     let empty = [range(Numeric, 3, 3), range(Byte, 3, 3), range(Kanji, 3, 3)];
@@ -163,7 +163,7 @@ fn odd_segments_are_joined(rt: HostRuntime) {
     assert!(rt; joins(rt.alloc(), &bytes, &[(Byte, 0, 5)]));
 }
 
-// A version, segments, and their bits as the standard counts them.
+// A version, segments, and the bits that they take by the standard.
 struct Length(Version, &'static [Cut], usize);
 
 #[rattlefmt::skip]
@@ -183,7 +183,7 @@ static LENGTHS: [Length; 13] = [
     Length(Normal(1), &[(Byte, 0, 1), (Kanji, 1, 17)], 136),
 ];
 
-// The bits of short segments in a version.
+// Counts the bits of segments of at most 100 bytes.
 fn bits_of(version: Version, cuts: &[Cut]) -> usize {
     let mut bits: usize = 0;
     for (mode, begin, end) in cuts {

@@ -1,5 +1,5 @@
-//! Pushes to a list of bits that are refused, and of ranges. What others write,
-//! `evidence/memory/cases` asks.
+//! Tests of pushes that fail, of pushes of segments, and of the largest list.
+//! `evidence/memory/cases` asks what the other pushes write.
 
 ghost use Rattle.std.specs.Prelude.{length, IsTrue};
 ghost use Rattle.qrcode_types.specs.Versions.{is_valid};
@@ -16,14 +16,14 @@ use std::alloc::Global;
 
 const END: Push<'static> = Terminator(EcLevel::L);
 
-// More letters than a length field of Normal 1 counts.
+// More letters than the character count of Normal 1 can hold.
 const LONG: &str =
     "aaaaaaaaaaaaaaaaaaaaaaaaaaaaaaaaaaaaaaaaaaaaaaaaaaaaaaaaaaaaaaaaaaaaaaaaaaaaaaaaaaaaaaaaaa\
     aaaaaaaaaaaaaaaaaaaaaaaaaaaaaaaaaaaaaaaaaaaaaaaaaaaaaaaaaaaaaaaaaaaaaaaaaaaaaaaaaaaaaaaaaa\
     aaaaaaaaaaaaaaaaaaaaaaaaaaaaaaaaaaaaaaaaaaaaaaaaaaaaaaaaaaaaaaaaaaaaaaaaaaaa";
 
-// A version, the pushes to a new list of it, another push that is refused and its error, the bytes
-// of the list and how many bits.
+// A version, the pushes to a new list, then a push that fails and its error, and the bytes and
+// number of bits of the list, which stay.
 struct Refused(
     Version,
     &'static [Push<'static>],
@@ -49,7 +49,7 @@ static REFUSED: [Refused; 9] = [
     ),
 ];
 
-// Whether a list is of a version, and has these bytes and so many bits.
+// Whether a list has this version, these bytes and this number of bits.
 fn is_list(bits: Bits, version: Version, bytes: &[u8], length: usize) -> bool {
     bits.version() == version
         && bits.len() == length
@@ -75,14 +75,14 @@ fn pushes_are_refused(rt: HostRuntime) {
     check(&rt, rt.alloc(), &REFUSED);
 }
 
-// Appends ranges of bytes, each in its mode.
+// Pushes the segments of `bytes`.
 fn push_ranges(bits: &mut Bits, bytes: &[u8], ranges: Vec<Segment>) -> QrResult<()>
     requires inside { AreInside (length bytes.now) ranges.items }
 {
     bits.push_segments(bytes, ranges.into_iter())
 }
 
-// Whether ranges of bytes are pushed with this answer, and give a list.
+// Whether pushing these segments gives this answer, and a list with these bytes and bits.
 fn ranges_give(
     alloc: Global,
     version: Version,
@@ -102,7 +102,7 @@ fn ranges_give(
     is_list(bits, version, held.0, held.1) && answered == answer
 }
 
-// The ranges before a refused one stay.
+// The segments before one that fails stay in the list.
 #[test]
 fn ranges_give_lists(rt: HostRuntime) {
     let alloc = rt.alloc();
@@ -118,12 +118,12 @@ fn ranges_give_lists(rt: HostRuntime) {
     assert!(rt; ranges_give(alloc, Micro(2), b"1a", &ranges, answer, held));
 }
 
-// Whether a list of so many bits refuses the push as too long, and keeps its bits.
+// Whether the list has `length` bits, rejects the push as too long, and stays as it is.
 fn is_full(bits: &mut Bits, length: usize, next: Push<'_>) -> bool {
     bits.len() == length && make_push(bits, next) == Err(DataTooLong) && bits.len() == length
 }
 
-// Pushes the bytes so many times.
+// Pushes the bytes `count` times.
 fn push_times(bits: &mut Bits, bytes: &[u8], count: u32) -> QrResult<()> {
     for _ in 0..count {
         make_push(bits, Byte(bytes))?;

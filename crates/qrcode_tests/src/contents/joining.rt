@@ -1,5 +1,5 @@
-//! Parts of data whose headers no symbol of the library has, joined or refused. Others are asked of
-//! the library for C.
+//! Tests of `join` on parts with headers that no symbol of the library has. The tests of the C
+//! library join the others.
 
 use crate::common::{Row, check};
 use qrcode_append::errors::JoinError;
@@ -8,11 +8,11 @@ use std::alloc::Global;
 
 const DIGITS: &[u8] = b"31415926535897932";
 
-// The exclusive or of these digits.
+// The XOR of these digits.
 const PARITY: u8 = 0x32;
 
-// The three parts of the digits; then one that is alone, three with something else in the header,
-// and one with another digit.
+// The three parts of the digits; then a part on its own, three parts with another last place,
+// parity or place, and one with another digit.
 #[rattlefmt::skip]
 static PARTS: [Part<'static>; 8] = [
     Part { place: 0, last: 2, parity: PARITY, bytes: b"3141592" },
@@ -25,7 +25,7 @@ static PARTS: [Part<'static>; 8] = [
     Part { place: 2, last: 2, parity: PARITY, bytes: b"97933" },
 ];
 
-// Which parts, and the data that they are joined to, or why they are not.
+// The indices of the parts to join, and the joined data or the error.
 struct Joining(&'static [usize], Result<&'static [u8], JoinError>);
 
 static ROWS: [Joining; 7] = [

@@ -1,4 +1,4 @@
-//! The texts of refusals.
+//! Tests of the text of errors.
 
 use crate::common::check_row;
 use qrcode::types::QrError;
@@ -9,7 +9,7 @@ use qrcode_gs1::symbol::errors::SymbolError;
 use std::alloc::Global;
 use std::fmt::Display;
 
-// Whether a refusal has this text.
+// Whether `error` is displayed as `text`.
 fn reads_as<E: Display>(alloc: Global, error: &E, text: &str) -> bool {
     match format!(in alloc; "{error}") {
         Ok(shown) => shown.as_str() == text,
@@ -39,7 +39,7 @@ fn elements_tell_index_and_cause(rt: HostRuntime) {
     assert!(rt; reads_as(alloc, &long, "data too long"));
 }
 
-// Why parts are not joined, and the text of that.
+// The errors of `join`, and their text.
 #[rattlefmt::skip]
 static OF_PARTS: [(JoinError, &str); 5] = [
     (JoinError::Stranger(1), "part 1 is not of the same data as the first"),

@@ -1,5 +1,5 @@
-//! Data in several symbols. Most rows are asked of the library for C, or in
-//! `evidence/memory/cases`.
+//! Tests of structured append within bounds on the version. The tests of the C library and
+//! `evidence/memory/cases` have most other rows.
 
 use crate::common::checksum_of;
 use qrcode::types::{QrError, QrResult};
@@ -8,11 +8,11 @@ use qrcode_append::{Versions, encode_several_within, encode_text_several_within}
 use qrcode_examples::several::{leaflets, pages};
 use std::alloc::Global;
 
-// Three even parts of its 32 bytes would divide the character of bytes 20 and 21: the second ends
-// before.
+// Three even parts of its 32 bytes would cut the character of bytes 20 and 21 in two: the second
+// part ends before it.
 const WORDS: &str = "pijamalı hasta yağız şoföre";
 
-// Whether there are so many symbols, of a version, of which the first have these checksums.
+// Whether there are `count` symbols, and the first ones have this version and these checksums.
 fn are_symbols(
     alloc: Global,
     codes: QrResult<Vec<QrCode>>,
@@ -31,7 +31,7 @@ fn are_symbols(
     codes.len() == count
 }
 
-// How many symbols there are of which version, for so many sevens at L.
+// Returns the number of symbols, and the version of the first, for `count` sevens at L.
 fn of_sevens(
     alloc: Global,
     count: usize,
@@ -47,8 +47,8 @@ fn of_sevens(
     }
 }
 
-// By the standard's Tables 3 and 9, in even parts behind headers of 20 bits. No version is below 1
-// or above 40.
+// Counted by Tables 3 and 9 of the standard: even parts, each after a header of 20 bits. Bounds
+// below 1 or above 40 name no version.
 #[test]
 fn the_fewest_of_some_versions(rt: HostRuntime) {
     let alloc = rt.alloc();
@@ -72,10 +72,10 @@ fn the_fewest_of_some_versions(rt: HostRuntime) {
     assert!(rt; codes.err() == Some(QrError::InvalidVersion));
 }
 
-// Of 640 bytes eight parts have 80 each, and Normal 5 at M, of 86 codewords, holds 82 behind a
-// header; seven would have 91. Normal 10, of 216, holds 211 and Normal 9, of 182, 178: four parts
-// have 160, for which Normal 8, of 154, with room for 150, is too small, and three parts would have
-// 213.
+// The text has 640 bytes. `pages`: Normal 5 at M has 86 data codewords and holds 82 bytes after a
+// header; eight parts have 80 bytes each, seven would have 91. `leaflets`: Normal 10 (216) holds
+// 211, so three parts of 213 do not fit; four have 160, which fit Normal 9 (182, holds 178) but
+// not Normal 8 (154, holds 150).
 #[test]
 fn pages_and_leaflets_are_few(rt: HostRuntime) {
     let alloc = rt.alloc();

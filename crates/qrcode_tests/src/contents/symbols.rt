@@ -1,12 +1,12 @@
-//! Symbols with FNC1 in second position. Those of elements are asked of the library for C, and
-//! those of one letter in front of the program.
+//! Tests of symbols with FNC1 in second position. The tests of the C library make symbols of GS1
+//! elements; those of the program have indicators of one letter.
 
 use crate::common::{Push, Row, check, check_row, of_pushes};
 use qrcode::types::{EcLevel, Version};
 use qrcode_gs1::symbol::{are_apart, for_application, indicator_of};
 use std::alloc::Global;
 
-// Data of application 37, the version and level of its symbol, and the pushes that this has.
+// Data of application 37, the version and level of its symbol, and the pushes that make it.
 struct OfApplication(&'static [u8], Version, EcLevel, &'static [Push<'static>]);
 
 #[rattlefmt::skip]
@@ -16,8 +16,8 @@ static OF_APPLICATION: [OfApplication; 3] = [
         Push::SecondPosition(37), Push::Alphanumeric(b"AA1234BBB112"),
         Push::Byte(b"text text text text\r"), Push::Terminator(EcLevel::M),
     ]),
-    // A separator ends its segment before another and before a percent sign: three percent signs
-    // would be read as a percent sign and a separator, and two as a percent sign.
+    // The segment ends after a separator if another one or a percent sign follows: a reader would
+    // take three percent signs for a percent sign and a separator, and two for a percent sign.
     OfApplication(b"AAAAAAAA\x1d%BBBBBBBB", Version::Normal(1), EcLevel::L, &[
         Push::SecondPosition(37), Push::Alphanumeric(b"AAAAAAAA%"),
         Push::Alphanumeric(b"%%BBBBBBBB"), Push::Terminator(EcLevel::L),
@@ -44,8 +44,8 @@ fn data_of_an_application_is_divided(rt: HostRuntime) {
     check(&rt, rt.alloc(), &OF_APPLICATION);
 }
 
-// Indicators, and their numbers: zxing 1.4.0 reads the indicators behind these numbers in symbols
-// of libqrencode, and no symbol with the numbers 100, 164, 191, 196 and 223.
+// Application indicators, and their numbers: zxing 1.4.0 reads these indicators in symbols of
+// libqrencode with these numbers, and reads no symbol with the numbers 100, 164, 191, 196 and 223.
 #[rattlefmt::skip]
 static INDICATORS: [(&[u8], Option<u8>); 16] = [
     (b"07", Some(7)), (b"37", Some(37)), (b"99", Some(99)), (b"A", Some(165)), (b"Z", Some(190)),

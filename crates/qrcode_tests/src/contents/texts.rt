@@ -1,5 +1,5 @@
-//! Symbols of payments by the calls to copy from, and what the library for C does not ask of
-//! contents (`bindings/c/formats` asks the rest).
+//! Tests of the payment examples, and of an error that C cannot cause; `bindings/c/formats` asks
+//! for the other payloads.
 
 use qrcode::QrCode;
 use qrcode_contents::bill::{Bill, Currency, Party};
@@ -40,7 +40,7 @@ static BILL: Bill<'static> = Bill {
     message: "Order of 15 June 2020",
 };
 
-// The modules of a side of a symbol, or 0 where there is none.
+// Returns the side of a symbol in modules, or 0 if there is none.
 fn side(code: Result<QrCode, Unmade>) -> usize {
     match code {
         Ok(code) => code.width(),
@@ -48,8 +48,8 @@ fn side(code: Result<QrCode, Unmade>) -> usize {
     }
 }
 
-// The side of the symbol that segno makes of the same payment. That of the bill may be less, since
-// segno writes it in one segment.
+// segno's symbols have 41 modules a side for the payment, and 61 for the bill, which it writes as
+// one segment; ours may be smaller.
 #[test]
 fn payments_have_symbols(rt: HostRuntime) {
     assert!(rt; side(payment(rt.alloc(), &PAYMENT)) == 41);
@@ -57,8 +57,7 @@ fn payments_have_symbols(rt: HostRuntime) {
     assert!(rt; 21 <= bill && bill <= 61);
 }
 
-// A payment of version 001 has an identifier of a bank; the call for C writes one of version 002
-// without.
+// A payment of version 001 needs the identifier of a bank; C writes one without as version 002.
 #[test]
 fn a_payment_of_version_001_names_a_bank(rt: HostRuntime) {
     let refused = ContentError::Refused(Field::Bic, Cause::Empty);

@@ -1,4 +1,4 @@
-//! Plain code of callers, which the check takes with no proof.
+//! Callers whose code is proved without a written proof.
 
 ghost use Rattle.std.specs.Prelude.{◌≡◌, ◌*◌, ◌≤◌, length};
 
@@ -8,7 +8,7 @@ use qrcode_render::{Renderer, pbm, svg};
 use qrcode_types::types::{Color, QrResult};
 use std::alloc::Global;
 
-// A picture of at least so many pixels across and down, in a quiet zone of any width.
+// Draws at least `pixels` across and down, in a quiet zone of `zone` modules.
 fn framed(alloc: Global, symbol: &[Color], side: usize, zone: u32, pixels: u32) -> QrResult<String>
     requires square { length symbol.now ≡ side * side }
     requires at_least { 1 ≤ side }
@@ -22,7 +22,7 @@ fn framed(alloc: Global, symbol: &[Color], side: usize, zone: u32, pixels: u32) 
         .build(alloc)
 }
 
-// A picture in modules of so many pixels, in a quiet zone of any width.
+// Draws modules of `pixels` pixels a side, in a quiet zone of `zone` modules.
 fn enlarged(
     alloc: Global,
     symbol: &[Color],
@@ -41,7 +41,7 @@ fn enlarged(
         .build(alloc)
 }
 
-// The middle of a picture, which has a column and a row of pixels.
+// Returns the middle pixel of a picture, which is not empty.
 fn middle(alloc: Global, symbol: &[Color], side: usize) -> QrResult<(u32, u32)>
     requires square { length symbol.now ≡ side * side }
     requires at_least { 1 ≤ side }

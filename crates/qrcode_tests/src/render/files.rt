@@ -1,4 +1,4 @@
-//! Pictures as files: PBM, PGM, PPM, XBM, EPS, PDF, SVG of one path, and what printers take.
+//! Tests of pictures as files: PBM, PGM, PPM, XBM, EPS, PDF, one-path SVG, and printer commands.
 
 use crate::render::drawings::{DARK, DIAGONAL, Drawing, MICRO_2};
 use crate::render::pictures::Colors::{Both, Dark, Usual};
@@ -58,7 +58,7 @@ static COLOURED: [Row<ppm::Color, File>; 1] = [
         File(b"P6\n2 2\n255\n", b"\0\0\x88\xff\xff\x88\xff\xff\x88\0\0\x88")),
 ];
 
-// By the makers' pages: GS v 0, two bytes for the bytes of a row, and two for the rows.
+// By the maker's manual: GS v 0, two bytes for the bytes of a row, and two for the number of rows.
 #[rattlefmt::skip]
 static RECEIPTS: [Row<escpos::Dot, File>; 2] = [
     Row(DIAGONAL, On(0), Usual, Of(2, 3), File(b"\x1dv0\0\x01\0\x06\0", &[
@@ -67,7 +67,7 @@ static RECEIPTS: [Row<escpos::Dot, File>; 2] = [
     Row(DARK, On(0), Usual, Of(2064, 1), File(b"\x1dv0\0\x02\x01\x01\0", &[255; 258])),
 ];
 
-// By the makers' pages: 0 prints, so that what stands behind a row is 1.
+// By the maker's manual: a 0 prints a dot, so the bits that fill up a row are 1.
 #[rattlefmt::skip]
 static LABELS: [Row<tspl::Dot, File>; 1] = [
     Row(DIAGONAL, On(0), Usual, Of(5, 2), File(
@@ -76,8 +76,8 @@ static LABELS: [Row<tspl::Dot, File>; 1] = [
     )),
 ];
 
-// By the makers' pages: eight bytes in all, two in a row; H is twice, z 400 times, k 100 and V 16
-// times.
+// By the maker's manual: eight bytes in all, two in a row; H repeats twice, z 400 times, k 100
+// times and V 16 times.
 #[rattlefmt::skip]
 static GRAPHICS: [Row<zpl::Dot, File>; 2] = [
     Row(DIAGONAL, On(0), Usual, Of(5, 2), File(
@@ -88,7 +88,8 @@ static GRAPHICS: [Row<zpl::Dot, File>; 2] = [
     )),
 ];
 
-// What netpbm makes of the picture, in other letters and lines: the lowest bit comes first.
+// As netpbm writes the picture, apart from the case of digits and the line breaks. The lowest bit
+// is the leftmost pixel.
 #[rattlefmt::skip]
 static MAPS: [Row<xbm::Dot, File>; 1] = [
     Row(DIAGONAL, On(0), Usual, Of(5, 2), File(
@@ -97,7 +98,7 @@ static MAPS: [Row<xbm::Dot, File>; 1] = [
     )),
 ];
 
-// By hand: objects begin at 9, 54, 105, 209 and 391.
+// Written by hand: the objects begin at bytes 9, 54, 105, 209 and 391.
 #[rattlefmt::skip]
 static PAGES: [Row<pdf::Color, File>; 1] = [
     Row(DIAGONAL, On(0), Both(pdf::Color([0, 0, 136]), pdf::Color([255, 255, 136])), Of(3, 2), File(

@@ -1,4 +1,4 @@
-//! Pictures as rows of pixels, and their sides.
+//! Tests of images of pixels, and of which sizes fit.
 
 use crate::common::check_row;
 use crate::render::drawings::{DIAGONAL, Drawing, MICRO_2, NONE, NORMAL_1};
@@ -72,7 +72,7 @@ fn pixels_are_painted(rt: HostRuntime) {
     paints(&rt, rt.alloc(), &COLORS_WITH_OPACITY);
 }
 
-// Whether a pixel has these channels and no others.
+// Whether a pixel has exactly these channels.
 fn has<P: Channels>(pixel: P, expected: &[u8]) -> bool {
     let mut are_same = P::count() == expected.len() && pixel.channels() == expected;
     for (i, byte) in expected.iter().enumerate() {
@@ -91,8 +91,8 @@ fn has_channels(rt: HostRuntime) {
     assert!(rt; has(Rgba([1, 2, 3, 4]), &[1, 2, 3, 4]));
 }
 
-// The modules of a side, all dark, their quiet zone, the pixels of a module across and down, and
-// whether a picture fits.
+// The side of an all-dark square, its quiet zone, the width and height of a module in pixels, and
+// whether the picture fits.
 static FITTING: [(u8, u32, u32, u32, bool); 8] = [
     (1, 0, u32::MAX, u32::MAX, true),
     (1, 2147483647, 0, 1, true),

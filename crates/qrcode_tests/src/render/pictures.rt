@@ -1,4 +1,4 @@
-//! What a table of pictures has in a row: how a renderer is set, and what it draws.
+//! Rows of picture tests: the settings of a renderer, and the picture that it has to draw.
 
 ghost use Rattle.std.specs.Prelude.{◌≡◌, ◌*◌, ◌≤◌, length};
 ghost use Rattle.qrcode_render.specs.Setting.{side_of};
@@ -11,39 +11,39 @@ use qrcode_types::types::Color;
 use std::alloc::Global;
 use std::process::Abort;
 
-/// The modules of a quiet zone.
+/// How the quiet zone is set.
 #[derive(Clone, Copy)]
 pub enum Zone {
-    /// So many.
+    /// This many modules.
     On(u8),
-    /// So many, switched off.
+    /// This many modules, switched off.
     Off(u8),
-    /// So many, switched off after the size of a module is set.
+    /// This many modules, switched off after the size of a module is set.
     OffAfter(u8),
-    /// So many, and then so many others, which are switched off and on.
+    /// The first number of modules, then the second, switched off and on again.
     Changed(u8, u8),
 }
 
-/// The pixels of a module.
+/// How the pixels of a module are set.
 #[derive(Clone, Copy)]
 pub enum Size {
-    /// Those that the pixel has by default.
+    /// The default of the pixel type.
     Default,
-    /// So many, across and down alike.
+    /// This many, both across and down.
     Same(u16),
-    /// So many across and down.
+    /// This many across, and this many down.
     Of(u16, u16),
-    /// The least with which the picture has so many across and down.
+    /// The fewest with which the picture has at least these sides.
     AtLeast(u16, u16),
-    /// The least with which the picture has so many, across and down alike.
+    /// The fewest with which the picture has at least this side, both across and down.
     AtLeastSame(u16),
-    /// The greatest with which the picture has at most so many across and down.
+    /// The most with which the picture has at most these sides.
     AtMost(u16, u16),
 }
 
-/// The pixels of dark and light.
+/// The pixels for dark and light modules.
 pub enum Colors<P> {
-    /// Those by default.
+    /// The defaults.
     Usual,
     /// This for dark modules.
     Dark(P),
@@ -51,29 +51,29 @@ pub enum Colors<P> {
     Both(P, P),
 }
 
-/// What is drawn, behind which quiet zone, by which pixels, how large, and what the picture is.
+/// The square to draw, its quiet zone, its pixels, the size of a module, and the expected picture.
 pub struct Row<P, E>(pub Drawing, pub Zone, pub Colors<P>, pub Size, pub E);
 
-/// What a text is.
+/// The expected text.
 #[derive(Clone, Copy)]
 pub enum Text {
-    /// This.
+    /// Exactly this.
     Is(&'static str),
-    /// This, and more after it.
+    /// Any text that starts with this.
     Starts(&'static str),
-    /// One with this checksum CRC-32.
+    /// A text with this CRC-32.
     Sum(u32),
 }
 
-/// What a file is: a head, and the bytes after it.
+/// The expected file: a header, and the bytes after it.
 #[derive(Clone, Copy)]
 pub struct File(pub &'static [u8], pub &'static [u8]);
 
-/// What a picture of pixels is: its sides, the number of its bytes, and those at its start.
+/// The expected image: its sides, its length in bytes, and its first bytes.
 #[derive(Clone, Copy)]
 pub struct Pixels(pub (u32, u32), pub usize, pub &'static [u8]);
 
-// The modules of a quiet zone, as it is first set.
+// Returns the quiet zone that is set first.
 fn first_of(zone: Zone) -> u8 {
     match zone {
         Zone::On(first) | Zone::Off(first) | Zone::OffAfter(first) | Zone::Changed(first, _) => {
@@ -82,7 +82,7 @@ fn first_of(zone: Zone) -> u8 {
     }
 }
 
-// A renderer of modules behind a quiet zone.
+// Makes a renderer, and sets its quiet zone.
 fn renderer<'a, P: Pixel>(symbol: &'a [Color], side: usize, zone: Zone) -> Renderer<'a, P>
     requires square { length symbol.now ≡ side * side }
     requires at_most { side ≤ 177 }
@@ -102,7 +102,7 @@ fn renderer<'a, P: Pixel>(symbol: &'a [Color], side: usize, zone: Zone) -> Rende
     renderer
 }
 
-// Sets the pixels of a module.
+// Sets the size of a module.
 fn resize<P: Pixel>(renderer: &mut Renderer<P>, size: Size)
     requires at_least { 1 ≤ side_of renderer.old }
     requires at_most { side_of renderer.old ≤ 687 }
@@ -127,7 +127,7 @@ fn resize<P: Pixel>(renderer: &mut Renderer<P>, size: Size)
     }
 }
 
-// Sets the pixels of dark and light.
+// Sets the pixels for dark and light modules.
 fn color<P: Pixel>(renderer: &mut Renderer<P>, colors: &Colors<P>) {
     match colors {
         Colors::Usual => {}
@@ -140,7 +140,7 @@ fn color<P: Pixel>(renderer: &mut Renderer<P>, colors: &Colors<P>) {
     }
 }
 
-// The picture of a row.
+// Draws the picture of a row.
 fn picture<P: Pixel, E>(rt: &impl Abort, alloc: Global, row: &Row<P, E>) -> P::Image {
     let Drawing(side, letters) = row.0;
     let symbol = modules(alloc, letters).expect(rt, "modules");
@@ -157,7 +157,7 @@ fn picture<P: Pixel, E>(rt: &impl Abort, alloc: Global, row: &Row<P, E>) -> P::I
     renderer.build(alloc).expect(rt, "a picture")
 }
 
-// Whether a text is this.
+// Whether `text` is as expected.
 fn is_text(text: &str, expected: Text) -> bool {
     match expected {
         Text::Is(whole) => text == whole,
@@ -166,7 +166,7 @@ fn is_text(text: &str, expected: Text) -> bool {
     }
 }
 
-// Whether an image has these pixels.
+// Whether `image` is as expected.
 fn are_pixels<P: Channels>(image: ImageBuffer<P>, expected: Pixels) -> bool {
     let Pixels(sides, count, start) = expected;
     let are_sides = image.dimensions() == sides;
@@ -174,14 +174,14 @@ fn are_pixels<P: Channels>(image: ImageBuffer<P>, expected: Pixels) -> bool {
     are_sides && bytes.len() == count && bytes.starts_with(start)
 }
 
-/// The texts of the rows.
+/// Asserts that the rows draw their text.
 pub fn writes<P: Pixel<Image = String>>(rt: &impl Abort, alloc: Global, rows: &[Row<P, Text>]) {
     for (i, row) in rows.iter().enumerate() {
         check_row(rt, i, is_text(picture(rt, alloc, row).as_str(), row.4));
     }
 }
 
-/// The files of the rows.
+/// Asserts that the rows draw their file.
 pub fn makes<P: Pixel<Image = Vec<u8>>>(rt: &impl Abort, alloc: Global, rows: &[Row<P, File>]) {
     for (i, row) in rows.iter().enumerate() {
         let File(head, bytes) = row.4;
@@ -193,7 +193,7 @@ pub fn makes<P: Pixel<Image = Vec<u8>>>(rt: &impl Abort, alloc: Global, rows: &[
     }
 }
 
-/// The pixels of the rows.
+/// Asserts that the rows draw their image.
 pub fn paints<P: Channels>(rt: &impl Abort, alloc: Global, rows: &[Row<P, Pixels>]) {
     for (i, row) in rows.iter().enumerate() {
         check_row(rt, i, are_pixels(picture(rt, alloc, row), row.4));

@@ -1,4 +1,4 @@
-//! Pictures of characters, texts and half blocks.
+//! Tests of pictures of characters, strings and half blocks.
 
 use crate::render::drawings::{DARK, DIAGONAL, NONE, NORMAL_1};
 use crate::render::pictures::Colors::{Both, Usual};
@@ -19,7 +19,7 @@ static CHARACTERS: [Row<char, Text>; 8] = [
     Row(NONE, On(0), Usual, Default, Is("")),
     Row(NONE, On(1), Usual, Default, Is("  \n  ")),
     Row(NORMAL_1, Off(4), Both('#', '.'), Of(1, 1), Is(DIGITS_NORMAL)),
-    // The order of setters: the quiet zone is on when the size is set, and off.
+    // The order of setters matters: first the quiet zone is on when the size is set, then off.
     Row(DARK, OffAfter(1), Usual, AtLeast(10, 10), Is("████\n████\n████\n████")),
     Row(DARK, Off(1), Usual, AtLeastSame(10), Is(
         "██████████\n██████████\n██████████\n██████████\n██████████\n\
@@ -38,13 +38,13 @@ static TEXTS: [Row<Str<'static>, Text>; 2] = [
     )),
 ];
 
-// More half blocks are drawn by the library for C.
+// The tests of the C library draw more half blocks.
 static HALF_BLOCKS: [Row<Dense1x2, Text>; 2] = [
     Row(NONE, On(0), Usual, Default, Is("")),
     Row(DIAGONAL, On(1), Usual, Default, Is(" ▄  \n  ▀ ")),
 ];
 
-// A user's element: a digit of its own.
+// A user-defined element: `1` for a dark module, `00` for a light one.
 #[derive(Clone, Copy)]
 struct Digit(bool);
 

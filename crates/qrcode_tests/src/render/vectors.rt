@@ -1,4 +1,4 @@
-//! Pictures in SVG and PIC. More of them are drawn by the library for C.
+//! Tests of pictures in SVG and PIC. The tests of the C library draw more.
 
 use crate::render::drawings::{DARK, DIAGONAL};
 use crate::render::pictures::Colors::Usual;
@@ -46,7 +46,7 @@ fn vectors_are_written(rt: HostRuntime) {
     writes(&rt, rt.alloc(), &PIC);
 }
 
-// The picture of a pixel and a rectangle.
+// Draws a pixel and a rectangle.
 fn drawn(alloc: Global) -> QrResult<String> {
     let mut canvas = svg::Canvas::new(alloc, 9, 9, svg::Color("red"), svg::Color("tan"))?;
     canvas.draw_dark_pixel(1, 2)?;

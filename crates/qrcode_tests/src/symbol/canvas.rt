@@ -1,4 +1,4 @@
-//! Canvases: patterns, codewords and masks, drawn as letters.
+//! Tests of the canvas: patterns, codewords and masks, compared as letters.
 
 ghost use Rattle.std.specs.Prelude.{◌≡◌, IsTrue};
 ghost use Rattle.qrcode_types.specs.Versions.{is_valid, has_level};
@@ -10,8 +10,8 @@ use qrcode_types::types::{Color, EcLevel, QrResult};
 use std::alloc::Global;
 use std::process::Abort;
 
-// A letter for a module: `?` where nothing is drawn, `#` and `.` for masked ones that are dark and
-// light, `*` and `-` for unmasked ones.
+// Returns the letter of a module: `?` if it is empty, `#` or `.` for a masked dark or light one,
+// `*` or `-` for an unmasked one.
 fn letter(place: Module) -> char {
     match place {
         Module::Empty => '?',
@@ -22,7 +22,7 @@ fn letter(place: Module) -> char {
     }
 }
 
-// The module at a place that is inside.
+// Returns the module at a place, or an empty one outside the square.
 fn module_at(canvas: &Canvas, version: Version, x: i16, y: i16) -> Module
     requires valid { IsTrue (is_valid version) }
     requires version { canvas.now.version ≡ version }
@@ -35,7 +35,7 @@ fn module_at(canvas: &Canvas, version: Version, x: i16, y: i16) -> Module
     }
 }
 
-// The letters of a canvas of a version, a line for each row.
+// Returns the letters of a canvas, a line for each row.
 fn letters(alloc: Global, canvas: &Canvas, version: Version) -> QrResult<String>
     requires valid { IsTrue (is_valid version) }
     requires version { canvas.now.version ≡ version }
@@ -53,7 +53,7 @@ fn letters(alloc: Global, canvas: &Canvas, version: Version) -> QrResult<String>
     Ok(text)
 }
 
-// Draws a light module at a place that is inside.
+// Draws a light module at a place, or nothing outside the square.
 fn lighten(canvas: &mut Canvas, version: Version, x: i16, y: i16)
     requires valid { IsTrue (is_valid version) }
     requires version { canvas.old.version ≡ version }
@@ -66,7 +66,7 @@ fn lighten(canvas: &mut Canvas, version: Version, x: i16, y: i16)
     }
 }
 
-// Draws all modules light.
+// Draws every module light.
 fn lighten_all(canvas: &mut Canvas, version: Version)
     requires valid { IsTrue (is_valid version) }
     requires version { canvas.old.version ≡ version }
@@ -85,15 +85,15 @@ fn lighten_all(canvas: &mut Canvas, version: Version)
 enum Start {
     // The functional patterns.
     Patterns,
-    // The functional patterns, over a light module at a place.
+    // A light module at a place, then the functional patterns.
     Over(i16, i16),
-    // All modules, light.
+    // Every module light.
     Light,
-    // None.
+    // Nothing.
     Nothing,
 }
 
-// Draws what is drawn first.
+// Draws what `start` says.
 fn begin(canvas: &mut Canvas, version: Version, start: Start)
     requires valid { IsTrue (is_valid version) }
     requires version { canvas.old.version ≡ version }
@@ -111,7 +111,7 @@ fn begin(canvas: &mut Canvas, version: Version, start: Start)
     }
 }
 
-// Applies a mask, where there is one and it exists in the version.
+// Applies `mask`, if there is one and the version has it.
 fn mask(canvas: &mut Canvas, version: Version, ec_level: EcLevel, mask: Option<MaskPattern>)
     requires has_level { IsTrue (has_level version ec_level) }
     requires version { canvas.old.version ≡ version }
@@ -125,11 +125,11 @@ fn mask(canvas: &mut Canvas, version: Version, ec_level: EcLevel, mask: Option<M
     }
 }
 
-// Codewords of data and of error correction.
+// The data and error correction codewords.
 type Codewords = (&'static [u8], &'static [u8]);
 
-// A canvas of a version and level: what is drawn first, its codewords, and the masks that are
-// applied one after the other.
+// A canvas to draw: its version and level, what is drawn first, its codewords, and the masks that
+// are applied in turn.
 #[derive(Copy, Clone)]
 struct Drawing(Version, EcLevel, Start, Codewords, [Option<MaskPattern>; 2]);
 
@@ -161,13 +161,13 @@ const LINES: Option<MaskPattern> = Some(MaskPattern::VerticalLines);
 
 const CHECKERBOARD: Option<MaskPattern> = Some(MaskPattern::Checkerboard);
 
-// A canvas, and the checksum CRC-32 of its letters, whose squares were drawn by hand, and those of
-// Micro 3 and of masks by the judge's places and masks (evidence/judge).
+// A canvas, and the CRC-32 of its letters. The squares were drawn by hand; those of Micro 3 and
+// with masks by the places and masks of evidence/judge.
 struct Drawn(Drawing, u32);
 
 #[rattlefmt::skip]
 static DRAWN: [Drawn; 7] = [
-    // Bits without a codeword stay empty.
+    // The bits of missing codewords stay empty.
     Drawn(
         Drawing(Normal(2), EcLevel::L, Start::Over(18, 18), EMPTY, [None, None]), 0x4c0d_4abd,
     ),
@@ -177,7 +177,7 @@ static DRAWN: [Drawn; 7] = [
         ),
         0x93fe_9d50,
     ),
-    // Of the data 84 bits are drawn, of the error correction 48, and no module stays empty.
+    // 84 bits of data and 48 of error correction are drawn, and no module stays empty.
     Drawn(
         Drawing(
             Micro(3), EcLevel::L, Start::Patterns,
@@ -197,7 +197,7 @@ static DRAWN: [Drawn; 7] = [
         ),
         0x14cc_9023,
     ),
-    // Patterns under a mask, and under another one after it, which changes the format word alone.
+    // Patterns under one mask, and then under another, which only changes the format word.
     Drawn(
         Drawing(Normal(1), EcLevel::M, Start::Patterns, EMPTY, [LINES, None]), 0x3e87_d7ce,
     ),
@@ -206,8 +206,7 @@ static DRAWN: [Drawn; 7] = [
     ),
 ];
 
-// Whether a canvas of a version has letters with this checksum, which its colours and modules
-// follow.
+// Whether the letters of the canvas have this CRC-32, and its colours and modules agree with them.
 fn shows(alloc: Global, drawn: (&Canvas, &[Color], &[bool]), version: Version, sum: u32) -> bool
     requires valid { IsTrue (is_valid version) }
     requires version { drawn.0.now.version ≡ version }
@@ -221,7 +220,7 @@ fn shows(alloc: Global, drawn: (&Canvas, &[Color], &[bool]), version: Version, s
     }
 }
 
-// Whether a copy of a canvas has these letters.
+// Whether a clone of the canvas has the expected letters, and the canvas the same modules.
 fn draws(rt: &impl Abort, alloc: Global, drawn: &Drawn) -> bool {
     let canvas = draw(rt, alloc, drawn.0);
     let copy = canvas.clone().expect(rt, "a copy");
@@ -237,21 +236,21 @@ fn canvases_are_drawn(rt: HostRuntime) {
     }
 }
 
-// Canvases, and their letters under their best masks.
+// Canvases, and their letters under the best mask.
 #[rattlefmt::skip]
 static BEST: [Drawn; 3] = [
     Drawn(
         Drawing(Normal(1), EcLevel::M, Start::Patterns, DIGITS, [None, None]), 0xd3b4_a900,
     ),
-    // All modules are light and stay so under each mask: all penalties are 170, and the first mask
-    // is taken, with the format word 0x4445.
+    // All modules are light and stay so under each mask: all penalties are 170, so the first mask
+    // wins, with the format word 0x4445.
     Drawn(Drawing(Micro(1), EcLevel::L, Start::Light, EMPTY, [None, None]), 0x956d_d1f3),
-    // Of nothing the masks have the penalties 80, 85, 68 and 85: the third has the format word
-    // 0x4e2b.
+    // On an empty canvas the masks have the penalties 80, 85, 68 and 85: the third wins, with the
+    // format word 0x4e2b.
     Drawn(Drawing(Micro(1), EcLevel::L, Start::Nothing, EMPTY, [None, None]), 0xcb02_1188),
 ];
 
-// Whether a canvas has these letters under its best mask.
+// Whether the canvas has the expected letters under its best mask.
 fn draws_best(rt: &impl Abort, alloc: Global, drawn: &Drawn) -> bool {
     let canvas = draw(rt, alloc, drawn.0);
     let best = canvas.apply_best_mask(alloc).expect(rt, "a canvas");
@@ -278,7 +277,7 @@ fn coordinates_wrap(rt: HostRuntime) {
     assert!(rt; canvas.get(20, -17) == Module::Unmasked(Color::Light));
 }
 
-// A module, its colour, and its colours under a mask that keeps it and under one that turns it.
+// A module, its colour, and its colours under a mask that keeps it and under one that inverts it.
 #[rattlefmt::skip]
 static MASKED: [(Module, Color, Color, Color); 4] = [
     (Module::Empty, Color::Light, Color::Light, Color::Dark),
@@ -297,7 +296,7 @@ fn modules_are_masked(rt: HostRuntime) {
     }
 }
 
-// Whether a version that exists has a pattern at a place that is inside.
+// Whether a place belongs to a pattern; `None` if the version is invalid or the place outside.
 fn functional(version: Version, x: i16, y: i16) -> Option<bool> {
     if !version.is_valid() {
         return None;
@@ -310,8 +309,8 @@ fn functional(version: Version, x: i16, y: i16) -> Option<bool> {
     }
 }
 
-// A version, a place, counted from the lower right corner where it is below 0, and whether it has a
-// pattern. All others are asked by `bindings/c/facts`.
+// A version, a place (negative coordinates count from the lower right corner), and whether it
+// belongs to a pattern. `bindings/c/facts` asks for all places from 0 on.
 struct Place(Version, i16, i16, bool);
 
 static PLACES: [Place; 8] = [

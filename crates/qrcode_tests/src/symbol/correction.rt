@@ -1,12 +1,12 @@
-//! Products of the field, and errors that are allowed. `evidence/memory/cases` asks for correction
-//! bytes and codewords.
+//! Tests of products in the field, and of how many errors are allowed. `evidence/memory/cases` asks
+//! for error correction codewords.
 
 use crate::common::{Row, check, check_row};
 use qrcode_ec::{max_allowed_errors, power, product};
 use qrcode_types::types::{EcLevel, QrError, Version};
 use std::alloc::Global;
 
-// Two factors and their product.
+// Two factors, and their product.
 static PRODUCTS: [(u8, u8, u8); 4] = [
     (0x80, 0x80, 0x13),
     (0x8e, 0x8e, 0x47),
@@ -14,7 +14,7 @@ static PRODUCTS: [(u8, u8, u8); 4] = [
     (0x00, 0x8e, 0x00),
 ];
 
-// The product of polynomials, a power of the second factor after the other.
+// Multiplies polynomials one power of the second factor at a time.
 fn by_shifts(a: u8, b: u8) -> u8 {
     let mut total = 0;
     let mut multiple = a;
@@ -45,7 +45,7 @@ fn all_products_are_those_by_shifts(rt: HostRuntime) {
     }
 }
 
-// A version, a level, and how many errors it allows, where the version has it.
+// A version, a level, and how many errors they allow, or `None` if the version lacks the level.
 struct Allowed(Version, EcLevel, Option<usize>);
 
 static ALLOWED: [Allowed; 8] = [

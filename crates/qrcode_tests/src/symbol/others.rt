@@ -1,4 +1,4 @@
-//! Patterns under each mask, and codewords where they stand, as another encoder draws them.
+//! Compares patterns under each mask, and the places of codewords, with segno.
 
 use crate::common::{Row, check, checksum};
 use crate::symbol::segno::{CODEWORDS, MASKED};
@@ -8,7 +8,7 @@ use qrcode_types::tables::Blocks;
 use qrcode_types::types::{EcLevel, QrError, QrResult, Version};
 use std::alloc::Global;
 
-// The checksum of the patterns of a version under a mask, all other modules being light before it.
+// Returns the CRC-32 of the patterns under a mask; all other modules are light before it applies.
 fn masked(alloc: Global, version: Version, ec_level: EcLevel, mask: MaskPattern) -> QrResult<u32> {
     if !version.has_level(ec_level) || !mask.exists_in(version) {
         return Err(QrError::InvalidVersion);
@@ -37,8 +37,7 @@ fn patterns_are_masked_as_by_segno(rt: HostRuntime) {
     check(&rt, rt.alloc(), &MASKED);
 }
 
-// The checksum of the patterns of a version and of the codewords of three bytes that come again and
-// again, without a mask.
+// Returns the CRC-32 of the patterns and of codewords that repeat three bytes, without a mask.
 fn drawn(alloc: Global, version: Version, ec_level: EcLevel, bytes: [u8; 3]) -> QrResult<u32> {
     let blocks = match Blocks::of(version, ec_level) {
         Some(blocks) => blocks,

@@ -1,12 +1,12 @@
-//! Blocks damaged and corrected. That printed blocks are corrected wherever five bytes are wrong,
-//! the judge asks of symbols (`evidence/judge`).
+//! Tests of the correction of blocks. `evidence/judge` has printed blocks with up to five wrong
+//! bytes, from each place on.
 
 ghost use Rattle.std.specs.Prelude.{◌≤◌};
 
 use crate::common::check_row;
 use qrcode_reader::correct::{Corrector, Damaged, correct};
 
-// The block of the chapter on Reed-Solomon codes for coders at Wikiversity.
+// The block of "Reed-Solomon codes for coders" (Wikiversity).
 static OF_CODERS: [u8; 26] = [
     0x40, 0xd2, 0x75, 0x47, 0x76, 0x17, 0x32, 0x06, 0x27, 0x26, 0x96, 0xc6, 0xc6, 0x96, 0x70, 0xec,
     0xbc, 0x2a, 0x90, 0x13, 0x6b, 0xaf, 0xef, 0xfd, 0x4b, 0xe0,
@@ -36,8 +36,8 @@ fn blocks_without_much_are_corrected(rt: HostRuntime) {
     assert!(rt; zeros == [0, 0, 0]);
 }
 
-// Zeros vanish at any points: a list of 255 with as many other bytes as can be corrected is
-// corrected to zeros.
+// Whether 255 zeros, with as many bytes changed as can be corrected, are corrected to zeros. (A
+// block of zeros is valid for any number of error correction bytes.)
 fn are_zeros_again(count: usize) -> bool
     requires { count ≤ 69 }
 {

@@ -1,4 +1,4 @@
-//! Squares that are no symbols of the library, packed into rows of each type, and what they cost.
+//! Tests of the penalties of squares that the library does not draw, with rows of each packed type.
 
 ghost use Rattle.std.specs.Prelude.{◌≡◌, ◌+◌, ◌<◌, ◌≤◌, length, map, IfOk};
 ghost use Rattle.qrcode_penalty.specs.Rows.{FitsWidth, IsSquare};
@@ -10,23 +10,22 @@ use qrcode_penalty::square::PackedSquare;
 use qrcode_types::types::QrResult;
 use std::alloc::Global;
 
-// Kinds of squares, each given by which of its places are dark.
+// Kinds of squares.
 #[derive(Copy, Clone)]
 enum Kind {
     Light,
     Dark,
-    // Modules as a hash of their places.
+    // Each module by a hash of its place.
     Mixed,
-    // In each row a finder form, one column further than in the row above.
+    // A finder-like pattern in each row, one column further right than in the row above.
     Finders,
-    // In each row a run, one column further than in the row above, between modules by turns.
+    // A run in each row, one column further right than in the row above, among alternating modules.
     Runs,
     // The bits of each row.
     Rows(&'static [u32]),
-    // A chessboard, in whose row 88 the places from the first to before the second number are of
-    // one colour.
+    // A chessboard whose row 88 has a run from the first column to before the second.
     RunInRow(usize, usize),
-    // One finder form, in row 88 from this column on.
+    // A single finder-like pattern, in row 88 from this column on.
     FinderInRow(usize),
 }
 
@@ -53,7 +52,7 @@ fn is_dark_by_hash(x: usize, y: usize) -> bool {
     (mixed.wrapping_mul(0xc2b2_ae35) >> 17) % 2 == 1
 }
 
-// Whether a place of the chessboard with a run is dark.
+// Whether a module of the chessboard with a run is dark.
 fn is_dark_by_run(first: usize, past: usize, x: usize, y: usize) -> bool {
     let column = match x {
         _ if y != 88 || x <= first => x,
@@ -63,7 +62,7 @@ fn is_dark_by_run(first: usize, past: usize, x: usize, y: usize) -> bool {
     column.wrapping_add(y) % 2 == 0
 }
 
-// The row with the places from `first` to before `past` changed.
+// Returns `row` with the places from `first` to before `past` inverted.
 fn changed<R: PackedRow>(row: R, first: u32, past: u32) -> R
     requires first { first < R.room }
     requires past { past < R.room }
@@ -71,7 +70,7 @@ fn changed<R: PackedRow>(row: R, first: u32, past: u32) -> R
     row.xor(R::first(past)).xor(R::first(first))
 }
 
-// The first `width` places of a row.
+// Returns the first `width` places of a row.
 #[tactic(auto, using(qrcode_penalty::proofs::RowLists::cut_fits))]
 fn cut<R: PackedRow>(row: R, width: u32) -> R
     requires { width < R.room }
@@ -104,7 +103,7 @@ fn fill<R: PackedRow>(kind: Kind, width: u32, rows: &mut [R])
     }
 }
 
-// The rows of a square.
+// Returns the rows of a square.
 fn rows_of<R: PackedRow>(alloc: Global, kind: Kind, width: u32) -> QrResult<Vec<R>>
     requires at_least { 7 ≤ width }
     requires room { width + 3 ≤ R.room }
@@ -116,8 +115,8 @@ fn rows_of<R: PackedRow>(alloc: Global, kind: Kind, width: u32) -> QrResult<Vec<
     Ok(rows)
 }
 
-// Whether a square has these penalties of Normal and of Micro on packed rows of a type, unless that
-// has no room for it.
+// Whether a square in packed rows of type `R` has these penalties of Normal and Micro; true as well
+// if the type has no room for it.
 fn costs_in<R: PackedRow>(
     alloc: Global,
     kind: Kind,
@@ -140,15 +139,15 @@ fn costs_in<R: PackedRow>(
     }
 }
 
-// The same on packed rows of each type.
+// Whether a square has these penalties in packed rows of each type that has room for it.
 fn costs(alloc: Global, kind: Kind, width: u32, expected: (u32, u32)) -> bool {
     costs_in::<u64>(alloc, kind, width, 64, expected)
         && costs_in::<Row128>(alloc, kind, width, 128, expected)
         && costs_in::<Row192>(alloc, kind, width, 192, expected)
 }
 
-// A symbol whose penalty is published, in parts: runs 88 and 92, blocks 90, finder forms 360 and
-// 400, balance 2.
+// A symbol whose penalty is published term by term: runs 88 and 92, blocks 90, finder-like patterns
+// 360 and 400, balance 2.
 #[rattlefmt::skip]
 const PUBLISHED: [u32; 21] = [
     0x1fc37f, 0x104941, 0x17595d, 0x17415d, 0x17455d, 0x104441, 0x1fd57f, 0x000100, 0x1f50d6,
@@ -156,23 +155,22 @@ const PUBLISHED: [u32; 21] = [
     0x12f15d, 0x1a2d41, 0x10f07f,
 ];
 
-// Light except for its last row and column, whose 9 and 9 light modules behind the first cost 18
-// and 150 in Micro.
+// A square that is light except in its last row and column. After their first modules these have 10
+// and 8 light ones, which cost 18 and 150 in Micro.
 #[rattlefmt::skip]
 const SIDES: [u32; 17] = [
     0x10000, 0x10000, 0x10000, 0, 0, 0x10000, 0x10000, 0, 0x10000, 0, 0x10000, 0, 0x10000, 0, 0,
     0x10000, 0x02539,
 ];
 
-// Kinds of squares, their sides, and their penalties of Normal and of Micro. They were counted by
-// the judge (evidence/judge/penalty.py) on the same squares; those of one colour by hand too, and
-// the published ones are the published.
+// A kind of square, its side, and its penalties in Normal and in Micro. evidence/judge/penalty.py
+// counted them; those of one colour were also counted by hand, and one is published.
 struct Counted(Kind, u32, (u32, u32));
 
 #[rattlefmt::skip]
 static COUNTED: [Counted; 25] = [
     Counted(Kind::Rows(&PUBLISHED), 21, (1032, 150)),
-    // A canvas of Micro 1 at L on which nothing is drawn, under each of its masks.
+    // An empty canvas of Micro 1 at L under each of its masks.
     Counted(Kind::Rows(&[
         0x7ff, 0x100, 0x6ff, 0x100, 0x6ff, 0x000, 0x6ff, 0x100, 0x623, 0x000, 0x7ff,
     ]), 11, (94, 80)),
@@ -198,7 +196,7 @@ static COUNTED: [Counted; 25] = [
     Counted(Kind::Runs, 61, (4529, 480)),
     Counted(Kind::Runs, 125, (17324, 992)),
     Counted(Kind::Runs, 177, (33754, 1408)),
-    // One run or one form in a row whose places lie in three words.
+    // A single run or finder-like pattern in a row that is packed into three words.
     Counted(Kind::RunInRow(126, 131), 177, (3, 1496)),
     Counted(Kind::RunInRow(123, 129), 177, (5, 1512)),
     Counted(Kind::RunInRow(62, 67), 177, (3, 1496)),

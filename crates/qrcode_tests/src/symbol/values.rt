@@ -1,4 +1,4 @@
-//! Entries of tables.
+//! Tests of table entries.
 
 use qrcode_types::tables::capacity;
 use qrcode_types::types::Version::{Micro, Normal};

@@ -21,7 +21,7 @@ joinable_front : (xs ys : List Segment) → IsJoinable (xs ++ ys) → IsJoinable
 joinable_front [] ys h = tt
 joinable_front (x ∷ xs) ys h = (adjoin_front x.begin (x ∷ xs) ys h.0, all_front _ (x ∷ xs) ys h.1)
 
--- a call gives the first of the segments that are left
+-- one call of next yields the first of the remaining segments
 one_came : (P : Type 0) (s t : List Segment) (o : Option (Bor Segment)) (x : Segment) → MatchOption o P (λ b. s ≡ b.now ∷ t) → Some x ≡ option_copied o → s ≡ x ∷ t
 one_came P s t None x m e = cc
 one_came P s t (Some b) x m e = m ∙ ap (λ y. y ∷ t) (sym (ap (λ o. unwrap_or o x) e))
@@ -31,7 +31,7 @@ module _ {S : Type 0} (steps : S → Option Segment → S → Type 0) (rest : S 
   front s t [] y = ap rest y
   front s t (x ∷ xs) (j, st, y) = gives s j x st ∙ ap (λ l. x ∷ l) (front j t xs y)
 
--- what the calls of an iterator over a slice give
+-- what the iterator over the copied slice yields in all
 abbrev slice_gives : Copied (Iter Segment) → Option Segment → Copied (Iter Segment) → Type 0
 slice_gives s r t = (o : Option (Bor Segment)) × MatchOption o ((length s.iter.rest.now ≡ 0) × (t.iter ≡ s.iter)) (λ b. s.iter.rest.now ≡ b.now ∷ t.iter.rest.now) × (r ≡ option_copied o)
 

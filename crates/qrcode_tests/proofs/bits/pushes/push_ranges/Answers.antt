@@ -8,7 +8,7 @@ use Rattle.qrcode_bits.proofs.Given.{given_first, first_inside}
 use Rattle.qrcode_tests.proofs.bits.pushes.push_ranges.Goals as goal
 use Rattle.qrcode_tests.proofs.bits.pushes.push_ranges.Goals.{After-into_iter}
 
--- the iterator gives the segments
+-- the iterator yields the segments of the list
 gives : (c : After-into_iter) → AlwaysYields (into_iter_steps {X = Segment} {Z = Global}) (λ x. x) c.into_iter.result c.args.ranges.items
 gives c = (YieldsList-from_vec c.args.ranges.items c.into_iter.ensures.rest (omega (arith, c.into_iter.ensures.len, c.args.ranges.ok.0))).runs
 
