@@ -350,7 +350,7 @@ typedef struct {
     uint32_t level; /* GOQ_L .. GOQ_H */
     uint32_t manner; /* GOQ_AS_BYTES .. GOQ_AS_MARKED_TEXT */
     uint32_t version; /* the version to use, or 0 for the smallest that holds the data */
-    uint32_t least_version; /* if `version` is 0: the smallest version to try; Micro comes before
+    uint32_t min_version; /* if `version` is 0: the smallest version to try; Micro comes before
                                Normal, so GOQ_MICRO(1) tries all versions */
     uint32_t boost; /* if `version` is 0: 1 to raise the level as far as the data still fits that
                        version, else 0 */
@@ -366,8 +366,8 @@ typedef struct {
     uint32_t size; /* must be sizeof(goq_several) */
     uint32_t level; /* GOQ_L .. GOQ_H */
     uint32_t manner; /* GOQ_AS_BYTES or GOQ_AS_TEXT */
-    uint32_t least_version; /* the smallest version to use, 1 to 40 */
-    uint32_t greatest_version; /* the largest version to use, 1 to 40 */
+    uint32_t min_version; /* the smallest version to use, 1 to 40 */
+    uint32_t max_version; /* the largest version to use, 1 to 40 */
     uint32_t count; /* how many symbols, 1 to GOQ_SEVERAL_MAX; or 0 for as few as possible */
 } goq_several;
 
@@ -648,14 +648,14 @@ goq_answer goq_encode_segments(const goq_segment *segments, size_t segments_leng
 
 /* Finds the smallest Normal version that holds `data` at the level `level`, and writes it to
    `version`. Errors: GOQ_NO_SUCH_LEVEL, GOQ_NO_ROOM, GOQ_OUT_OF_MEMORY. */
-goq_answer goq_least_version(const void *data, size_t data_length, uint32_t level,
+goq_answer goq_smallest_version(const void *data, size_t data_length, uint32_t level,
     uint32_t *version);
 
 /* Finds the smallest Normal version that holds `segments` at the level `level`, and writes it to
    `version`. Errors: GOQ_NO_SUCH_LEVEL; for the first segment with an error GOQ_NO_SUCH_KIND,
    GOQ_NOT_IN_MODE, GOQ_NO_SUCH_NUMBER, unless no version has room for those before it; GOQ_NO_ROOM;
    GOQ_OUT_OF_MEMORY. */
-goq_answer goq_least_version_of_segments(const goq_segment *segments, size_t segments_length,
+goq_answer goq_smallest_version_of_segments(const goq_segment *segments, size_t segments_length,
     uint32_t level, uint32_t *version);
 
 /* Returns how many modules a side of a symbol of this version has, without a quiet zone; 0 if there

@@ -40,12 +40,12 @@ static void choices(void)
     makes(digits + 41 - 18, boost, 1, GOQ_Q);
     makes(digits + 41 - 28, boost, 1, GOQ_M);
     makes(digits + 41 - 35, boost, 1, GOQ_L);
-    least.least_version = GOQ_MICRO(1);
+    least.min_version = GOQ_MICRO(1);
     makes("01234", least, GOQ_MICRO(1), GOQ_L);
     makes("012345", least, GOQ_MICRO(2), GOQ_L);
     least.boost = 1;
     makes(digits + 41 - 18, least, GOQ_MICRO(3), GOQ_M);
-    least.least_version = 7;
+    least.min_version = 7;
     makes("0", least, 7, GOQ_H);
     given.version = 40;
     makes("0", given, 40, GOQ_M);
@@ -213,8 +213,8 @@ static void several(void)
     const goq_several most = GOQ_SEVERAL;
     uint8_t bytes[64], part[64];
     goq_reading reading;
-    expect(most.level == GOQ_M && most.manner == GOQ_AS_BYTES && most.least_version == 1
-        && most.greatest_version == 40 && most.count == 0, "the defaults of several");
+    expect(most.level == GOQ_M && most.manner == GOQ_AS_BYTES && most.min_version == 1
+        && most.max_version == 40 && most.count == 0, "the defaults of several");
     memset(bytes, 'a', 64);
     count = 5;
     expect(goq_encode_several(bytes, 32, &o, modules, sizeof modules, &symbol, &count) == GOQ_OK
@@ -226,7 +226,7 @@ static void several(void)
     expect(goq_encode_several(bytes, 61, &o, modules, sizeof modules, &symbol, &count) == GOQ_OK
         && count == 3, "three");
     o.count = 4;
-    o.least_version = 1;
+    o.min_version = 1;
     o.manner = GOQ_AS_TEXT;
     expect(goq_encode_several(bytes, 56, &o, modules, sizeof modules, &symbol, &count) == GOQ_OK
         && count == 4 && symbol.version == 1, "four of 14 bytes: 20 + 12 + 112 of 152 bits");

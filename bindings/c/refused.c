@@ -111,10 +111,10 @@ static uint32_t call(int number)
     case 2: return goq_encode_text(text, sizeof text, GOQ_M, out, room, &outputs.symbol);
     case 3: return goq_encode_marked_text(text, sizeof text, GOQ_M, out, room, &outputs.symbol);
     case 4: return goq_encode_segments(segments, 2, 40, GOQ_M, out, room, &outputs.symbol);
-    case 5: return goq_least_version(data, sizeof data, GOQ_M, &outputs.version);
+    case 5: return goq_smallest_version(data, sizeof data, GOQ_M, &outputs.version);
     case 6: return goq_read(square, modules, out, room, &outputs.reading);
     case 7: return goq_read_length(square, modules, &outputs.count);
-    case 8: return goq_least_version_of_segments(segments, 2, GOQ_M, &outputs.version);
+    case 8: return goq_smallest_version_of_segments(segments, 2, GOQ_M, &outputs.version);
     case 9: return goq_draw_length(square, modules, known.width, 4, 1, GOQ_PNG, &outputs.count);
     default: return goq_draw(square, modules, known.width, 4, 1, (uint32_t)number - 10, out, room, &outputs.count);
     }

@@ -89,9 +89,9 @@ static void shapes(void)
     expect(!strcmp(goq_strerror(999), "no answer of this library"), "the text of none");
     expect(goq_width(0) == 0 && goq_width(1) == 21 && goq_width(40) == 177 && goq_width(GOQ_MICRO(1)) == 11 && goq_width(45) == 0, "widths");
     expect(goq_is_functional(1, 0, 0) && !goq_is_functional(1, 20, 20) && !goq_is_functional(1, 21, 0) && !goq_is_functional(0, 0, 0), "patterns");
-    expect(goq_least_version((const uint8_t *)"01234567", 8, 9, &version) == GOQ_NO_SUCH_LEVEL && version == 77, "level 9");
-    expect(goq_least_version(out, 2954, GOQ_L, &version) == GOQ_NO_ROOM && version == 77, "no version");
-    expect(goq_least_version(out, 2953, GOQ_L, &version) == GOQ_OK && version == 40, "the least version");
+    expect(goq_smallest_version((const uint8_t *)"01234567", 8, 9, &version) == GOQ_NO_SUCH_LEVEL && version == 77, "level 9");
+    expect(goq_smallest_version(out, 2954, GOQ_L, &version) == GOQ_NO_ROOM && version == 77, "no version");
+    expect(goq_smallest_version(out, 2953, GOQ_L, &version) == GOQ_OK && version == 40, "the least version");
 }
 
 static void drawings(void)
@@ -172,7 +172,7 @@ static uint32_t version;
 static uint32_t least_of(uint32_t kind, uint32_t number, const void *bytes, size_t length, uint32_t level)
 {
     goq_segment segments[] = {{GOQ_ECI, 26, NULL, 0}, {kind, number, bytes, length}};
-    return goq_least_version_of_segments(segments, 2, level, &version);
+    return goq_smallest_version_of_segments(segments, 2, level, &version);
 }
 
 #define LEAST(kind, number, bytes, length, level, answer, wanted, what) \
@@ -182,7 +182,7 @@ static uint32_t least_of(uint32_t kind, uint32_t number, const void *bytes, size
 static void least_of_segments(void)
 {
 #include "least.inc"
-    expect(goq_least_version_of_segments(NULL, 0, GOQ_H, &version) == GOQ_OK && version == 1, "the least version of no segments, from NULL");
+    expect(goq_smallest_version_of_segments(NULL, 0, GOQ_H, &version) == GOQ_OK && version == 1, "the least version of no segments, from NULL");
 }
 
 static uint8_t found[GOQ_BYTES_MAX];

@@ -98,10 +98,10 @@ def least_versions():
         rooms = [blocks(str(number), level).capacity for number in range(1, 41)]
         count = 0
         while (number := least_version(rooms, count)) <= 40:
-            if goqlanis.least_version(b"a" * count, level) != str(number):
+            if goqlanis.smallest_version(b"a" * count, level) != str(number):
                 found.append(f"{count} letters at {level}")
             count += 1
-        if refusal(goqlanis.least_version, b"a" * count, level) != "NoRoom":
+        if refusal(goqlanis.smallest_version, b"a" * count, level) != "NoRoom":
             found.append(f"{count} letters at {level} are not refused")
         asked += count + 1
     return found, f"{asked} calls"

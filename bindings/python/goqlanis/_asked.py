@@ -33,7 +33,7 @@ class Data(NamedTuple):
     level: int
     manner: int
     version: int
-    least_version: int
+    min_version: int
     boost: int
     mask: int
 
@@ -46,7 +46,7 @@ class Data(NamedTuple):
 
     def of_any_version(self) -> "Data":
         least = MICRO_1 if self.version > 40 else 1
-        return self._replace(version=0, least_version=least, boost=0, mask=0)
+        return self._replace(version=0, min_version=least, boost=0, mask=0)
 
 
 class Parts(NamedTuple):
@@ -54,8 +54,8 @@ class Parts(NamedTuple):
     data: bytes
     level: int
     manner: int
-    least_version: int
-    greatest_version: int
+    min_version: int
+    max_version: int
     wanted: int
 
     def answer(self) -> Answer:
@@ -76,7 +76,7 @@ class Segments(NamedTuple):
     def least(self) -> Tuple[int, int]:
         """Returns the library's answer about the smallest version, and its number."""
         found = ctypes.c_uint32()
-        call = library.goq_least_version_of_segments
+        call = library.goq_smallest_version_of_segments
         return call(*self.given(), self.level, ctypes.byref(found)), found.value
 
     def answer(self) -> Answer:
@@ -94,7 +94,7 @@ class Elements(NamedTuple):
     elements: Any
     level: int
     version: int
-    least_version: int
+    min_version: int
     mask: int
 
     def answer(self) -> Answer:
@@ -104,4 +104,4 @@ class Elements(NamedTuple):
         return _made(library.goq_encode_gs1, *given, behind=[ctypes.c_size_t()])
 
     def of_any_version(self) -> "Elements":
-        return self._replace(version=0, least_version=1, mask=0)
+        return self._replace(version=0, min_version=1, mask=0)

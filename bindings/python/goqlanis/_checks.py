@@ -16,8 +16,7 @@ OTHERS = {"error": "level='H'", "error_correction": "level='H'", "boost_error": 
           "fill_color": "dark='navy'", "color": "dark='navy'", "foreground": "dark='navy'",
           "back_color": "light='white'", "background": "light='white'",
           "invert": "dark='white', light='black'", "format": "kind='png'",
-          "symbol_version": "version=7", "min_version": "least_version=5",
-          "max_version": "greatest_version=10", "omitsize": "CSS: svg {width: 100%}",
+          "symbol_version": "version=7", "omitsize": "CSS: svg {width: 100%}",
           "xmldecl": "svg_inline"}
 LEVELS = "LMQH"
 BINARY = (bytes, bytearray, memoryview)

@@ -32,7 +32,7 @@ _CALLS: Dict[str, List[Any]] = {
     "goq_encode_several": [*_IN, _to(Several), *_OUT, _to(Known), _COUNT],
     "goq_encode_segments": [_to(Segment), _size, _number, _number, *_OUT, _to(Known)],
     "goq_encode_gs1": [_to(Element), _size, _to(Options), *_OUT, _to(Known), _COUNT],
-    "goq_least_version_of_segments": [_to(Segment), _size, _number, _to(_number)],
+    "goq_smallest_version_of_segments": [_to(Segment), _size, _number, _to(_number)],
     "goq_width": [_number],
     "goq_is_functional": [_number, _number, _number],
     "goq_draw_with": [*_IN, _number, _to(Drawing), *_OUT, _COUNT],

@@ -48,8 +48,8 @@ BYTES_MAX = 7089
 PARTS_MAX = 5912
 BLOCKS_MAX = 81
 STRUCTS = {
-    "goq_options": "size level manner version least_version boost mask",
-    "goq_several": "size level manner least_version greatest_version count",
+    "goq_options": "size level manner version min_version boost mask",
+    "goq_several": "size level manner min_version max_version count",
     "goq_drawing": "size format zone scale dark light dpi",
     "goq_symbol": "version level width",
     "goq_segment": "kind number bytes:data length:size",

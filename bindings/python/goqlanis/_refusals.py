@@ -106,12 +106,12 @@ def _most(asked: Data) -> int:
 
 def of_parts(asked: Parts, answer: int) -> Error:
     """Returns the error for several symbols."""
-    level, last = LEVELS[asked.level], version_name(asked.greatest_version)
+    level, last = LEVELS[asked.level], version_name(asked.max_version)
     if answer == NO_ROOM:
         return refusal(answer, f"{len(asked.data):,} bytes: {asked.wanted or 16} symbols up to "
                        f"version {last} at level {level} do not hold them; take a larger version "
                        "or a lower level" + (", or more symbols" if asked.wanted % 16 else ""))
     if answer == NO_SUCH_VERSION:
-        return refusal(answer, f"versions {version_name(asked.least_version)} to {last}: several "
+        return refusal(answer, f"versions {version_name(asked.min_version)} to {last}: several "
                        "symbols have versions 1 to 40, the smallest first")
     return refusal(answer)

@@ -31,13 +31,13 @@ def _one(asked: Any, said: str) -> Symbol:
 
 @_checks.named
 def encode(data: Data, level: str = "M", version: Optional[Version] = None, *,
-           least_version: Optional[Version] = None, micro: bool = False, boost: bool = False,
+           min_version: Optional[Version] = None, micro: bool = False, boost: bool = False,
            mask: Optional[int] = None, marked: bool = False, eci: Optional[int] = None) -> Symbol:
     """Encodes a str or bytes at a level ("L", "M", "Q" or "H"), in the smallest version of Normal
     QR that holds the data, or in `version`.
 
     - `micro`: uses Micro QR if it holds the data;
-    - `least_version`: uses this version or a larger one;
+    - `min_version`: uses this version or a larger one;
     - `boost`: uses the highest level, from `level` on, that fits in the same version;
     - `mask`: uses this mask, 0 to 7 (Micro QR: 0 to 3), instead of the one with the lowest penalty;
     - `marked`: marks a str as UTF-8 (ECI 26), for readers that guess;
@@ -70,14 +70,14 @@ def encode(data: Data, level: str = "M", version: Optional[Version] = None, *,
 M holds them
     """
     octets, is_text = _checks.data(data)
-    manner, versions = _manner(is_text, marked, eci), _versions(version, least_version, micro)
+    manner, versions = _manner(is_text, marked, eci), _versions(version, min_version, micro)
     if _checks.flag("boost", boost) and version is not None:
-        raise ValueError("version and boost: use least_version instead of version")
+        raise ValueError("version and boost: use min_version instead of version")
     number = _mask(mask)
     if eci is None or is_text:
         return _one(_asked.Data(octets, _checks.level(level), manner, *versions, boost, number),
                     f"{len(octets):,} bytes")
-    if least_version is not None or micro or boost or number:
+    if min_version is not None or micro or boost or number:
         raise ValueError("bytes with eci: only level and version may be given too")
     return encode_segments([("eci", eci), ("byte", octets)], level, version)
 
@@ -97,10 +97,10 @@ def _versions(version: Optional[Version], least: Optional[Version], micro: bool)
     asked = 0 if version is None else _checks.version(version)
     first = 1 if least is None else _checks.version(least)
     if _checks.flag("micro", micro) and max(asked, first) >= MICRO_1:
-        name, value = ("version", version) if asked else ("least_version", least)
+        name, value = ("version", version) if asked else ("min_version", least)
         raise ValueError(f"leave out micro: {name}={value!r} is Micro QR")
     if (version is not None) + (least is not None) + micro > 1:
-        raise ValueError("version, least_version and micro: give one of them")
+        raise ValueError("version, min_version and micro: give one of them")
     return asked, MICRO_1 if micro else first
 
 
@@ -119,16 +119,16 @@ def encode_text(text: str, level: str = "M", marked: bool = False) -> Symbol:
 
 @_checks.named
 def encode_sequence(data: Data, level: str = "M", version: Optional[Version] = None, *,
-                    count: Optional[int] = None, least_version: Optional[Version] = None,
-                    greatest_version: Optional[Version] = None) -> List[Symbol]:
+                    count: Optional[int] = None, min_version: Optional[Version] = None,
+                    max_version: Optional[Version] = None) -> List[Symbol]:
     """Splits a str or bytes over up to 16 symbols (structured append), which `join` joins again.
 
     Returns as few symbols as possible, in the smallest version that allows so few; or `count`
-    symbols. All have `version`, or the same version of Normal QR from `least_version` to
-    `greatest_version`. A single symbol has no header.
+    symbols. All have `version`, or the same version of Normal QR from `min_version` to
+    `max_version`. A single symbol has no header.
 
     Raises NoRoom if these symbols do not hold the data, and NoSuchVersion if a version is Micro QR,
-    or `least_version` is above `greatest_version`.
+    or `min_version` is above `max_version`.
 
     >>> from goqlanis import join
     >>> symbols = encode_sequence("All that is gold does not glitter", "L", count=3)
@@ -138,10 +138,10 @@ def encode_sequence(data: Data, level: str = "M", version: Optional[Version] = N
     b'All that is gold does not glitter'
     """
     octets, is_text = _checks.data(data)
-    if version is not None and (least_version is not None or greatest_version is not None):
-        raise ValueError("version with least_version or greatest_version: give one of them")
-    least, most = (1 if least_version is None else least_version,
-                   40 if greatest_version is None else greatest_version)
+    if version is not None and (min_version is not None or max_version is not None):
+        raise ValueError("version with min_version or max_version: give one of them")
+    least, most = (1 if min_version is None else min_version,
+                   40 if max_version is None else max_version)
     first, last = (_checks.version(it if version is None else version) for it in (least, most))
     wanted = 0 if count is None else _checks.whole("count", count, 1, SEVERAL_MAX)
     asked = _asked.Parts(octets, _checks.level(level), AS_TEXT if is_text else AS_BYTES, first,
@@ -211,10 +211,10 @@ def _segment(name: str, given: Any) -> Segment:
 
 @_checks.named
 def encode_gs1(elements: Elements, level: str = "M", version: Optional[Version] = None, *,
-               least_version: Optional[Version] = None, mask: Optional[int] = None) -> Symbol:
+               min_version: Optional[Version] = None, mask: Optional[int] = None) -> Symbol:
     """Encodes GS1 elements, as `contents.gs1` takes them, in the smallest symbol, or in `version`.
 
-    `least_version` and `mask` are as for `encode`. Raises a subclass of `contents.WrongField` for a
+    `min_version` and `mask` are as for `encode`. Raises a subclass of `contents.WrongField` for a
     wrong element, and NoRoom if no such symbol holds the elements; Micro QR holds none.
 
     >>> encode_gs1([("01", "03453120000011"), ("17", "191125"), ("10", "ABCD1234")]).version
@@ -224,26 +224,26 @@ def encode_gs1(elements: Elements, level: str = "M", version: Optional[Version] 
         ...
     goqlanis.contents.WrongLength: element 1, (20): its value has 3 characters; it needs 2
     """
-    given, versions = elements_of(elements), _versions(version, least_version, False)
+    given, versions = elements_of(elements), _versions(version, min_version, False)
     string_of(given)
     return _one(_asked.Elements(given, _checks.level(level), *versions, _mask(mask)),
                 "the elements")
 
 
-def least_version(data: Data, level: str = "M") -> str:
+def smallest_version(data: Data, level: str = "M") -> str:
     """Returns the smallest version of Normal QR that holds a str or bytes at a level.
 
-    >>> least_version(bytes(2953), "L")
+    >>> smallest_version(bytes(2953), "L")
     '40'
     """
     return encode(data, level).version
 
 
-def least_version_of_segments(segments: Segments, level: str = "M") -> str:
+def smallest_version_of_segments(segments: Segments, level: str = "M") -> str:
     """Returns the smallest version of Normal QR that holds segments, as `encode_segments` takes
     them, at a level.
 
-    >>> least_version_of_segments([("eci", 26), ("byte", bytes(2952))], "L")
+    >>> smallest_version_of_segments([("eci", 26), ("byte", bytes(2952))], "L")
     '40'
     """
     return encode_segments(segments, level).version

@@ -26,7 +26,7 @@ abbrev pub from_on : ℕ → Version → Choice  -- the smallest version from v 
 from_on boost v = if boost == 0 then From v else Boosted v
 
 abbrev pub choice_named : Options → Option Choice  -- the choice of a version that options make
-choice_named o = if o.version == 0 then option_map (from_on o.boost) (version_named o.least_version) else option_map At (version_named o.version)
+choice_named o = if o.version == 0 then option_map (from_on o.boost) (version_named o.min_version) else option_map At (version_named o.version)
 
 abbrev pub mask_named : ℕ → Option ℕ  -- the number of the mask that options ask for, if any
 mask_named n = if n == 0 then None else Some (n - 1)

@@ -20,9 +20,9 @@ manner_of n = slice_get (Bytes ∷ Text ∷ []) n
 
 -- the two numbers are a range of Normal versions
 pub record IsRange (s : Several) : Type 0 where
-  pub some : 1 ≤ s.least_version
-  pub ordered : s.least_version ≤ s.greatest_version
-  pub most : s.greatest_version ≤ 40
+  pub some : 1 ≤ s.min_version
+  pub ordered : s.min_version ≤ s.max_version
+  pub most : s.max_version ≤ 40
 
 -- what options ask for, besides the count
 pub record AreAsked (s : Several) (a : Named) : Type 0 where
@@ -30,7 +30,7 @@ pub record AreAsked (s : Several) (a : Named) : Type 0 where
   pub level : level_named s.level ≡ Some a.level
   pub manner : manner_of s.manner ≡ Some a.manner
   pub range : IsRange s
-  pub versions : a.versions ≡ record { least = s.least_version; greatest = s.greatest_version }
+  pub versions : a.versions ≡ record { least = s.min_version; greatest = s.max_version }
   pub count : s.count ≤ 16
 
 -- the symbols of as few parts as possible if the count is 0, else of this count

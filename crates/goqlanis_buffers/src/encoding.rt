@@ -67,7 +67,7 @@ pub fn encode_in(
 /// `level`.
 ///
 /// Errors: `NoSuchLevel`, `NoRoom` or `OutOfMemory`.
-pub fn least_version(alloc: Global, bytes: &[u8], level: u32) -> Result<u32, Refusal>
+pub fn smallest_version(alloc: Global, bytes: &[u8], level: u32) -> Result<u32, Refusal>
     ensures { TellsLeast level bytes.now result }
 {
     let Some(ec_level) = level_named(level) else {

@@ -26,7 +26,7 @@ pub struct Options {
     /// 1 to 40 for Normal, 41 to 44 for Micro; or 0 for the smallest that holds the data.
     pub version: u32,
     /// If `version` is 0, the smallest version to try.
-    pub least_version: u32,
+    pub min_version: u32,
     /// If `version` is 0: not 0 to raise the level as far as that version still holds the data.
     pub boost: u32,
     /// The number of a mask of the version, plus 1; or 0 for the first mask of the lowest penalty.
@@ -124,7 +124,7 @@ fn choice_named(options: &Options) -> Option<Choice>
     if options.version != 0 {
         return version_named(options.version).map(Choice::At);
     }
-    let from = version_named(options.least_version)?;
+    let from = version_named(options.min_version)?;
     Some(if options.boost == 0 {
         Choice::From(from)
     } else {

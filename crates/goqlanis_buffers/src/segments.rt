@@ -114,7 +114,7 @@ fn of_segments(
 ///
 /// Errors: `NoSuchLevel`; for the first segment with an error `NoSuchKind`, `NotInMode`,
 /// `NoSuchNumber`; `NoRoom`; or `OutOfMemory`.
-pub fn least_version(alloc: Global, segments: &[Segment<'_>], level: u32) -> Result<u32, Refusal>
+pub fn smallest_version(alloc: Global, segments: &[Segment<'_>], level: u32) -> Result<u32, Refusal>
     ensures { TellsLeastOfSegments level segments.now result }
 {
     let Some(ec_level) = level_named(level) else {

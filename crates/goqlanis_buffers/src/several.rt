@@ -26,8 +26,8 @@ pub struct Several {
     /// 0 for `Bytes`, 1 for `Text`.
     pub manner: u32,
     /// The smallest and the largest Normal version to use.
-    pub least_version: u32,
-    pub greatest_version: u32,
+    pub min_version: u32,
+    pub max_version: u32,
     /// How many symbols, or 0 for as few as possible.
     pub count: u32,
 }
@@ -119,7 +119,7 @@ fn named_by(options: &Several) -> Result<Named, Refusal>
     let Some(level) = level_named(options.level) else {
         return Err(Refusal::NoSuchLevel);
     };
-    let (least, greatest) = (options.least_version, options.greatest_version);
+    let (least, greatest) = (options.min_version, options.max_version);
     if least == 0 || least > greatest || greatest > 40 {
         return Err(Refusal::NoSuchVersion);
     }

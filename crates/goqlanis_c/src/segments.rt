@@ -3,7 +3,7 @@
 ghost use Rattle.goqlanis_buffers.specs.Calls.{IsReported, TellsLeastOfSegments, WritesSegments};
 
 use goqlanis_buffers::answers::answer;
-use goqlanis_buffers::segments::{Segment, encode_segments, least_version};
+use goqlanis_buffers::segments::{Segment, encode_segments, smallest_version};
 use goqlanis_buffers::symbols::Symbol;
 use std::alloc::Global;
 
@@ -38,7 +38,7 @@ pub extern "C" fn goq_encode_segments(
 /// `NoSuchKind`, `NotInMode`, `NoSuchNumber`; `NoRoom`; or `OutOfMemory`. After an error `version`
 /// is unchanged.
 #[unsafe(no_mangle)]
-pub extern "C" fn goq_least_version_of_segments(
+pub extern "C" fn goq_smallest_version_of_segments(
     alloc: Global,
     segments: &[Segment<'_>],
     level: u32,
@@ -46,5 +46,5 @@ pub extern "C" fn goq_least_version_of_segments(
 ) -> u32
     ensures { IsReported (TellsLeastOfSegments level segments.now) result version.old version.new }
 {
-    answer(least_version(alloc, segments, level), version)
+    answer(smallest_version(alloc, segments, level), version)
 }

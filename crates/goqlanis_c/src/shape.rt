@@ -7,7 +7,7 @@ ghost use Rattle.goqlanis_buffers.specs.Calls.{IsReported, TellsLeast};
 ghost use Rattle.goqlanis_buffers.specs.Names.{version_named};
 
 use goqlanis_buffers::answers::answer;
-use goqlanis_buffers::encoding::least_version;
+use goqlanis_buffers::encoding::smallest_version;
 use goqlanis_buffers::names::version_named;
 use qrcode::canvas;
 use std::alloc::Global;
@@ -49,7 +49,7 @@ pub extern "C" fn goq_is_functional(version: u32, x: u32, y: u32) -> bool
 /// Returns 0, or the number of a `Refusal`: `NoSuchLevel`, `NoRoom` or `OutOfMemory`. After an
 /// error `version` is unchanged.
 #[unsafe(no_mangle)]
-pub extern "C" fn goq_least_version(
+pub extern "C" fn goq_smallest_version(
     alloc: Global,
     bytes: &[u8],
     level: u32,
@@ -57,5 +57,5 @@ pub extern "C" fn goq_least_version(
 ) -> u32
     ensures { IsReported (TellsLeast level bytes.now) result version.old version.new }
 {
-    answer(least_version(alloc, bytes, level), version)
+    answer(smallest_version(alloc, bytes, level), version)
 }

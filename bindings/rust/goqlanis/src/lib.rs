@@ -132,7 +132,7 @@ impl Version {
     pub fn least_of_segments(segments: &[Segment<'_>], ec_level: EcLevel) -> QrResult<Self> {
         let given: Vec<_> = segments.iter().map(Segment::given).collect();
         let mut version = 0;
-        accepted(unsafe { sys::goq_least_version_of_segments(given.as_ptr(), given.len(), ec_level as u32, &mut version) })?;
+        accepted(unsafe { sys::goq_smallest_version_of_segments(given.as_ptr(), given.len(), ec_level as u32, &mut version) })?;
         Ok(Version::named(version))
     }
 
@@ -216,7 +216,7 @@ pub struct Options {
     /// The version, or `None` for the smallest that holds the data.
     pub version: Option<Version>,
     /// The smallest version to try if `version` is `None`. Micro comes before Normal.
-    pub least_version: Version,
+    pub min_version: Version,
     /// If `version` is `None`: whether to use the highest level, from `ec_level` on, that fits in
     /// the version.
     pub boost: bool,
@@ -231,7 +231,7 @@ impl Default for Options {
             ec_level: EcLevel::M,
             writing: Writing::Bytes,
             version: None,
-            least_version: Version::Normal(1),
+            min_version: Version::Normal(1),
             boost: false,
             mask: None,
         }
@@ -252,7 +252,7 @@ impl Options {
                 0 => u32::MAX,
                 number => number,
             }),
-            least_version: self.least_version.number(),
+            min_version: self.min_version.number(),
             boost: u32::from(self.boost),
             mask: self.mask.map_or(0, |number| number.saturating_add(1)),
         }
@@ -367,7 +367,7 @@ impl QrCode {
     /// ```
     /// use goqlanis::{EcLevel, Options, QrCode, Version};
     ///
-    /// let least = Options { least_version: Version::Micro(1), boost: true, ..Options::default() };
+    /// let least = Options { min_version: Version::Micro(1), boost: true, ..Options::default() };
     /// let code = QrCode::with_options("12345", &Options { ec_level: EcLevel::L, ..least })?;
     /// assert_eq!(code.version(), Version::Micro(1));
     /// # Ok::<(), goqlanis::QrError>(())

@@ -11,9 +11,9 @@ pub struct Several {
     /// Whether the data is UTF-8 text, whose characters are not split.
     pub is_text: bool,
     /// The smallest Normal version to use.
-    pub least_version: Version,
+    pub min_version: Version,
     /// The largest Normal version to use.
-    pub greatest_version: Version,
+    pub max_version: Version,
     /// How many symbols, 1 to 16, or `None` for as few as possible.
     pub count: Option<u32>,
 }
@@ -23,8 +23,8 @@ impl Default for Several {
         Several {
             ec_level: EcLevel::M,
             is_text: false,
-            least_version: Version::Normal(1),
-            greatest_version: Version::Normal(40),
+            min_version: Version::Normal(1),
+            max_version: Version::Normal(40),
             count: None,
         }
     }
@@ -36,8 +36,8 @@ impl Several {
             size: std::mem::size_of::<sys::goq_several>() as u32,
             level: self.ec_level as u32,
             manner: if self.is_text { sys::GOQ_AS_TEXT } else { sys::GOQ_AS_BYTES },
-            least_version: self.least_version.number(),
-            greatest_version: self.greatest_version.number(),
+            min_version: self.min_version.number(),
+            max_version: self.max_version.number(),
             // 0 would ask the library for as few as possible, but a count of 0 is an error.
             count: self.count.map_or(0, |count| if count == 0 { u32::MAX } else { count }),
         }

@@ -113,7 +113,7 @@ fn names_of_the_crate_qrcode() {
 
 #[test]
 fn options() {
-    let given = |version, least_version| Options { version, least_version, ..Options::default() };
+    let given = |version, min_version| Options { version, min_version, ..Options::default() };
     let made = |options| QrCode::with_options("01234567890123456", &options);
     let boosted = made(Options { ec_level: EcLevel::L, boost: true, ..Options::default() }).unwrap();
     assert_eq!((boosted.version(), boosted.error_correction_level()), (Version::Normal(1), EcLevel::H));
@@ -150,7 +150,7 @@ fn several() {
     assert_eq!(refused(Several { count: Some(17), ..plain }), QrError::DataTooLong);
     assert_eq!(refused(Several { count: Some(0), ..plain }), QrError::DataTooLong);
     assert_eq!(refused(Several { is_text: true, ..plain }), QrError::InvalidCharacter);
-    assert_eq!(refused(Several { least_version: Version::Micro(1), ..plain }), QrError::InvalidVersion);
+    assert_eq!(refused(Several { min_version: Version::Micro(1), ..plain }), QrError::InvalidVersion);
 }
 
 #[test]

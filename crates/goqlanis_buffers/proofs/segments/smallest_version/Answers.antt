@@ -2,7 +2,7 @@ use Rattle.std.proofs.Common.{w16, pos, ap, sym, ◌∙◌, arith}
 use Rattle.std.proofs.lemmas.Int.{to_z_pos}
 use Rattle.qrcode_types.specs.declared.types.Version.TheVariants.{Normal}
 use Rattle.goqlanis_buffers.proofs.Least.{in_none, least_held, lasting, named_normal, not_room, no_room_more}
-use Rattle.goqlanis_buffers.proofs.segments.least_version.Goals as goal
+use Rattle.goqlanis_buffers.proofs.segments.smallest_version.Goals as goal
 
 pub returns-in-Ok : goal.returns-in-Ok
 returns-in-Ok c =
