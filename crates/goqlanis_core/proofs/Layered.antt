@@ -1,5 +1,5 @@
 -- Colours of parts, layer upon layer.
-use Rattle.std.proofs.Common.{◌≡◌, ℕ, ◌+◌, ◌-◌, ◌*◌, ◌/◌, ◌<◌, nat_le, nat_lt, ◌&&◌, Bool, true, false, cond, List, [], ◌∷◌, ◌++◌, length, map, take, get_or, ap, sym, subst, refl, ◌∙◌, append-nil, append_assoc, arith}
+use Rattle.std.proofs.Common.{◌≡◌, ℕ, ◌+◌, ◌-◌, ◌*◌, ◌/◌, ◌%◌, ◌<◌, nat_le, nat_lt, ◌&&◌, Bool, true, false, cond, List, [], ◌∷◌, ◌++◌, length, map, take, get_or, ap, sym, subst, refl, ◌∙◌, append-nil, append_assoc, arith}
 use Rattle.std.specs.List.{range_with_len}
 use Rattle.std.proofs.lemmas.Bool.Decides.{nat_tests}
 use Rattle.std.proofs.lemmas.List.{take_more}
@@ -8,9 +8,10 @@ use Rattle.std.proofs.lemmas.Nat.{mul-add-lt}
 use Rattle.qrcode_types.specs.Colors.{color_of}
 use Rattle.qrcode_types.specs.declared.types.Color.{Color}
 use Rattle.qrcode_types.specs.declared.types.Version.{Version}
-use Rattle.qrcode_render.specs.Layout.{Layout}
+use Rattle.qrcode_png.specs.Image.{Shade as Pixel, rgba}
+use Rattle.qrcode_render.specs.Layout.{Layout, pixels_across}
 use Rattle.goqlanis_core.specs.Formats.{View, light_of}
-use Rattle.goqlanis_core.specs.Layers.{is_painted, layer, module_bytes, module_shade, pixel_bytes, pixel_in, pixel_shade, shade_bytes, AreLayers, IsLayer}
+use Rattle.goqlanis_core.specs.Layers.{is_painted, layer, module_bytes, module_shade, pixel_in, pixel_shade, pixel_shades, shade_bytes, AreLayers, IsLayer}
 use Rattle.goqlanis_core.specs.declared.formats.Format.{Format}
 use Rattle.goqlanis_core.specs.declared.layers.PartInk.{PartInk}
 
@@ -47,13 +48,14 @@ pub length_modules : (w : View) (v : Version) (inks : List PartInk) (s : List Co
 unfolding module_bytes
 length_modules w v inks s = length-map-range_with_len (λ i. shade_bytes (module_shade w v inks s i)) 0 (length s)
 
-pub pixels_whole : (w : View) (at : Layout) (v : Version) (inks : List PartInk) (s : List Color) (n m : ℕ) → n ≡ m → map (λ i. shade_bytes (pixel_shade w at v inks s i)) (range_with_len 0 n) ≡ pixel_bytes w at v inks s m
-unfolding pixel_bytes
-pixels_whole w at v inks s n m is = ap (λ n. map (λ i. shade_bytes (pixel_shade w at v inks s i)) (range_with_len 0 n)) is
+pub pixels_whole : (w : View) (at : Layout) (v : Version) (inks : List PartInk) (over : ℕ → ℕ → Pixel → Pixel) (s : List Color) (n m : ℕ) → n ≡ m
+    → map (λ i. over (i % pixels_across at) (i / pixels_across at) (rgba (shade_bytes (pixel_shade w at v inks s i)))) (range_with_len 0 n) ≡ pixel_shades w at v inks over s m
+unfolding pixel_shades
+pixels_whole w at v inks over s n m is = ap (pixel_shades w at v inks over s) is
 
-pub length_pixels : (w : View) (at : Layout) (v : Version) (inks : List PartInk) (s : List Color) (n : ℕ) → length (pixel_bytes w at v inks s n) ≡ n
-unfolding pixel_bytes
-length_pixels w at v inks s n = length-map-range_with_len (λ i. shade_bytes (pixel_shade w at v inks s i)) 0 n
+pub length_pixels : (w : View) (at : Layout) (v : Version) (inks : List PartInk) (over : ℕ → ℕ → Pixel → Pixel) (s : List Color) (n : ℕ) → length (pixel_shades w at v inks over s n) ≡ n
+unfolding pixel_shades
+length_pixels w at v inks over s n = length-map-range_with_len (λ i. over (i % pixels_across at) (i / pixels_across at) (rgba (shade_bytes (pixel_shade w at v inks s i)))) 0 n
 
 -- the index of a pixel's module is one of a module
 inside : (at : Layout) (column row : ℕ) → (nat_le at.zone column && nat_lt column (at.zone + at.count) && nat_le at.zone row && nat_lt row (at.zone + at.count)) ≡ true

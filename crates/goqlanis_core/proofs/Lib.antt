@@ -14,4 +14,3 @@ mod Seen
 mod Segmented
 mod WhyUnread
 mod Placed
-mod Inset

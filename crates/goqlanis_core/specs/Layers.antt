@@ -12,7 +12,7 @@ use Rattle.qrcode_render.specs.Layout.{Layout, layout, pixels_across, pixels_dow
 use Rattle.qrcode_render.specs.Paths.{plain, IsPathOf}
 use Rattle.qrcode_render.specs.Pdf.{IsLayerOf}
 use Rattle.qrcode_render.specs.Picture.{picture}
-use Rattle.qrcode_png.specs.Image.{image_of, rgba}
+use Rattle.qrcode_png.specs.Image.{Shade as Pixel, image_of, rgba}
 use Rattle.goqlanis_core.specs.Formats.{Sheet, View, Shade, dark_of, light_of, eps_ink, per_metre, rgb, shade_of, tail, units, IsDrawnOn, IsPdfOn}
 use Rattle.goqlanis_core.specs.Parts.{part_of}
 use Rattle.goqlanis_core.specs.declared.formats.Format.{Format}
@@ -87,16 +87,17 @@ module_bytes w v inks s = map (λ i. shade_bytes (module_shade w v inks s i)) (r
 abbrev pub pixel_shade : View → Layout → Version → List PartInk → List Color → ℕ → Shade
 pixel_shade w at v inks s i = pixel_in at (module_shade w v inks s) (light_of w w.dark w.light) (i % pixels_across at) (i / pixels_across at)
 
--- the colours of the first `count` pixels as bytes
-unfoldable pub pixel_bytes : View → Layout → Version → List PartInk → List Color → ℕ → List (List ℕ)
-pixel_bytes w at v inks s count = map (λ i. shade_bytes (pixel_shade w at v inks s i)) (range_with_len 0 count)
+-- the colours of the first `count` pixels: `over x y` gives that of the pixel in column x and row y from its own
+unfoldable pub pixel_shades : View → Layout → Version → List PartInk → (ℕ → ℕ → Pixel → Pixel) → List Color → ℕ → List Pixel
+pixel_shades w at v inks over s count =
+    map (λ i. over (i % pixels_across at) (i / pixels_across at) (rgba (shade_bytes (pixel_shade w at v inks s i)))) (range_with_len 0 count)
 
--- a PNG file that shows each pixel in its colour
-pub record IsPaintedFile (w : View) (at : Layout) (v : Version) (inks : List PartInk) (s : List Color) (file : List ℕ) : Type 0 where
+-- a PNG file that shows each pixel in its colour, with `over` applied to it
+pub record IsPaintedFile (w : View) (at : Layout) (v : Version) (inks : List PartInk) (over : ℕ → ℕ → Pixel → Pixel) (s : List Color) (file : List ℕ) : Type 0 where
   pub shows : image_of file ≡ Some (record {
     across = pixels_across at;
     down = pixels_down at;
-    pixels = map rgba (pixel_bytes w at v inks s (pixels_down at * pixels_across at));
+    pixels = pixel_shades w at v inks over s (pixels_down at * pixels_across at);
     density = option_map (λ n. (n, n)) (option_map per_metre w.dpi);
   })
 
@@ -117,7 +118,7 @@ IsOver tail IsDrawing IsElement text =
 abbrev pub IsUnder : Option (List ℕ) → Format → Sheet → View → Layout → Version → List PartInk → List ℕ → List Color → List ℕ → Type 0
 IsUnder (Some tail) f t w at v inks over s bytes = IsOver tail (IsDrawnOn f t w at s) (AreOver f (unit_layout f at) v s inks over) bytes
 IsUnder None Pdf t w at v inks over s bytes = (text : List ℕ) × (AreOver Pdf (unit_layout Pdf at) v s inks over text × IsPdfOn t.dots t.frame.title w at s text bytes)
-IsUnder None Png t w at v (k ∷ inks) over s bytes = IsPaintedFile w at v (k ∷ inks) s bytes
+IsUnder None Png t w at v (k ∷ inks) over s bytes = IsPaintedFile w at v (k ∷ inks) (λ x y own. own) s bytes
 IsUnder None f t w at v inks over s bytes = IsDrawnOn f t w at s bytes
 
 -- bytes are the file of these modules in the format, with the colours of parts and with `over` on top

@@ -1,16 +1,13 @@
 -- A picture in the middle of a symbol, pixel by pixel.
-use Rattle.std.specs.Prelude.{◌≡◌, ℕ, ◌+◌, ◌-◌, ◌*◌, ◌/◌, ◌%◌, ◌==◌, ◌&&◌, nat_le, Bool, List, [], Option, Some, None, length, map, slice_get, slice_index_or, if◌then◌else◌}
-use Rattle.std.specs.List.{range_with_len}
-use Rattle.std.specs.Option.{option_map}
+use Rattle.std.specs.Prelude.{ℕ, ◌+◌, ◌-◌, ◌*◌, ◌/◌, ◌==◌, ◌&&◌, nat_le, Bool, List, Option, Some, None, slice_get, if◌then◌else◌}
 use Rattle.qrcode_types.specs.declared.types.Color.{Color}
 use Rattle.qrcode.specs.Code.{Code}
 use Rattle.qrcode_area.specs.Rectangles.{only}
 use Rattle.qrcode_area.specs.declared.areas.Rectangle.{Rectangle}
-use Rattle.qrcode_png.specs.Image.{Image, Shade, image_of, rgba}
-use Rattle.qrcode_render.specs.Layout.{Layout, pixels_across, pixels_down}
-use Rattle.qrcode_render.specs.Picture.{picture}
+use Rattle.qrcode_png.specs.Image.{Shade, rgba}
+use Rattle.qrcode_render.specs.Layout.{Layout}
 use Rattle.goqlanis_core.specs.Drawings.{view_for, layout_for}
-use Rattle.goqlanis_core.specs.Formats.{View, Shade as Ink, dark_of, light_of, per_metre}
+use Rattle.goqlanis_core.specs.Layers.{IsPaintedFile}
 use Rattle.goqlanis_core.specs.Overlays.{AreBeside}
 use Rattle.goqlanis_core.specs.Places.{is_in_place}
 use Rattle.goqlanis_core.specs.declared.pasting.Inset.{Inset}
@@ -44,42 +41,24 @@ logo_at n x y =
     slice_get n.pixels.now (scaled (y - n.place.top) n.place.height n.down * n.across + scaled (x - n.place.left) n.place.width n.across)
     else None
 
--- the module of a pixel is in the area; `zone` is the quiet zone in modules, `scale` the pixels of a module
-abbrev pub in_area : ℕ → ℕ → Rectangle → ℕ → ℕ → Bool
-in_area zone scale area x y = nat_le zone (x / scale) && nat_le zone (y / scale) && only area (x / scale - zone) (y / scale - zone)
+abbrev pub in_area : Layout → Rectangle → ℕ → ℕ → Bool  -- the module of the pixel in column x and row y is in the area
+in_area at area x y = nat_le at.zone (x / at.across) && nat_le at.zone (y / at.down) && only area (x / at.across - at.zone) (y / at.down - at.zone)
 
 abbrev pub over_if : Shade → Option (List ℕ) → Shade  -- a pixel over a colour, if there is one
 over_if under None = under
 over_if under (Some pixel) = over under (rgba pixel)
 
-abbrev pub no_shade : Shade  -- the colour of a pixel that does not exist
-no_shade = rgba []
+-- the colour of the pixel in column x and row y: its own, with the picture over it in the area
+abbrev pub inset_shade : Layout → Rectangle → Inset → ℕ → ℕ → Shade → Shade
+inset_shade at area n x y own = if in_area at area x y then over_if own (logo_at n x y) else own
 
--- the colour of the pixel at index i, in rows of `side`: its own, with the picture over it in the area
-abbrev pub inset_shade : ℕ → ℕ → ℕ → Rectangle → Inset → List Shade → ℕ → Shade
-inset_shade zone scale side area n shades i =
-    let own = slice_index_or shades i no_shade in
-    if in_area zone scale area (i % side) (i / side) then over_if own (logo_at n (i % side) (i / side)) else own
-
-abbrev pub byte_shade : Shade → Shade → ℕ → Shade  -- the colour of a byte: `dark` for 0, `light` for others
-byte_shade dark light byte = if byte == 0 then dark else light
-
-abbrev pub png_shade : Ink → Shade  -- the colour for PNG
-png_shade c = record { red = c.red; green = c.green; blue = c.blue; opacity = c.opacity }
-
-abbrev pub mark_shade : View → Bool → Shade  -- the colour of a dark or a light pixel
-mark_shade v dark = if dark then dark_of v (png_shade v.dark) (png_shade v.light) else light_of v (png_shade v.dark) (png_shade v.light)
-
--- the image of a drawing with a picture over its area
-abbrev pub pasted_image : View → Layout → Rectangle → Inset → List Color → Image
-pasted_image v at area n s = record {
-  across = pixels_across at;
-  down = pixels_down at;
-  pixels = map (inset_shade at.zone at.across (pixels_across at) area n (map (mark_shade v) (picture at s).marks)) (range_with_len 0 (pixels_across at * pixels_down at));
-  density = option_map (λ n. (n, n)) (option_map per_metre v.dpi);
-}
+-- likewise; without an area and a picture, its own
+abbrev pub shade_with : Layout → Option (Rectangle × Inset) → ℕ → ℕ → Shade → Shade
+shade_with at None x y own = own
+shade_with at (Some middle) x y own = inset_shade at middle.0 middle.1 x y own
 
 -- the file shows the symbol as requested, with the modules of the area light and the picture over them; outside the area each pixel is that of its module
 abbrev pub IsPasted : Request → Code → Rectangle → Inset → List ℕ → Type 0
 IsPasted r code area n file =
-    (light : List Color) × (AreBeside r code area light × (image_of file ≡ Some (pasted_image (view_for r) (layout_for r code.version) area n light)))
+    let at = layout_for r code.version in
+    (light : List Color) × (AreBeside r code area light × IsPaintedFile (view_for r) at code.version r.parts.now (inset_shade at area n) light file)

@@ -2,9 +2,10 @@
 
 ghost use Rattle.std.specs.Prelude.{◌≡◌, ◌≤◌, ◌⊎◌, length, unwrap_or, IfOk, IfErr, IsOkUnless};
 ghost use Rattle.qrcode_types.specs.declared.types.QrError.TheVariants.{InvalidVersion, OutOfMemory};
+ghost use Rattle.qrcode_types.specs.Versions.{side};
 ghost use Rattle.qrcode.specs.Pictures.{quiet_zone};
 ghost use Rattle.goqlanis_core.specs.Drawings.{IsShownIn, dots_for, layout_for, scale_for, sheet_for, unit_for, view_for};
-ghost use Rattle.goqlanis_core.specs.Formats.{sheet_of};
+ghost use Rattle.goqlanis_core.specs.Formats.{layout_of, sheet_of, view_of};
 ghost use Rattle.goqlanis_core.specs.Layers.{IsPaintedIn};
 ghost use Rattle.goqlanis_core.specs.Masks.{LacksMask};
 ghost use Rattle.goqlanis_core.specs.Symbols.{IsSymbolIn, IsRefusedFor};
@@ -79,7 +80,24 @@ pub(crate) fn modules_drawn(
         over.now modules.now bytes.items) }
     ensures memory { IsOkUnless result OutOfMemory }
 {
-    let picture = Picture {
+    let picture = picture_of(request, code, modules);
+    let sheet = sheet(request, code, over);
+    painted(alloc, request.format, code.version(), &picture, &sheet)
+}
+
+/// Returns these modules of a symbol as the picture that is requested.
+pub(crate) fn picture_of<'a>(
+    request: &Request<'a>,
+    code: &QrCode,
+    modules: &'a [Color],
+) -> Picture<'a>
+    requires { length modules.now ≡ length code.now.modules }
+    ensures modules { result.modules.now ≡ modules.entry.now }
+    ensures width { result.width ≡ side code.now.version }
+    ensures layout { layout_of result ≡ layout_for request.now code.now.version }
+    ensures view { view_of result ≡ view_for request.now }
+{
+    Picture {
         modules,
         width: code.width() as u32,
         zone: quiet_zone(request, code),
@@ -89,9 +107,7 @@ pub(crate) fn modules_drawn(
         is_inverted: request.is_inverted,
         dpi: request.dpi,
         ends_lines: true,
-    };
-    let sheet = sheet(request, code, over);
-    painted(alloc, request.format, code.version(), &picture, &sheet)
+    }
 }
 
 // The sheet for a symbol, with `over` on top of the modules.

@@ -56,7 +56,9 @@ pub(crate) fn painted(
         return Ok(inserted(bytes, tail, &over)?);
     }
     match format {
-        Format::Png if !sheet.parts.is_empty() => png_file(alloc, version, shown, sheet.parts),
+        Format::Png if !sheet.parts.is_empty() => {
+            png_file(alloc, version, shown, sheet.parts, None)
+        }
         Format::Pdf => {
             let over = over(alloc, format, version, shown, sheet)?;
             pdf_file(alloc, shown, sheet.dots, &over, sheet.frame.title)

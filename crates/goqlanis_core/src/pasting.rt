@@ -1,27 +1,24 @@
 //! Draws a picture in the middle of a symbol, as a PNG file in full colour.
 
-ghost use Rattle.std.specs.Prelude.{◌≡◌, ◌⊎◌, ◌+◌, ◌*◌, ◌<◌, ◌≤◌, ◌^◌, length, map, slice_index_or, IfOk, IfErr};
-ghost use Rattle.std.specs.List.{range_with_len};
+ghost use Rattle.std.specs.Prelude.{◌≡◌, ◌⊎◌, ◌+◌, ◌<◌, ◌≤◌, ◌^◌, length, Some, IfOk, IfErr, IsOkUnless};
 ghost use Rattle.qrcode_png.specs.Image.{rgba};
 ghost use Rattle.qrcode_types.specs.declared.types.QrError.TheVariants.{InvalidVersion, OutOfMemory};
-ghost use Rattle.goqlanis_core.specs.Formats.{per_metre};
+ghost use Rattle.goqlanis_core.specs.Drawings.{layout_for, view_for};
+ghost use Rattle.goqlanis_core.specs.Formats.{layout_of};
+ghost use Rattle.goqlanis_core.specs.Layers.{IsPaintedFile};
 ghost use Rattle.goqlanis_core.specs.Masks.{LacksMask};
-ghost use Rattle.goqlanis_core.specs.Pasted.{byte_shade, in_area, inset_shade, logo_at, mean, no_shade, over, scaled, IsPasted};
+ghost use Rattle.goqlanis_core.specs.Pasted.{in_area, logo_at, mean, over, scaled, shade_with, IsPasted};
 
-use crate::drawing::{modules_drawn, quiet_zone, scale};
-use crate::formats::Format;
+use crate::drawing::picture_of;
 use crate::overlays::modules_beside;
+use crate::picture::Picture;
 use crate::places::Place;
-use crate::render::{per_metre, png_ink};
 use crate::request::Request;
+use crate::shades::png_file;
 use qrcode::QrCode;
-use qrcode::types::{QrError, QrResult};
+use qrcode::types::{Color, QrResult};
 use qrcode_area::areas::{Area, Rectangle};
-use qrcode_png::full_color;
-use std::alloc::{AllocError, Global};
-
-/// The maximum pixels along a side of such a file.
-pub const GREATEST_SIDE: u32 = 8192;
+use std::alloc::Global;
 
 /// A picture, as red, green, blue and opacity of each pixel, row by row; and the place in the
 /// drawing where it is shown.
@@ -37,8 +34,8 @@ pub struct Inset<'a> {
 /// them. A pixel of the drawing shows the pixel of the picture that is at its middle.
 ///
 /// Errors: `InvalidVersion` if the version of `code` lacks the requested mask; `OutOfMemory` if
-/// memory runs out, or a side has more than `GREATEST_SIDE` pixels; that is tested before memory is
-/// requested.
+/// memory runs out, or a side has more than `GREATEST_PAINTED` pixels; that is tested before memory
+/// for pixels is requested.
 pub fn pasted(
     alloc: Global,
     request: &Request<'_>,
@@ -51,107 +48,60 @@ pub fn pasted(
     ensures causes { IfErr result (λ e. (e ≡ OutOfMemory)
         ⊎ ((e ≡ InvalidVersion) × LacksMask request.now.mask code.now.version)) }
 {
-    let (zone, scale) = (quiet_zone(request, code), scale(request, code).max(1));
-    let side = (code.width() as u32 + 2 * zone) * scale;
-    if side > GREATEST_SIDE {
-        return Err(QrError::OutOfMemory);
-    }
     let modules = modules_beside(alloc, request, code, area)?;
-    let grey = Request {
-        format: Format::Grey,
-        parts: &[],
-        ..*request
-    };
-    let marks = modules_drawn(alloc, &grey, code, &modules, &[])?;
-    let ground = Ground {
-        marks: &marks,
-        side: side as usize,
-        zone: zone as usize,
-        scale: scale as usize,
-        area,
-        dark: png_ink(request.dark).0,
-        light: png_ink(request.light).0,
-    };
-    let pixels = ground.pixels(alloc, inset)?;
-    let density = request.dpi.map(per_metre);
-    Ok(full_color(alloc, &pixels, side, side, density)?)
+    drawn(alloc, request, code, &modules, (area, *inset))
 }
 
-// A drawing before the picture is added: a byte for each pixel, 0 for dark; the pixels along a
-// side; the quiet zone in modules; the pixels of a module; the area; and the colours of dark and
-// light pixels.
-#[derive(Clone, Copy)]
-struct Ground<'a> {
-    marks: &'a [u8],
-    side: usize,
-    zone: usize,
-    scale: usize,
-    area: Rectangle,
-    dark: [u8; 4],
-    light: [u8; 4],
-    ghost some_pixels: { 1 ≤ side },
-    ghost whole_modules: { 1 ≤ scale },
+// Draws these modules of a symbol, with a picture over those of an area.
+fn drawn(
+    alloc: Global,
+    request: &Request<'_>,
+    code: &QrCode,
+    modules: &[Color],
+    middle: (Rectangle, Inset<'_>),
+) -> QrResult<Vec<u8>>
+    requires { length modules.now ≡ length code.now.modules }
+    ensures shows { IfOk result (λ file. IsPaintedFile (view_for request.now)
+        (layout_for request.now code.now.version) code.now.version request.now.parts.now
+        (shade_with (layout_for request.now code.now.version) (Some middle.entry))
+        modules.now file.items) }
+    ensures memory { IsOkUnless result OutOfMemory }
+{
+    let shown = picture_of(request, code, modules);
+    png_file(alloc, code.version(), &shown, request.parts, Some(middle))
 }
 
-impl<'a> Ground<'a> {
-    // All pixels, with the picture.
-    fn pixels(&self, alloc: Global, inset: &Inset<'_>) -> Result<Vec<[u8; 4]>, AllocError>
-        ensures { IfOk result (λ pixels. map rgba pixels.items ≡ map (inset_shade self.now.zone
-            self.now.scale self.now.side self.now.area inset.now (map (byte_shade (rgba self.now.dark)
-            (rgba self.now.light)) self.now.marks.now)) (range_with_len 0 (length
-            self.now.marks.now))) }
-    {
-        let mut pixels = Vec::with_capacity(alloc, self.marks.len())?;
-        for i in 0..self.marks.len() {
-            pixels.push(self.pixel(inset, i))?;
-        }
-        Ok(pixels)
+/// Returns the pixel in column `x` and row `y` of a drawing: `own`, with the picture over it if
+/// there is one and the pixel's module is in its area.
+pub(crate) fn with_middle(
+    shown: &Picture<'_>,
+    middle: Option<(Rectangle, Inset<'_>)>,
+    x: usize,
+    y: usize,
+    own: [u8; 4],
+) -> [u8; 4]
+    ensures { rgba result ≡ shade_with (layout_of shown.now) middle.entry x y (rgba own) }
+{
+    let Some((area, inset)) = middle else {
+        return own;
+    };
+    if !is_in_area(shown, area, x, y) {
+        return own;
     }
+    match inset.at(x, y) {
+        Some(shade) => over(own, shade),
+        None => own,
+    }
+}
 
-    // The pixel at index `i`, with the picture.
-    fn pixel(&self, inset: &Inset<'_>, i: usize) -> [u8; 4]
-        requires { i < length self.now.marks.now }
-        ensures { rgba result ≡ inset_shade self.now.zone self.now.scale self.now.side self.now.area
-            inset.now (map (byte_shade (rgba self.now.dark) (rgba self.now.light))
-            self.now.marks.now) i }
-    {
-        let own = self.own(i);
-        let (x, y) = (i % self.side, i / self.side);
-        if !self.is_in_area(x, y) {
-            return own;
-        }
-        match inset.at(x, y) {
-            Some(shade) => over(own, shade),
-            None => own,
-        }
-    }
-
-    // The pixel at index `i`, without the picture.
-    fn own(&self, i: usize) -> [u8; 4]
-        requires { i < length self.now.marks.now }
-        ensures { rgba result ≡ slice_index_or (map (byte_shade (rgba self.now.dark)
-            (rgba self.now.light)) self.now.marks.now) i no_shade }
-    {
-        self.shade(self.marks[i])
-    }
-
-    // The colour for a byte.
-    fn shade(&self, byte: u8) -> [u8; 4]
-        ensures { rgba result ≡ byte_shade (rgba self.now.dark) (rgba self.now.light) byte }
-    {
-        if byte == 0 { self.dark } else { self.light }
-    }
-
-    // Whether a pixel's module is in the area.
-    fn is_in_area(&self, x: usize, y: usize) -> bool
-        ensures { result ≡ in_area self.now.zone self.now.scale self.now.area x y }
-    {
-        let (column, row) = (x / self.scale, y / self.scale);
-        let rectangles = [self.area];
-        self.zone <= column
-            && self.zone <= row
-            && Area::of(&rectangles).has(column - self.zone, row - self.zone)
-    }
+// Whether a pixel's module is in the area.
+fn is_in_area(shown: &Picture<'_>, area: Rectangle, x: usize, y: usize) -> bool
+    ensures { result ≡ in_area (layout_of shown.now) area x y }
+{
+    let (zone, scale) = (shown.zone as usize, shown.scale as usize);
+    let (column, row) = (x / scale, y / scale);
+    let rectangles = [area];
+    zone <= column && zone <= row && Area::of(&rectangles).has(column - zone, row - zone)
 }
 
 impl<'a> Inset<'a> {

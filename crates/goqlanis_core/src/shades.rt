@@ -1,25 +1,30 @@
-//! Draws PNG files whose parts have their own colours.
+//! Draws PNG files in full colour: parts in their own colours, and a picture in the middle.
 
-ghost use Rattle.std.specs.Prelude.{◌≡◌, ◌*◌, ◌<◌, [], length, slice_index_or, IsTrue, IfOk, IsOkUnless};
+ghost use Rattle.std.specs.Prelude.{◌≡◌, ◌*◌, ◌<◌, [], length, map, slice_index_or, IsTrue, IfOk, IsOkUnless};
 ghost use Rattle.qrcode_types.specs.Colors.{select_of};
 ghost use Rattle.qrcode_types.specs.Versions.{is_valid, side};
 ghost use Rattle.qrcode_types.specs.declared.types.QrError.TheVariants.{OutOfMemory};
+ghost use Rattle.qrcode_png.specs.Image.{rgba};
 ghost use Rattle.qrcode_render.specs.Layout.{pixels_across};
 ghost use Rattle.goqlanis_core.specs.Formats.{dark_of, layout_of, light_of, view_of};
-ghost use Rattle.goqlanis_core.specs.Layers.{module_bytes, module_shade, pixel_bytes, pixel_in, shade_bytes, IsPaintedFile};
+ghost use Rattle.goqlanis_core.specs.Layers.{module_bytes, module_shade, pixel_in, pixel_shades, shade_bytes, IsPaintedFile};
+ghost use Rattle.goqlanis_core.specs.Pasted.{shade_with};
 
 use crate::layers::{PartInk, is_painted};
+use crate::pasting::{Inset, with_middle};
 use crate::picture::Picture;
 use crate::render::{per_metre, png_ink};
 use qrcode::types::{Color, QrError, QrResult, Version};
+use qrcode_area::areas::Rectangle;
 use qrcode_png::full_color;
 use std::alloc::{AllocError, Global};
 
-/// The maximum pixels along a side of a PNG file with colours of parts, since each takes four bytes
-/// of memory.
+/// The maximum pixels along a side of a PNG file with colours of parts or a picture in the middle,
+/// since each takes four bytes of memory.
 pub const GREATEST_PAINTED: u32 = 8_192;
 
-/// Draws a picture of a symbol of `version` as a PNG file, with colours of parts.
+/// Draws a picture of a symbol of `version` as a PNG file, with colours of parts. `middle` is an
+/// area and the picture that is drawn over its modules.
 ///
 /// Errors: only `OutOfMemory`, if memory runs out, or if there would be no pixel or more than
 /// `GREATEST_PAINTED` along a side.
@@ -28,17 +33,19 @@ pub(crate) fn png_file(
     version: Version,
     shown: &Picture<'_>,
     inks: &[PartInk<'_>],
+    middle: Option<(Rectangle, Inset<'_>)>,
 ) -> QrResult<Vec<u8>>
     requires { IsTrue (is_valid version) }
     ensures shows { IfOk result (λ file. IsPaintedFile (view_of shown.now) (layout_of shown.now)
-        version inks.now shown.now.modules.now file.items) }
+        version inks.now (shade_with (layout_of shown.now) middle.entry) shown.now.modules.now
+        file.items) }
     ensures memory { IsOkUnless result OutOfMemory }
 {
     let side = (shown.width + 2 * shown.zone) * shown.scale;
     if side == 0 || side > GREATEST_PAINTED {
         return Err(QrError::OutOfMemory);
     }
-    let pixels = pixels(alloc, version, shown, inks)?;
+    let pixels = pixels(alloc, version, shown, inks, middle)?;
     let density = shown.dpi.map(per_metre);
     Ok(full_color(alloc, &pixels, side, side, density)?)
 }
@@ -49,22 +56,26 @@ fn pixels(
     version: Version,
     shown: &Picture<'_>,
     inks: &[PartInk<'_>],
+    middle: Option<(Rectangle, Inset<'_>)>,
 ) -> Result<Vec<[u8; 4]>, AllocError>
     requires { IsTrue (is_valid version) }
-    ensures { IfOk result (λ pixels. pixels.items ≡ pixel_bytes (view_of shown.now)
-        (layout_of shown.now) version inks.now shown.now.modules.now
+    ensures { IfOk result (λ pixels. map rgba pixels.items ≡ pixel_shades (view_of shown.now)
+        (layout_of shown.now) version inks.now (shade_with (layout_of shown.now) middle.entry)
+        shown.now.modules.now
         (pixels_across (layout_of shown.now) * pixels_across (layout_of shown.now))) }
 {
     let modules = module_colors(alloc, version, shown, inks)?;
     let side = (shown.width as usize + 2 * shown.zone as usize) * shown.scale as usize;
     let mut pixels = Vec::with_capacity(alloc, side * side)?;
     for index in 0..side * side {
-        pixels.push(pixel(shown, &modules, index % side, index / side))?;
+        let (x, y) = (index % side, index / side);
+        let own = pixel(shown, &modules, x, y);
+        pixels.push(with_middle(shown, middle, x, y, own))?;
     }
     Ok(pixels)
 }
 
-// The pixel in column `x` and row `y`, from the colours of the modules.
+// The pixel in column `x` and row `y`, from the colours of the modules alone.
 fn pixel(shown: &Picture<'_>, modules: &[[u8; 4]], x: usize, y: usize) -> [u8; 4]
     requires { length modules.now ≡ length shown.now.modules.now }
     ensures { result ≡ pixel_in (layout_of shown.now) (λ i. slice_index_or modules.now i [])

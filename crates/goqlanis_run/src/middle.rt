@@ -8,10 +8,10 @@ use goqlanis_core::areas::{LogoError, LogoSize, LogoWish, logo_area, roomier};
 use goqlanis_core::overlays::{
     CROSS_UNITS, Inside, cross_pixels, cross_size, cross_width, with_logo,
 };
-use goqlanis_core::pasting::{GREATEST_SIDE, Inset, pasted};
+use goqlanis_core::pasting::{Inset, pasted};
 use goqlanis_core::places::{Place, place_in};
-use goqlanis_core::{Format, Request, VersionName, quiet_zone, scale};
-use goqlanis_files::failure::{Failure, usage};
+use goqlanis_core::{Format, GREATEST_PAINTED, Request, VersionName, quiet_zone, scale};
+use goqlanis_files::failure::Failure;
 use goqlanis_files::streams::read_file;
 use goqlanis_options::asked::Asked;
 use goqlanis_options::logos::{AskedLogo, Logo, Middle};
@@ -76,13 +76,6 @@ pub(crate) fn redrawn(
     };
     let request = &asked.request;
     let is_png = request.format == Format::Png;
-    if is_png && !request.parts.is_empty() && !matches!(logo.middle, Middle::Light) {
-        return usage(
-            alloc,
-            "a PNG file has colours of patterns or a picture in the middle; add --format svg for \
-            both",
-        );
-    }
     let area = area_of(alloc, code, wish_of(logo, code))?;
     let bytes = match logo.middle {
         Middle::Logo(Logo::Pixels(pixels, across, down)) => {
@@ -133,10 +126,10 @@ fn inset_drawn(
     inset: &Inset<'_>,
 ) -> Result<Vec<u8>, Failure> {
     let side = code.width() as u64 + 2 * quiet_zone(request, code) as u64;
-    if side * scale(request, code) as u64 > GREATEST_SIDE as u64 {
+    if side * scale(request, code) as u64 > GREATEST_PAINTED as u64 {
         return Err(Failure::Refused(format!(in alloc;
-            "a PNG file with a picture in its middle has at most {GREATEST_SIDE} pixels a side; use \
-            a smaller --scale or --size"
+            "a PNG file with a picture in its middle has at most {GREATEST_PAINTED} pixels a side; \
+            use a smaller --scale or --size"
         )?));
     }
     pasted(alloc, request, code, area, inset).map_err(|_| Failure::OutOfMemory)

@@ -71,18 +71,25 @@ def _greys(pgm):
     return [[(it, it, it, 255) for it in grey[side * y:side * (y + 1)]] for y in range(side)]
 
 
+def _put_logo(rows, left, top):
+    """Draws the logo over opaque pixels, in an area of 9 by 5 modules of 8 pixels that begins
+    there: the logo, 4 by 3, has 53 by 40 pixels, and each shows what lies at its middle."""
+    for y in range(40):
+        for x in range(left + 9, left + 62):
+            *levels, opacity = COLOURS[(2 * y + 1) * 3 // 80][(2 * (x - left - 9) + 1) * 4 // 106]
+            shade = [int(0.5 + (it * opacity + below * (255 - opacity)) / 255)
+                     for it, below in zip(levels, rows[top + y][x])]
+            rows[top + y][x] = (*shade, 255)
+
+
 def a_logo_in_png_is_drawn_in_its_area_alone(program):
-    """Each pixel of the logo shows the colour at its middle, over white; other pixels are as
-    before. The area has 9 by 5 of 37 modules; in it the logo, 4 by 3, takes 53 by 40 pixels."""
+    """The logo is drawn over white, with a quiet zone of 4 modules; outside of its area, in the
+    middle of 37 modules, pixels are as before."""
     words = ["-v", "5", "-l", "H", "--logo-size", "9", "GOQLANIS"]
     rows = _greys(run(program, [*words[:4], words[-1], "-f", "pgm"], "/").stdout)
     for row in rows[160:200]:
         row[144:216] = [(255,) * 4] * 72
-    for y in range(40):
-        for x in range(53):
-            *levels, opacity = COLOURS[(2 * y + 1) * 3 // 80][(2 * x + 1) * 4 // 106]
-            shade = [int(0.5 + (it * opacity + 255 * (255 - opacity)) / 255) for it in levels]
-            rows[160 + y][153 + x] = (*shade, 255)
+    _put_logo(rows, 144, 160)
     with empty() as folder:
         put(folder, "logo.png", png.of_pixels(COLOURS))
         more = ["--logo", "logo.png", "--logo-margin", "0", "-f", "png"]
@@ -93,6 +100,30 @@ def a_logo_in_png_is_drawn_in_its_area_alone(program):
     coloured = [y for y, row in enumerate(png.pixels_of(far))
                 if any(len({*it[:3]}) > 1 for it in row)]
     return png.pixels_of(drawn) == rows and is_read and coloured[0] >= 168 and coloured[-1] < 192
+
+
+def a_logo_in_png_is_drawn_over_colours_of_parts(program):
+    """Each module has the colour of the part that segno names, and those in the area, in the middle
+    of 45 modules, the light one; the logo is drawn over these."""
+    words = ["-v", "7", "-l", "H", "GOQLANIS"]
+    letters = parts.parts_of(f"{TOP}/evidence/others/parts/types")["7"]
+    plain = _greys(run(program, [*words, "-f", "pgm", "-s", "1", "-q", "0"], "/").stdout)
+    modules = [[int(it[0] == 0) for it in row] for row in plain]
+    for row in modules[20:25]:
+        row[18:27] = [0] * 9
+    with empty() as folder:
+        put(folder, "logo.png", png.of_pixels(COLOURS))
+        words += ["--logo", "logo.png", "--logo-margin", "0", "--logo-size", "9", "-f", "png",
+                  "--dark", parts.DARK, "--light", parts.LIGHT, *parts.WORDS]
+        for is_inverted in (False, True):
+            colors = parts.wanted(modules, letters, 4, is_inverted)
+            rows = [[(*it, 255) for it in row for _ in range(8)]
+                    for row in colors for _ in range(8)]
+            _put_logo(rows, 176, 192)
+            drawn = run(program, [*words, *["--invert"] * is_inverted], folder).stdout
+            if png.pixels_of(drawn) != rows:
+                return False
+    return True
 
 
 def the_cross_of_a_bill(program):
