@@ -42,9 +42,9 @@ fitted p across down =
     let height = min (max (max down 1 * p.width / max across 1) 1) p.height in
     record { left = p.left + (p.width - width) / 2; top = p.top + (p.height - height) / 2; width = width; height = height }
 
--- the square in the middle of a place: `size` pixels along its side, fewer if there is no room, and one more if it could not be centred across otherwise
+-- the square in the middle of a place: `size` pixels along its side, one more if it could not be centred across otherwise, and fewer if there is no room
 abbrev pub square : Place → ℕ → Place
 square p size =
-    let least = min (min size p.width) p.height in
-    let side = least + (p.width - least) % 2 in
+    let across = min size p.width in
+    let side = min (across + (p.width - across) % 2) p.height in
     record { left = p.left + (p.width - side) / 2; top = p.top + (p.height - side) / 2; width = side; height = side }

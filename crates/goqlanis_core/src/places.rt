@@ -59,17 +59,19 @@ impl Place {
             && y - (self.top as usize) < self.height as usize
     }
 
-    /// Returns the square in the middle: `size` pixels along its side, fewer if there is no room,
-    /// and one more if it could not be centred across otherwise.
+    /// Returns the square in the middle: `size` pixels along its side, one more if it could not be
+    /// centred across otherwise, and fewer if there is no room.
     pub fn square(self, size: u32) -> Place
         requires { HasPixels self }
-        ensures { result ≡ square self size }
+        ensures value { result ≡ square self size }
+        ensures right { result.left + result.width ≤ self.left + self.width }
+        ensures bottom { result.top + result.height ≤ self.top + self.height }
     {
-        let size = size.min(self.width).min(self.height);
-        let size = size + (self.width - size) % 2;
+        let size = size.min(self.width);
+        let size = (size + (self.width - size) % 2).min(self.height);
         Place {
             left: self.left + (self.width - size) / 2,
-            top: self.top + (self.height.saturating_sub(size)) / 2,
+            top: self.top + (self.height - size) / 2,
             width: size,
             height: size,
         }
