@@ -1,13 +1,14 @@
 -- The area of a symbol that a logo may cover, and why there is none.
-use Rattle.std.specs.Prelude.{◌≡◌, ◌⊎◌, ◌/◌, ◌<◌, ◌≤◌, min, nat_abs, pos, ℕ, Option, Some, None, IsTrue}
+use Rattle.std.specs.Prelude.{◌≡◌, ◌⊎◌, ◌/◌, ◌<◌, ◌≤◌, min, pos, ℕ, Option, Some, None, IsTrue}
 use Rattle.qrcode_types.specs.Versions.{side, ec_length, has_level, level_number}
 use Rattle.qrcode_types.specs.declared.types.EcLevel.{EcLevel}
 use Rattle.qrcode_types.specs.declared.types.Version.{Version}
-use Rattle.qrcode_types.specs.declared.types.Version.TheVariants.{Normal, Micro}
+use Rattle.qrcode_types.specs.declared.types.Version.TheVariants.{Normal}
 use Rattle.qrcode_area.specs.Rectangles.{in_proportion, centred, only, Fits, IsLargest, LeavesPatterns, NoneLarger}
 use Rattle.qrcode_area.specs.Refusals.{IsExcess}
 use Rattle.qrcode_area.specs.declared.areas.Rectangle.{Rectangle}
 use Rattle.qrcode_area.specs.declared.rectangles.Wish.{Wish}
+use Rattle.goqlanis_core.specs.Elements.{number_of}
 use Rattle.goqlanis_core.specs.declared.areas.LogoError.{LogoError}
 use Rattle.goqlanis_core.specs.declared.areas.LogoError.TheVariants.{Outside, Patterns, Excess, NoRoom, OutOfMemory}
 use Rattle.goqlanis_core.specs.declared.areas.LogoSize.{LogoSize}
@@ -65,10 +66,6 @@ pub record IsLowest (v : Version) (l : EcLevel) (w : LogoWish) (h : EcLevel) : T
   pub higher : level_number l < level_number h
   pub area : HasArea v h w
   pub none_lower : NoHigher v l w (level_number h)
-
-abbrev pub number_of : Version → ℕ  -- the number of a Normal version; 0 for Micro
-number_of (Normal n) = nat_abs n
-number_of (Micro n) = 0
 
 -- no larger Normal version below n has such an area at the level
 abbrev pub NoLarger : Version → EcLevel → LogoWish → ℕ → Type 0

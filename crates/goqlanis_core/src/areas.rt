@@ -1,10 +1,11 @@
 //! Finds the area of a symbol that a logo may cover.
 
-ghost use Rattle.std.specs.Prelude.{◌≡◌, ◌⊎◌, ◌↔◌, ◌^◌, ◌<◌, IsTrue, IfOk, IfErr, IfSome, IfNone};
+ghost use Rattle.std.specs.Prelude.{◌≡◌, ◌⊎◌, ◌↔◌, ◌<◌, IsTrue, IfOk, IfErr, IfSome, IfNone};
 ghost use Rattle.qrcode_types.specs.Versions.{has_level, is_valid, level_number};
-ghost use Rattle.goqlanis_core.specs.Areas.{wish_for, size_in, number_of, HasArea, IsAreaOf, IsRefusedOf, IsLowest, IsRoomier, IsSmallest, NoHigher, NoLarger};
+ghost use Rattle.goqlanis_core.specs.Areas.{wish_for, size_in, HasArea, IsAreaOf, IsRefusedOf, IsLowest, IsRoomier, IsSmallest, NoHigher, NoLarger};
 ghost use Rattle.goqlanis_core.specs.declared.areas.LogoError.TheVariants.{OutOfMemory as NoMemory};
 
+use crate::elements::number_of;
 use qrcode::types::{EcLevel, Version};
 use qrcode_area::areas::{Area, Rectangle};
 use qrcode_area::excess::Excess;
@@ -226,17 +227,6 @@ fn larger_version(
         }
     }
     Ok(None)
-}
-
-// The number of a Normal version; 0 for Micro.
-fn number_of(version: Version) -> usize
-    ensures value { result ≡ number_of version }
-    ensures at_most { result < 2 ^ 16 }
-{
-    match version {
-        Version::Normal(number) => number.unsigned_abs() as usize,
-        Version::Micro(_) => 0,
-    }
 }
 
 // Whether `version` has the level, and symbols of both have such an area.

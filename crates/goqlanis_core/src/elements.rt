@@ -1,6 +1,6 @@
 //! Makes symbols with FNC1: GS1 elements, and data in an application's own format.
 
-ghost use Rattle.std.specs.Prelude.{◌≡◌, ◌≢◌, true, false, map, IfOk, IfErr};
+ghost use Rattle.std.specs.Prelude.{◌≡◌, ◌≢◌, ◌<◌, ◌^◌, true, false, map, IfOk, IfErr};
 ghost use Rattle.qrcode_gs1.specs.Items.{item};
 ghost use Rattle.goqlanis_core.specs.Elements.{IsElementsIn, IsElementsRefused, IsApplicationIn, IsApplicationRefused, number_of};
 
@@ -85,9 +85,10 @@ fn is_of(code: &QrCode, version: Version) -> bool
     code.version() == version
 }
 
-// The number of a Normal version; 0 for Micro, which has no FNC1.
-fn number_of(version: Version) -> usize
-    ensures { result ≡ number_of version }
+/// Returns the number of a Normal version; 0 for Micro, which has no FNC1.
+pub(crate) fn number_of(version: Version) -> usize
+    ensures value { result ≡ number_of version }
+    ensures at_most { result < 2 ^ 16 }
 {
     match version {
         Version::Normal(number) if number > 0 => number as usize,

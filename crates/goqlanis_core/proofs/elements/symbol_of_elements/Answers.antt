@@ -16,4 +16,4 @@ returns-else-is_of-clause-causes c =
     let s = c.in_ok-code-in-At.ensures.symbol in
     let other = c.is_of.ensures.other c.if-is_of.false in
     subst (λ choice. IsElementsRefused choice l items (Symbol DataTooLong)) (sym c.in-At.is)
-    (s.accepted, other_alone v c.number_of.result First l (element_string items) c.in_ok-code-in-At.code c.number_of.ensures s.symbol other)
+    (s.accepted, other_alone v c.number_of.result First l (element_string items) c.in_ok-code-in-At.code c.number_of.ensures.value s.symbol other)
