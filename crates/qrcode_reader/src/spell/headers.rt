@@ -41,16 +41,11 @@ pub(crate) fn prefixed(
     ensures none { IfNone result ((n : ℕ) (front rest : List Bool)
         → IsPrefixed width prefix count n front → bits.now ≢ front ++ rest) }
 {
-    let Some((first, behind)) = number_field(bits, width) else {
-        return None;
-    };
+    let (first, behind) = number_field(bits, width)?;
     if first != prefix {
         return None;
     }
-    let Some((number, rest)) = number_field(behind, count) else {
-        return None;
-    };
-    Some((number, rest))
+    number_field(behind, count)
 }
 
 // Splits off the number of an ECI, in one, two or three bytes.
@@ -66,9 +61,7 @@ fn eci(bits: &[bool]) -> Option<(Header, &[bool])>
     if let Some((number, rest)) = prefixed(bits, 2, 0b10, 14) {
         return Some((Header::Eci(number), rest));
     }
-    let Some((number, rest)) = prefixed(bits, 3, 0b110, 21) else {
-        return None;
-    };
+    let (number, rest) = prefixed(bits, 3, 0b110, 21)?;
     if number >= 1_000_000 {
         return None;
     }
@@ -82,9 +75,7 @@ fn fnc1_second(bits: &[bool]) -> Option<(Header, &[bool])>
     ensures none { IfNone result ((h : Header) (rest : List Bool)
         → header_indicator h ≡ 9 → ¬ BeginsWithArgument h bits.now rest) }
 {
-    let Some((number, rest)) = number_field(bits, 8) else {
-        return None;
-    };
+    let (number, rest) = number_field(bits, 8)?;
     Some((Header::Fnc1Second(number as u8), rest))
 }
 
@@ -95,9 +86,7 @@ fn structured_append(bits: &[bool]) -> Option<(Header, &[bool])>
     ensures none { IfNone result ((h : Header) (rest : List Bool)
         → header_indicator h ≡ 3 → ¬ BeginsWithArgument h bits.now rest) }
 {
-    let Some((number, rest)) = number_field(bits, 16) else {
-        return None;
-    };
+    let (number, rest) = number_field(bits, 16)?;
     let header = Header::StructuredAppend {
         place: (number / 4096) as u8,
         last: (number / 256 % 16) as u8,
@@ -133,11 +122,6 @@ pub(crate) fn take_header(bits: &[bool], version: Version) -> Option<(Header, &[
     if version.is_micro() {
         return None;
     }
-    let Some((indicator, behind)) = number_field(bits, 4) else {
-        return None;
-    };
-    let Some((header, rest)) = argument(indicator, behind) else {
-        return None;
-    };
-    Some((header, rest))
+    let (indicator, behind) = number_field(bits, 4)?;
+    argument(indicator, behind)
 }
