@@ -32,34 +32,6 @@ pub fn behind(bits: &[bool], count: usize) -> &[bool]
     }
 }
 
-// Returns the bit at `place` as a number.
-#[inline(always)]
-fn digit(bits: &[bool], place: usize) -> u8
-    requires { place < length bits.now }
-    ensures value { result ≡ (if slice_index_or bits.now place false then 1 else 0) }
-    ensures at_most { result ≤ 1 }
-{
-    if bits[place] { 1 } else { 0 }
-}
-
-// Returns byte `i`, all of whose bits exist, so that none needs a bounds check.
-#[inline(always)]
-fn whole_byte(bits: &[bool], i: usize) -> u8
-    requires { 8 * i + 8 ≤ length bits.now }
-    ensures { result ≡ byte_at bits.now i }
-{
-    let at = 8 * i;
-    let high = 8 * digit(bits, at)
-        + 4 * digit(bits, at + 1)
-        + 2 * digit(bits, at + 2)
-        + digit(bits, at + 3);
-    let low = 8 * digit(bits, at + 4)
-        + 4 * digit(bits, at + 5)
-        + 2 * digit(bits, at + 6)
-        + digit(bits, at + 7);
-    16 * high + low
-}
-
 // Returns the bit at `place` as a number; zero after the end.
 fn bit(bits: &[bool], place: usize) -> u8
     ensures value { result ≡ (if slice_index_or bits.now place false then 1 else 0) }
@@ -73,7 +45,7 @@ fn bit(bits: &[bool], place: usize) -> u8
 }
 
 // Returns byte `i`, with zeros after the end.
-fn filled_byte(bits: &[bool], i: usize) -> u8
+fn byte_at(bits: &[bool], i: usize) -> u8
     requires { i ≤ 30000 }
     ensures { result ≡ byte_at bits.now i }
 {
@@ -87,19 +59,6 @@ fn filled_byte(bits: &[bool], i: usize) -> u8
         + 2 * bit(bits, at + 6)
         + bit(bits, at + 7);
     16 * high + low
-}
-
-// Returns byte `i`, with zeros after the end; faster if all its bits exist.
-#[inline(always)]
-fn byte_at(bits: &[bool], i: usize) -> u8
-    requires { i ≤ 30000 }
-    ensures { result ≡ byte_at bits.now i }
-{
-    if 8 * i + 8 <= bits.len() {
-        whole_byte(bits, i)
-    } else {
-        filled_byte(bits, i)
-    }
 }
 
 // Appends `bits` as bytes, the last one filled up with zeros.
