@@ -10,7 +10,7 @@ use Rattle.qrcode_bits.specs.Spelling.{Spells}
 use Rattle.qrcode_gs1.specs.symbol.Characters.{shown, shown_in}
 use Rattle.qrcode_layout.specs.declared.masks.MaskPattern.{MaskPattern}
 use Rattle.qrcode.specs.Reading.{Reads}
-use Rattle.qrcode_reader.specs.Positions.{seen, tried, IsFirstReading, IsFirstPartsReading}
+use Rattle.qrcode_reader.specs.Positions.{seen, nth_position, IsFirstReading, IsFirstPartsReading}
 use Rattle.qrcode_reader.specs.Readings.{IsReading, IsPartsReading, ReadsParts}
 use Rattle.qrcode_reader.specs.declared.correction.WrongCodeword.{WrongCodeword}
 use Rattle.qrcode_reader.specs.declared.positions.Position.{Position}
@@ -101,7 +101,7 @@ first_plain w s p i v l k bytes parts wrong none f = record {
   read = plain_reading (seen w p i s) v l k bytes parts wrong none f.read;
   number = f.number;
   position = f.position;
-  first = λ n tried_n below others r. f.first n tried_n below others (map part_of r.spelled.pieces) (parts_of_bytes (seen w (tried n).0 (tried n).1 s) others r);
+  first = λ n tried_n below others r. f.first n tried_n below others (map part_of r.spelled.pieces) (parts_of_bytes (seen w (nth_position n).0 (nth_position n).1 s) others r);
 }
 
 -- without headers, the bytes are passed on as they are

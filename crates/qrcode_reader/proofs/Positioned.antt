@@ -12,7 +12,7 @@ use Rattle.qrcode_symbol.specs.Reading.{ReadsBits}
 use Rattle.qrcode.specs.Reading.{Reads}
 use Rattle.qrcode.proofs.Sides.{valid_of, same_version, same_root}
 use Rattle.qrcode_reader.specs.Figures.{has_finders}
-use Rattle.qrcode_reader.specs.Positions.{seen, seen_at, seen_color, tried, turn, IsUnreadIn, IsPartlessIn}
+use Rattle.qrcode_reader.specs.Positions.{seen, seen_at, seen_color, nth_position, turn, IsUnreadIn, IsPartlessIn}
 use Rattle.qrcode_reader.specs.Readings.{ReadsParts}
 use Rattle.qrcode_reader.specs.declared.spell.parts.Part.{Part}
 use Rattle.qrcode_reader.specs.declared.positions.Position.{Position}
@@ -37,7 +37,7 @@ turn_number false n at below e = omega (arith, below, e)
 pub turns_more : (v : Version) (w : ℕ) (s : List Color) (P : ℕ → Type 0) (at : ℕ) → ((n : ℕ) → n < 16 → turn v w s n < at → P n)
     → (turn v w s (at % 16) ≡ at → P (at % 16)) → (n : ℕ) → n < 16 → turn v w s n < at + 1 → P n
 turns_more v w s P at before here n below less = elim (cases_order (turn v w s n) at) [
-  | inl e ↦ let m = turn_number (has_finders v (seen w (tried n).0 (tried n).1 s)) n at below e in subst P m (here (subst (λ k. turn v w s k ≡ at) (sym m) e))
+  | inl e ↦ let m = turn_number (has_finders v (seen w (nth_position n).0 (nth_position n).1 s)) n at below e in subst P m (here (subst (λ k. turn v w s k ≡ at) (sym m) e))
   | inr o ↦ elim o [ inl l ↦ before n below l | inr g ↦ absurd (omega (arith, less, g)) ]
 ]
 
@@ -48,7 +48,7 @@ first_turn_more v w s P at before here less =
 
 -- each turn is below 32
 pub turn_below : (v : Version) (w : ℕ) (s : List Color) (n most : ℕ) → n < 16 → 32 ≤ most → turn v w s n < most
-turn_below v w s n most below enough = cond_both (has_finders v (seen w (tried n).0 (tried n).1 s)) n (n + 16) (λ k. k < most) (λ e. omega (arith, below, enough)) (λ e. omega (arith, below, enough))
+turn_below v w s n most below enough = cond_both (has_finders v (seen w (nth_position n).0 (nth_position n).1 s)) n (n + 16) (λ k. k < most) (λ e. omega (arith, below, enough)) (λ e. omega (arith, below, enough))
 
 -- modules of no version decode in no position
 pub unread_of_no_version : (s : List Color) → ((v : Version) → IsTrue (is_valid v) → length s ≢ side v * side v) → (w : ℕ) → w * w ≡ length s → (p : Position) (is_inverted : Bool) (bytes : List ℕ)
@@ -74,7 +74,7 @@ seen_upright w s square = sym (fill_by_all (seen_at w Upright false s) s (w * w)
     sym (same_color (get_or s (k / w * w + k % w) Light) ∙ ap (λ n. get_or s n Light) e)))
 
 -- each position is tried
-place_of : (p : Position) (is_inverted : Bool) → (n : ℕ) × (n < 16) × (tried n ≡ (p, is_inverted))
+place_of : (p : Position) (is_inverted : Bool) → (n : ℕ) × (n < 16) × (nth_position n ≡ (p, is_inverted))
 place_of Upright false = (0, omega arith, refl)
 place_of TurnedLeft false = (1, omega arith, refl)
 place_of UpsideDown false = (2, omega arith, refl)

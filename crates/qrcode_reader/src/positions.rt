@@ -3,7 +3,7 @@
 ghost use Rattle.std.specs.Prelude.{◌≡◌, ◌≢◌, ◌*◌, ◌%◌, ◌<◌, ◌≤◌, ◌⊎◌, ℕ, Bool, List, length, IsTrue, IfOk, IfErr, IfSome, IfNone};
 ghost use Rattle.qrcode_types.specs.Versions.{is_valid, side};
 ghost use Rattle.qrcode.specs.Reading.{Reads};
-ghost use Rattle.qrcode_reader.specs.Positions.{standing, seen, seen_color, tried, turn, IsFirstReading, IsFirstPartsReading};
+ghost use Rattle.qrcode_reader.specs.Positions.{place_in_square, seen, seen_color, nth_position, turn, IsFirstReading, IsFirstPartsReading};
 ghost use Rattle.qrcode_reader.specs.Readings.{ReadsParts, IsPartsCause};
 ghost use Rattle.qrcode_reader.specs.declared.spell.parts.Part.{Part};
 ghost use Rattle.qrcode_reader.specs.declared.positions.Position.{Position};
@@ -62,10 +62,10 @@ pub struct AnyPartsReading {
 }
 
 // Maps a module of the symbol to its place in the square: column and row.
-fn standing(position: Position, side: usize, x: usize, y: usize) -> (usize, usize)
+fn place_in_square(position: Position, side: usize, x: usize, y: usize) -> (usize, usize)
     requires column { x < side }
     requires row { y < side }
-    ensures value { result ≡ standing position side x y }
+    ensures value { result ≡ place_in_square position side x y }
     ensures column { result.0 < side }
     ensures row { result.1 < side }
 {
@@ -109,16 +109,16 @@ pub fn seen(
 {
     let mut colors = Vec::with_capacity(alloc, side * side)?;
     for i in 0..side * side {
-        let (column, row) = standing(position, side, i % side, i / side);
+        let (column, row) = place_in_square(position, side, i % side, i / side);
         colors.push(seen_color(is_inverted, modules[row * side + column]))?;
     }
     Ok(colors)
 }
 
 // Numbers the positions: 0 to 7 in the order of `Position`, 8 to 15 the same inverted.
-fn tried(number: usize) -> (Position, bool)
+fn nth_position(number: usize) -> (Position, bool)
     requires { number < 16 }
-    ensures { result ≡ tried number }
+    ensures { result ≡ nth_position number }
 {
     let positions = [
         Position::Upright,
@@ -154,7 +154,7 @@ fn view_at(
     requires square { length modules.now ≡ side version * side version }
     requires turn { at < 32 }
     ensures position { IfOk result (λ found. IfSome found (λ view.
-        tried (at % 16) ≡ (view.position, view.is_inverted))) }
+        nth_position (at % 16) ≡ (view.position, view.is_inverted))) }
     ensures seen { IfOk result (λ found. IfSome found (λ view.
         view.modules.items ≡ seen (side version) view.position view.is_inverted modules.now)) }
     ensures turn { IfOk result (λ found. IfSome found (λ view.
@@ -162,7 +162,7 @@ fn view_at(
     ensures none { IfOk result (λ found.
         IfNone found (turn version (side version) modules.now (at % 16) ≢ at)) }
 {
-    let (position, is_inverted) = tried(at % 16);
+    let (position, is_inverted) = nth_position(at % 16);
     let colors = seen(alloc, side(version), position, is_inverted, modules)?;
     if has_finders(version, &colors) != (at < 16) {
         return Ok(None);

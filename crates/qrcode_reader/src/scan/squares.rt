@@ -46,7 +46,7 @@ pub fn square_of(alloc: Global, pixels: &Pixels) -> Result<Option<Square>, Alloc
         return Ok(None);
     };
     for count in 1..GREATEST_COUNT + 1 {
-        match tried(alloc, pixels, margin, count)? {
+        match square_with_count(alloc, pixels, margin, count)? {
             Some(square) => return Ok(Some(square)),
             None => {}
         }
@@ -95,7 +95,7 @@ fn first_dark(marks: &[bool]) -> Option<usize>
 
 // Returns the square of `count` modules a side inside a margin of `margin` pixels, if the picture
 // shows it.
-fn tried(
+fn square_with_count(
     alloc: Global,
     pixels: &Pixels,
     margin: usize,

@@ -14,7 +14,7 @@ use std::alloc::Global;
 use std::str;
 
 // Returns the bits after ECI 26 (UTF-8), or all bits if they do not begin with it.
-fn behind_mark(bits: &[bool], version: Version) -> &[bool]
+fn after_eci_26(bits: &[bool], version: Version) -> &[bool]
     requires { IsTrue (is_valid version) }
     ensures { IsBehindFront version bits.now result.now }
 {
@@ -68,7 +68,7 @@ pub fn text_of(alloc: Global, bits: &[bool], version: Version) -> Result<String,
         ⊎ ((e ≡ NotShown) × ((text : List ℕ) → ¬ Shows version bits.now text))) }
 {
     let mut text = String::new(alloc);
-    let mut rest = behind_mark(bits, version);
+    let mut rest = after_eci_26(bits, version);
     while !is_end(rest, version) {
         rest = push_shown(alloc, &mut text, rest, version)?;
     }

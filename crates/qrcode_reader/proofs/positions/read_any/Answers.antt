@@ -2,7 +2,7 @@ use Rattle.std.proofs.Common.{◌≡◌, ◌≢◌, ◌%◌, ◌<◌, IfSome, If
 use Rattle.qrcode_types.specs.Versions.{side}
 use Rattle.qrcode.specs.Reading.{Reads}
 use Rattle.qrcode.proofs.Sides.{same_root}
-use Rattle.qrcode_reader.specs.Positions.{seen, tried, turn, IsUnreadIn, IsFirstReading}
+use Rattle.qrcode_reader.specs.Positions.{seen, nth_position, turn, IsUnreadIn, IsFirstReading}
 use Rattle.qrcode_reader.specs.Readings.{IsReading}
 use Rattle.qrcode_reader.proofs.Positioned.{version_seen, turns_more, turn_below, unread_of_no_version, unread_in_all}
 use Rattle.qrcode_reader.proofs.positions.read_any.Goals as goal
@@ -17,7 +17,7 @@ returns-in-Ok-clause-value c =
     let v = c.in-Some.version in
     let view = c.in-Some-2.view in
     let r = c.in-Ok.reading in
-    let stands = subst (λ o. IfSome o (λ view. tried (c.loop-at.at % 16) ≡ (view.position, view.is_inverted))) c.in-Some-2.is c.in_ok-view.ensures.position in
+    let stands = subst (λ o. IfSome o (λ view. nth_position (c.loop-at.at % 16) ≡ (view.position, view.is_inverted))) c.in-Some-2.is c.in_ok-view.ensures.position in
     let shown = subst (λ o. IfSome o (λ view. view.modules.items ≡ seen (side v) view.position view.is_inverted s)) c.in-Some-2.is c.in_ok-view.ensures.seen in
     let due = subst (λ o. IfSome o (λ view. turn v (side v) s (c.loop-at.at % 16) ≡ c.loop-at.at)) c.in-Some-2.is c.in_ok-view.ensures.turn in
     let read : IsReading (seen (side v) view.position view.is_inverted s) r.version r.ec_level r.mask r.data.items r.wrong.items =
@@ -40,7 +40,7 @@ loop-at-preserved c =
     let at = c.loop-at.at in
     turns_more v w s (IsUnreadIn w s) at c.loop-at.invariant (elim c.match-branch-2.branch [
       | in-Some-2+in-Err+else-is_memory k ↦ λ here bytes reads.
-          let stands = subst (λ o. IfSome o (λ view. tried (at % 16) ≡ (view.position, view.is_inverted))) k.in-Some-2.is c.in_ok-view.ensures.position in
+          let stands = subst (λ o. IfSome o (λ view. nth_position (at % 16) ≡ (view.position, view.is_inverted))) k.in-Some-2.is c.in_ok-view.ensures.position in
           let shown = subst (λ o. IfSome o (λ view. view.modules.items ≡ seen w view.position view.is_inverted s)) k.in-Some-2.is c.in_ok-view.ensures.seen in
           let here_read = subst (λ t. Reads (seen w t.0 t.1 s) bytes) stands reads in
           let memory = k.in-Err.ensures.accepts bytes (subst (λ m. Reads m bytes) (sym (k.deref.ensures.value ∙ shown)) here_read) in

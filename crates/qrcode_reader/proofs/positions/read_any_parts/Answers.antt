@@ -1,7 +1,7 @@
 use Rattle.std.proofs.Common.{◌≡◌, ◌≢◌, ◌+◌, ◌%◌, ◌<◌, IfSome, IfNone, sym, ap, subst, ◌∙◌, true≢false, inr, arith}
 use Rattle.qrcode_types.specs.Versions.{side}
 use Rattle.qrcode.proofs.Sides.{same_root}
-use Rattle.qrcode_reader.specs.Positions.{seen, tried, turn, IsPartlessIn, IsFirstPartsReading}
+use Rattle.qrcode_reader.specs.Positions.{seen, nth_position, turn, IsPartlessIn, IsFirstPartsReading}
 use Rattle.qrcode_reader.specs.Readings.{IsPartsReading, IsPartsCause, ReadsParts}
 use Rattle.qrcode_reader.proofs.PartsRead.{parts_only_memory}
 use Rattle.qrcode_reader.proofs.Positioned.{version_seen, turns_more, first_turn_more, turn_below, seen_upright, partless_of_no_version, partless_in_all}
@@ -17,7 +17,7 @@ returns-in-Ok-clause-value c =
     let v = c.in-Some.version in
     let view = c.in-Some-2.view in
     let r = c.in-Ok.reading in
-    let stands = subst (λ o. IfSome o (λ view. tried (c.loop-at.at % 16) ≡ (view.position, view.is_inverted))) c.in-Some-2.is c.in_ok-view.ensures.position in
+    let stands = subst (λ o. IfSome o (λ view. nth_position (c.loop-at.at % 16) ≡ (view.position, view.is_inverted))) c.in-Some-2.is c.in_ok-view.ensures.position in
     let shown = subst (λ o. IfSome o (λ view. view.modules.items ≡ seen (side v) view.position view.is_inverted s)) c.in-Some-2.is c.in_ok-view.ensures.seen in
     let due = subst (λ o. IfSome o (λ view. turn v (side v) s (c.loop-at.at % 16) ≡ c.loop-at.at)) c.in-Some-2.is c.in_ok-view.ensures.turn in
     let read : IsPartsReading (seen (side v) view.position view.is_inverted s) r.version r.ec_level r.mask r.parts.bytes.items r.parts.parts.items r.wrong.items =
@@ -41,7 +41,7 @@ loop-at-preserved c =
     record {
       first = turns_more v w s (IsPartlessIn w s) at c.loop-at.invariant.first (elim c.match-branch-2.branch [
         | in-Some-2+in-Err+else-is_memory k ↦ λ here bytes parts reads.
-            let stands = subst (λ o. IfSome o (λ view. tried (at % 16) ≡ (view.position, view.is_inverted))) k.in-Some-2.is c.in_ok-view.ensures.position in
+            let stands = subst (λ o. IfSome o (λ view. nth_position (at % 16) ≡ (view.position, view.is_inverted))) k.in-Some-2.is c.in_ok-view.ensures.position in
             let shown = subst (λ o. IfSome o (λ view. view.modules.items ≡ seen w view.position view.is_inverted s)) k.in-Some-2.is c.in_ok-view.ensures.seen in
             let here_read = subst (λ t. ReadsParts (seen w t.0 t.1 s) bytes parts) stands reads in
             let memory = parts_only_memory k.deref.result.now k.in-Err.error k.in-Err.ensures.causes bytes parts (subst (λ m. ReadsParts m bytes parts) (sym (k.deref.ensures.value ∙ shown)) here_read) in
@@ -51,9 +51,9 @@ loop-at-preserved c =
       why = elim c.match-branch-2.branch [
         | in-Some-2+in-Err+else-is_memory k ↦ elim k.if-at-eq0.branch [
           | then-at-eq0 z ↦ λ less.
-              let stands = subst (λ o. IfSome o (λ view. tried (at % 16) ≡ (view.position, view.is_inverted))) k.in-Some-2.is c.in_ok-view.ensures.position in
+              let stands = subst (λ o. IfSome o (λ view. nth_position (at % 16) ≡ (view.position, view.is_inverted))) k.in-Some-2.is c.in_ok-view.ensures.position in
               let shown = subst (λ o. IfSome o (λ view. view.modules.items ≡ seen w view.position view.is_inverted s)) k.in-Some-2.is c.in_ok-view.ensures.seen in
-              let upright = ap tried (sym z.if-at-eq0.true) ∙ stands in
+              let upright = ap nth_position (sym z.if-at-eq0.true) ∙ stands in
               let same = k.deref.ensures.value ∙ shown ∙ ap (λ t. seen w t.0 t.1 s) (sym upright) ∙ seen_upright w s (sym c.in-Some.ensures.some.1) in
               subst (IsPartsCause s) (sym (k.why-is ∙ z.why-is)) (subst (λ m. IsPartsCause m k.in-Err.error) same k.in-Err.ensures.causes)
           | else-at-eq0 z ↦ subst (λ e. turn v w s 0 < at + 1 → IsPartsCause s e) (sym (k.why-is ∙ z.why-is))

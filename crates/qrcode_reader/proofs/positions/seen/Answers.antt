@@ -14,7 +14,7 @@ loop-i-preserved c =
     let i = c.loop-i.i in
     c.in_ok-push.ensures.items
     ∙ ap₂ (λ (xs : List Color) (x : Color). xs ++ x ∷ []) c.loop-i.invariant
-    (c.seen_color.ensures ∙ ap (λ (p : ℕ × ℕ). seen_color c.args.is_inverted (slice_index_or s (p.1 * w + p.0) Light)) c.standing-column.ensures.value)
+    (c.seen_color.ensures ∙ ap (λ (p : ℕ × ℕ). seen_color c.args.is_inverted (slice_index_or s (p.1 * w + p.0) Light)) c.place_in_square-column.ensures.value)
     ∙ sym (map-range_with_len_more at 0 i i (omega arith))
 
 pub returns : goal.returns

@@ -11,9 +11,9 @@ goes c = sym c.is_end.ensures ∙ c.loop-rest-test.true
 
 pub loop-rest-init : goal.loop-rest-init
 loop-rest-init c = (
-  c.behind_mark-rest.result.now,
-  c.behind_mark-rest.ensures,
-  subst (λ (done : List ℕ). ShowsFront c.args.version c.behind_mark-rest.result.now done c.behind_mark-rest.result.now) (sym c.new-text.ensures.bytes) (nothing_shown c.args.version c.behind_mark-rest.result.now),
+  c.after_eci_26-rest.result.now,
+  c.after_eci_26-rest.ensures,
+  subst (λ (done : List ℕ). ShowsFront c.args.version c.after_eci_26-rest.result.now done c.after_eci_26-rest.result.now) (sym c.new-text.ensures.bytes) (nothing_shown c.args.version c.after_eci_26-rest.result.now),
 )
 
 pub returns-in_err-rest-clause-accepts : goal.returns-in_err-rest-clause-accepts

@@ -4,7 +4,7 @@ use Rattle.qrcode_bits.specs.declared.bits.manner.Manner.TheVariants.{MarkedText
 use Rattle.qrcode_reader.specs.spell.Parts.{IsPrefixed}
 use Rattle.qrcode_reader.proofs.Headings.{same_prefixed}
 use Rattle.qrcode_reader.proofs.ShownBytes.{behind_mark, without_mark, mark_prefixed}
-use Rattle.qrcode_reader.proofs.spell.texts.behind_mark.Goals as goal
+use Rattle.qrcode_reader.proofs.spell.texts.after_eci_26.Goals as goal
 
 pub returns-then-is_micro : goal.returns-then-is_micro
 returns-then-is_micro c = without_mark c.args.version c.args.bits.now (λ rest normal e. true≢false (sym c.if-is_micro.true ∙ c.is_micro.ensures ∙ normal))

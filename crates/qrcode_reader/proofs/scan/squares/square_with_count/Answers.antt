@@ -4,8 +4,8 @@ use Rattle.qrcode_render.specs.Picture.{picture}
 use Rattle.qrcode_types.specs.declared.types.Color.{Color}
 use Rattle.qrcode_reader.specs.scan.Squares.{sampled}
 use Rattle.qrcode_reader.proofs.Framed.{fills, quotient_of, remainder_of, sampled_is}
-use Rattle.qrcode_reader.proofs.scan.squares.tried.Goals as goal
-use Rattle.qrcode_reader.proofs.scan.squares.tried.Goals.{then-scale-count-via-then-scale-count, then-scale-count-via-else-scale-count+then-margin-scale-ne0}
+use Rattle.qrcode_reader.proofs.scan.squares.square_with_count.Goals as goal
+use Rattle.qrcode_reader.proofs.scan.squares.square_with_count.Goals.{then-scale-count-via-then-scale-count, then-scale-count-via-else-scale-count+then-margin-scale-ne0}
 
 pub returns-then-scale-count-clause-none : goal.returns-then-scale-count-clause-none
 returns-then-scale-count-clause-none c =
