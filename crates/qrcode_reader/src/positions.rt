@@ -231,6 +231,7 @@ pub fn read_any(alloc: Global, modules: &[Color]) -> Result<Option<AnyReading>, 
 /// Errors: that of `read_parts` for the square as given if there is no such position; `OutOfMemory`
 /// if memory runs out.
 pub fn read_any_parts(alloc: Global, modules: &[Color]) -> Result<AnyPartsReading, Unread>
+    ensures square { IfOk result (λ any. (side : ℕ) × (side * side ≡ length modules.now)) }
     ensures value { IfOk result (λ any. (side : ℕ)
         → side * side ≡ length modules.now → IsFirstPartsReading side modules.now
         any.position any.is_inverted any.reading.version any.reading.ec_level any.reading.mask
