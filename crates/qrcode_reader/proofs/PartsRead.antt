@@ -23,11 +23,8 @@ parts_of_bits s v l bits bytes parts only q =
 
 -- a square with a cause other than memory does not decode to headers and segments
 pub parts_only_memory : (s : List Color) (e : Unread) → IsPartsCause s e → (bytes : List ℕ) (parts : List Part) → ReadsParts s bytes parts → e ≡ OutOfMemory
-parts_only_memory s NoSuchSide cause bytes parts q = only_memory s NoSuchSide cause q.version q.level q.bits q.read
-parts_only_memory s NoFormat cause bytes parts q = only_memory s NoFormat cause q.version q.level q.bits q.read
-parts_only_memory s (Damaged b) cause bytes parts q = only_memory s (Damaged b) cause q.version q.level q.bits q.read
 parts_only_memory s NotSpelled cause bytes parts q = absurd (cause.none bytes parts (parts_of_bits s cause.version cause.level cause.bits bytes parts cause.only q))
-parts_only_memory s OutOfMemory cause bytes parts q = refl
+parts_only_memory s e cause bytes parts q = only_memory s e cause q.version q.level q.bits q.read
 
 -- if the bits decode to headers and segments, the square does
 pub parts_reading : (s : List Color) (v : Version) (l : EcLevel) (k : MaskPattern) (bits given : List Bool) (bytes : List ℕ) (parts : List Part) (wrong : List WrongCodeword) → IsBitReading s v l k bits wrong → given ≡ bits

@@ -91,13 +91,10 @@ blocked s v l k words e square format same refused = elim refused [
 ]
 
 pub bytes_only_memory : (s : List Color) (e : Unread) → IsCause s e → (bytes : List ℕ) → Reads s bytes → e ≡ OutOfMemory
-bytes_only_memory s NoSuchSide cause bytes q = only_memory s NoSuchSide cause q.version q.level q.bits q.read
-bytes_only_memory s NoFormat cause bytes q = only_memory s NoFormat cause q.version q.level q.bits q.read
-bytes_only_memory s (Damaged b) cause bytes q = only_memory s (Damaged b) cause q.version q.level q.bits q.read
 bytes_only_memory s NotSpelled cause bytes q =
     let e = cause.only.only q.version q.level q.bits q.read in
     absurd (cause.none bytes (subst (λ b. Spells cause.version b bytes) e.2 (subst (λ v. Spells v q.bits bytes) e.0 q.spelled)))
-bytes_only_memory s OutOfMemory cause bytes q = refl
+bytes_only_memory s e cause bytes q = only_memory s e cause q.version q.level q.bits q.read
 
 -- if the bits decode to bytes, the square does
 pub reading : (s : List Color) (v : Version) (l : EcLevel) (k : MaskPattern) (bits given : List Bool) (bytes : List ℕ) (wrong : List WrongCodeword) → IsBitReading s v l k bits wrong → given ≡ bits

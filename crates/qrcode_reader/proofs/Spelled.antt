@@ -1,5 +1,5 @@
 -- The bytes that bits decode to begin with those of their first piece.
-use Rattle.std.proofs.Common.{◌≡◌, ◌<◌, ◌+◌, ℕ, zero, suc, pos, negsuc, ◌++◌, List, [], ◌∷◌, Bool, true, false, length, refl, sym, ap, ap₂, subst, ◌∙◌, arith, IsTrue, IsFalse, append_assoc, length-append, true≢false}
+use Rattle.std.proofs.Common.{◌≡◌, ◌<◌, ◌+◌, ℕ, zero, suc, pos, negsuc, ◌++◌, List, [], ◌∷◌, Bool, true, false, length, refl, sym, ap, ap₂, subst, ◌∙◌, arith, IsTrue, IsFalse, append_assoc, length-append, true≢false, ◌⊎◌, inl, inr, Result, Ok, Err, IfErr, IsOkUnless}
 use Rattle.std.specs.Prelude.{flat_map}
 use Rattle.qrcode_types.specs.Modes.{has_mode, length_bits_count, mode_bits_count}
 use Rattle.qrcode_types.specs.declared.types.Version.{Version}
@@ -88,3 +88,8 @@ some_field (Micro (negsuc n)) Kanji h = omega arith
 -- a piece takes at least one bit
 pub piece_shortens : (v : Version) (bits : List Bool) (p : Piece) (rest : List Bool) → BeginsWithPiece v bits p rest → length rest < length bits
 piece_shortens v bits p rest b = omega (arith, ap length b.whole, length-append (written_piece v p) rest, length-piece v p, some_field v p.mode b.readable.mode_exists)
+
+-- an error whose cause cannot be is that memory ran out
+pub memory_only : {T E Q : Type 0} (r : Result T E) (memory other : E) → IfErr r (λ e. (e ≡ memory) ⊎ ((e ≡ other) × Q)) → ¬ Q → IsOkUnless r memory
+memory_only (Ok x) memory other cause impossible = tt
+memory_only (Err e) memory other cause impossible = elim cause [ inl m ↦ m | inr n ↦ absurd (impossible n.1) ]

@@ -77,27 +77,22 @@ pub record HasDamagedBlock (s : List Color) (b : ℕ) : Type 0 where
   pub format : HasFormat version s level mask
   pub first : IsFirstDamaged version level (codewords version level (stream version mask s)) b
 
-pub record SpellsNothing (s : List Color) : Type 0 where  -- all blocks can be corrected, but the bits decode to no bytes
+-- all blocks can be corrected, but the bits mean nothing: `Nothing` says in which sense
+pub record MeansNothing (Nothing : Version → List Bool → Type 0) (s : List Color) : Type 0 where
   pub version : Version
   pub level : EcLevel
   pub bits : List Bool
   pub only : ReadsBitsOnly s version level bits
-  pub none : (bytes : List ℕ) → ¬ Spells version bits bytes
+  pub none : Nothing version bits
 
--- all blocks can be corrected, but a reader shows no text for the bits
-pub record ShowsNothing (s : List Color) : Type 0 where
-  pub version : Version
-  pub level : EcLevel
-  pub bits : List Bool
-  pub only : ReadsBitsOnly s version level bits
-  pub none : (text : List ℕ) → ¬ Shows version bits text
+abbrev pub SpellsNothing : List Color → Type 0  -- the bits decode to no bytes
+SpellsNothing s = MeansNothing (λ v bits. (bytes : List ℕ) → ¬ Spells v bits bytes) s
 
-pub record HoldsNoParts (s : List Color) : Type 0 where  -- all blocks can be corrected, but the bits decode to no headers and segments
-  pub version : Version
-  pub level : EcLevel
-  pub bits : List Bool
-  pub only : ReadsBitsOnly s version level bits
-  pub none : HaveNoParts version bits
+abbrev pub ShowsNothing : List Color → Type 0  -- a reader shows no text for the bits
+ShowsNothing s = MeansNothing (λ v bits. (text : List ℕ) → ¬ Shows v bits text) s
+
+abbrev pub HoldsNoParts : List Color → Type 0  -- the bits decode to no headers and segments
+HoldsNoParts s = MeansNothing HaveNoParts s
 
 abbrev pub IsBitCause : List Color → Unread → Type 0  -- why a square does not decode to bits
 IsBitCause s NoSuchSide = HasNoVersion s
@@ -107,18 +102,12 @@ IsBitCause s NotSpelled = ⊥
 IsBitCause s OutOfMemory = Unit
 
 abbrev pub IsCause : List Color → Unread → Type 0  -- why a square does not decode to bytes
-IsCause s NoSuchSide = HasNoVersion s
-IsCause s NoFormat = HasNoFormat s
-IsCause s (Damaged b) = HasDamagedBlock s b
 IsCause s NotSpelled = SpellsNothing s
-IsCause s OutOfMemory = Unit
+IsCause s e = IsBitCause s e
 
 abbrev pub IsPartsCause : List Color → Unread → Type 0  -- why a square does not decode to headers and segments
-IsPartsCause s NoSuchSide = HasNoVersion s
-IsPartsCause s NoFormat = HasNoFormat s
-IsPartsCause s (Damaged b) = HasDamagedBlock s b
 IsPartsCause s NotSpelled = HoldsNoParts s
-IsPartsCause s OutOfMemory = Unit
+IsPartsCause s e = IsBitCause s e
 
 abbrev pub IsTextCause : List Color → UnreadText → Type 0  -- why a reader shows no text for a square
 IsTextCause s (NoBits e) = IsBitCause s e

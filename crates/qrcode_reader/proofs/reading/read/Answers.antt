@@ -1,9 +1,10 @@
-use Rattle.std.proofs.lemmas.Result.{err_from_is_err_and}
+use Rattle.std.proofs.Common.{◌≡◌}
+use Rattle.std.proofs.lemmas.Result.{err_from_is_err_and, IfErr-weaker}
 use Rattle.qrcode_reader.specs.Readings.{IsCause, IsReading}
-use Rattle.qrcode_reader.specs.Refusals.{unread_of}
+use Rattle.qrcode_reader.specs.declared.refusals.Unread.TheVariants.{OutOfMemory}
 use Rattle.qrcode_reader.proofs.Refused.{bytes_only_memory, reading, unspelled, given_back}
 use Rattle.qrcode_reader.proofs.reading.read.Goals as goal
-use Rattle.qrcode_reader.proofs.reading.read.Goals.{In_err-data, In_ok-data}
+use Rattle.qrcode_reader.proofs.reading.read.Goals.{In_ok-data}
 
 -- ---- no bits
 pub returns-in_err-read-clause-accepts : goal.returns-in_err-read-clause-accepts
@@ -19,27 +20,21 @@ returns-in_err-read-clause-gives_back c =
     rw (p.1, p.2) (c.in_err-read.ensures.accepts q.version q.level q.bits q.read, tt)
 
 -- ---- bits that decode to no bytes
-cause : (c : In_err-data) → IsCause c.args.modules.now (unread_of c.in_err-data.field-0.0)
-cause c =
-    let r = c.in_ok-read.read in
-    unspelled c.args.modules.now r.version r.ec_level r.bits.items c.deref.result.now _ c.in_ok-read.ensures.value.only c.deref.ensures.value c.in_err-data.ensures.causes
-
 pub returns-in_err-data-clause-causes : goal.returns-in_err-data-clause-causes
 returns-in_err-data-clause-causes c =
+    let r = c.in_ok-read.read in
     let p = err_from_is_err_and c.from_residual-in_err-data.result c.from_residual-in_err-data.ensures.1 in
-    rw (p.1, p.2) (cause (goal.at.returns-in_err-data-clause-causes c).In_err-data)
+    rw (p.1, p.2) (unspelled c.args.modules.now r.version r.ec_level r.bits.items c.deref.result.now _ c.in_ok-read.ensures.value.only c.deref.ensures.value c.in_err-data.ensures.causes)
 
 pub returns-in_err-data-clause-accepts : goal.returns-in_err-data-clause-accepts
 returns-in_err-data-clause-accepts c =
-    let k = (goal.at.returns-in_err-data-clause-accepts c).In_err-data in
-    let p = err_from_is_err_and c.from_residual-in_err-data.result c.from_residual-in_err-data.ensures.1 in
-    λ bytes q. rw (p.1, p.2) (bytes_only_memory c.args.modules.now _ (cause k) bytes q)
+    let s = c.args.modules.now in
+    λ bytes q. IfErr-weaker c.from_residual-in_err-data.result (IsCause s) (λ e. e ≡ OutOfMemory) (λ e cause. bytes_only_memory s e cause bytes q) (returns-in_err-data-clause-causes c)
 
 pub returns-in_err-data-clause-gives_back : goal.returns-in_err-data-clause-gives_back
 returns-in_err-data-clause-gives_back c =
-    let k = (goal.at.returns-in_err-data-clause-gives_back c).In_err-data in
     let p = err_from_is_err_and c.from_residual-in_err-data.result c.from_residual-in_err-data.ensures.1 in
-    λ v l bits bytes symbol encodes damaged. rw (p.1, p.2) (bytes_only_memory c.args.modules.now _ (cause k) bytes (encodes.read c.args.modules.now damaged).found, tt)
+    λ v l bits bytes symbol encodes damaged. (returns-in_err-data-clause-accepts c bytes (encodes.read c.args.modules.now damaged).found, rw p.1 tt)
 
 -- ---- a reading
 read_as : (c : In_ok-data) → (let r = c.in_ok-read.read in IsReading c.args.modules.now r.version r.ec_level r.mask c.in_ok-data.data.items r.wrong.items)

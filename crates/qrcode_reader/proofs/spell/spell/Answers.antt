@@ -2,7 +2,8 @@ use Rattle.std.proofs.Common.{◌≡◌, ℕ, List, false, sym, subst, ◌∙◌
 use Rattle.std.proofs.lemmas.Result.{err_from_is_err_and}
 use Rattle.qrcode_bits.specs.Spelling.{is_end}
 use Rattle.qrcode_bits.proofs.Spellings.{one_text}
-use Rattle.qrcode_reader.proofs.Spelled.{SpellsFront, nothing_done, refuses_piece, spells_on, spells_end, piece_shortens}
+use Rattle.qrcode_reader.specs.declared.spell.refusals.Unspelled.TheVariants.{NotSpelled, OutOfMemory}
+use Rattle.qrcode_reader.proofs.Spelled.{SpellsFront, nothing_done, refuses_piece, spells_on, spells_end, piece_shortens, memory_only}
 use Rattle.qrcode_reader.proofs.spell.spell.Goals as goal
 use Rattle.qrcode_reader.proofs.spell.spell.Goals.{After-push_piece}
 
@@ -12,15 +13,6 @@ goes c = sym c.is_end.ensures ∙ c.loop-rest-test.true
 pub loop-rest-init : goal.loop-rest-init
 loop-rest-init c = subst (λ (done : List ℕ). SpellsFront c.args.version c.args.bits.now done c.args.bits.now) (sym c.new-bytes.ensures.items) (nothing_done c.args.version c.args.bits.now)
 
-pub returns-in_err-behind-clause-accepts : goal.returns-in_err-behind-clause-accepts
-returns-in_err-behind-clause-accepts c =
-    let k = (goal.at.returns-in_err-behind-clause-accepts c).After-push_piece in
-    let p = err_from_is_err_and c.from_residual.result c.from_residual.ensures.1 in
-    λ bytes s. rw (p.1, p.2) (elim c.in_err-behind.ensures.refused [
-      | inl memory ↦ memory
-      | inr none ↦ absurd (refuses_piece c.args.version c.args.bits.now c.loop-rest.bytes.items c.loop-rest.rest.now (goes k) none.1 c.loop-rest.invariant bytes s)
-    ])
-
 pub returns-in_err-behind-clause-causes : goal.returns-in_err-behind-clause-causes
 returns-in_err-behind-clause-causes c =
     let k = (goal.at.returns-in_err-behind-clause-causes c).After-push_piece in
@@ -29,6 +21,10 @@ returns-in_err-behind-clause-causes c =
       | inl memory ↦ inl memory
       | inr none ↦ inr (none.0, refuses_piece c.args.version c.args.bits.now c.loop-rest.bytes.items c.loop-rest.rest.now (goes k) none.1 c.loop-rest.invariant)
     ])
+
+pub returns-in_err-behind-clause-accepts : goal.returns-in_err-behind-clause-accepts
+returns-in_err-behind-clause-accepts c =
+    λ bytes s. memory_only c.from_residual.result OutOfMemory NotSpelled (returns-in_err-behind-clause-causes c) (λ none. none bytes s)
 
 pub loop-rest-smaller : goal.loop-rest-smaller
 loop-rest-smaller c = let t = c.in_ok-behind.ensures.taken in piece_shortens c.args.version c.loop-rest.rest.now _ c.in_ok-behind.behind.now t.1

@@ -1,12 +1,12 @@
-use Rattle.std.proofs.Common.{ap}
-use Rattle.std.proofs.lemmas.Result.{err_from_is_err_and}
+use Rattle.std.proofs.Common.{◌≡◌, ap}
+use Rattle.std.proofs.lemmas.Result.{err_from_is_err_and, IfErr-weaker}
 use Rattle.std.specs.Prelude.{chars, string_bytes}
 use Rattle.qrcode_reader.specs.Readings.{IsTextCause, IsTextReading}
-use Rattle.qrcode_reader.specs.Refusals.{unread_text_of}
+use Rattle.qrcode_reader.specs.declared.refusals.Unread.TheVariants.{OutOfMemory}
 use Rattle.qrcode_reader.specs.declared.refusals.UnreadText.TheVariants.{NoBits}
 use Rattle.qrcode_reader.proofs.ShownTexts.{text_only_memory, text_reading, unshown}
 use Rattle.qrcode_reader.proofs.texts.read_text.Goals as goal
-use Rattle.qrcode_reader.proofs.texts.read_text.Goals.{In_err-text, In_ok-text}
+use Rattle.qrcode_reader.proofs.texts.read_text.Goals.{In_ok-text}
 
 -- ---- no bits
 pub returns-in_err-read-clause-causes : goal.returns-in_err-read-clause-causes
@@ -27,27 +27,21 @@ returns-in_err-read-clause-gives_back c =
     rw (p.1, p.2) (ap NoBits (c.in_err-read.ensures.accepts q.version q.level q.bits q.read), tt)
 
 -- ---- bits that show no text
-cause : (c : In_err-text) → IsTextCause c.args.modules.now (unread_text_of c.in_err-text.field-0.0)
-cause c =
-    let r = c.in_ok-read.read in
-    unshown c.args.modules.now r.version r.ec_level r.bits.items c.deref.result.now _ c.in_ok-read.ensures.value.only c.deref.ensures.value c.in_err-text.ensures.causes
-
 pub returns-in_err-text-clause-causes : goal.returns-in_err-text-clause-causes
 returns-in_err-text-clause-causes c =
+    let r = c.in_ok-read.read in
     let p = err_from_is_err_and c.from_residual-in_err-text.result c.from_residual-in_err-text.ensures.1 in
-    rw (p.1, p.2) (cause (goal.at.returns-in_err-text-clause-causes c).In_err-text)
+    rw (p.1, p.2) (unshown c.args.modules.now r.version r.ec_level r.bits.items c.deref.result.now _ c.in_ok-read.ensures.value.only c.deref.ensures.value c.in_err-text.ensures.causes)
 
 pub returns-in_err-text-clause-accepts : goal.returns-in_err-text-clause-accepts
 returns-in_err-text-clause-accepts c =
-    let k = (goal.at.returns-in_err-text-clause-accepts c).In_err-text in
-    let p = err_from_is_err_and c.from_residual-in_err-text.result c.from_residual-in_err-text.ensures.1 in
-    λ text q. rw (p.1, p.2) (text_only_memory c.args.modules.now _ (cause k) text q)
+    let s = c.args.modules.now in
+    λ text q. IfErr-weaker c.from_residual-in_err-text.result (IsTextCause s) (λ e. e ≡ NoBits OutOfMemory) (λ e cause. text_only_memory s e cause text q) (returns-in_err-text-clause-causes c)
 
 pub returns-in_err-text-clause-gives_back : goal.returns-in_err-text-clause-gives_back
 returns-in_err-text-clause-gives_back c =
-    let k = (goal.at.returns-in_err-text-clause-gives_back c).In_err-text in
     let p = err_from_is_err_and c.from_residual-in_err-text.result c.from_residual-in_err-text.ensures.1 in
-    λ v l text symbol shown damaged. rw (p.1, p.2) (text_only_memory c.args.modules.now _ (cause k) text (shown.shown c.args.modules.now damaged).found, tt)
+    λ v l text symbol shown damaged. (returns-in_err-text-clause-accepts c text (shown.shown c.args.modules.now damaged).found, rw p.1 tt)
 
 -- ---- a reading
 read_as : (c : In_ok-text) → (let r = c.in_ok-read.read in IsTextReading c.args.modules.now r.version r.ec_level r.mask (chars (string_bytes c.in_ok-text.text)) r.wrong.items)

@@ -2,6 +2,8 @@ use Rattle.std.proofs.Common.{◌≡◌, ◌++◌, [], ℕ, List, false, refl, s
 use Rattle.std.proofs.lemmas.Result.{err_from_is_err_and}
 use Rattle.qrcode_bits.specs.Spelling.{is_end}
 use Rattle.qrcode_reader.specs.declared.spell.parts.Part.{Part}
+use Rattle.qrcode_reader.specs.declared.spell.refusals.Unspelled.TheVariants.{NotSpelled, OutOfMemory}
+use Rattle.qrcode_reader.proofs.Spelled.{memory_only}
 use Rattle.qrcode_reader.proofs.Parted.{PartsFront, nothing_read, refuses_part, parts_on, parts_end, parts_only, parts_behind, part_shortens, spelled_only}
 use Rattle.qrcode_reader.proofs.spell.parts.pieces.Goals as goal
 use Rattle.qrcode_reader.proofs.spell.parts.pieces.Goals.{After-push_part, After-is_end}
@@ -14,15 +16,6 @@ loop-version-init c =
     subst (λ (done : List ℕ). PartsFront c.args.version c.args.bits.now done c.new-parts.result.items c.args.bits.now) (sym c.new-bytes.ensures.items)
     (subst (λ (before : List Part). PartsFront c.args.version c.args.bits.now [] before c.args.bits.now) (sym c.new-parts.ensures.items) (nothing_read c.args.version c.args.bits.now))
 
-pub returns-in_err-part-clause-accepts : goal.returns-in_err-part-clause-accepts
-returns-in_err-part-clause-accepts c =
-    let k = (goal.at.returns-in_err-part-clause-accepts c).After-push_part in
-    let p = err_from_is_err_and c.from_residual.result c.from_residual.ensures.1 in
-    λ bytes parts s. rw (p.1, p.2) (elim c.in_err-part.ensures.refused [
-      | inl memory ↦ memory
-      | inr none ↦ absurd (refuses_part c.args.version c.args.bits.now c.loop-version.bytes.items c.loop-version.parts.items c.loop-version.rest.now (goes k) none.1 c.loop-version.invariant bytes parts s)
-    ])
-
 pub returns-in_err-part-clause-causes : goal.returns-in_err-part-clause-causes
 returns-in_err-part-clause-causes c =
     let k = (goal.at.returns-in_err-part-clause-causes c).After-push_part in
@@ -31,6 +24,10 @@ returns-in_err-part-clause-causes c =
       | inl memory ↦ inl memory
       | inr none ↦ inr (none.0, refuses_part c.args.version c.args.bits.now c.loop-version.bytes.items c.loop-version.parts.items c.loop-version.rest.now (goes k) none.1 c.loop-version.invariant)
     ])
+
+pub returns-in_err-part-clause-accepts : goal.returns-in_err-part-clause-accepts
+returns-in_err-part-clause-accepts c =
+    λ bytes parts s. memory_only c.from_residual.result OutOfMemory NotSpelled (returns-in_err-part-clause-causes c) (λ none. none bytes parts s)
 
 pub loop-version-smaller : goal.loop-version-smaller
 loop-version-smaller c =
