@@ -1,5 +1,5 @@
 -- Amounts are read back.
-use Rattle.std.proofs.Common.{◌≡◌, ℕ, ◌+◌, ◌<◌, ◌^◌, ◌==◌, ◌||◌, ◌/◌, ◌%◌, ◌*◌, List, [], ◌∷◌, ◌++◌, Bool, false, length, decimal, refl, ap, ap₂, ◌∙◌, arith}
+use Rattle.std.proofs.Common.{◌≡◌, ℕ, ◌+◌, ◌<◌, ◌^◌, ◌==◌, ◌||◌, ◌/◌, ◌%◌, ◌*◌, List, [], ◌∷◌, ◌++◌, Bool, false, length, take, decimal, codes, refl, ap, ap₂, ◌∙◌, arith}
 use Rattle.std.specs.List.{list_any}
 use Rattle.std.specs.Char.{digit_value}
 use Rattle.std.specs.Str.Parse.{digits_value}
@@ -26,10 +26,10 @@ no_point n fits = decimal_by_steps (λ m ds. list_any is_point ds ≡ false) dig
 value_of_digit : (n : ℕ) → n < 10 → digit_value (48 + n) ≡ n
 value_of_digit n small = let is = digit_value_digit (48 + n) (omega arith, omega arith) in omega (arith, is)
 
-two_digits : (a b : ℕ) → a < 10 → b < 10 → digits_value 10 (decimal a ++ decimal b) ≡ a * 10 + b
+two_digits : (a b : ℕ) → a < 10 → b < 10 → digits_value 10 (take 2 ((decimal a ++ decimal b) ++ codes "00")) ≡ a * 10 + b
 two_digits a b a_small b_small =
     let first : 0 * 10 + a ≡ a = omega arith in
-    ap₂ (λ xs ys. digits_value 10 (xs ++ ys)) (decimal_digit a a_small) (decimal_digit b b_small)
+    ap₂ (λ xs ys. digits_value 10 (take 2 ((xs ++ ys) ++ codes "00"))) (decimal_digit a a_small) (decimal_digit b b_small)
     ∙ digits_value_push 10 ((48 + a) ∷ []) (48 + b)
     ∙ ap₂ (λ x y. x * 10 + y) (digits_value_push 10 [] (48 + a) ∙ ap (λ x. 0 * 10 + x) (value_of_digit a a_small) ∙ first) (value_of_digit b b_small)
 
@@ -40,7 +40,7 @@ amount_read n fits =
     let whole : n / 100 < 2 ^ 64 = omega arith in
     let later = decimal (n / 10 % 10) ++ decimal (n % 10) in
     let is = no_point (n / 100) whole in
-    ap₂ (λ xs ys. digits_value 10 xs * 100 + digits_value 10 ys) (before-at 46 (decimal (n / 100)) later is) (after-at 46 (decimal (n / 100)) later is)
+    ap₂ (λ xs ys. digits_value 10 xs * 100 + digits_value 10 (take 2 (ys ++ codes "00"))) (before-at 46 (decimal (n / 100)) later is) (after-at 46 (decimal (n / 100)) later is)
     ∙ ap₂ (λ x y. x * 100 + y) (decimal_is_IsNumeral (n / 100) whole).1 (two_digits (n / 10 % 10) (n % 10) (omega arith) (omega arith))
     ∙ omega arith
 
