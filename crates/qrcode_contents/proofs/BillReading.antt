@@ -102,11 +102,11 @@ cents_short None is = omega arith
 cents_short (Some n) is = amount_short n (amount_below n is)
 
 -- an amount that may be left open is read back
-pub cents_read : (cents : Option ℕ) → is_out_of_range cents ≡ false → read_cents (amount_line cents) ≡ cents
+pub cents_read : (cents : Option ℕ) → is_out_of_range cents ≡ false → read_cents (amount_line cents) ≡ Some cents
 cents_read None is = refl
 cents_read (Some n) is =
     let fits = amount_below n is in
-    rw (amount_filled n fits) (ap Some (amount_read n fits))
+    rw (amount_filled n fits, amount_read n fits) refl
 
 -- what holds of a bill that passes all checks
 record AreBillLines (b : Invoice) : Type 0 where
@@ -229,14 +229,10 @@ lines_plain b are =
       ),
     )
 
-same_bill : (b : Invoice) (cents : Option ℕ) → cents ≡ b.cents → (let s : Invoice = record b { cents = cents } in s) ≡ b
-same_bill b cents is = rw is refl
-
 -- the lines give the bill
 lines_say : (b : Invoice) → AreBillLines b → invoice_in (line_at (bill_lines b)) ≡ Some b
 lines_say b are =
-    rw (kind_named b.creditor (is_nobody b.creditor) refl, kind_named b.debtor (is_nobody b.debtor) refl, reference_named b.reference (is_filled b.reference) (is_creditor_reference b.reference) refl refl, currency_read b.currency)
-    (ap Some (same_bill b (read_cents (amount_line b.cents)) (cents_read b.cents are.cents)))
+    rw (kind_named b.creditor (is_nobody b.creditor) refl, kind_named b.debtor (is_nobody b.debtor) refl, reference_named b.reference (is_filled b.reference) (is_creditor_reference b.reference) refl refl, cents_read b.cents are.cents, currency_read b.currency) refl
 
 -- reading the text gives back the fields
 pub bill_read : (b : Invoice) → bill_refusal b ≡ None → read_bill (bill_text b) ≡ Some b

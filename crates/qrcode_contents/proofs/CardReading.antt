@@ -9,10 +9,10 @@ use Rattle.qrcode_contents.specs.declared.fields.errors.Field.TheVariants.{Url, 
 use Rattle.qrcode_contents.specs.declared.fields.errors.Cause.TheVariants.{ControlCharacter, Character, Range}
 use Rattle.qrcode_contents.specs.Card.{Contact, first_fields, last_fields, numbers_of, first_checks, number_checks, last_checks, first_refused, numbers_refused, last_refused, card_refusal, first_texts, last_texts, card_lines, card_text, contact_with, contact_in, read_card}
 use Rattle.qrcode_contents.specs.Phone.{is_no_number}
-use Rattle.qrcode_contents.specs.Times.{wrong_day, date_text, said_or_none, read_date, read_or_none}
+use Rattle.qrcode_contents.specs.Times.{wrong_day, date_text, said_or_none, read_date}
 use Rattle.qrcode_contents.specs.fields.Characters.{is_control, is_dialled, is_stray, stray_checks}
 use Rattle.qrcode_contents.specs.fields.ContentLines.{content_text, structured, text_lines, read_content, part_in}
-use Rattle.qrcode_contents.specs.fields.Entries.{Entry, value_of}
+use Rattle.qrcode_contents.specs.fields.Entries.{Entry, read_or_none, value_of}
 use Rattle.qrcode_contents.specs.fields.EntryTests.{are_distinct}
 use Rattle.qrcode_contents.specs.fields.Links.{Parameter}
 use Rattle.qrcode_contents.proofs.ContentParts.{HaveNoReturns, IsPlain, IsPlain-structured, part_read, text_content, line_with}

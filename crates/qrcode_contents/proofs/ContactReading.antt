@@ -4,12 +4,12 @@ use Rattle.std.specs.Option.{option_map, option_and_then}
 use Rattle.qrcode_contents.specs.Contact.{Person, person_controls, person_checks, contact_refusal, mecard_entries, mecard_text, person_with, person_from, read_mecard}
 use Rattle.qrcode_contents.specs.declared.fields.errors.Field.TheVariants.{Family, Birthday, Phone}
 use Rattle.qrcode_contents.specs.declared.fields.errors.Cause.TheVariants.{Empty, Range, Character}
-use Rattle.qrcode_contents.specs.fields.Entries.{Entry, filled, is_empty, part_of}
+use Rattle.qrcode_contents.specs.fields.Entries.{Entry, filled, is_empty, part_of, read_or_none}
 use Rattle.qrcode_contents.specs.fields.EntryTests.{are_distinct}
 use Rattle.qrcode_contents.specs.fields.Refusals.{refused_if}
 use Rattle.qrcode_contents.specs.Phone.{is_no_number}
 use Rattle.qrcode_contents.specs.declared.times.Day.{Day}
-use Rattle.qrcode_contents.specs.Times.{wrong_day, read_day, read_or_none}
+use Rattle.qrcode_contents.specs.Times.{wrong_day, read_day}
 use Rattle.qrcode_contents.proofs.EntryReading.{read_entries-text, part_of-filled}
 use Rattle.qrcode_contents.proofs.Passing.{all_pass, test_passes}
 use Rattle.qrcode_contents.proofs.TimeReading.{day_or_none_read}

@@ -7,7 +7,7 @@ use Rattle.qrcode_contents.specs.declared.fields.errors.Field.TheVariants.{Uid, 
 use Rattle.qrcode_contents.specs.declared.fields.errors.Cause.TheVariants.{ControlCharacter, Range}
 use Rattle.qrcode_contents.specs.fields.Characters.{is_control, is_stray}
 use Rattle.qrcode_contents.specs.fields.ContentLines.{content_text, structured, read_content}
-use Rattle.qrcode_contents.specs.fields.Entries.{Entry, single, is_filled, filled, value_of}
+use Rattle.qrcode_contents.specs.fields.Entries.{Entry, single, is_filled, filled, read_or_none, value_of}
 use Rattle.qrcode_contents.specs.fields.Links.{Parameter}
 use Rattle.qrcode_contents.proofs.ContentParts.{IsPlain, part_read, one_plain, line_with, plain_nothing}
 use Rattle.qrcode_contents.proofs.ContentReading.{AreContent, AreContent-append, behind_last, lines_read}
@@ -18,8 +18,8 @@ use Rattle.qrcode_contents.specs.declared.times.Day.{Day}
 use Rattle.qrcode_contents.specs.declared.times.Moment.{Moment}
 use Rattle.qrcode_contents.specs.declared.event.Span.{Span}
 use Rattle.qrcode_contents.specs.declared.event.Span.TheVariants.{Days, Times}
-use Rattle.qrcode_contents.specs.Event.{Happening, wrong_stamp, stamp_text, read_stamp, begins_never, ends_never, event_checks, event_refusal, span_lines, event_lines, first_lines, last_lines, event_text, before_end, component, span_in, happening_in, calendar_event, read_event}
-use Rattle.qrcode_contents.specs.Times.{is_day, is_moment, day_text, moment_text}
+use Rattle.qrcode_contents.specs.Event.{Happening, wrong_stamp, stamp_text, begins_never, ends_never, event_checks, event_refusal, span_lines, event_lines, first_lines, last_lines, event_text, before_end, component, span_in, happening_in, calendar_event, read_event}
+use Rattle.qrcode_contents.specs.Times.{is_day, is_moment, day_text, moment_text, read_moment}
 use Rattle.qrcode_contents.proofs.TimeReading.{allowed, day_read, moment_read, IsPlain-day, IsPlain-moment, filled_day, filled_moment}
 
 -- what holds of fields that pass all checks
@@ -174,7 +174,7 @@ same_happening h uid summary location description h₁ h₂ h₃ h₄ = rw (h₁
 -- the lines have the values of the event
 record Says (h : Happening) (lines : List Entry) : Type 0 where
   uid : value_of (codes "UID") lines ≡ structured (h.uid ∷ [])
-  stamp : read_stamp (value_of (codes "DTSTAMP") lines) ≡ Some h.stamp
+  stamp : read_or_none read_moment (value_of (codes "DTSTAMP") lines) ≡ Some h.stamp
   span : span_in lines ≡ Some h.span
   summary : value_of (codes "SUMMARY") lines ≡ structured (h.summary ∷ [])
   location : value_of (codes "LOCATION") lines ≡ structured (h.location ∷ [])
@@ -185,7 +185,7 @@ happening_said h lines says =
     rw (says.uid, says.stamp, says.span, says.summary, says.location, says.description)
     (ap Some (same_happening h _ _ _ _ (part_read 0 h.uid []) (part_read 0 h.summary []) (part_read 0 h.location []) (part_read 0 h.description [])))
 
-stamp_read : (s : Option Moment) → wrong_stamp s ≡ false → read_stamp (stamp_text s) ≡ Some s
+stamp_read : (s : Option Moment) → wrong_stamp s ≡ false → read_or_none read_moment (stamp_text s) ≡ Some s
 stamp_read None is = refl
 stamp_read (Some m) is = rw (filled_moment m (allowed (is_moment m) is), moment_read m (allowed (is_moment m) is)) refl
 
@@ -201,7 +201,7 @@ says_by uid stamp (Days first end) summary location description are =
     let es = entries_of (event_lines h) in
     record {
       uid = part_of-filled (codes "UID") 0 es refl;
-      stamp = ap read_stamp (part_of-filled (codes "DTSTAMP") 0 es refl) ∙ stamp_read stamp are.stamp;
+      stamp = ap (read_or_none read_moment) (part_of-filled (codes "DTSTAMP") 0 es refl) ∙ stamp_read stamp are.stamp;
       span = days_said first end (filled es) (allowed (is_day first) are.begins) (allowed (is_day end) are.ends) (part_of-filled (codes "DTSTART;VALUE=DATE") 0 es refl) (part_of-filled (codes "DTEND;VALUE=DATE") 0 es refl);
       summary = part_of-filled (codes "SUMMARY") 0 es refl;
       location = part_of-filled (codes "LOCATION") 0 es refl;
@@ -212,7 +212,7 @@ says_by uid stamp (Times begin end) summary location description are =
     let es = entries_of (event_lines h) in
     record {
       uid = part_of-filled (codes "UID") 0 es refl;
-      stamp = ap read_stamp (part_of-filled (codes "DTSTAMP") 0 es refl) ∙ stamp_read stamp are.stamp;
+      stamp = ap (read_or_none read_moment) (part_of-filled (codes "DTSTAMP") 0 es refl) ∙ stamp_read stamp are.stamp;
       span = times_said begin end (filled es) (allowed (is_moment begin) are.begins) (allowed (is_moment end) are.ends) (part_of-filled (codes "DTSTART;VALUE=DATE") 0 es refl) (part_of-filled (codes "DTSTART") 0 es refl) (part_of-filled (codes "DTEND") 0 es refl);
       summary = part_of-filled (codes "SUMMARY") 0 es refl;
       location = part_of-filled (codes "LOCATION") 0 es refl;

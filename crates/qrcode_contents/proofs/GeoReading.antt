@@ -1,19 +1,20 @@
 -- The text of a place is read back.
-use Rattle.std.proofs.Common.{◌≡◌, ℕ, zero, suc, nat_lt, ◌+◌, ◌-◌, ◌*◌, ◌/◌, ◌%◌, ◌<◌, ◌^◌, ◌==◌, ◌||◌, List, [], ◌∷◌, ◌++◌, Bool, true, false, Some, None, decimal, ℤ, pos, negsuc, unsigned_abs, refl, ap, ap₂, ◌∙◌, sym, arith, append_assoc, append-nil, lit<, ⊎_elim, subst}
+use Rattle.std.proofs.Common.{◌≡◌, ℕ, zero, suc, nat_lt, ◌+◌, ◌-◌, ◌*◌, ◌/◌, ◌%◌, ◌<◌, ◌≤◌, ◌^◌, ◌==◌, ◌||◌, List, [], ◌∷◌, ◌++◌, Bool, true, false, Some, None, length, decimal, ℤ, pos, negsuc, unsigned_abs, refl, ap, ap₂, ◌∙◌, sym, arith, append_assoc, append-nil, lit<, ⊎_elim, subst}
 use Rattle.std.specs.Int.{is_negative}
 use Rattle.std.specs.List.{list_any}
-use Rattle.std.specs.Str.Parse.{digits_value}
+use Rattle.std.specs.Option.{option_map}
 use Rattle.std.proofs.Math.Nat.{pow-suc, div-mul-le_self, mul-le-mul_right}
 use Rattle.std.proofs.lemmas.Bool.{cases_lt}
 use Rattle.std.proofs.lemmas.Bool.Decides.{nat_tests}
-use Rattle.std.proofs.lemmas.List.Folds.{list_any-append}
-use Rattle.std.proofs.lemmas.Fmt.{decimal_by_steps, decimal_is_IsNumeral}
+use Rattle.std.proofs.lemmas.List.{length-append}
 use Rattle.qrcode_contents.specs.declared.fields.errors.Field.TheVariants.{Latitude, Longitude}
 use Rattle.qrcode_contents.specs.declared.fields.errors.Cause.TheVariants.{Range}
 use Rattle.qrcode_contents.specs.declared.geo.Place.{Place}
-use Rattle.qrcode_contents.specs.Geo.{place_checks, place_refusal, first_digit, fraction_digits, fraction_text, degrees_text, sign_text, coordinate_text, place_text, fraction_value, read_degrees, negative, read_coordinate, read_place}
-use Rattle.qrcode_contents.proofs.EntryReading.{neither, HasNo, before-at, after-at, before-none, after-none}
-use Rattle.qrcode_contents.proofs.LinkReading.{HasNo-append, none_of}
+use Rattle.qrcode_contents.specs.Geo.{place_checks, place_refusal, first_digit, fraction_digits, fraction_text, degrees_text, sign_text, coordinate_text, place_text, negative, read_coordinate, place_at, read_place}
+use Rattle.qrcode_contents.specs.fields.Decimals.{fraction_value, read_decimal}
+use Rattle.qrcode_contents.proofs.DigitReading.{AreDigits, AreDigits-append, AreDigits-one, AreDigits-decimal, HasNo-digits, read_decimal-point, read_decimal-whole}
+use Rattle.qrcode_contents.proofs.EntryReading.{neither, HasNo, before-at, after-at}
+use Rattle.qrcode_contents.proofs.LinkReading.{HasNo-append}
 use Rattle.qrcode_contents.proofs.Passing.{all_pass, test_passes}
 
 -- powers of ten up to the fifth fit 32 bits
@@ -86,38 +87,20 @@ fraction_read (suc k) n small =
     let p = power_positive k in
     value_by k n (n == 0) refl (fraction_read k (n % 10 ^ k) (omega arith))
 
--- a byte below the digits, such as a comma, point or sign
-abbrev is_low : ℕ → Bool
-is_low b = nat_lt b 48
+first_digit_by : (n place : ℕ) (none : Bool) → (n == 0) ≡ none → n / place < 10 → AreDigits (first_digit n place) × (length (first_digit n place) ≤ 1)
+first_digit_by n place true is small = rw is (refl, omega arith)
+first_digit_by n place false is small = rw is (AreDigits-one (n / place) small, omega arith)
 
-abbrev IsHigh : List ℕ → Type 0
-IsHigh bytes = list_any is_low bytes ≡ false
-
-IsHigh-append : (xs ys : List ℕ) → IsHigh xs → IsHigh ys → IsHigh (xs ++ ys)
-IsHigh-append xs ys x y = list_any-append is_low xs ys ∙ ap₂ (λ a b. a || b) x y
-
-digit_high : (n : ℕ) → IsHigh ((48 + n) ∷ [])
-digit_high n = let no : is_low (48 + n) ≡ false = grind (arith, nat_tests) in ap (λ x. x || false) no
-
-IsHigh-decimal : (n : ℕ) → n < 2 ^ 64 → IsHigh (decimal n)
-IsHigh-decimal n fits = decimal_by_steps (λ m ds. IsHigh ds) (λ m small. digit_high m)
-    (λ m ds low is. IsHigh-append ds ((48 + m % 10) ∷ []) is (digit_high (m % 10))) n fits
-
-first_high : (n place : ℕ) (none : Bool) → (n == 0) ≡ none → IsHigh (first_digit n place)
-first_high n place true is = rw is refl
-first_high n place false is = rw is (digit_high (n / place))
-
-IsHigh-fraction : (k n : ℕ) → IsHigh (fraction_digits k n)
-IsHigh-fraction zero n = refl
-IsHigh-fraction (suc k) n =
-    IsHigh-append (first_digit n (10 ^ k)) (fraction_digits k (n % 10 ^ k)) (first_high n (10 ^ k) (n == 0) refl) (IsHigh-fraction k (n % 10 ^ k))
-
-low_no : (c b : ℕ) → c < 48 → is_low b ≡ false → (b == c) ≡ false
-low_no c b low is = grind (arith, nat_tests)
-
--- bytes that are not below the digits are no such characters
-HasNo-high : (c : ℕ) (bytes : List ℕ) → c < 48 → IsHigh bytes → HasNo c bytes
-HasNo-high c bytes low is = none_of is_low (λ b. b == c) (λ b above. low_no c b low above) bytes is
+-- the digits of a fraction are digits, at most so many
+fraction_digits_are : (k n : ℕ) → n < 10 ^ k → AreDigits (fraction_digits k n) × (length (fraction_digits k n) ≤ k)
+fraction_digits_are zero n small = (refl, omega arith)
+fraction_digits_are (suc k) n small =
+    let p = power_positive k in
+    let whole = pow-suc 10 k in
+    let first = first_digit_by n (10 ^ k) (n == 0) refl (digit_below n (10 ^ k) p (omega (arith, whole, small))) in
+    let later = fraction_digits_are k (n % 10 ^ k) (omega arith) in
+    let sum = length-append (first_digit n (10 ^ k)) (fraction_digits k (n % 10 ^ k)) in
+    (AreDigits-append (first_digit n (10 ^ k)) (fraction_digits k (n % 10 ^ k)) first.0 later.0, omega (arith, sum, first.1, later.1))
 
 point_is_not : (c : ℕ) → c < 46 → (46 == c) ≡ false
 point_is_not c low = grind (arith, nat_tests)
@@ -125,42 +108,36 @@ point_is_not c low = grind (arith, nat_tests)
 some_fraction : (m : ℕ) → (m == 0) ≡ false → fraction_text m ≡ 46 ∷ fraction_digits 6 m
 some_fraction m other = rw other refl
 
-HasNo-fraction : (c n : ℕ) (none : Bool) → c < 46 → (n == 0) ≡ none → HasNo c (fraction_text n)
-HasNo-fraction c n true low is = rw is refl
-HasNo-fraction c n false low is =
-    subst (HasNo c) (sym (some_fraction n is)) (ap₂ (λ x y. x || y) (point_is_not c low) (HasNo-high c (fraction_digits 6 n) (omega arith) (IsHigh-fraction 6 n)))
+HasNo-fraction : (c n : ℕ) (none : Bool) → c < 46 → n < 10 ^ 6 → (n == 0) ≡ none → HasNo c (fraction_text n)
+HasNo-fraction c n true low small is = rw is refl
+HasNo-fraction c n false low small is =
+    subst (HasNo c) (sym (some_fraction n is)) (ap₂ (λ x y. x || y) (point_is_not c low) (HasNo-digits c (fraction_digits 6 n) (omega arith) (fraction_digits_are 6 n small).0))
 
 -- degrees have neither a comma nor a sign
 HasNo-degrees : (c n : ℕ) → c < 46 → n < 2 ^ 64 → HasNo c (degrees_text n)
 HasNo-degrees c n low fits =
     HasNo-append c (decimal (n / 1000000)) (fraction_text (n % 1000000))
-    (HasNo-high c (decimal (n / 1000000)) (omega arith) (IsHigh-decimal (n / 1000000) (omega arith)))
-    (HasNo-fraction c (n % 1000000) (n % 1000000 == 0) low refl)
+    (HasNo-digits c (decimal (n / 1000000)) (omega arith) (AreDigits-decimal (n / 1000000) (omega arith)))
+    (HasNo-fraction c (n % 1000000) (n % 1000000 == 0) low (omega arith) refl)
 
-degrees_by : (n : ℕ) (none : Bool) → (n % 1000000 == 0) ≡ none → n < 2 ^ 64 → read_degrees (degrees_text n) ≡ n
-unfolding read_degrees
+degrees_by : (n : ℕ) (none : Bool) → (n % 1000000 == 0) ≡ none → n < 2 ^ 64 → read_decimal 6 (degrees_text n) ≡ Some n
 degrees_by n true is fits =
-    let whole : n / 1000000 < 2 ^ 64 = omega arith in
     let exact = zero_from (n % 1000000) is in
-    let no_point = HasNo-high 46 (decimal (n / 1000000)) (lit< tt) (IsHigh-decimal (n / 1000000) whole) in
-    rw (is, append-nil (decimal (n / 1000000)), before-none 46 (decimal (n / 1000000)) no_point, after-none 46 (decimal (n / 1000000)) no_point, (decimal_is_IsNumeral (n / 1000000) whole).1) (omega arith)
+    rw (is, append-nil (decimal (n / 1000000))) (read_decimal-whole 6 (n / 1000000) (omega arith) ∙ ap Some (omega arith))
 degrees_by n false is fits =
-    let whole : n / 1000000 < 2 ^ 64 = omega arith in
-    let digits = fraction_digits 6 (n % 1000000) in
-    let no_point = HasNo-high 46 (decimal (n / 1000000)) (lit< tt) (IsHigh-decimal (n / 1000000) whole) in
-    let said : fraction_value 6 digits ≡ n % 1000000 = fraction_read 6 (n % 1000000) (omega arith) in
-    ap (λ t. read_degrees (decimal (n / 1000000) ++ t)) (some_fraction (n % 1000000) is)
-    ∙ ap₂ (λ xs ys. digits_value 10 xs * 1000000 + fraction_value 6 ys) (before-at 46 (decimal (n / 1000000)) digits no_point) (after-at 46 (decimal (n / 1000000)) digits no_point)
-    ∙ ap₂ (λ x y. x * 1000000 + y) (decimal_is_IsNumeral (n / 1000000) whole).1 said
-    ∙ omega arith
+    let are = fraction_digits_are 6 (n % 1000000) (omega arith) in
+    ap (λ t. read_decimal 6 (decimal (n / 1000000) ++ t)) (some_fraction (n % 1000000) is)
+    ∙ read_decimal-point 6 (n / 1000000) (fraction_digits 6 (n % 1000000)) (omega arith) are.0 are.1
+    ∙ ap (λ x. Some (n / 1000000 * 1000000 + x)) (fraction_read 6 (n % 1000000) (omega arith))
+    ∙ ap Some (omega arith)
 
-no_sign_by : (b : ℕ) (text : List ℕ) (minus : Bool) → (b == 45) ≡ minus → minus ≡ false → read_coordinate (b ∷ text) ≡ pos (read_degrees (b ∷ text))
+no_sign_by : (b : ℕ) (text : List ℕ) (minus : Bool) → (b == 45) ≡ minus → minus ≡ false → read_coordinate (b ∷ text) ≡ option_map (λ n. pos n) (read_decimal 6 (b ∷ text))
 unfolding read_coordinate
 no_sign_by b text true is other = cc
 no_sign_by b text false is other = rw is refl
 
-no_sign : (text : List ℕ) → HasNo 45 text → read_coordinate text ≡ pos (read_degrees text)
-unfolding read_coordinate read_degrees
+no_sign : (text : List ℕ) → HasNo 45 text → read_coordinate text ≡ option_map (λ n. pos n) (read_decimal 6 text)
+unfolding read_coordinate read_decimal
 no_sign [] is = refl
 no_sign (b ∷ text) is =
     let parts = neither (b == 45) (list_any (λ x. x == 45) text) is in no_sign_by b text (b == 45) refl parts.0
@@ -169,13 +146,13 @@ sign_none : (n : ℕ) → sign_text (pos n) ≡ []
 sign_none n = let not_below : is_negative (pos n) ≡ false = grind (arith, nat_tests) in rw not_below refl
 
 -- degrees with their sign are read back
-coordinate_read : (z : ℤ) → unsigned_abs z < 2 ^ 64 → read_coordinate (coordinate_text z) ≡ z
+coordinate_read : (z : ℤ) → unsigned_abs z < 2 ^ 64 → read_coordinate (coordinate_text z) ≡ Some z
 unfolding coordinate_text read_coordinate
 coordinate_read (pos n) fits =
     ap (λ xs. read_coordinate (xs ++ degrees_text n)) (sign_none n)
     ∙ no_sign (degrees_text n) (HasNo-degrees 45 n (lit< tt) fits)
-    ∙ ap pos (degrees_by n (n % 1000000 == 0) refl fits)
-coordinate_read (negsuc n) fits = ap negative (degrees_by (suc n) (suc n % 1000000 == 0) refl fits)
+    ∙ ap (option_map (λ m. pos m)) (degrees_by n (n % 1000000 == 0) refl fits)
+coordinate_read (negsuc n) fits = ap (option_map negative) (degrees_by (suc n) (suc n % 1000000 == 0) refl fits)
 
 HasNo-coordinate : (z : ℤ) → unsigned_abs z < 2 ^ 64 → HasNo 44 (coordinate_text z)
 unfolding coordinate_text
@@ -186,9 +163,6 @@ HasNo-coordinate (negsuc n) fits = HasNo-degrees 44 (suc n) (lit< tt) fits
 below_word : (most n : ℕ) → most < 2 ^ 63 → nat_lt most n ≡ false → n < 2 ^ 64
 below_word most n small is = grind (arith, nat_tests)
 
-same_place : (p : Place) (latitude longitude : ℤ) → latitude ≡ p.latitude → longitude ≡ p.longitude → (let q : Place = record { latitude = latitude; longitude = longitude } in q) ≡ p
-same_place p latitude longitude a b = rw (a, b) refl
-
 -- reading the text gives back the fields
 pub place_read : (p : Place) → place_refusal p ≡ None → read_place (place_text p) ≡ Some p
 unfolding place_text read_place
@@ -197,6 +171,5 @@ place_read p is =
     let north = below_word 90000000 (unsigned_abs p.latitude) (lit< tt) (test_passes (nat_lt 90000000 (unsigned_abs p.latitude)) Latitude Range none.0) in
     let east = below_word 180000000 (unsigned_abs p.longitude) (lit< tt) (test_passes (nat_lt 180000000 (unsigned_abs p.longitude)) Longitude Range none.1.0) in
     let comma = HasNo-coordinate p.latitude north in
-    ap Some (same_place p _ _
-    (ap read_coordinate (before-at 44 (coordinate_text p.latitude) (coordinate_text p.longitude) comma) ∙ coordinate_read p.latitude north)
-    (ap read_coordinate (after-at 44 (coordinate_text p.latitude) (coordinate_text p.longitude) comma) ∙ coordinate_read p.longitude east))
+    ap₂ place_at (before-at 44 (coordinate_text p.latitude) (coordinate_text p.longitude) comma) (after-at 44 (coordinate_text p.latitude) (coordinate_text p.longitude) comma)
+    ∙ rw (coordinate_read p.latitude north, coordinate_read p.longitude east) refl

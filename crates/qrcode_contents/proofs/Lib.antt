@@ -14,6 +14,7 @@ pub mod Answering
 pub mod Carries
 pub mod ContentParts
 pub mod ContentReading
+pub mod DigitReading
 pub mod EntryReading
 pub mod Escaping
 pub mod Folding

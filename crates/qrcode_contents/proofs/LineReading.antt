@@ -1,13 +1,13 @@
 -- Lines are read back.
-use Rattle.std.proofs.Common.{◌≡◌, ℕ, ◌+◌, ◌<◌, ◌^◌, ◌==◌, ◌||◌, ◌%◌, zero, suc, List, [], ◌∷◌, ◌++◌, Bool, false, take, decimal, refl, ap, ap₂, ◌∙◌, arith, append-nil, All}
+use Rattle.std.proofs.Common.{◌≡◌, ℕ, ◌+◌, ◌<◌, ◌^◌, ◌==◌, ◌||◌, zero, suc, List, [], ◌∷◌, ◌++◌, Bool, false, take, decimal, refl, ap, ap₂, ◌∙◌, arith, lit<, append-nil, All}
 use Rattle.std.specs.List.{list_any}
 use Rattle.std.proofs.lemmas.Bool.Decides.{nat_tests}
 use Rattle.std.proofs.lemmas.List.Elements.{All-nil, All-cons}
 use Rattle.std.proofs.lemmas.List.Folds.{list_any-append}
 use Rattle.std.proofs.lemmas.List.Splits.{slice_split_none, slice_split_at}
-use Rattle.std.proofs.lemmas.Fmt.{decimal_by_steps}
 use Rattle.qrcode_contents.specs.fields.Characters.{is_control}
 use Rattle.qrcode_contents.specs.fields.Lines.{later_text, lines_text, read_lines}
+use Rattle.qrcode_contents.proofs.DigitReading.{AreDigits-decimal, HasNo-digits}
 use Rattle.qrcode_contents.proofs.EntryReading.{neither}
 
 abbrev pub is_feed : ℕ → Bool
@@ -41,13 +41,9 @@ HasNoFeed-from_control (b ∷ line) is =
 pub HasNoFeed-append : (xs ys : List ℕ) → HasNoFeed xs → HasNoFeed ys → HasNoFeed (xs ++ ys)
 HasNoFeed-append xs ys x y = list_any-append is_feed xs ys ∙ ap₂ (λ a b. a || b) x y
 
-digit_no_feed : (n : ℕ) → n < 10 → HasNoFeed ((48 + n) ∷ [])
-digit_no_feed n small = let no : is_feed (48 + n) ≡ false = grind (arith, nat_tests) in ap (λ x. x || false) no
-
 -- a decimal number has no line feed
 pub HasNoFeed-decimal : (n : ℕ) → n < 2 ^ 64 → HasNoFeed (decimal n)
-HasNoFeed-decimal n fits = decimal_by_steps (λ m ds. HasNoFeed ds) digit_no_feed
-    (λ m ds low is. HasNoFeed-append ds ((48 + m % 10) ∷ []) is (digit_no_feed (m % 10) (omega arith))) n fits
+HasNoFeed-decimal n fits = HasNo-digits 10 (decimal n) (lit< tt) (AreDigits-decimal n fits)
 
 all_no_feed : (line : List ℕ) → HasNoFeed line → All (λ b. is_feed b ≡ false) line
 all_no_feed [] is = All-nil (λ b. is_feed b ≡ false)

@@ -12,6 +12,7 @@ use Rattle.qrcode_contents.specs.fields.Characters.{is_digit}
 use Rattle.qrcode_contents.specs.fields.Entries.{single, is_filled, filled}
 use Rattle.qrcode_contents.specs.fields.Links.{Parameter}
 use Rattle.qrcode_contents.specs.fields.Objects.{object_text, objects_text, pair_value, read_at_most, read_objects, crc_of, crc_text, checked_text, read_checked}
+use Rattle.qrcode_contents.proofs.DigitReading.{digit_is}
 use Rattle.qrcode_contents.proofs.LinkReading.{entries_of}
 use Rattle.qrcode_contents.proofs.TimeReading.{pair_digits}
 
@@ -19,9 +20,6 @@ use Rattle.qrcode_contents.proofs.TimeReading.{pair_digits}
 abbrev pub AreObjects : List Parameter → Type 0
 AreObjects [] = Unit {0}
 AreObjects (o ∷ os) = (length o.0 ≡ 2) × (length o.1 < 100) × AreObjects os
-
-digit_is : (n : ℕ) → n < 10 → is_digit (48 + n) ≡ true
-digit_is n small = grind (arith, nat_tests)
 
 pair_is : (n : ℕ) → pair_value (48 + n / 10) (48 + n % 10) ≡ n
 pair_is n = omega arith

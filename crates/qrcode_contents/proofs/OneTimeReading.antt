@@ -1,9 +1,8 @@
 -- The text of one-time passwords is read back.
-use Rattle.std.proofs.Common.{◌≡◌, ℕ, ◌+◌, ◌%◌, ◌<◌, ◌^◌, ◌==◌, ◌||◌, not, List, [], ◌∷◌, ◌++◌, Bool, true, false, None, Some, decimal, codes, if◌then◌else◌, refl, ap, ◌∙◌, sym, arith, append_assoc}
+use Rattle.std.proofs.Common.{◌≡◌, ℕ, ◌+◌, ◌%◌, ◌<◌, ◌^◌, ◌==◌, ◌||◌, not, List, [], ◌∷◌, ◌++◌, Bool, true, false, None, Some, decimal, codes, if◌then◌else◌, refl, ap, ◌∙◌, sym, arith, lit<, append_assoc}
 use Rattle.std.specs.List.{list_any, list_all}
-use Rattle.std.specs.Str.Parse.{digits_value}
+use Rattle.std.specs.Option.{option_map}
 use Rattle.std.proofs.lemmas.Bool.Decides.{nat_tests}
-use Rattle.std.proofs.lemmas.Fmt.{decimal_by_steps, decimal_is_IsNumeral, decimal_nonempty}
 use Rattle.qrcode_contents.specs.declared.fields.errors.Field.TheVariants.{Secret, Issuer, Account}
 use Rattle.qrcode_contents.specs.declared.fields.errors.Cause.TheVariants.{Character, ControlCharacter}
 use Rattle.qrcode_contents.specs.declared.fields.links.Part.TheVariants.{Path}
@@ -14,11 +13,13 @@ use Rattle.qrcode_contents.specs.declared.one_time.Algorithm.TheVariants.{Sha1, 
 use Rattle.qrcode_contents.specs.declared.one_time.Digits.{Digits}
 use Rattle.qrcode_contents.specs.declared.one_time.Digits.TheVariants.{Six, Eight}
 use Rattle.qrcode_contents.specs.fields.Characters.{is_base32, is_control, before}
+use Rattle.qrcode_contents.specs.fields.Decimals.{read_decimal}
 use Rattle.qrcode_contents.specs.fields.Entries.{is_filled}
 use Rattle.qrcode_contents.specs.fields.EntryTests.{are_distinct}
 use Rattle.qrcode_contents.specs.fields.Links.{part_text, query_text, value_in}
-use Rattle.qrcode_contents.specs.OneTime.{Key, is_colon, begins_with_space, is_a_word, key_checks, key_refusal, factor_parameter, algorithm_value, digits_text, label_text, key_parameters, key_text, read_algorithm, read_digits, read_factor, without_spaces, read_account, key_in, read_key}
+use Rattle.qrcode_contents.specs.OneTime.{Key, is_colon, begins_with_space, is_a_word, key_checks, key_refusal, factor_parameter, algorithm_value, digits_text, label_text, key_parameters, key_text, read_algorithm, read_digits, read_period, read_factor, without_spaces, read_account, key_in, read_key}
 use Rattle.qrcode_contents.specs.fields.Percents.{decoded}
+use Rattle.qrcode_contents.proofs.DigitReading.{AreDigits-decimal, HasNo-digits, decimal_filled, read_decimal-whole}
 use Rattle.qrcode_contents.proofs.EntryReading.{neither, HasNo, after-at}
 use Rattle.qrcode_contents.proofs.LinkReading.{HasNo-append, HasNo-part, AreParameters, entries_of, value_read, path_read, decoded-path, path_decoded, no_return, all_without}
 use Rattle.qrcode_contents.proofs.Passing.{all_pass, test_passes}
@@ -43,24 +44,20 @@ digits_plain : (d : Digits) → HasNo 13 (digits_text d)
 digits_plain Six = refl
 digits_plain Eight = refl
 
-digit_plain : (n : ℕ) → HasNo 13 ((48 + n) ∷ [])
-digit_plain n = let no : ((48 + n) == 13) ≡ false = grind (arith, nat_tests) in ap (λ x. x || false) no
-
 -- digits have no carriage return
 pub decimal_plain : (n : ℕ) → n < 2 ^ 64 → HasNo 13 (decimal n)
-decimal_plain n fits = decimal_by_steps (λ m ds. HasNo 13 ds) (λ m small. digit_plain m)
-    (λ m ds low is. HasNo-append 13 ds ((48 + m % 10) ∷ []) is (digit_plain (m % 10))) n fits
+decimal_plain n fits = HasNo-digits 13 (decimal n) (lit< tt) (AreDigits-decimal n fits)
 
 period_plain : (n : ℕ) (usual : Bool) → (n == 30) ≡ usual → n < 2 ^ 64 → HasNo 13 (if n == 30 then [] else decimal n)
 period_plain n true is fits = rw is refl
 period_plain n false is fits = rw is (decimal_plain n fits)
 
-decimal_filled : (n : ℕ) → n < 2 ^ 64 → is_filled (decimal n) ≡ true
-decimal_filled n fits = let some = decimal_nonempty n fits in grind (arith, nat_tests)
+whole_read : (n : ℕ) → n < 2 ^ 64 → read_decimal 0 (decimal n) ≡ Some n
+whole_read n fits = read_decimal-whole 0 n fits ∙ ap Some (omega arith)
 
-period_read : (n : ℕ) (usual : Bool) → (n == 30) ≡ usual → n < 2 ^ 64 → (if is_filled (if n == 30 then [] else decimal n) then digits_value 10 (if n == 30 then [] else decimal n) else 30) ≡ n
-period_read n true is fits = let same : n ≡ 30 = grind (arith, nat_tests) in rw is (sym same)
-period_read n false is fits = rw (is, decimal_filled n fits) (decimal_is_IsNumeral n fits).1
+period_read : (n : ℕ) (usual : Bool) → (n == 30) ≡ usual → n < 2 ^ 64 → read_period (if n == 30 then [] else decimal n) ≡ Some n
+period_read n true is fits = let same : n ≡ 30 = grind (arith, nat_tests) in rw is (ap Some (sym same))
+period_read n false is fits = rw (is, decimal_filled n fits) (whole_read n fits)
 
 secret_no_return : (b : ℕ) → is_base32 b ≡ true → (b == 13) ≡ false
 secret_no_return b is = grind (arith, nat_tests)
@@ -161,13 +158,13 @@ key_by (Time period) issuer account secret algorithm digits is fits =
     let are = parameters_plain k is refl refl (period_plain period (period == 30) refl fits) in
     let number = value_read (codes "period") (label_text k) (key_parameters k) (label_plain k (is_filled issuer) refl) are refl refl in
     key_said k (codes "totp") (link_of k) (link_says k is are refl)
-    (ap (λ v. Some (Time (if is_filled v then digits_value 10 v else 30))) number ∙ ap (λ n. Some (Time n)) (period_read period (period == 30) refl fits))
+    (ap (λ v. option_map (λ n. Time n) (read_period v)) number ∙ ap (option_map (λ n. Time n)) (period_read period (period == 30) refl fits))
 key_by (Counter count) issuer account secret algorithm digits is fits =
     let k : Key = record { factor = Counter count; issuer = issuer; account = account; secret = secret; algorithm = algorithm; digits = digits } in
     let are = parameters_plain k is refl refl (decimal_plain count fits) in
     let number = value_read (codes "counter") (label_text k) (key_parameters k) (label_plain k (is_filled issuer) refl) are refl refl in
     key_said k (codes "hotp") (link_of k) (link_says k is are refl)
-    (ap (λ v. Some (Counter (digits_value 10 v))) number ∙ ap (λ n. Some (Counter n)) (decimal_is_IsNumeral count fits).1)
+    (ap (λ v. option_map (λ n. Counter n) (read_decimal 0 v)) number ∙ ap (option_map (λ n. Counter n)) (whole_read count fits))
 
 -- reading the text gives back the fields
 pub key_read : (k : Key) → key_refusal k ≡ None → is_a_word k.factor → read_key (key_text k) ≡ Some k

@@ -71,8 +71,8 @@ amount_fits t is =
     let most : nat_lt 99999999999 t.cents ≡ false = inside.1 in
     grind (arith, nat_tests)
 
-same_transfer : (t : Transfer) (cents : ℕ) (purpose reference message information : List ℕ) → cents ≡ t.cents → purpose ≡ t.purpose → reference ≡ t.reference → message ≡ t.message → information ≡ t.information → (let s : Transfer = record t { cents = cents; purpose = purpose; reference = reference; message = message; information = information } in s) ≡ t
-same_transfer t cents purpose reference message information c p r m i = rw (c, p, r, m, i) refl
+same_transfer : (t : Transfer) (purpose reference message information : List ℕ) → purpose ≡ t.purpose → reference ≡ t.reference → message ≡ t.message → information ≡ t.information → (let s : Transfer = record t { purpose = purpose; reference = reference; message = message; information = information } in s) ≡ t
+same_transfer t purpose reference message information p r m i = rw (p, r, m, i) refl
 
 named : (v : PaymentVersion) → named_version (version_name v) ≡ Some v
 named One = refl
@@ -83,8 +83,9 @@ lines_say : (t : Transfer) → t.cents < 2 ^ 64 → transfer_of (line_at (paymen
 lines_say t fits =
     let line = line_at (payment_lines t) in
     let is = kept_by t.purpose t.reference t.message t.information (is_filled t.purpose) (is_filled t.reference) (is_filled t.message) (is_filled t.information) refl refl refl refl in
-    let same = same_transfer t (read_amount (amount_text t.cents)) (line 8) (line 9) (line 10) (line 11) (amount_read t.cents fits) is.first is.second is.third is.fourth in
-    ap (option_and_then (λ version. option_map (transfer_from line version) (behind (codes "EUR") (line 7)))) (named t.version)
+    let same = same_transfer t (line 8) (line 9) (line 10) (line 11) is.first is.second is.third is.fourth in
+    ap (option_and_then (λ version. option_map (transfer_from line version) (option_and_then read_amount (behind (codes "EUR") (line 7))))) (named t.version)
+    ∙ ap (option_map (transfer_from line t.version)) (amount_read t.cents fits)
     ∙ ap Some same
 
 -- reading the text gives back the fields

@@ -1,25 +1,21 @@
 -- Days and moments are read back.
 use Rattle.std.proofs.Common.{◌≡◌, ℕ, nat_lt, nat_le, ◌+◌, ◌*◌, ◌/◌, ◌%◌, ◌<◌, ◌≤◌, ◌==◌, ◌&&◌, ◌||◌, List, [], ◌∷◌, ◌++◌, Bool, true, false, not, filter, Option, None, Some, if◌then◌else◌, refl, ap, ap₂, ◌∙◌, sym, subst, arith}
-use Rattle.std.specs.Char.{digit_value}
 use Rattle.std.specs.Str.Parse.{digits_value}
 use Rattle.std.proofs.lemmas.Bool.Decides.{nat_tests}
 use Rattle.std.proofs.lemmas.Fmt.{decimal_digit}
 use Rattle.std.proofs.lemmas.Int.Digits.{digits_value_push}
-use Rattle.std.proofs.lemmas.Str.{digit_value_digit}
-use Rattle.qrcode_contents.specs.fields.Entries.{is_filled}
+use Rattle.qrcode_contents.specs.fields.Entries.{is_filled, read_or_none}
 use Rattle.qrcode_contents.proofs.ContentParts.{IsPlain, plain_nothing}
+use Rattle.qrcode_contents.proofs.DigitReading.{AreDigits, AreDigits-two, value_of_digit}
 use Rattle.qrcode_contents.proofs.EntryReading.{both}
 use Rattle.qrcode_contents.specs.declared.times.Day.{Day}
 use Rattle.qrcode_contents.specs.declared.times.Moment.{Moment}
-use Rattle.qrcode_contents.specs.Times.{is_leap, days_in, is_day, wrong_day, is_moment, pair_text, day_text, date_text, said_or_none, moment_text, day_in, read_day, read_date, read_or_none, read_moment}
+use Rattle.qrcode_contents.specs.Times.{is_leap, days_in, is_day, wrong_day, is_moment, pair_text, day_text, date_text, said_or_none, moment_text, day_in, moment_in, read_day, read_date, read_moment}
 
 -- a number below 100 has two digits
 pub pair_digits : (n : ℕ) → n < 100 → pair_text n ≡ (48 + n / 10) ∷ (48 + n % 10) ∷ []
 pair_digits n small =
     ap₂ (λ xs ys. xs ++ ys) (decimal_digit (n / 10) (omega arith)) (decimal_digit (n % 10) (omega arith))
-
-value_of_digit : (n : ℕ) → n < 10 → digit_value (48 + n) ≡ n
-value_of_digit n small = let is = digit_value_digit (48 + n) (omega arith, omega arith) in omega (arith, is)
 
 -- two digits are read back
 pair_read : (n : ℕ) → n < 100 → digits_value 10 ((48 + n / 10) ∷ (48 + n % 10) ∷ []) ≡ n
@@ -73,12 +69,22 @@ day_begins : (d : Day) (rest : List ℕ) → IsSmall d → day_in (digits_then d
 day_begins d rest is =
     same_day d _ _ _ _ (pair_read (d.year / 100) (let y = is.year in omega (arith, y))) (pair_read (d.year % 100) (omega arith)) (pair_read d.month is.month) (pair_read d.day is.day)
 
+AreDigits-day : (d : Day) (rest : List ℕ) → IsSmall d → AreDigits rest → AreDigits (digits_then d rest)
+AreDigits-day d rest small are =
+    let year = small.year in
+    let month = small.month in
+    let day = small.day in
+    AreDigits-two _ _ _ (omega (arith, year)) (omega arith) (AreDigits-two _ _ _ (omega arith) (omega arith)
+    (AreDigits-two _ _ _ (omega (arith, month)) (omega arith) (AreDigits-two _ _ rest (omega (arith, day)) (omega arith) are)))
+
 -- a day is read back
 pub day_read : (d : Day) → is_day d ≡ true → read_day (day_text d) ≡ Some d
 unfolding read_day
 day_read d is =
     let small = small_day d is in
-    ap read_day (day_digits d small) ∙ ap Some (day_begins d [] small)
+    ap read_day (day_digits d small)
+    ∙ ap (λ digits. if digits then Some (day_in (digits_then d [])) else None) (AreDigits-day d [] small refl)
+    ∙ ap Some (day_begins d [] small)
 
 -- the text after the day of a moment
 abbrev clock_digits : Moment → List ℕ
@@ -121,7 +127,12 @@ pub moment_read : (m : Moment) → is_moment m ≡ true → read_moment (moment_
 unfolding read_moment
 moment_read m is =
     let short = short_moment m is in
+    let hour = short.hour in
+    let minute = short.minute in
+    let second = short.second in
+    let clock = AreDigits-two _ _ _ (omega (arith, hour)) (omega arith) (AreDigits-two _ _ _ (omega (arith, minute)) (omega arith) (AreDigits-two _ _ [] (omega (arith, second)) (omega arith) refl)) in
     ap read_moment (moment_written m short)
+    ∙ ap (λ digits. if digits then Some (moment_in (moment_digits m)) else None) (AreDigits-day m.day _ short.day clock)
     ∙ ap Some (same_moment m _ _ _ _ (day_begins m.day (clock_digits m) short.day) (pair_read m.hour short.hour) (pair_read m.minute short.minute) (pair_read m.second short.second))
 
 digit_plain : (n : ℕ) → ((48 + n) == 13) ≡ false

@@ -2,7 +2,7 @@
 use Rattle.std.specs.Prelude.{ℕ, nat_lt, ◌+◌, ◌==◌, ◌&&◌, ◌||◌, not, Bool, false, List, [], ◌∷◌, ◌++◌, length, take, drop, count_by, slice_index_or, Option, Some, None, codes, if◌then◌else◌}
 use Rattle.std.specs.Str.{bytes_eq, chars}
 use Rattle.std.specs.List.{list_all, list_any, starts_with}
-use Rattle.std.specs.Option.{option_map}
+use Rattle.std.specs.Option.{option_map, option_and_then}
 use Rattle.qrcode_contents.specs.declared.fields.errors.ContentError.{ContentError}
 use Rattle.qrcode_contents.specs.declared.fields.errors.ContentError.TheVariants.{Refused, OutOfMemory}
 use Rattle.qrcode_contents.specs.declared.fields.errors.Field.{Field}
@@ -15,7 +15,7 @@ use Rattle.qrcode_contents.specs.declared.bill.Party.{Party}
 use Rattle.qrcode_contents.specs.declared.bill.Bill.{Bill}
 use Rattle.qrcode_contents.specs.fields.Amounts.{amount_text, read_amount}
 use Rattle.qrcode_contents.specs.fields.Characters.{is_capital, is_control, is_digit}
-use Rattle.qrcode_contents.specs.fields.Entries.{is_empty, is_filled}
+use Rattle.qrcode_contents.specs.fields.Entries.{is_empty, is_filled, read_or_none}
 use Rattle.qrcode_contents.specs.fields.Lines.{lines_text, read_lines, line_at}
 use Rattle.qrcode_contents.specs.fields.Numbers.{carry_of}
 use Rattle.qrcode_contents.specs.fields.Refusals.{refused_if, first_refusal}
@@ -245,8 +245,8 @@ bill_lines b =
 unfoldable pub bill_text : Invoice → List ℕ  -- the text of a bill
 bill_text b = lines_text (bill_lines b)
 
-abbrev pub read_cents : List ℕ → Option ℕ  -- the amount of a line; None, left open, if it is empty
-read_cents line = if is_filled line then Some (read_amount line) else None
+abbrev pub read_cents : List ℕ → Option (Option ℕ)  -- the amount of a line, left open if it is empty; None if it cannot be read
+read_cents line = read_or_none read_amount line
 
 abbrev pub read_currency : List ℕ → Option Currency  -- the currency of a line; None if it is unknown
 read_currency line =
@@ -268,15 +268,15 @@ has_kind line kind = bytes_eq (line kind) (address_kind (addressee_at line (kind
 abbrev pub invoice_in : (ℕ → List ℕ) → Option Invoice  -- the bill of these lines; None if they cannot be read
 invoice_in line =
     if bytes_eq (line 0) (codes "SPC") && bytes_eq (line 1) (codes "0200") && bytes_eq (line 2) (codes "1") && has_kind line 4 && has_kind line 20 && bytes_eq (line 27) (reference_kind (line 28)) && bytes_eq (line 30) (codes "EPD")
-    then option_map (λ currency. record {
+    then option_and_then (λ cents. option_map (λ currency. record {
       iban = line 3;
       creditor = addressee_at line 5;
-      cents = read_cents (line 18);
+      cents = cents;
       currency = currency;
       debtor = addressee_at line 21;
       reference = line 28;
       message = line 29;
-    }) (read_currency (line 19))
+    }) (read_currency (line 19))) (read_cents (line 18))
     else None
 
 unfoldable pub read_bill : List ℕ → Option Invoice  -- the bill of a text; None if it cannot be read

@@ -12,12 +12,12 @@ use Rattle.qrcode_contents.specs.declared.fields.errors.Cause.TheVariants.{Empty
 use Rattle.qrcode_contents.specs.declared.times.Day.{Day}
 use Rattle.qrcode_contents.specs.fields.Characters.{is_control, stray_checks}
 use Rattle.qrcode_contents.specs.fields.ContentLines.{content_text, structured, text_lines, read_content, unfolded, part_in}
-use Rattle.qrcode_contents.specs.fields.Entries.{Entry, is_empty, value_of}
+use Rattle.qrcode_contents.specs.fields.Entries.{Entry, is_empty, read_or_none, value_of}
 use Rattle.qrcode_contents.specs.fields.Escapes.{unescaped_from, pieces_from}
 use Rattle.qrcode_contents.specs.fields.Links.{Parameter}
 use Rattle.qrcode_contents.specs.fields.Refusals.{refused_if, first_refusal}
 use Rattle.qrcode_contents.specs.Phone.{is_no_number}
-use Rattle.qrcode_contents.specs.Times.{wrong_day, date_text, said_or_none, read_day, read_date, read_or_none}
+use Rattle.qrcode_contents.specs.Times.{wrong_day, date_text, said_or_none, read_day, read_date}
 
 pub record Contact : Type 0 where  -- the fields of a card, with texts as bytes
   pub person : Person

@@ -6,12 +6,12 @@ use Rattle.qrcode_contents.specs.declared.fields.errors.ContentError.{ContentErr
 use Rattle.qrcode_contents.specs.declared.fields.errors.Field.TheVariants.{Family, Given, Phone, Email, Url, Birthday, Note, Street, City, Region, PostalCode, Country}
 use Rattle.qrcode_contents.specs.declared.fields.errors.Cause.TheVariants.{Empty, Range, Character}
 use Rattle.qrcode_contents.specs.fields.Characters.{control_refusal}
-use Rattle.qrcode_contents.specs.fields.Entries.{Entry, single, is_empty, marked_text, read_entry, read_entries, value_of, part_of}
+use Rattle.qrcode_contents.specs.fields.Entries.{Entry, single, is_empty, marked_text, read_entry, read_entries, read_or_none, value_of, part_of}
 use Rattle.qrcode_contents.specs.fields.Escapes.{unescaped_from, pieces_from}
 use Rattle.qrcode_contents.specs.fields.Refusals.{refused_if, first_refusal}
 use Rattle.qrcode_contents.specs.Phone.{is_no_number}
 use Rattle.qrcode_contents.specs.declared.times.Day.{Day}
-use Rattle.qrcode_contents.specs.Times.{wrong_day, day_text, said_or_none, read_day, read_or_none}
+use Rattle.qrcode_contents.specs.Times.{wrong_day, day_text, said_or_none, read_day}
 
 pub record Person : Type 0 where  -- the fields of a contact, with texts as bytes
   pub family : List ℕ

@@ -8,7 +8,7 @@ use Rattle.qrcode_contents.specs.declared.fields.errors.Field.TheVariants.{Uid, 
 use Rattle.qrcode_contents.specs.declared.fields.errors.Cause.TheVariants.{ControlCharacter, Range}
 use Rattle.qrcode_contents.specs.fields.Characters.{is_control, is_stray}
 use Rattle.qrcode_contents.specs.fields.ContentLines.{content_text, structured, unfolded, read_content, part_in}
-use Rattle.qrcode_contents.specs.fields.Entries.{Entry, is_filled, value_of}
+use Rattle.qrcode_contents.specs.fields.Entries.{Entry, is_filled, read_or_none, value_of}
 use Rattle.qrcode_contents.specs.fields.Escapes.{unescaped_from, pieces_from}
 use Rattle.qrcode_contents.specs.fields.Links.{Parameter}
 use Rattle.qrcode_contents.specs.fields.Refusals.{refused_if, first_refusal}
@@ -116,10 +116,6 @@ span_in lines =
     else option_and_then (λ begin. option_map (λ end. Times begin end) (read_moment (value_of (codes "DTEND") lines)))
     (read_moment (value_of (codes "DTSTART") lines))
 
--- the time when an event was written, or no time if the text is empty; None if it cannot be read
-abbrev pub read_stamp : List ℕ → Option (Option Moment)
-read_stamp text = if is_filled text then option_map (λ m. Some m) (read_moment text) else Some None
-
 abbrev pub happening_in : List Entry → Option Happening  -- the event of these lines; None if it cannot be read
 happening_in lines =
     option_and_then (λ stamp. option_map (λ span. record {
@@ -129,7 +125,7 @@ happening_in lines =
       summary = part_in 0 (value_of (codes "SUMMARY") lines);
       location = part_in 0 (value_of (codes "LOCATION") lines);
       description = part_in 0 (value_of (codes "DESCRIPTION") lines);
-    }) (span_in lines)) (read_stamp (value_of (codes "DTSTAMP") lines))
+    }) (span_in lines)) (read_or_none read_moment (value_of (codes "DTSTAMP") lines))
 
 abbrev pub calendar_event : List Entry → Option Happening  -- the event of a calendar of version 2.0
 calendar_event calendar =

@@ -1,14 +1,14 @@
 -- Links to places: `geo:` (RFC 5870), degrees north and degrees east, with up to six digits after the point.
-use Rattle.std.specs.Prelude.{◌≡◌, ℕ, zero, suc, nat_lt, ◌+◌, ◌-◌, ◌*◌, ◌/◌, ◌%◌, ◌^◌, ◌==◌, List, [], ◌∷◌, ◌++◌, Option, Some, codes, decimal, ℤ, pos, negsuc, unsigned_abs, if◌then◌else◌, refl}
+use Rattle.std.specs.Prelude.{◌≡◌, ℕ, zero, suc, nat_lt, ◌+◌, ◌/◌, ◌%◌, ◌^◌, ◌==◌, List, [], ◌∷◌, ◌++◌, Option, Some, None, codes, decimal, ℤ, pos, negsuc, unsigned_abs, if◌then◌else◌, refl}
 use Rattle.std.specs.Int.{is_negative}
-use Rattle.std.specs.Option.{option_map}
-use Rattle.std.specs.Str.Parse.{digits_value}
+use Rattle.std.specs.Option.{option_map, option_and_then}
 use Rattle.qrcode_contents.specs.declared.fields.errors.ContentError.{ContentError}
 use Rattle.qrcode_contents.specs.declared.fields.errors.Field.TheVariants.{Latitude, Longitude}
 use Rattle.qrcode_contents.specs.declared.fields.errors.Cause.TheVariants.{Range}
 use Rattle.qrcode_contents.specs.declared.geo.Place.{Place}
 use Rattle.qrcode_contents.specs.fields.Entries.{behind}
 use Rattle.qrcode_contents.specs.fields.Characters.{before, after}
+use Rattle.qrcode_contents.specs.fields.Decimals.{read_decimal}
 use Rattle.qrcode_contents.specs.fields.Refusals.{refused_if, first_refusal}
 
 abbrev pub place_checks : Place → List (Option ContentError)  -- the checks of the fields, in order
@@ -43,30 +43,34 @@ coordinate_text z = sign_text z ++ degrees_text (unsigned_abs z)
 unfoldable pub place_text : Place → List ℕ  -- the link to a place
 place_text p = codes "geo:" ++ (coordinate_text p.latitude ++ 44 ∷ coordinate_text p.longitude)
 
-abbrev pub fraction_value : ℕ → List ℕ → ℕ  -- the value of the first digits after a point, this many of them, in units of the last
-fraction_value zero ds = 0
-fraction_value (suc k) [] = 0
-fraction_value (suc k) (d ∷ ds) = (d - 48) * 10 ^ k + fraction_value k ds
-
-unfoldable pub read_degrees : List ℕ → ℕ  -- the millionths of degrees without a sign
-read_degrees text = digits_value 10 (before 46 text) * 1000000 + fraction_value 6 (after 46 text)
-
 abbrev pub negative : ℕ → ℤ  -- the negative of a number
 negative zero = pos zero
 negative (suc n) = negsuc n
 
-unfoldable pub read_coordinate : List ℕ → ℤ  -- the millionths of degrees with their sign
-read_coordinate [] = pos 0
-read_coordinate (b ∷ rest) = if b == 45 then negative (read_degrees rest) else pos (read_degrees (b ∷ rest))
+-- the millionths of degrees with their sign, and with at most six digits after the point; None for any other text
+unfoldable pub read_coordinate : List ℕ → Option ℤ
+read_coordinate [] = None
+read_coordinate (b ∷ rest) =
+    if b == 45 then option_map negative (read_decimal 6 rest) else option_map (λ n. pos n) (read_decimal 6 (b ∷ rest))
 
-unfoldable pub read_place : List ℕ → Option Place  -- the place of a link; None if it does not start with `geo:`
-read_place text = option_map (λ rest. record { latitude = read_coordinate (before 44 rest); longitude = read_coordinate (after 44 rest) }) (behind (codes "geo:") text)
+abbrev pub place_at : List ℕ → List ℕ → Option Place  -- the place at these coordinates; None if they cannot be read
+place_at north east =
+    option_and_then (λ latitude. option_map (λ longitude. record { latitude = latitude; longitude = longitude }) (read_coordinate east))
+    (read_coordinate north)
+
+unfoldable pub read_place : List ℕ → Option Place  -- the place of a link; None if it cannot be read
+read_place text = option_and_then (λ rest. place_at (before 44 rest) (after 44 rest)) (behind (codes "geo:") text)
 
 -- printed examples of RFC 5870, sections 6.1 and 6.4, and one with a sign
 printed_row : read_place (codes "geo:13.4125,103.8667") ≡ Some (let p : Place = record { latitude = pos 13412500; longitude = pos 103866700 } in p)
-unfolding read_place read_coordinate read_degrees
+unfolding read_place read_coordinate read_decimal
 printed_row = refl
 
 signed_row : read_place (codes "geo:66,-180.5") ≡ Some (let p : Place = record { latitude = pos 66000000; longitude = negsuc 180499999 } in p)
-unfolding read_place read_coordinate read_degrees
+unfolding read_place read_coordinate read_decimal
 signed_row = refl
+
+-- a place with an altitude, which is not read
+high_row : read_place (codes "geo:48.2010,16.3695,183") ≡ None
+unfolding read_place read_coordinate read_decimal
+high_row = refl

@@ -3,15 +3,15 @@
 use Rattle.std.specs.Prelude.{◌≡◌, ℕ, nat_lt, ◌-◌, ◌==◌, ◌&&◌, ◌||◌, not, Bool, List, [], ◌∷◌, ◌++◌, length, drop, slice_index_or, Option, Some, None, codes, if◌then◌else◌, refl}
 use Rattle.std.specs.Str.{bytes_eq}
 use Rattle.std.specs.List.{after_first, list_all}
-use Rattle.std.specs.Option.{option_and_then}
+use Rattle.std.specs.Option.{option_map, option_and_then}
 use Rattle.qrcode_contents.specs.declared.fields.errors.ContentError.{ContentError}
 use Rattle.qrcode_contents.specs.declared.fields.errors.Field.TheVariants.{Amount, City, Description, Name, Payee, Reference}
 use Rattle.qrcode_contents.specs.declared.fields.errors.Cause.TheVariants.{Character, Empty, Range, TooLong, TooShort}
 use Rattle.qrcode_contents.specs.declared.merchant.Pix.{Pix}
 use Rattle.qrcode_contents.specs.declared.merchant.PromptPay.{PromptPay}
 use Rattle.qrcode_contents.specs.Bill.{amount_line, is_out_of_range, read_cents}
-use Rattle.qrcode_contents.specs.fields.Amounts.{read_amount}
 use Rattle.qrcode_contents.specs.fields.Characters.{is_capital, is_digit}
+use Rattle.qrcode_contents.specs.fields.Decimals.{read_decimal}
 use Rattle.qrcode_contents.specs.fields.Entries.{Entry, is_empty, is_filled, value_of}
 use Rattle.qrcode_contents.specs.fields.Links.{Parameter}
 use Rattle.qrcode_contents.specs.fields.Objects.{checked_text, crc_of, objects_text, read_at_most, read_checked, read_objects}
@@ -103,16 +103,18 @@ is_pix objects account =
     bytes_eq (value_of (codes "00") objects) (codes "01") && bytes_eq (value_of (codes "53") objects) (codes "986")
     && bytes_eq (value_of (codes "58") objects) (codes "BR") && bytes_eq (value_of (codes "00") account) (codes "br.gov.bcb.pix")
 
-abbrev pub charge_in : List Entry → List Entry → List Entry → Option Charge  -- the payment of these objects, with those inside the account object and the one of the reference; None if this is not Pix
+abbrev pub charge_in : List Entry → List Entry → List Entry → Option Charge  -- the payment of these objects, with those inside the account object and the one of the reference; None if this is not Pix, or the amount cannot be read
 charge_in objects account more =
-    if is_pix objects account then Some (record {
+    if is_pix objects account
+    then option_map (λ cents. record {
       key = value_of (codes "01") account;
       name = value_of (codes "59") objects;
       city = value_of (codes "60") objects;
-      cents = read_cents (value_of (codes "54") objects);
+      cents = cents;
       reference = read_reference (value_of (codes "05") more);
       description = value_of (codes "02") account;
-    }) else None
+    }) (read_cents (value_of (codes "54") objects))
+    else None
 
 abbrev pub pix_in : List Entry → Option Charge  -- the payment of these objects; None if it cannot be read
 pix_in objects =
@@ -195,10 +197,10 @@ is_promptpay objects account =
     bytes_eq (value_of (codes "00") objects) (codes "01") && bytes_eq (value_of (codes "53") objects) (codes "764")
     && bytes_eq (value_of (codes "58") objects) (codes "TH") && bytes_eq (value_of (codes "00") account) (codes "A000000677010111")
 
-abbrev pub claim_in : List Entry → List Entry → Option Claim  -- the payment of these objects, with those inside the account object; None if this is not PromptPay
+abbrev pub claim_in : List Entry → List Entry → Option Claim  -- the payment of these objects, with those inside the account object; None if this is not PromptPay, or the amount cannot be read
 claim_in objects account =
     if is_promptpay objects account
-    then Some (record { payee = read_payee account; cents = read_cents (value_of (codes "54") objects) })
+    then option_map (λ cents. record { payee = read_payee account; cents = cents }) (read_cents (value_of (codes "54") objects))
     else None
 
 abbrev pub promptpay_in : List Entry → Option Claim  -- the payment of these objects; None if it cannot be read
@@ -210,7 +212,7 @@ read_promptpay text = option_and_then promptpay_in (read_checked text)
 -- the results of the library promptpay-qr for its own tests
 phone_row : read_promptpay (codes "00020101021229370016A000000677010111011300660000000005802TH530376454044.226304E469")
     ≡ Some (let p : Claim = record { payee = codes "0000000000"; cents = Some 422 } in p)
-unfolding read_checked read_at_most crc_of read_amount
+unfolding read_checked read_at_most crc_of read_decimal
 phone_row = refl
 
 wallet_row : read_promptpay (codes "00020101021129390016A00000067701011103150000000000000005802TH530376463042005")

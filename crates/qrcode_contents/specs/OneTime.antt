@@ -1,7 +1,6 @@
 -- Links of one-time passwords, by the page "Key URI Format" of the Google Authenticator project: `otpauth://`, `totp` or `hotp`, a label and parameters.
 use Rattle.std.specs.Prelude.{◌≡◌, ℕ, ◌==◌, ◌<◌, ◌^◌, ◌||◌, not, Bool, false, List, [], ◌∷◌, ◌++◌, Option, Some, None, codes, decimal, if◌then◌else◌, refl}
 use Rattle.std.specs.Str.{bytes_eq}
-use Rattle.std.specs.Str.Parse.{digits_value}
 use Rattle.std.specs.List.{list_all, list_any, starts_with}
 use Rattle.std.specs.Option.{option_map, option_and_then}
 use Rattle.qrcode_contents.specs.declared.fields.errors.ContentError.{ContentError}
@@ -16,6 +15,7 @@ use Rattle.qrcode_contents.specs.declared.one_time.Digits.{Digits}
 use Rattle.qrcode_contents.specs.declared.one_time.Digits.TheVariants.{Six, Eight}
 use Rattle.qrcode_contents.specs.declared.one_time.OneTime.{OneTime}
 use Rattle.qrcode_contents.specs.fields.Characters.{is_base32, is_control, before, after}
+use Rattle.qrcode_contents.specs.fields.Decimals.{read_decimal}
 use Rattle.qrcode_contents.specs.fields.Entries.{is_empty, is_filled, behind}
 use Rattle.qrcode_contents.specs.fields.Links.{Parameter, part_text, query_text, read_parameter, value_in}
 use Rattle.qrcode_contents.specs.fields.Percents.{decoded}
@@ -107,10 +107,13 @@ read_digits value =
     if not (is_filled value) || bytes_eq value (codes "6") then Some Six
     else (if bytes_eq value (codes "8") then Some Eight else None)
 
-abbrev pub read_factor : List ℕ → List ℕ → Option Factor  -- what makes the passwords of a link change, by its type; None for any other type
+abbrev pub read_period : List ℕ → Option ℕ  -- the period of a link; 30 seconds if empty, None if it is no number
+read_period value = if is_filled value then read_decimal 0 value else Some 30
+
+abbrev pub read_factor : List ℕ → List ℕ → Option Factor  -- what makes the passwords of a link change, by its type; None if it cannot be read
 read_factor name link =
-    if bytes_eq name (codes "totp") then Some (Time (if is_filled (value_in (codes "period") link) then digits_value 10 (value_in (codes "period") link) else 30))
-    else (if bytes_eq name (codes "hotp") then Some (Counter (digits_value 10 (value_in (codes "counter") link))) else None)
+    if bytes_eq name (codes "totp") then option_map (λ n. Time n) (read_period (value_in (codes "period") link))
+    else (if bytes_eq name (codes "hotp") then option_map (λ n. Counter n) (read_decimal 0 (value_in (codes "counter") link)) else None)
 
 abbrev pub without_spaces : List ℕ → List ℕ  -- a text without the spaces at its start
 without_spaces [] = []
@@ -136,5 +139,5 @@ read_key text = option_and_then (λ rest. key_in (before 47 rest) (after 47 rest
 -- the printed example
 printed_row : read_key (codes "otpauth://totp/ACME%20Co:john.doe@email.com?secret=HXDMVJECJJWSRB3HWIZR4IFUGFTMXBOZ&issuer=ACME%20Co&algorithm=SHA1&digits=6&period=30")
     ≡ Some (let k : Key = record { factor = Time 30; issuer = codes "ACME Co"; account = codes "john.doe@email.com"; secret = codes "HXDMVJECJJWSRB3HWIZR4IFUGFTMXBOZ"; algorithm = Sha1; digits = Six } in k)
-unfolding read_parameter decoded
+unfolding read_parameter decoded read_decimal
 printed_row = refl

@@ -137,13 +137,13 @@ named_version line =
     if bytes_eq line (codes "001") then Some One else (if bytes_eq line (codes "002") then Some Two else None)
 
 -- the transfer of these lines, with this version and amount
-abbrev pub transfer_from : (ℕ → List ℕ) → PaymentVersion → List ℕ → Transfer
-transfer_from line version amount = record {
+abbrev pub transfer_from : (ℕ → List ℕ) → PaymentVersion → ℕ → Transfer
+transfer_from line version cents = record {
   version = version;
   bic = line 4;
   name = line 5;
   iban = line 6;
-  cents = read_amount amount;
+  cents = cents;
   purpose = line 8;
   reference = line 9;
   message = line 10;
@@ -153,7 +153,7 @@ transfer_from line version amount = record {
 abbrev pub transfer_of : (ℕ → List ℕ) → Option Transfer  -- the transfer of these lines, where a line after the last is empty; None if they cannot be read
 transfer_of line =
     if bytes_eq (line 0) (codes "BCD") && bytes_eq (line 2) (codes "1") && bytes_eq (line 3) (codes "SCT")
-    then option_and_then (λ version. option_map (transfer_from line version) (behind (codes "EUR") (line 7))) (named_version (line 1))
+    then option_and_then (λ version. option_map (transfer_from line version) (option_and_then read_amount (behind (codes "EUR") (line 7)))) (named_version (line 1))
     else None
 
 unfoldable pub read_payment : List ℕ → Option Transfer  -- the transfer of a text; None if it cannot be read

@@ -1,11 +1,11 @@
 -- Days and times, and their texts in iCalendar (RFC 5545, sections 3.3.4 and 3.3.5) and vCard (RFC 2426, section 3.1.5).
 use Rattle.std.specs.Prelude.{◌≡◌, ℕ, nat_lt, nat_le, ◌+◌, ◌*◌, ◌/◌, ◌%◌, ◌==◌, ◌&&◌, ◌||◌, not, Bool, false, List, [], ◌∷◌, ◌++◌, Option, Some, None, take, drop, length, filter, flat_map, decimal, codes, if◌then◌else◌, refl}
-use Rattle.std.specs.Option.{option_map}
+use Rattle.std.specs.List.{list_all}
 use Rattle.std.specs.Str.{bytes_eq}
 use Rattle.std.specs.Str.Parse.{digits_value}
 use Rattle.qrcode_contents.specs.declared.times.Day.{Day}
 use Rattle.qrcode_contents.specs.declared.times.Moment.{Moment}
-use Rattle.qrcode_contents.specs.fields.Entries.{is_filled}
+use Rattle.qrcode_contents.specs.fields.Characters.{is_digit}
 
 abbrev pub is_leap : ℕ → Bool  -- a leap year of the Gregorian calendar
 is_leap year = year % 4 == 0 && (not (year % 100 == 0) || year % 400 == 0)
@@ -59,22 +59,21 @@ pair_at i text = digits_value 10 (take 2 (drop i text))
 abbrev pub day_in : List ℕ → Day  -- the day of the eight digits at the start of a text
 day_in text = record { year = pair_at 0 text * 100 + pair_at 2 text; month = pair_at 4 text; day = pair_at 6 text }
 
-unfoldable pub read_day : List ℕ → Option Day  -- the day of a text of eight digits; None for any other length
-read_day text = if length text == 8 then Some (day_in text) else None
+unfoldable pub read_day : List ℕ → Option Day  -- the day of a text of eight digits; None for any other text
+read_day text = if length text == 8 && list_all is_digit text then Some (day_in text) else None
 
 -- the day of a text of eight digits, with hyphens or without
 unfoldable pub read_date : List ℕ → Option Day
 read_date text = read_day (filter (λ b. not (b == 45)) text)
 
--- the day of a text, or no day if it is empty; None if it cannot be read
-abbrev pub read_or_none : (List ℕ → Option Day) → List ℕ → Option (Option Day)
-read_or_none read text = if is_filled text then option_map (λ d. Some d) (read text) else Some None
+abbrev pub moment_in : List ℕ → Moment  -- the moment at the start of a text with a T between day and time
+moment_in text = record { day = day_in text; hour = pair_at 9 text; minute = pair_at 11 text; second = pair_at 13 text }
 
--- the moment of a text with a T between day and time, and a Z for UTC at its end; None for any other text
+-- the moment of a text of digits with a T between day and time, and a Z for UTC at its end; None for any other text
 unfoldable pub read_moment : List ℕ → Option Moment
 read_moment text =
-    if bytes_eq (take 1 (drop 8 text)) (codes "T") && bytes_eq (drop 15 text) (codes "Z")
-    then Some (record { day = day_in text; hour = pair_at 9 text; minute = pair_at 11 text; second = pair_at 13 text })
+    if bytes_eq (take 1 (drop 8 text)) (codes "T") && bytes_eq (drop 15 text) (codes "Z") && list_all is_digit (take 8 text ++ take 6 (drop 9 text))
+    then Some (moment_in text)
     else None
 
 -- the printed birthday of RFC 2426, section 3.1.5
@@ -95,3 +94,8 @@ printed_moment = refl
 local_time : read_moment (codes "19980118T230000") ≡ None
 unfolding read_moment
 local_time = refl
+
+-- a day with a letter
+letter_day : read_day (codes "1997O714") ≡ None
+unfolding read_day
+letter_day = refl

@@ -2,14 +2,14 @@
 use Rattle.std.specs.Prelude.{◌≡◌, ℕ, nat_lt, ◌==◌, ◌&&◌, ◌||◌, not, Bool, List, [], ◌∷◌, ◌++◌, length, Option, Some, None, codes, count_by, if◌then◌else◌, refl}
 use Rattle.std.specs.Str.{bytes_eq}
 use Rattle.std.specs.List.{after_first, before_first, list_all, list_any}
-use Rattle.std.specs.Option.{option_and_then}
+use Rattle.std.specs.Option.{option_map, option_and_then}
 use Rattle.qrcode_contents.specs.declared.fields.errors.ContentError.{ContentError}
 use Rattle.qrcode_contents.specs.declared.fields.errors.Field.TheVariants.{Amount, Category, Name, Note, Payee, Reference}
 use Rattle.qrcode_contents.specs.declared.fields.errors.Cause.TheVariants.{Character, ControlCharacter, Empty, Range}
 use Rattle.qrcode_contents.specs.declared.upi.Upi.{Upi}
 use Rattle.qrcode_contents.specs.Bill.{amount_line, is_out_of_range, read_cents}
-use Rattle.qrcode_contents.specs.fields.Amounts.{read_amount}
 use Rattle.qrcode_contents.specs.fields.Characters.{is_capital, is_control, is_digit}
+use Rattle.qrcode_contents.specs.fields.Decimals.{read_decimal}
 use Rattle.qrcode_contents.specs.fields.Entries.{behind, is_empty, is_filled}
 use Rattle.qrcode_contents.specs.fields.Links.{Parameter, query_text, read_parameter, value_in}
 use Rattle.qrcode_contents.specs.fields.Percents.{decoded}
@@ -71,17 +71,22 @@ upi_parameters r =
 abbrev pub upi_text : Request → List ℕ
 upi_text r = codes "upi://pay?pa=" ++ (r.payee ++ query_text (codes "&") (upi_parameters r))
 
--- the request of a link without its scheme; None if its currency is not INR
+abbrev pub request_with : List ℕ → Option ℕ → Request  -- the request of a link without its scheme, with this amount
+request_with link cents = record {
+  payee = value_in (codes "pa") link;
+  name = value_in (codes "pn") link;
+  category = value_in (codes "mc") link;
+  reference = value_in (codes "tr") link;
+  note = value_in (codes "tn") link;
+  cents = cents;
+}
+
+-- the request of a link without its scheme; None if its currency is not INR, or its amount cannot be read
 abbrev pub request_in : List ℕ → Option Request
 request_in link =
-    if bytes_eq (value_in (codes "cu") link) (codes "INR") then Some (record {
-      payee = value_in (codes "pa") link;
-      name = value_in (codes "pn") link;
-      category = value_in (codes "mc") link;
-      reference = value_in (codes "tr") link;
-      note = value_in (codes "tn") link;
-      cents = read_cents (value_in (codes "am") link);
-    }) else None
+    if bytes_eq (value_in (codes "cu") link) (codes "INR")
+    then option_map (request_with link) (read_cents (value_in (codes "am") link))
+    else None
 
 abbrev pub read_upi : List ℕ → Option Request  -- the request of a link; None if it cannot be read
 read_upi text = option_and_then request_in (behind (codes "upi://pay") text)
@@ -89,5 +94,5 @@ read_upi text = option_and_then request_in (behind (codes "upi://pay") text)
 -- the printed example of the linking specification
 printed_row : read_upi (codes "upi://pay?pa=nadeem@npci&pn=nadeem%20chinna&mc=0000&tid=cxnkjcnkjdfdvjndkjfvn&tr=4894398cndhcd23&tn=Pay%20to%20mystar%20store&am=10&cu=INR&refUrl=https://mystar.com/orderid=9298yw89e8973e87389e78923ue892")
     ≡ Some (let r : Request = record { payee = codes "nadeem@npci"; name = codes "nadeem chinna"; category = codes "0000"; reference = codes "4894398cndhcd23"; note = codes "Pay to mystar store"; cents = Some 1000 } in r)
-unfolding read_parameter decoded read_amount
+unfolding read_parameter decoded read_decimal
 printed_row = refl

@@ -1,6 +1,7 @@
 pub mod Amounts
 pub mod Characters
 pub mod ContentLines
+pub mod Decimals
 pub mod Entries
 pub mod EntryTests
 pub mod Escapes

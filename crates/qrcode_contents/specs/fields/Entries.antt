@@ -20,6 +20,10 @@ is_empty bytes = length bytes == 0
 abbrev pub is_filled : List ℕ → Bool  -- there are bytes
 is_filled bytes = not (is_empty bytes)
 
+-- what a text says, or nothing if it is empty; None if it cannot be read
+abbrev pub read_or_none : {A : Type 0} → (List ℕ → Option A) → List ℕ → Option (Option A)
+read_or_none read text = if is_filled text then option_map (λ value. Some value) (read text) else Some None
+
 abbrev pub filled : List Entry → List Entry  -- the entries with a part that is not empty
 filled entries = filter (λ entry. list_any is_filled entry.1) entries
 

@@ -166,8 +166,8 @@ account-filled objects account more are =
 more-filled : (objects account more : List Entry) → are_distinct more ≡ true → charge_in objects account (filled more) ≡ charge_in objects account more
 more-filled objects account more are = rw (part_of-filled (codes "05") 0 more are) refl
 
-same_charge : (p : Charge) (cents : Option ℕ) (reference : List ℕ) → cents ≡ p.cents → reference ≡ p.reference → (let x : Charge = record { key = p.key; name = p.name; city = p.city; cents = cents; reference = reference; description = p.description } in x) ≡ p
-same_charge p cents reference h₁ h₂ = rw (h₁, h₂) refl
+same_charge : (p : Charge) (reference : List ℕ) → reference ≡ p.reference → (let x : Charge = record { key = p.key; name = p.name; city = p.city; cents = p.cents; reference = reference; description = p.description } in x) ≡ p
+same_charge p reference is = rw is refl
 
 -- reading the text gives back the fields
 pix_read : (p : Charge) → pix_refusal p ≡ None → read_pix (pix_text p) ≡ Some p
@@ -182,7 +182,7 @@ pix_read p is =
     ∙ objects-filled objects (filled account) (filled more) refl
     ∙ account-filled objects account (filled more) refl
     ∙ more-filled objects account more refl
-    ∙ ap Some (same_charge p _ _ (cents_read p.cents said.cents) (reference_read p.reference said.reference))
+    ∙ rw (cents_read p.cents said.cents) (ap Some (same_charge p _ (reference_read p.reference said.reference)))
 
 pub returns-clause-reads : goal.returns-clause-reads
 returns-clause-reads c =

@@ -134,11 +134,8 @@ claim-filled : (es account : List Entry) → are_distinct es ≡ true → claim_
 claim-filled es account are =
     rw (part_of-filled (codes "00") 0 es are, part_of-filled (codes "53") 0 es are, part_of-filled (codes "58") 0 es are, part_of-filled (codes "54") 0 es are) refl
 
-same_claim : (p : Claim) (payee : List ℕ) (cents : Option ℕ) → payee ≡ p.payee → cents ≡ p.cents → (let x : Claim = record { payee = payee; cents = cents } in x) ≡ p
-same_claim p payee cents h₁ h₂ = rw (h₁, h₂) refl
-
 claim_said : (p : Claim) (account : List Entry) → value_of (codes "00") account ≡ codes "A000000677010111" → read_payee account ≡ p.payee → is_out_of_range p.cents ≡ false → claim_in (entries_of (with_check (promptpay_objects p))) account ≡ Some p
-claim_said p account named payee cents = rw named (ap Some (same_claim p _ _ payee (cents_read p.cents cents)))
+claim_said p account named payee cents = rw (named, payee, cents_read p.cents cents) refl
 
 -- reading the text gives back the fields
 promptpay_read : (p : Claim) → promptpay_refusal p ≡ None → read_promptpay (promptpay_text p) ≡ Some p

@@ -1,11 +1,12 @@
 use Rattle.std.proofs.Common.{◌≡◌, ℕ, nat_lt, ◌/◌, ◌%◌, ◌<◌, ◌^◌, ◌==◌, ◌&&◌, not, List, [], ◌∷◌, ◌++◌, Bool, true, false, Option, Some, None, filter, length, decimal, codes, if◌then◌else◌, refl, ap, ◌∙◌, sym, arith, append_assoc}
 use Rattle.std.specs.List.{list_all, list_any}
+use Rattle.std.specs.Option.{option_map}
 use Rattle.std.specs.Str.{bytes_eq}
 use Rattle.std.proofs.lemmas.Bool.Decides.{nat_tests}
 use Rattle.qrcode_contents.specs.declared.fields.errors.Field.TheVariants.{Amount, Category, Name, Note, Payee, Reference}
 use Rattle.qrcode_contents.specs.declared.fields.errors.Cause.TheVariants.{Character, ControlCharacter, Range}
 use Rattle.qrcode_contents.specs.Bill.{amount_line, is_out_of_range, read_cents}
-use Rattle.qrcode_contents.specs.Upi.{Request, request_of, is_address_byte, is_category, upi_checks, upi_refusal, upi_parameters, upi_text, read_upi}
+use Rattle.qrcode_contents.specs.Upi.{Request, request_of, request_with, is_address_byte, is_category, upi_checks, upi_refusal, upi_parameters, upi_text, read_upi}
 use Rattle.qrcode_contents.specs.fields.Amounts.{amount_text}
 use Rattle.qrcode_contents.specs.fields.Characters.{is_control, is_digit, before, after}
 use Rattle.qrcode_contents.specs.fields.Entries.{Entry, is_filled, filled, single, value_of}
@@ -97,21 +98,21 @@ value_of_link r said key other distinct =
     ap (value_of key) (link_entries r said)
     ∙ rw other (part_of-filled key 0 (entries_of (upi_parameters r)) distinct)
 
-same_request : (r : Request) (payee name category reference note : List ℕ) (cents : Option ℕ) → payee ≡ r.payee → name ≡ r.name → category ≡ r.category → reference ≡ r.reference → note ≡ r.note → cents ≡ r.cents → (let x : Request = record { payee = payee; name = name; category = category; reference = reference; note = note; cents = cents } in x) ≡ r
-same_request r payee name category reference note cents h₁ h₂ h₃ h₄ h₅ h₆ = rw (h₁, h₂, h₃, h₄, h₅, h₆) refl
+same_request : (r : Request) (payee name category reference note : List ℕ) → payee ≡ r.payee → name ≡ r.name → category ≡ r.category → reference ≡ r.reference → note ≡ r.note → (let x : Request = record { payee = payee; name = name; category = category; reference = reference; note = note; cents = r.cents } in x) ≡ r
+same_request r payee name category reference note h₁ h₂ h₃ h₄ h₅ = rw (h₁, h₂, h₃, h₄, h₅) refl
 
 -- reading the text gives back the fields
 upi_read : (r : Request) → upi_refusal r ≡ None → read_upi (upi_text r) ≡ Some r
 upi_read r is =
     let said = upi_said r is in
     let currency : value_in (codes "cu") (link_of r) ≡ codes "INR" = value_of_link r said (codes "cu") refl refl in
-    rw currency (ap Some (same_request r _ _ _ _ _ _
+    rw currency (ap (option_map (request_with (link_of r))) (ap read_cents (value_of_link r said (codes "am") refl refl) ∙ cents_read r.cents said.cents)
+    ∙ ap Some (same_request r _ _ _ _ _
     (ap (value_of (codes "pa")) (link_entries r said))
     (value_of_link r said (codes "pn") refl refl)
     (value_of_link r said (codes "mc") refl refl)
     (value_of_link r said (codes "tr") refl refl)
-    (value_of_link r said (codes "tn") refl refl)
-    (ap read_cents (value_of_link r said (codes "am") refl refl) ∙ cents_read r.cents said.cents)))
+    (value_of_link r said (codes "tn") refl refl)))
 
 pub returns-clause-reads : goal.returns-clause-reads
 returns-clause-reads c =
