@@ -36,7 +36,7 @@ impl fmt::Display for JoinError {
             }
             JoinError::Twice(place) => {
                 let place = *place;
-                write!(f, "two parts have place {place}")
+                write!(f, "more than one part has place {place}")
             }
             JoinError::Parity => f.write_str("the parity is that of other data"),
             JoinError::OutOfMemory => f.write_str("out of memory"),

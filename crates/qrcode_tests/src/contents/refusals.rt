@@ -44,7 +44,7 @@ fn elements_tell_index_and_cause(rt: HostRuntime) {
 static OF_PARTS: [(JoinError, &str); 5] = [
     (JoinError::Stranger(1), "part 1 is not of the same data as the first"),
     (JoinError::Missing(0), "the part at place 0 is missing"),
-    (JoinError::Twice(15), "two parts have place 15"),
+    (JoinError::Twice(15), "more than one part has place 15"),
     (JoinError::Parity, "the parity is that of other data"),
     (JoinError::OutOfMemory, "out of memory"),
 ];
