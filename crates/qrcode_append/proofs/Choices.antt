@@ -1,19 +1,20 @@
 -- The fewest symbols in a range of versions.
-use Rattle.std.proofs.Common.{◌≡◌, ℕ, ◌-◌, ◌<◌, ◌≤◌, pos, List, length, sym, ap, subst, arith, inl, inr, Option, Some, None, w16, to_z, IsTrue}
+use Rattle.std.proofs.Common.{◌≡◌, ℕ, ◌-◌, ◌<◌, ◌≤◌, pos, List, length, refl, sym, ap, subst, arith, inl, inr, Option, Some, None, w16, to_z, IsTrue}
 use Rattle.std.specs.Prelude.{MatchOption}
 use Rattle.std.proofs.lemmas.Bool.{cases_lt}
 use Rattle.std.proofs.lemmas.Int.{to_z_pos}
 use Rattle.qrcode_types.specs.Versions.{has_level}
 use Rattle.qrcode_types.specs.declared.types.Version.TheVariants.{Normal}
 use Rattle.qrcode_types.specs.declared.types.EcLevel.{EcLevel}
+use Rattle.qrcode_types.specs.declared.types.QrError.{QrError}
 use Rattle.qrcode_bits.specs.StructuredAppend.{parity}
 use Rattle.qrcode_bits.specs.declared.bits.manner.Manner.{Manner}
 use Rattle.qrcode_bits.proofs.Bands.{normal_level, normal_number}
 use Rattle.qrcode.specs.Code.{Code}
 use Rattle.qrcode_append.specs.Division.{part}
-use Rattle.qrcode_append.specs.Fewest.{IsAmong, IsLeastAmong, AreCounted, AreFewest}
+use Rattle.qrcode_append.specs.Fewest.{IsAmong, IsLeastAmong, AreCounted, AreFewest, AreNotHeld}
 use Rattle.qrcode_append.specs.Reading.{EachAt}
-use Rattle.qrcode_append.specs.Symbols.{HoldSeveral, IsPartSymbol}
+use Rattle.qrcode_append.specs.Symbols.{HoldSeveral, IsPartSymbol, AreRefused}
 use Rattle.qrcode_append.specs.declared.choice.Versions.{Versions}
 use Rattle.qrcode_append.proofs.Parts.{parted_of, several_of}
 
@@ -68,3 +69,11 @@ least_held m vs l bytes count n o is found = subst (λ o. MatchOption o ((n : �
 pub none_held : (m : Manner) (vs : Versions) (l : EcLevel) (bytes : List ℕ) (count : ℕ) (o : Option ℕ) → o ≡ None
     → MatchOption o ((n : ℕ) → IsAmong vs n → ¬ HoldSeveral m (Normal (pos n)) l bytes count) (IsLeastAmong m vs l bytes count) → (n : ℕ) → IsAmong vs n → ¬ HoldSeveral m (Normal (pos n)) l bytes count
 none_held m vs l bytes count o is found = subst (λ o. MatchOption o ((n : ℕ) → IsAmong vs n → ¬ HoldSeveral m (Normal (pos n)) l bytes count) (IsLeastAmong m vs l bytes count)) is found
+
+-- why a range of one version does not hold the data
+pub one_refused : (m : Manner) (n : ℕ) (l : EcLevel) (bytes : List ℕ) (e : QrError) → AreNotHeld m (record { least = n; greatest = n }) l bytes e → AreRefused m (Normal (pos n)) l bytes e
+one_refused m n l bytes e (inl memory) = inl memory
+one_refused m n l bytes e (inr (inl (is, none))) = inr (inl (is, λ has normal. none n (omega arith, omega arith) has))
+one_refused m n l bytes e (inr (inr (is, (some, none)))) =
+    let same : some.0 ≡ n = omega (arith, some.1.0.0, some.1.0.1) in
+    inr (inr (is, (subst (λ k. IsTrue (has_level (Normal (pos k)) l)) same some.1.1, refl, λ count. none n count (omega arith, omega arith))))

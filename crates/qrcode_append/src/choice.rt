@@ -12,7 +12,6 @@ use crate::holding::{Wanted, hold};
 use qrcode::QrCode;
 use qrcode::types::{EcLevel, QrError, QrResult, Version};
 use qrcode_bits::bits::{DATA_LIMIT, Manner};
-use qrcode_types::tables;
 use std::alloc::Global;
 
 /// A range of Normal versions, by their numbers.
@@ -24,31 +23,29 @@ pub struct Versions {
     pub greatest: usize,
 }
 
-// Encodes `bytes` in as few symbols of the wanted version as hold the parts.
-pub(crate) fn encode_as(alloc: Global, bytes: &[u8], wanted: Wanted) -> QrResult<Vec<QrCode>>
-    ensures symbols { IfOk result (λ codes. AreSeveral
-        wanted.manner wanted.version wanted.ec_level bytes.now codes.items) }
-    ensures accepts { (count : ℕ)
-        → HoldSeveral wanted.manner wanted.version wanted.ec_level bytes.now count
+// Encodes `bytes` in as few symbols of this version as hold the parts.
+pub(crate) fn encode_as(
+    alloc: Global,
+    bytes: &[u8],
+    manner: Manner,
+    version: Version,
+    ec_level: EcLevel,
+) -> QrResult<Vec<QrCode>>
+    ensures symbols { IfOk result (λ codes.
+        AreSeveral manner version ec_level bytes.now codes.items) }
+    ensures accepts { (count : ℕ) → HoldSeveral manner version ec_level bytes.now count
         → IsOkUnless result OutOfMemory }
-    ensures causes { IfErr result
-        (AreRefused wanted.manner wanted.version wanted.ec_level bytes.now) }
+    ensures causes { IfErr result (AreRefused manner version ec_level bytes.now) }
 {
-    if wanted.version.is_micro() {
-        return Err(QrError::InvalidVersion);
-    }
-    let Some(_) = tables::capacity(wanted.version, wanted.ec_level) else {
-        return Err(QrError::InvalidVersion);
+    let number = match version {
+        Version::Normal(number) if number > 0 => number as usize,
+        _ => return Err(QrError::InvalidVersion),
     };
-    if bytes.len() > DATA_LIMIT {
-        return Err(QrError::DataTooLong);
-    }
-    for count in 1..17 {
-        if hold(alloc, bytes, wanted, count)? {
-            return symbols(alloc, bytes, wanted, count);
-        }
-    }
-    Err(QrError::DataTooLong)
+    let versions = Versions {
+        least: number,
+        greatest: number,
+    };
+    encode_among(alloc, bytes, manner, versions, ec_level)
 }
 
 /// Encodes `bytes` as `manner` says, in as few symbols as any of `versions` allows, of the smallest
@@ -91,8 +88,9 @@ pub fn encode_among(
 /// Encodes `bytes` as `manner` says, in `count` symbols of the smallest of `versions` in which that
 /// many hold the parts.
 ///
-/// Errors: `DataTooLong` if `count` symbols hold the parts in none of the versions, if `count` is 0
-/// or more than 16, or if there are more than 1,048,576 bytes; `OutOfMemory` if memory runs out.
+/// Errors: `DataTooLong` if `count` symbols hold the parts in none of the versions (also if none of
+/// them exists), if `count` is 0 or more than 16, or if there are more than 1,048,576 bytes;
+/// `OutOfMemory` if memory runs out.
 pub fn encode_counted(
     alloc: Global,
     bytes: &[u8],

@@ -18,7 +18,6 @@ ghost use Rattle.qrcode_append.specs.Symbols.{HoldSeveral, AreSeveral, AreRefuse
 
 use choice::encode_as;
 pub use choice::{Versions, encode_among, encode_counted};
-use holding::Wanted;
 pub use joining::{Part, join};
 use qrcode::QrCode;
 use qrcode::types::{EcLevel, QrResult, Version};
@@ -45,15 +44,7 @@ pub fn encode_several(
         → IsOkUnless result OutOfMemory }
     ensures causes { IfErr result (AreRefused Bytes version ec_level bytes.now) }
 {
-    encode_as(
-        alloc,
-        bytes,
-        Wanted {
-            manner: Manner::Bytes,
-            version,
-            ec_level,
-        },
-    )
+    encode_as(alloc, bytes, Manner::Bytes, version, ec_level)
 }
 
 /// Encodes `text` in several symbols as `encode_several` does bytes, but divides no character: if
@@ -73,15 +64,7 @@ pub fn encode_text_several(
         → IsOkUnless result OutOfMemory }
     ensures causes { IfErr result (AreRefused Text version ec_level text.now) }
 {
-    encode_as(
-        alloc,
-        text.as_bytes(),
-        Wanted {
-            manner: Manner::Text,
-            version,
-            ec_level,
-        },
-    )
+    encode_as(alloc, text.as_bytes(), Manner::Text, version, ec_level)
 }
 
 /// Encodes `bytes` in as few symbols as any of `versions` allows, of the smallest version that

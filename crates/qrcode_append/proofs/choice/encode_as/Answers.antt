@@ -1,25 +1,17 @@
-use Rattle.std.proofs.Common.{ℕ, refl, sym, ◌∙◌, arith, below_more, true≢false, inr}
-use Rattle.qrcode_append.specs.Symbols.{HoldSeveral}
-use Rattle.qrcode_append.proofs.Parts.{several_of, pair_ok}
+use Rattle.std.proofs.Common.{◌≡◌, pos, nat_abs, to_z, of_z, w16, arith, rules}
+use Rattle.std.proofs.lemmas.Result.{IfErr-weaker}
+use Rattle.qrcode_types.specs.declared.types.Version.TheVariants.{Normal}
+use Rattle.qrcode_append.proofs.Choices.{one_refused}
 use Rattle.qrcode_append.proofs.choice.encode_as.Goals as goal
 
-pub symbols-requires : goal.symbols-requires
-symbols-requires c = c.in_ok-hold.ensures.value.0 c.if-branch.true
-
-pub returns-then-branch-clause-symbols : goal.returns-then-branch-clause-symbols
-returns-then-branch-clause-symbols c =
-    pair_ok c.symbols.result
-    (λ codes is symbols. several_of c.args.wanted.manner c.args.wanted.version c.args.wanted.ec_level c.args.bytes.now c.loop-count.count codes.items
-    (c.in_ok-hold.ensures.value.0 c.if-branch.true) c.loop-count.invariant is symbols)
-    c.symbols.ensures.count c.symbols.ensures.symbols
-
-pub loop-count-preserved : goal.loop-count-preserved
-loop-count-preserved c =
-    let P : ℕ → Type 0 = λ n. ¬ HoldSeveral c.args.wanted.manner c.args.wanted.version c.args.wanted.ec_level c.args.bytes.now n in
-    below_more P c.loop-count.count c.loop-count.invariant (λ held. true≢false (sym (c.in_ok-hold.ensures.value.1 held) ∙ c.if-branch.false))
-
 pub returns-clause-accepts : goal.returns-clause-accepts
-returns-clause-accepts c = λ count held. absurd (c.loop-count.invariant count (omega (arith, held.at_most)) held)
+returns-clause-accepts c =
+    let n = nat_abs (to_z w16 (of_z w16 c.in-Normal.number)) in
+    let same : c.args.version ≡ Normal (pos n) = search rules in
+    rw same (λ count held. c.encode_among.ensures.accepts n count (omega arith, omega arith) held)
 
 pub returns-clause-causes : goal.returns-clause-causes
-returns-clause-causes c = inr (inr (refl, (sym c.in-Some.ensures.exists, sym c.if-is_micro.ensures, λ count held. c.loop-count.invariant count (omega (arith, held.at_most)) held)))
+returns-clause-causes c =
+    let n = nat_abs (to_z w16 (of_z w16 c.in-Normal.number)) in
+    let same : c.args.version ≡ Normal (pos n) = search rules in
+    rw same (IfErr-weaker _ _ _ (one_refused c.args.manner n c.args.ec_level c.args.bytes.now) c.encode_among.ensures.causes)
