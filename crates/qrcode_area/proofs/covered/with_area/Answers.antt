@@ -1,5 +1,5 @@
-use Rattle.std.proofs.Common.{subst}
-use Rattle.qrcode_area.specs.Areas.{covers}
+use Rattle.std.proofs.Common.{subst, rules}
+use Rattle.qrcode_area.specs.Areas.{covers, AgreesOutside}
 use Rattle.qrcode_area.specs.Reserves.{IsItsExcess}
 use Rattle.qrcode_area.proofs.Bounds.{agrees_along, excess_is_not}
 use Rattle.qrcode_area.proofs.Shown.{area_is_read}
@@ -16,8 +16,9 @@ pub returns-clause-read : goal.returns-clause-read
 returns-clause-read c =
     let z = c.args.code.now in
     let area = covers c.args.area.now in
-    let new = c.in_ok-lightened_code-in-None.field-0 in
+    let new = c.in_ok-lightened-in-None.field-0 in
+    let own : AgreesOutside z.version area z.modules new.items = search rules in
     let may = subst (IsItsExcess z.version z.level area) c.in-None.is (c.excess.ensures z.version z.level area c.in_ok-reserve_of.ensures.value) in
     λ bits bytes other encodes agrees.
     area_is_read z.version z.level bits bytes area z.modules other encodes may
-    (agrees_along z.version area z.modules new.items other c.in_ok-lightened_code-in-None.ensures.agrees agrees)
+    (agrees_along z.version area z.modules new.items other own agrees)
