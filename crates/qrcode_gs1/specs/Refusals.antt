@@ -39,7 +39,10 @@ weighted_sum (digit ∷ digits) = (1 + 2 * (length digits % 2)) * (digit - 48) +
 abbrev pub is_checked : List ℕ → Bool  -- the last digit makes the weighted sum a multiple of ten
 is_checked digits = weighted_sum digits % 10 == 0
 
--- printed examples of 14 and of 13 digits, and one with a wrong digit
+-- printed examples of 18, 14 and 13 digits, and one with a wrong digit
+logistic_unit_row : is_checked (codes "106141412345678908") ≡ true
+logistic_unit_row = refl
+
 trade_item_row : is_checked (codes "09506000134352") ≡ true
 trade_item_row = refl
 
@@ -50,8 +53,8 @@ wrong_row : is_checked (codes "09506000134353") ≡ false
 wrong_row = refl
 
 -- the value has a length that the rule allows and, if it is predefined, the one that the identifier's first digits say
-abbrev pub is_long_enough : Rule → Item → Bool
-is_long_enough rule item =
+abbrev pub has_length : Rule → Item → Bool
+has_length rule item =
     is_within rule.1.0 rule.1.1 (length item.1)
     && (not (is_fixed item.0) || (length item.0 + length item.1 == fixed_length (prefix_of item.0)))
 
@@ -93,7 +96,7 @@ month_row = refl
 
 abbrev pub cause_by : Rule → Item → Option Cause  -- what is wrong with an element that has this rule
 cause_by rule item =
-    if not (is_long_enough rule item) then Some Length
+    if not (has_length rule item) then Some Length
     else (if not (is_written rule item.1) then Some Character
     else (if not (is_checked (take rule.3 item.1)) then Some CheckDigit
     else (if is_dated item.0 && not (is_date item.1) then Some Range else None)))

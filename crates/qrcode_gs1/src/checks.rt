@@ -2,7 +2,7 @@
 
 ghost use Rattle.std.specs.Prelude.{◌≡◌};
 ghost use Rattle.std.specs.List.{list_all};
-ghost use Rattle.qrcode_gs1.specs.Refusals.{cause_of, days_in, is_character, is_checked, is_date, is_dated, is_long_enough, is_written};
+ghost use Rattle.qrcode_gs1.specs.Refusals.{cause_of, days_in, has_length, is_character, is_checked, is_date, is_dated, is_written};
 
 use crate::errors::Cause;
 use crate::table::{Rule, are_digits, fixed_length, number_of, prefix_of, rule_of, start};
@@ -33,8 +33,8 @@ fn is_checked(digits: &[u8]) -> bool
 
 // Returns whether the value has a length that the rule allows and, if it is predefined, the one
 // that the first digits of the identifier say.
-fn is_long_enough(rule: &Rule, identifier: &[u8], value: &[u8]) -> bool
-    ensures { result ≡ is_long_enough rule.now (identifier.now, value.now) }
+fn has_length(rule: &Rule, identifier: &[u8], value: &[u8]) -> bool
+    ensures { result ≡ has_length rule.now (identifier.now, value.now) }
 {
     let (least, most) = rule.1;
     let fixed = fixed_length(prefix_of(identifier));
@@ -91,7 +91,7 @@ pub fn cause_of(identifier: &[u8], value: &[u8]) -> Option<Cause>
     let Some(rule) = rule_of(identifier) else {
         return Some(Cause::UnknownIdentifier);
     };
-    if !is_long_enough(&rule, identifier, value) {
+    if !has_length(&rule, identifier, value) {
         return Some(Cause::Length);
     }
     if !is_written(&rule, value) {
