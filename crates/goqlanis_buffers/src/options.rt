@@ -110,10 +110,7 @@ pub(crate) fn is_sound(manner: Manner, bytes: &[u8]) -> bool
 {
     match manner {
         Manner::Bytes => true,
-        Manner::Text | Manner::MarkedText => match str::from_utf8(bytes) {
-            Ok(_) => true,
-            Err(_) => false,
-        },
+        Manner::Text | Manner::MarkedText => str::from_utf8(bytes).is_ok(),
     }
 }
 

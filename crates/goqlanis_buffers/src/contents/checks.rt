@@ -1,29 +1,20 @@
 //! Checks fields before the format does: their number, and that they are UTF-8.
 
 ghost use Rattle.std.specs.Prelude.{◌≡◌, length, IfErr, OnOk};
-ghost use Rattle.std.specs.Str.{is_utf8};
 ghost use Rattle.goqlanis_buffers.specs.contents.Given.{field_refusal, passed, IsFirstWrong, AreTaken};
 
 use crate::contents::answers::Refusal;
 use crate::contents::given::Item;
 
-fn is_text(bytes: &[u8]) -> bool
-    ensures { result ≡ is_utf8 bytes.now }
-{
-    match str::from_utf8(bytes) {
-        Ok(_) => true,
-        Err(_) => false,
-    }
-}
-
 // Checks the field at an index, for a kind with `count` fields.
+#[tactic(auto, using(crate::proofs::Fields::text_test, crate::proofs::Fields::no_text_test))]
 fn check_field(count: usize, place: usize, field: &Item<'_>) -> Result<(), Refusal>
     ensures { result ≡ passed (field_refusal count place field.now) }
 {
     if place >= count {
         return Err(Refusal::NoSuchField(place));
     }
-    if !is_text(field.bytes) {
+    if str::from_utf8(field.bytes).is_err() {
         return Err(Refusal::NotText(place));
     }
     Ok(())

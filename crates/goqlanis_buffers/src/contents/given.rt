@@ -16,6 +16,7 @@ pub struct Item<'a> {
 }
 
 // The bytes as text, or nothing if they are not UTF-8.
+#[tactic(auto, using(crate::proofs::Fields::text_test, crate::proofs::Fields::no_text_test))]
 fn valid_text(bytes: &[u8]) -> &str
     ensures { result.now ≡ valid_text bytes.now }
 {
