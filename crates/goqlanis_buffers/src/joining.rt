@@ -82,11 +82,11 @@ pub fn join_into(alloc: Global, squares: &[Square<'_>], out: &mut [u8]) -> Resul
     ensures unchanged { OnErr result (out.new ≡ out.old) }
     ensures causes { IfErr result (IsUnjoined squares.now (length out.old)) }
 {
-    let found = match found_in(alloc, squares) {
+    let found = match decode_squares(alloc, squares) {
         Ok(found) => found,
         Err(why) => return Err(why),
     };
-    let Ok(parts) = lent(alloc, &found) else {
+    let Ok(parts) = borrowed_parts(alloc, &found) else {
         return Err(Unjoined::OutOfMemory);
     };
     let bytes = match join(alloc, &parts) {
@@ -101,13 +101,13 @@ pub fn join_into(alloc: Global, squares: &[Square<'_>], out: &mut [u8]) -> Resul
 }
 
 // Decodes each square.
-fn found_in(alloc: Global, squares: &[Square<'_>]) -> Result<Vec<Found>, Unjoined>
+fn decode_squares(alloc: Global, squares: &[Square<'_>]) -> Result<Vec<Found>, Unjoined>
     ensures read { IfOk result (λ found. ArePartsOf squares.now (map found_part found.items)) }
     ensures causes { (room : ℕ) → IfErr result (IsUnjoined squares.now room) }
 {
     let mut all = Vec::new(alloc);
     for place in 0..squares.len() {
-        let found = match found_of(alloc, squares[place].modules) {
+        let found = match decode_square(alloc, squares[place].modules) {
             Ok(found) => found,
             Err(None) => return Err(Unjoined::OutOfMemory),
             Err(Some(refusal)) => return Err(Unjoined::Square(place, refusal)),
@@ -121,7 +121,7 @@ fn found_in(alloc: Global, squares: &[Square<'_>]) -> Result<Vec<Found>, Unjoine
 
 // Decodes a square. Errors: why it is not a part, or `None` if memory runs out.
 #[tactic(auto, using(crate::proofs::Known::no_side))]
-fn found_of(alloc: Global, modules: &[u8]) -> Result<Found, Option<Refusal>>
+fn decode_square(alloc: Global, modules: &[u8]) -> Result<Found, Option<Refusal>>
     ensures read { IfOk result (λ found. IsPartOf (colors_of modules.now) (found_part found)) }
     ensures causes { IfErr result (λ refusal.
         IfSome refusal (IsNoPart (colors_of modules.now))) }
@@ -160,7 +160,7 @@ fn found_of(alloc: Global, modules: &[u8]) -> Result<Found, Option<Refusal>>
 }
 
 // The same parts, with borrowed bytes.
-fn lent<'a>(alloc: Global, found: &'a [Found]) -> Result<Vec<Part<'a>>, AllocError>
+fn borrowed_parts<'a>(alloc: Global, found: &'a [Found]) -> Result<Vec<Part<'a>>, AllocError>
     ensures same { IfOk result (λ parts. map part_of parts.items ≡ map found_part found.now) }
 {
     let mut parts = Vec::new(alloc);

@@ -121,8 +121,8 @@ pub fn smallest_version(alloc: Global, segments: &[Segment<'_>], level: u32) -> 
         return Err(Refusal::NoSuchLevel);
     };
     for number in 1..41 {
-        match held(alloc, segments, Version::Normal(number as i16), ec_level) {
-            Ok(_) => return Ok(number),
+        match check_held(alloc, segments, Version::Normal(number as i16), ec_level) {
+            Ok(()) => return Ok(number),
             Err(refusal) if refusal != Refusal::NoRoom => return Err(refusal),
             Err(_) => {}
         }
@@ -130,13 +130,13 @@ pub fn smallest_version(alloc: Global, segments: &[Segment<'_>], level: u32) -> 
     Err(Refusal::NoRoom)
 }
 
-// The bits of segments, if the version holds them at the level.
-fn held(
+// Checks that the version holds the segments at the level.
+fn check_held(
     alloc: Global,
     segments: &[Segment<'_>],
     version: Version,
     ec_level: EcLevel,
-) -> Result<Bits, Refusal>
+) -> Result<(), Refusal>
     requires valid { IsTrue (is_valid version) }
     ensures exists { OnOk result (IsTrue (has_level version ec_level)) }
     ensures taken { OnOk result (AreTaken version segments.now (length segments.now)) }
@@ -150,7 +150,7 @@ fn held(
     if bits.len() > room {
         return Err(Refusal::NoRoom);
     }
-    Ok(bits)
+    Ok(())
 }
 
 // Appends segments in order to an empty list of bits.

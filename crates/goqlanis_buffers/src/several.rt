@@ -67,7 +67,7 @@ pub fn encode_several(
     ensures unchanged { OnErr result (modules.new ≡ modules.old) }
     ensures causes { IfErr result (IsSeveralCause options.now bytes.now (length modules.old)) }
 {
-    let asked = match named_by(options) {
+    let asked = match look_up(options) {
         Ok(asked) => asked,
         Err(refusal) => return Err(refusal),
     };
@@ -108,7 +108,7 @@ fn symbols_of(alloc: Global, bytes: &[u8], asked: Named, count: u32) -> QrResult
 }
 
 // Looks up the numbers in options.
-fn named_by(options: &Several) -> Result<Named, Refusal>
+fn look_up(options: &Several) -> Result<Named, Refusal>
     ensures made { IfOk result (AreAsked options.now) }
     ensures causes { (bytes : List ℕ) (room : ℕ)
         → IfErr result (IsSeveralCause options.now bytes room) }

@@ -3,7 +3,7 @@ use Rattle.std.proofs.lemmas.Grind.{common_steps}
 use Rattle.goqlanis_buffers.specs.Joining.{found_part, ArePartsOf}
 use Rattle.goqlanis_buffers.specs.declared.joining.Found.{Found}
 use Rattle.goqlanis_buffers.proofs.Squares.{parts_more}
-use Rattle.goqlanis_buffers.proofs.joining.found_in.Goals as goal
+use Rattle.goqlanis_buffers.proofs.joining.decode_squares.Goals as goal
 
 pub loop-place-preserved : goal.loop-place-preserved
 loop-place-preserved c =

@@ -1,6 +1,6 @@
 use Rattle.std.proofs.Common.{map, take}
 use Rattle.goqlanis_buffers.specs.Joining.{found_part, ArePartsOf}
-use Rattle.goqlanis_buffers.proofs.joining.found_in.Given as goal
+use Rattle.goqlanis_buffers.proofs.joining.decode_squares.Given as goal
 
 -- the squares so far are decoded
 abbrev pub invariant-loop-place : goal.invariant-loop-place

@@ -1,6 +1,6 @@
 use Rattle.std.proofs.Common.{◌≡◌, map, take}
 use Rattle.goqlanis_buffers.specs.Joining.{found_part, part_of}
-use Rattle.goqlanis_buffers.proofs.joining.lent.Given as goal
+use Rattle.goqlanis_buffers.proofs.joining.borrowed_parts.Given as goal
 
 -- the parts so far are borrowed
 abbrev pub invariant-loop-i : goal.invariant-loop-i
