@@ -1,5 +1,5 @@
 -- What headers and segments squares decode to, and that each error has its cause.
-use Rattle.std.proofs.Common.{◌≡◌, ℕ, Bool, List, refl, sym, subst, ◌⊎◌, inl, inr}
+use Rattle.std.proofs.Common.{◌≡◌, ℕ, Bool, List, sym, subst, ◌⊎◌, inl, inr}
 use Rattle.qrcode_types.specs.declared.types.Version.{Version}
 use Rattle.qrcode_types.specs.declared.types.EcLevel.{EcLevel}
 use Rattle.qrcode_types.specs.declared.types.Color.{Color}
@@ -12,7 +12,7 @@ use Rattle.qrcode_reader.specs.Refusals.{unread_of}
 use Rattle.qrcode_reader.specs.Readings.{IsBitReading, IsPartsReading, IsPartsCause, ReadsParts}
 use Rattle.qrcode_reader.specs.declared.correction.WrongCodeword.{WrongCodeword}
 use Rattle.qrcode_reader.specs.declared.refusals.Unread.{Unread}
-use Rattle.qrcode_reader.specs.declared.refusals.Unread.TheVariants.{NoSuchSide, NoFormat, Damaged, NotSpelled, OutOfMemory}
+use Rattle.qrcode_reader.specs.declared.refusals.Unread.TheVariants.{NotSpelled, OutOfMemory}
 use Rattle.qrcode_reader.proofs.Refused.{only_memory}
 
 -- what a square decodes to, and why to nothing, by its only bits
