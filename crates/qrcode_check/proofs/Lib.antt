@@ -3,7 +3,7 @@ pub mod FormatBits
 pub mod Guessing
 pub mod Distances
 pub mod Sound
-pub mod Rows
+pub mod Penalties
 pub mod Bounded
 pub mod Padded
 pub mod Allowances

@@ -1,20 +1,15 @@
 //! Ranks the mask of a square among all masks of its version.
 
 ghost use Rattle.std.specs.Prelude.{◌≡◌, ◌+◌, ◌*◌, ◌<◌, ◌≤◌, ◌^◌, length, slice_index, IsTrue, IfOk};
-ghost use Rattle.qrcode_types.specs.Colors.{is_dark};
 ghost use Rattle.qrcode_types.specs.Versions.{is_valid, has_level, side};
 ghost use Rattle.qrcode_layout.specs.Masks.{mask_count, exists_in};
 ghost use Rattle.qrcode_penalty.specs.Penalty.{dark_count, dark_count_in};
-ghost use Rattle.qrcode_penalty.specs.Rows.{IsSquare};
-ghost use Rattle.qrcode_symbol.specs.Masking.{digit, packed};
 ghost use Rattle.qrcode_symbol.specs.Penalties.{penalty, is_dark_at, remasked};
 ghost use Rattle.qrcode_check.specs.Masks.{stepped_balance, stepped_penalty, penalties, place_of, IsRank};
 
 use qrcode_layout::masks::{MaskPattern, mask_count, nth_mask};
-use qrcode_penalty::penalty::{micro_penalty, normal_penalty};
-use qrcode_penalty::row::{PackedRow, Row128, Row192};
-use qrcode_penalty::square::PackedSquare;
 use qrcode_reader::walk::side;
+pub use qrcode_symbol::canvas::penalty;
 use qrcode_symbol::canvas::remask;
 use qrcode_types::types::{Color, EcLevel, Version};
 use std::alloc::{AllocError, Global};
@@ -27,74 +22,6 @@ pub struct Rank {
     pub lower: usize,
     /// How many masks with a lower number have the same penalty.
     pub equal: usize,
-}
-
-// Packs one module into a row: bit 0 is set if it is dark.
-fn bit<R: PackedRow>(color: Color) -> R
-    requires { 1 < R.room }
-    ensures { R.bits result ≡ digit (is_dark color) }
-{
-    match color {
-        Color::Dark => R::first(1),
-        Color::Light => R::first(0),
-    }
-}
-
-// Packs a row of modules: bit x is set if the module in column x is dark.
-fn packed_row<R: PackedRow>(modules: &[Color]) -> R
-    requires few { length modules.now < R.room }
-    requires some { 0 < length modules.now }
-    ensures { R.bits result ≡ packed is_dark modules.now }
-{
-    let mut row = R::first(0);
-    for i in (0..modules.len()).rev() {
-        row = row.up(1).or(bit::<R>(modules[i]));
-    }
-    row
-}
-
-// Computes the penalty of a square on packed rows of type `R`.
-fn penalty_by<R: PackedRow>(
-    alloc: Global,
-    version: Version,
-    modules: &[Color],
-) -> Result<u32, AllocError>
-    requires valid { IsTrue (is_valid version) }
-    requires room { side version + 3 ≤ R.room }
-    requires square { length modules.now ≡ side version * side version }
-    ensures value { IfOk result (λ number. number ≡ penalty version modules.now) }
-    ensures at_most { IfOk result (λ number. number < 2 ^ 24) }
-{
-    let width = side(version);
-    let mut rows = vec![in alloc; R::first(0); width]?;
-    for y in 0..width {
-        rows[y] = packed_row::<R>(&modules[y * width..y * width + width]);
-    }
-    let square = PackedSquare::new(&rows, width as u32);
-    if version.is_micro() {
-        return Ok(micro_penalty(&square));
-    }
-    Ok(normal_penalty(&square))
-}
-
-/// Returns the penalty of a square (ISO/IEC 18004:2006, 6.8.3), with the balance as `QrCode` counts
-/// it.
-///
-/// Errors: only `AllocError`, if memory runs out.
-pub fn penalty(alloc: Global, version: Version, modules: &[Color]) -> Result<u32, AllocError>
-    requires valid { IsTrue (is_valid version) }
-    requires square { length modules.now ≡ side version * side version }
-    ensures value { IfOk result (λ number. number ≡ penalty version modules.now) }
-    ensures at_most { IfOk result (λ number. number < 2 ^ 24) }
-{
-    let width = side(version);
-    if width + 3 <= 64 {
-        return penalty_by::<u64>(alloc, version, modules);
-    }
-    if width + 3 <= 128 {
-        return penalty_by::<Row128>(alloc, version, modules);
-    }
-    penalty_by::<Row192>(alloc, version, modules)
 }
 
 // Counts the dark modules of row `y`.

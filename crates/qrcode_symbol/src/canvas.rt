@@ -29,6 +29,7 @@ mod layer;
 mod masked_rows;
 mod masking;
 mod packing;
+mod penalties;
 mod remasking;
 mod unpacking;
 
@@ -37,6 +38,7 @@ use cells::Cell;
 use codewords::Codewords;
 use drawing::draw_patterns;
 use filling::draw_codewords;
+pub use penalties::penalty;
 use qrcode_layout::laws;
 use qrcode_layout::patterns::is_functional_place;
 use qrcode_types::types::{Color, EcLevel, QrResult, Version};

@@ -5,7 +5,7 @@ use Rattle.qrcode_layout.specs.declared.masks.MaskPattern.TheVariants.{Checkerbo
 use Rattle.qrcode_layout.specs.declared.masks.MaskPattern.{MaskPattern}
 use Rattle.qrcode_symbol.specs.Penalties.{penalty, remasked}
 use Rattle.qrcode_check.specs.Masks.{stepped_penalty, IsRank}
-use Rattle.qrcode_check.proofs.Rows.{masks_more}
+use Rattle.qrcode_check.proofs.Penalties.{masks_more}
 use Rattle.qrcode_check.proofs.masks.ranks.Goals as goal
 
 pub loop-number-preserved : goal.loop-number-preserved

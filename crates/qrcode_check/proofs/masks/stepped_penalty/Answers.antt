@@ -1,5 +1,5 @@
 use Rattle.std.proofs.Common.{ℕ, ◌+◌, ◌*◌, ◌/◌, ap, sym, ◌∙◌}
-use Rattle.qrcode_check.proofs.Rows.{stepped_is}
+use Rattle.qrcode_check.proofs.Penalties.{stepped_is}
 use Rattle.qrcode_check.proofs.masks.stepped_penalty.Goals as goal
 
 pub returns : goal.returns

@@ -1,0 +1,46 @@
+//! The penalty of a finished symbol.
+
+ghost use Rattle.std.specs.Prelude.{◌≡◌, ◌*◌, ◌<◌, ◌^◌, length, map, IsTrue, IfOk};
+ghost use Rattle.qrcode_types.specs.Versions.{is_valid, side};
+ghost use Rattle.qrcode_symbol.specs.Penalties.{penalty};
+ghost use Rattle.qrcode_symbol.specs.declared.canvas.Module.TheVariants.{Masked};
+
+use super::packing::pack_rows;
+use super::{Module, side};
+use qrcode_penalty::penalty::{micro_penalty, normal_penalty};
+use qrcode_penalty::row::{PackedRow, Row192};
+use qrcode_penalty::square::PackedSquare;
+use qrcode_types::types::{Color, Version};
+use std::alloc::{AllocError, Global};
+
+// Returns colours as modules that no mask reverses.
+fn finished(alloc: Global, colors: &[Color]) -> Result<Vec<Module>, AllocError>
+    ensures { IfOk result (λ modules. modules.items ≡ map Masked colors.now) }
+{
+    colors
+        .iter()
+        .map(|color| Module::Masked(*color))
+        .collect(alloc)
+}
+
+/// Returns the penalty of a symbol's colours, row by row (ISO/IEC 18004:2006, 6.8.3), by which its
+/// mask is chosen.
+///
+/// Errors: only `AllocError`, if memory runs out.
+pub fn penalty(alloc: Global, version: Version, colors: &[Color]) -> Result<u32, AllocError>
+    requires valid { IsTrue (is_valid version) }
+    requires square { length colors.now ≡ side version * side version }
+    ensures value { IfOk result (λ number. number ≡ penalty version colors.now) }
+    ensures at_most { IfOk result (λ number. number < 2 ^ 24) }
+{
+    let width = side(version);
+    let modules = finished(alloc, colors)?;
+    let mut dark = vec![in alloc; Row192::first(0); width]?;
+    let mut free = vec![in alloc; Row192::first(0); width]?;
+    pack_rows(width, &modules, &mut dark, &mut free);
+    let square = PackedSquare::new(&dark, width as u32);
+    if version.is_micro() {
+        return Ok(micro_penalty(&square));
+    }
+    Ok(normal_penalty(&square))
+}
