@@ -11,7 +11,7 @@ use Rattle.qrcode_contents.specs.declared.fields.errors.Cause.TheVariants.{Chara
 use Rattle.qrcode_contents.specs.declared.bill.Currency.{Currency}
 use Rattle.qrcode_contents.specs.declared.bill.Currency.TheVariants.{Franc, Euro}
 use Rattle.qrcode_contents.specs.fields.Amounts.{amount_text}
-use Rattle.qrcode_contents.specs.Bill.{Addressee, Invoice, is_unsaid, is_creditor_reference, reference_kind, text_checks, text_refusal, of_debtor, named_refusal, is_nobody, party_refusal, debtor_refusal, is_out_of_range, account_checks, account_refusal, message_checks, message_refusal, bill_checks, bill_refusal, currency_name, address_kind, address_lines, unused_lines, amount_line, end_lines, bill_lines, bill_text, read_cents, read_currency, invoice_in, read_bill}
+use Rattle.qrcode_contents.specs.Bill.{Addressee, Invoice, has_disallowed, is_creditor_reference, reference_kind, text_checks, text_refusal, of_debtor, named_refusal, is_nobody, party_refusal, debtor_refusal, is_out_of_range, account_checks, account_refusal, message_checks, message_refusal, bill_checks, bill_refusal, currency_name, address_kind, address_lines, unused_lines, amount_line, end_lines, bill_lines, bill_text, read_cents, read_currency, invoice_in, read_bill}
 use Rattle.qrcode_contents.specs.fields.Characters.{is_control}
 use Rattle.qrcode_contents.specs.fields.Entries.{is_filled}
 use Rattle.qrcode_contents.specs.fields.Lines.{line_at}
@@ -23,7 +23,7 @@ use Rattle.qrcode_contents.proofs.LineReading.{HasNoFeed, HaveNoFeeds, HasNoFeed
 use Rattle.qrcode_contents.proofs.Passing.{all_pass, test_passes}
 
 -- a text with only allowed characters has no line feed
-said : (text : List ℕ) → is_unsaid text ≡ false → HasNoFeed text
+said : (text : List ℕ) → has_disallowed text ≡ false → HasNoFeed text
 said text is = HasNoFeed-from_control text (neither (list_any is_control text) _ is).0
 
 -- an address whose lines have no line feeds
@@ -40,12 +40,12 @@ unfolding text_refusal
 address_said p is =
     let none = all_pass (text_checks p) is in
     record {
-      name = said p.name (test_passes (is_unsaid p.name) Name Character none.0);
-      street = said p.street (test_passes (is_unsaid p.street) Street Character none.1.0);
-      number = said p.number (test_passes (is_unsaid p.number) Number Character none.1.1.0);
-      code = said p.code (test_passes (is_unsaid p.code) PostalCode Character none.1.1.1.0);
-      city = said p.city (test_passes (is_unsaid p.city) City Character none.1.1.1.1.0);
-      country = said p.country (test_passes (is_unsaid p.country) Country Character none.1.1.1.1.1.0);
+      name = said p.name (test_passes (has_disallowed p.name) Name Character none.0);
+      street = said p.street (test_passes (has_disallowed p.street) Street Character none.1.0);
+      number = said p.number (test_passes (has_disallowed p.number) Number Character none.1.1.0);
+      code = said p.code (test_passes (has_disallowed p.code) PostalCode Character none.1.1.1.0);
+      city = said p.city (test_passes (has_disallowed p.city) City Character none.1.1.1.1.0);
+      country = said p.country (test_passes (has_disallowed p.country) Country Character none.1.1.1.1.1.0);
     }
 
 not_of_debtor : (o : Option ContentError) → option_map of_debtor o ≡ None → o ≡ None
@@ -125,12 +125,12 @@ bill_said b is =
     let message = all_pass (message_checks b) none.1.1.1.1.0 in
     let debtor = all_pass (text_refusal b.debtor ∷ (if is_nobody b.debtor then None else named_refusal b.debtor) ∷ []) (not_of_debtor (party_refusal b.debtor) none.1.1.1.0) in
     record {
-      iban = said b.iban (test_passes (is_unsaid b.iban) Iban Character account.0);
+      iban = said b.iban (test_passes (has_disallowed b.iban) Iban Character account.0);
       cents = test_passes (is_out_of_range b.cents) Amount Range account.1.1.1.1.1.1.0;
       creditor = address_said b.creditor none.1.0;
       debtor = address_said b.debtor debtor.0;
-      reference = said b.reference (test_passes (is_unsaid b.reference) Reference Character message.0);
-      message = said b.message (test_passes (is_unsaid b.message) Message Character message.1.0);
+      reference = said b.reference (test_passes (has_disallowed b.reference) Reference Character message.0);
+      message = said b.message (test_passes (has_disallowed b.message) Message Character message.1.0);
     }
 
 -- the lines after the first

@@ -10,14 +10,15 @@ use Rattle.qrcode_contents.specs.declared.fields.errors.Cause.TheVariants.{Contr
 use Rattle.qrcode_contents.specs.Card.{Contact, first_fields, last_fields, numbers_of, first_checks, number_checks, last_checks, first_refused, numbers_refused, last_refused, card_refusal, first_texts, last_texts, card_lines, card_text, contact_with, contact_in, read_card}
 use Rattle.qrcode_contents.specs.Phone.{is_no_number}
 use Rattle.qrcode_contents.specs.Times.{wrong_day, date_text, said_or_none, read_date}
-use Rattle.qrcode_contents.specs.fields.Characters.{is_control, is_dialled, is_stray, stray_checks}
+use Rattle.qrcode_contents.specs.fields.Characters.{is_control, is_dialled, is_other_control, other_control_checks}
 use Rattle.qrcode_contents.specs.fields.ContentLines.{content_text, structured, text_lines, read_content, part_in}
 use Rattle.qrcode_contents.specs.fields.Entries.{Entry, read_or_none, value_of}
 use Rattle.qrcode_contents.specs.fields.EntryTests.{are_distinct}
 use Rattle.qrcode_contents.specs.fields.Links.{Parameter}
+use Rattle.qrcode_contents.proofs.EntryReading.{holds}
 use Rattle.qrcode_contents.proofs.ContentParts.{HaveNoReturns, IsPlain, IsPlain-structured, part_read, text_content, line_with}
 use Rattle.qrcode_contents.proofs.ContentReading.{AreContent, content_read}
-use Rattle.qrcode_contents.proofs.LinkReading.{none_of, all_without, no_return, no_stray_return, entries_of}
+use Rattle.qrcode_contents.proofs.LinkReading.{none_of, all_without, no_return, other_no_return, entries_of}
 use Rattle.qrcode_contents.proofs.Passing.{AllPass, all_pass, test_passes}
 use Rattle.qrcode_contents.proofs.PhoneReading.{all_dialled}
 use Rattle.qrcode_contents.proofs.TimeReading.{date_or_none_read, IsPlain-date}
@@ -26,11 +27,11 @@ no_feed_of : (b : ℕ) → is_control b ≡ false → (b == 10) ≡ false
 no_feed_of b is = grind (arith, nat_tests)
 
 -- texts that pass their checks have no carriage returns
-no_strays : (fields : List (Field × List ℕ)) → AllPass (stray_checks fields) → HaveNoReturns (map (λ field. field.1) fields)
-no_strays [] pass = tt
-no_strays (field ∷ fields) pass = (
-  no_stray_return field.1 (test_passes (list_any is_stray field.1) field.0 ControlCharacter pass.0),
-  no_strays fields pass.1,
+no_other_controls : (fields : List (Field × List ℕ)) → AllPass (other_control_checks fields) → HaveNoReturns (map (λ field. field.1) fields)
+no_other_controls [] pass = tt
+no_other_controls (field ∷ fields) pass = (
+  other_no_return field.1 (test_passes (list_any is_other_control field.1) field.0 ControlCharacter pass.0),
+  no_other_controls fields pass.1,
 )
 
 no_dialled_return : (b : ℕ) → is_dialled b ≡ true → (b == 13) ≡ false
@@ -59,9 +60,9 @@ card_said c is =
     let last = all_pass (last_checks c) none.1.1.0 in
     let url = test_passes (list_any is_control c.person.url) Url ControlCharacter last.0 in
     record {
-      first = no_strays (first_fields c) first.1.1;
+      first = no_other_controls (first_fields c) first.1.1;
       numbers = are_numbers (numbers_of c) (all_pass (number_checks (numbers_of c)) none.1.0);
-      last = no_strays (last_fields c) last.1.1;
+      last = no_other_controls (last_fields c) last.1.1;
       url = record { no_return = no_return c.person.url url; no_feed = none_of is_control (λ b. b == 10) no_feed_of c.person.url url };
       birthday = test_passes (wrong_day c.person.birthday) Birthday Range last.1.0;
     }

@@ -32,6 +32,11 @@ pub denied : (a : Bool) → not a ≡ true → a ≡ false
 denied true is = cc
 denied false is = refl
 
+-- if `not a` fails, a holds
+pub holds : (a : Bool) → not a ≡ false → a ≡ true
+holds true is = refl
+holds false is = cc
+
 -- if a holds but not `a && b`, b fails
 pub second_fails : (a b : Bool) → a ≡ true → (a && b) ≡ false → b ≡ false
 second_fails true b is none = none

@@ -5,14 +5,14 @@ use Rattle.std.specs.List.{list_any}
 use Rattle.std.specs.Option.{option_map, option_and_then}
 use Rattle.qrcode_contents.specs.declared.fields.errors.Field.TheVariants.{Uid, Stamp, Begin, End, Summary, Location, Description}
 use Rattle.qrcode_contents.specs.declared.fields.errors.Cause.TheVariants.{ControlCharacter, Range}
-use Rattle.qrcode_contents.specs.fields.Characters.{is_control, is_stray}
+use Rattle.qrcode_contents.specs.fields.Characters.{is_control, is_other_control}
 use Rattle.qrcode_contents.specs.fields.ContentLines.{content_text, structured, read_content}
 use Rattle.qrcode_contents.specs.fields.Entries.{Entry, single, is_filled, filled, read_or_none, value_of}
 use Rattle.qrcode_contents.specs.fields.Links.{Parameter}
 use Rattle.qrcode_contents.proofs.ContentParts.{IsPlain, part_read, one_plain, line_with, plain_nothing}
 use Rattle.qrcode_contents.proofs.ContentReading.{AreContent, AreContent-append, behind_last, lines_read}
-use Rattle.qrcode_contents.proofs.EntryReading.{neither, part_of-filled, HasNo}
-use Rattle.qrcode_contents.proofs.LinkReading.{entries_of, no_return, no_stray_return}
+use Rattle.qrcode_contents.proofs.EntryReading.{neither, part_of-filled, HasNo, holds}
+use Rattle.qrcode_contents.proofs.LinkReading.{entries_of, no_return, other_no_return}
 use Rattle.qrcode_contents.proofs.Passing.{all_pass, test_passes}
 use Rattle.qrcode_contents.specs.declared.times.Day.{Day}
 use Rattle.qrcode_contents.specs.declared.times.Moment.{Moment}
@@ -20,7 +20,7 @@ use Rattle.qrcode_contents.specs.declared.event.Span.{Span}
 use Rattle.qrcode_contents.specs.declared.event.Span.TheVariants.{Days, Times}
 use Rattle.qrcode_contents.specs.Event.{Happening, wrong_stamp, stamp_text, begins_never, ends_never, event_checks, event_refusal, span_lines, event_lines, first_lines, last_lines, event_text, before_end, component, span_in, happening_in, calendar_event, read_event}
 use Rattle.qrcode_contents.specs.Times.{is_day, is_moment, day_text, moment_text, read_moment}
-use Rattle.qrcode_contents.proofs.TimeReading.{allowed, day_read, moment_read, IsPlain-day, IsPlain-moment, filled_day, filled_moment}
+use Rattle.qrcode_contents.proofs.TimeReading.{day_read, moment_read, IsPlain-day, IsPlain-moment, filled_day, filled_moment}
 
 -- what holds of fields that pass all checks
 record IsSayable (h : Happening) : Type 0 where
@@ -41,26 +41,26 @@ sayable h is =
       stamp = test_passes (wrong_stamp h.stamp) Stamp Range t.1.0;
       begins = test_passes (begins_never h.span) Begin Range t.1.1.0;
       ends = test_passes (ends_never h.span) End Range t.1.1.1.0;
-      summary = no_stray_return h.summary (test_passes (list_any is_stray h.summary) Summary ControlCharacter t.1.1.1.1.1.0);
-      location = no_stray_return h.location (test_passes (list_any is_stray h.location) Location ControlCharacter t.1.1.1.1.1.1.0);
-      description = no_stray_return h.description (test_passes (list_any is_stray h.description) Description ControlCharacter t.1.1.1.1.1.1.1.0);
+      summary = other_no_return h.summary (test_passes (list_any is_other_control h.summary) Summary ControlCharacter t.1.1.1.1.1.0);
+      location = other_no_return h.location (test_passes (list_any is_other_control h.location) Location ControlCharacter t.1.1.1.1.1.1.0);
+      description = other_no_return h.description (test_passes (list_any is_other_control h.description) Description ControlCharacter t.1.1.1.1.1.1.1.0);
     }
 
 -- ---- each line can be read back
 
 span_content : (s : Span) → begins_never s ≡ false → ends_never s ≡ false → AreContent (span_lines s)
 span_content (Days first end) begins ends = (
-  line_with (codes "DTSTART;VALUE=DATE") (day_text first) refl refl refl refl (IsPlain-day first (allowed (is_day first) begins)),
-  (line_with (codes "DTEND;VALUE=DATE") (day_text end) refl refl refl refl (IsPlain-day end (allowed (is_day end) ends)), tt),
+  line_with (codes "DTSTART;VALUE=DATE") (day_text first) refl refl refl refl (IsPlain-day first (holds (is_day first) begins)),
+  (line_with (codes "DTEND;VALUE=DATE") (day_text end) refl refl refl refl (IsPlain-day end (holds (is_day end) ends)), tt),
 )
 span_content (Times begin end) begins ends = (
-  line_with (codes "DTSTART") (moment_text begin) refl refl refl refl (IsPlain-moment begin (allowed (is_moment begin) begins)),
-  (line_with (codes "DTEND") (moment_text end) refl refl refl refl (IsPlain-moment end (allowed (is_moment end) ends)), tt),
+  line_with (codes "DTSTART") (moment_text begin) refl refl refl refl (IsPlain-moment begin (holds (is_moment begin) begins)),
+  (line_with (codes "DTEND") (moment_text end) refl refl refl refl (IsPlain-moment end (holds (is_moment end) ends)), tt),
 )
 
 stamp_plain : (s : Option Moment) → wrong_stamp s ≡ false → IsPlain (stamp_text s)
 stamp_plain None is = plain_nothing
-stamp_plain (Some m) is = IsPlain-moment m (allowed (is_moment m) is)
+stamp_plain (Some m) is = IsPlain-moment m (holds (is_moment m) is)
 
 event_content : (h : Happening) → IsSayable h → AreContent (event_lines h)
 event_content h are = (
@@ -187,7 +187,7 @@ happening_said h lines says =
 
 stamp_read : (s : Option Moment) → wrong_stamp s ≡ false → read_or_none read_moment (stamp_text s) ≡ Some s
 stamp_read None is = refl
-stamp_read (Some m) is = rw (filled_moment m (allowed (is_moment m) is), moment_read m (allowed (is_moment m) is)) refl
+stamp_read (Some m) is = rw (filled_moment m (holds (is_moment m) is), moment_read m (holds (is_moment m) is)) refl
 
 days_said : (first end : Day) (lines : List Entry) → is_day first ≡ true → is_day end ≡ true → value_of (codes "DTSTART;VALUE=DATE") lines ≡ day_text first → value_of (codes "DTEND;VALUE=DATE") lines ≡ day_text end → span_in lines ≡ Some (Days first end)
 days_said first end lines begins ends h₁ h₂ = rw (h₁, h₂, filled_day first begins, day_read first begins, day_read end ends) refl
@@ -202,7 +202,7 @@ says_by uid stamp (Days first end) summary location description are =
     record {
       uid = part_of-filled (codes "UID") 0 es refl;
       stamp = ap (read_or_none read_moment) (part_of-filled (codes "DTSTAMP") 0 es refl) ∙ stamp_read stamp are.stamp;
-      span = days_said first end (filled es) (allowed (is_day first) are.begins) (allowed (is_day end) are.ends) (part_of-filled (codes "DTSTART;VALUE=DATE") 0 es refl) (part_of-filled (codes "DTEND;VALUE=DATE") 0 es refl);
+      span = days_said first end (filled es) (holds (is_day first) are.begins) (holds (is_day end) are.ends) (part_of-filled (codes "DTSTART;VALUE=DATE") 0 es refl) (part_of-filled (codes "DTEND;VALUE=DATE") 0 es refl);
       summary = part_of-filled (codes "SUMMARY") 0 es refl;
       location = part_of-filled (codes "LOCATION") 0 es refl;
       description = part_of-filled (codes "DESCRIPTION") 0 es refl;
@@ -213,7 +213,7 @@ says_by uid stamp (Times begin end) summary location description are =
     record {
       uid = part_of-filled (codes "UID") 0 es refl;
       stamp = ap (read_or_none read_moment) (part_of-filled (codes "DTSTAMP") 0 es refl) ∙ stamp_read stamp are.stamp;
-      span = times_said begin end (filled es) (allowed (is_moment begin) are.begins) (allowed (is_moment end) are.ends) (part_of-filled (codes "DTSTART;VALUE=DATE") 0 es refl) (part_of-filled (codes "DTSTART") 0 es refl) (part_of-filled (codes "DTEND") 0 es refl);
+      span = times_said begin end (filled es) (holds (is_moment begin) are.begins) (holds (is_moment end) are.ends) (part_of-filled (codes "DTSTART;VALUE=DATE") 0 es refl) (part_of-filled (codes "DTSTART") 0 es refl) (part_of-filled (codes "DTEND") 0 es refl);
       summary = part_of-filled (codes "SUMMARY") 0 es refl;
       location = part_of-filled (codes "LOCATION") 0 es refl;
       description = part_of-filled (codes "DESCRIPTION") 0 es refl;

@@ -8,7 +8,7 @@ use Rattle.std.proofs.lemmas.List.Folds.{list_any-append}
 use Rattle.std.proofs.lemmas.List.Splits.{slice_split_none, slice_split_at}
 use Rattle.qrcode_contents.specs.declared.fields.links.Part.{Part}
 use Rattle.qrcode_contents.specs.declared.fields.links.Part.TheVariants.{Path, Value}
-use Rattle.qrcode_contents.specs.fields.Characters.{is_control, is_stray, before, after}
+use Rattle.qrcode_contents.specs.fields.Characters.{is_control, is_other_control, before, after}
 use Rattle.qrcode_contents.specs.fields.Entries.{Entry, single, is_filled, filled, value_of}
 use Rattle.qrcode_contents.specs.fields.EntryTests.{are_distinct}
 use Rattle.qrcode_contents.specs.fields.Links.{part_byte, part_text, Parameter, parameter_text, query_text, read_parameter, value_in}
@@ -207,13 +207,13 @@ all_without p q implies (b ∷ bytes) are =
 control_no_return : (b : ℕ) → is_control b ≡ false → (b == 13) ≡ false
 control_no_return b is = grind (arith, nat_tests)
 
-stray_no_return : (b : ℕ) → is_stray b ≡ false → (b == 13) ≡ false
-stray_no_return b is = grind (arith, nat_tests)
+other_byte_no_return : (b : ℕ) → is_other_control b ≡ false → (b == 13) ≡ false
+other_byte_no_return b is = grind (arith, nat_tests)
 
 -- a text with no control character has no carriage return
 pub no_return : (bytes : List ℕ) → list_any is_control bytes ≡ false → HasNo 13 bytes
 no_return bytes is = none_of is_control (λ b. b == 13) control_no_return bytes is
 
 -- a text without control characters other than tabs and line feeds has no carriage return
-pub no_stray_return : (bytes : List ℕ) → list_any is_stray bytes ≡ false → HasNo 13 bytes
-no_stray_return bytes is = none_of is_stray (λ b. b == 13) stray_no_return bytes is
+pub other_no_return : (bytes : List ℕ) → list_any is_other_control bytes ≡ false → HasNo 13 bytes
+other_no_return bytes is = none_of is_other_control (λ b. b == 13) other_byte_no_return bytes is

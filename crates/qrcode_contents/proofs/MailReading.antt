@@ -4,11 +4,11 @@ use Rattle.std.specs.List.{list_any}
 use Rattle.qrcode_contents.specs.declared.fields.errors.Field.TheVariants.{Subject, Message}
 use Rattle.qrcode_contents.specs.declared.fields.errors.Cause.TheVariants.{ControlCharacter}
 use Rattle.qrcode_contents.specs.declared.fields.links.Part.TheVariants.{Path}
-use Rattle.qrcode_contents.specs.fields.Characters.{is_control, is_stray}
+use Rattle.qrcode_contents.specs.fields.Characters.{is_control, is_other_control}
 use Rattle.qrcode_contents.specs.fields.Links.{part_text}
 use Rattle.qrcode_contents.specs.Mail.{Letter, mail_checks, mail_refusal, mail_parameters, mail_text, read_mail}
 use Rattle.qrcode_contents.specs.fields.Percents.{decoded}
-use Rattle.qrcode_contents.proofs.LinkReading.{HasNo-part, AreParameters, value_read, path_read, path_decoded, no_return, no_stray_return}
+use Rattle.qrcode_contents.proofs.LinkReading.{HasNo-part, AreParameters, value_read, path_read, path_decoded, no_return, other_no_return}
 use Rattle.qrcode_contents.proofs.Passing.{all_pass, test_passes}
 
 same_letter : (m : Letter) (address subject body : List ℕ) → address ≡ m.address → subject ≡ m.subject → body ≡ m.body → (let l : Letter = record { address = address; subject = subject; body = body } in l) ≡ m
@@ -20,7 +20,7 @@ unfolding mail_refusal
 mail_read m is =
     let none = all_pass (mail_checks m) is in
     let subject = no_return m.subject (test_passes (list_any is_control m.subject) Subject ControlCharacter none.1.1.1.0) in
-    let body = no_stray_return m.body (test_passes (list_any is_stray m.body) Message ControlCharacter none.1.1.1.1.0) in
+    let body = other_no_return m.body (test_passes (list_any is_other_control m.body) Message ControlCharacter none.1.1.1.1.0) in
     let ps = mail_parameters m in
     let are : AreParameters ps = (refl, refl, subject, (refl, refl, body, tt)) in
     let path = part_text Path m.address in

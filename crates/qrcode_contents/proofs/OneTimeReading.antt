@@ -20,10 +20,9 @@ use Rattle.qrcode_contents.specs.fields.Links.{part_text, query_text, value_in}
 use Rattle.qrcode_contents.specs.OneTime.{Key, is_colon, begins_with_space, is_a_word, key_checks, key_refusal, factor_parameter, algorithm_value, digits_text, label_text, key_parameters, key_text, read_algorithm, read_digits, read_period, read_factor, without_spaces, read_account, key_in, read_key}
 use Rattle.qrcode_contents.specs.fields.Percents.{decoded}
 use Rattle.qrcode_contents.proofs.DigitReading.{AreDigits-decimal, HasNo-digits, decimal_filled, read_decimal-whole}
-use Rattle.qrcode_contents.proofs.EntryReading.{neither, HasNo, after-at}
+use Rattle.qrcode_contents.proofs.EntryReading.{neither, HasNo, after-at, holds}
 use Rattle.qrcode_contents.proofs.LinkReading.{HasNo-append, HasNo-part, AreParameters, entries_of, value_read, path_read, decoded-path, path_decoded, no_return, all_without}
 use Rattle.qrcode_contents.proofs.Passing.{all_pass, test_passes}
-use Rattle.qrcode_contents.proofs.PhoneReading.{holds}
 use Rattle.qrcode_contents.proofs.PercentReading.{kept_byte}
 
 algorithm_read : (a : Algorithm) → read_algorithm (algorithm_value a) ≡ Some a

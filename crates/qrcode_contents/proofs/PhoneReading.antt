@@ -9,14 +9,9 @@ use Rattle.qrcode_contents.specs.fields.Characters.{is_dialled, before, after}
 use Rattle.qrcode_contents.specs.fields.Entries.{behind, is_filled}
 use Rattle.qrcode_contents.specs.fields.Percents.{encoded, decoded}
 use Rattle.qrcode_contents.specs.Phone.{is_number, is_no_number, phone_checks, phone_refusal, message_text, read_message}
-use Rattle.qrcode_contents.proofs.EntryReading.{both, second_fails, before-at, after-at}
+use Rattle.qrcode_contents.proofs.EntryReading.{both, holds, second_fails, before-at, after-at}
 use Rattle.qrcode_contents.proofs.LinkReading.{all_without}
 use Rattle.qrcode_contents.proofs.Passing.{all_pass, test_passes}
-
--- if `not a` fails, a holds
-pub holds : (b : Bool) → not b ≡ false → b ≡ true
-holds true is = refl
-holds false is = cc
 
 no_query : (b : ℕ) → is_dialled b ≡ true → (b == 63) ≡ false
 no_query b is = grind (arith, nat_tests)

@@ -7,7 +7,7 @@ use Rattle.std.proofs.lemmas.Int.Digits.{digits_value_push}
 use Rattle.qrcode_contents.specs.fields.Entries.{is_filled, read_or_none}
 use Rattle.qrcode_contents.proofs.ContentParts.{IsPlain, plain_nothing}
 use Rattle.qrcode_contents.proofs.DigitReading.{AreDigits, AreDigits-two, value_of_digit}
-use Rattle.qrcode_contents.proofs.EntryReading.{both}
+use Rattle.qrcode_contents.proofs.EntryReading.{both, holds}
 use Rattle.qrcode_contents.specs.declared.times.Day.{Day}
 use Rattle.qrcode_contents.specs.declared.times.Moment.{Moment}
 use Rattle.qrcode_contents.specs.Times.{is_leap, days_in, is_day, wrong_day, is_moment, pair_text, day_text, date_text, said_or_none, moment_text, day_in, moment_in, read_day, read_date, read_moment}
@@ -48,11 +48,14 @@ small_day d is =
     let years = both (nat_lt d.year 10000) (nat_lt 0 d.month) months.0 in
     record { year = grind (arith, nat_tests, years.0); month = grind (arith, nat_tests, months.1); day = grind (arith, nat_tests, last.1, most) }
 
+-- two digits, before other bytes
+abbrev pair_then : ℕ → List ℕ → List ℕ
+pair_then n rest = (48 + n / 10) ∷ (48 + n % 10) ∷ rest
+
 -- the digits of a day, before other bytes
 abbrev pub digits_then : Day → List ℕ → List ℕ
 digits_then d rest =
-    (48 + d.year / 100 / 10) ∷ (48 + d.year / 100 % 10) ∷ (48 + d.year % 100 / 10) ∷ (48 + d.year % 100 % 10)
-    ∷ (48 + d.month / 10) ∷ (48 + d.month % 10) ∷ (48 + d.day / 10) ∷ (48 + d.day % 10) ∷ rest
+    pair_then (d.year / 100) (pair_then (d.year % 100) (pair_then d.month (pair_then d.day rest)))
 
 day_digits : (d : Day) → IsSmall d → day_text d ≡ digits_then d []
 unfolding day_text
@@ -69,13 +72,17 @@ day_begins : (d : Day) (rest : List ℕ) → IsSmall d → day_in (digits_then d
 day_begins d rest is =
     same_day d _ _ _ _ (pair_read (d.year / 100) (let y = is.year in omega (arith, y))) (pair_read (d.year % 100) (omega arith)) (pair_read d.month is.month) (pair_read d.day is.day)
 
+AreDigits-pair : (n : ℕ) (rest : List ℕ) → n < 100 → AreDigits rest → AreDigits (pair_then n rest)
+AreDigits-pair n rest small are = AreDigits-two (n / 10) (n % 10) rest (omega arith) (omega arith) are
+
 AreDigits-day : (d : Day) (rest : List ℕ) → IsSmall d → AreDigits rest → AreDigits (digits_then d rest)
 AreDigits-day d rest small are =
     let year = small.year in
-    let month = small.month in
-    let day = small.day in
-    AreDigits-two _ _ _ (omega (arith, year)) (omega arith) (AreDigits-two _ _ _ (omega arith) (omega arith)
-    (AreDigits-two _ _ _ (omega (arith, month)) (omega arith) (AreDigits-two _ _ rest (omega (arith, day)) (omega arith) are)))
+    let from_day = pair_then d.day rest in
+    let from_month = pair_then d.month from_day in
+    AreDigits-pair (d.year / 100) (pair_then (d.year % 100) from_month) (omega (arith, year))
+    (AreDigits-pair (d.year % 100) from_month (omega arith)
+    (AreDigits-pair d.month from_day small.month (AreDigits-pair d.day rest small.day are)))
 
 -- a day is read back
 pub day_read : (d : Day) → is_day d ≡ true → read_day (day_text d) ≡ Some d
@@ -127,12 +134,11 @@ pub moment_read : (m : Moment) → is_moment m ≡ true → read_moment (moment_
 unfolding read_moment
 moment_read m is =
     let short = short_moment m is in
-    let hour = short.hour in
-    let minute = short.minute in
-    let second = short.second in
-    let clock = AreDigits-two _ _ _ (omega (arith, hour)) (omega arith) (AreDigits-two _ _ _ (omega (arith, minute)) (omega arith) (AreDigits-two _ _ [] (omega (arith, second)) (omega arith) refl)) in
+    let from_second = pair_then m.second [] in
+    let from_minute = pair_then m.minute from_second in
+    let clock = AreDigits-pair m.hour from_minute short.hour (AreDigits-pair m.minute from_second short.minute (AreDigits-pair m.second [] short.second refl)) in
     ap read_moment (moment_written m short)
-    ∙ ap (λ digits. if digits then Some (moment_in (moment_digits m)) else None) (AreDigits-day m.day _ short.day clock)
+    ∙ ap (λ digits. if digits then Some (moment_in (moment_digits m)) else None) (AreDigits-day m.day (pair_then m.hour from_minute) short.day clock)
     ∙ ap Some (same_moment m _ _ _ _ (day_begins m.day (clock_digits m) short.day) (pair_read m.hour short.hour) (pair_read m.minute short.minute) (pair_read m.second short.second))
 
 digit_plain : (n : ℕ) → ((48 + n) == 13) ≡ false
@@ -170,15 +176,10 @@ filled_moment m is = ap is_filled (moment_written m (short_moment m is))
 pub filled_day : (d : Day) → is_day d ≡ true → is_filled (day_text d) ≡ true
 filled_day d is = ap is_filled (day_digits d (small_day d is))
 
--- if `not a` fails, a holds
-pub allowed : (a : Bool) → not a ≡ false → a ≡ true
-allowed true is = refl
-allowed false is = cc
-
 -- a day that is given or left out is read back
 pub day_or_none_read : (day : Option Day) → wrong_day day ≡ false → read_or_none read_day (said_or_none day_text day) ≡ Some day
 day_or_none_read None is = refl
-day_or_none_read (Some d) is = let valid = allowed (is_day d) is in rw (filled_day d valid, day_read d valid) refl
+day_or_none_read (Some d) is = let valid = holds (is_day d) is in rw (filled_day d valid, day_read d valid) refl
 
 -- ---- with hyphens
 
@@ -213,7 +214,7 @@ date_read d is =
 pub date_or_none_read : (day : Option Day) → wrong_day day ≡ false → read_or_none read_date (said_or_none date_text day) ≡ Some day
 date_or_none_read None is = refl
 date_or_none_read (Some d) is =
-    let valid = allowed (is_day d) is in
+    let valid = holds (is_day d) is in
     let some : is_filled (date_text d) ≡ true = ap is_filled (date_written d (small_day d valid)) in
     rw (some, date_read d valid) refl
 
@@ -224,5 +225,5 @@ plain_hyphen rest is = record { no_return = is.no_return; no_feed = is.no_feed }
 pub IsPlain-date : (day : Option Day) → wrong_day day ≡ false → IsPlain (said_or_none date_text day)
 IsPlain-date None is = plain_nothing
 IsPlain-date (Some d) is =
-    subst IsPlain (sym (date_written d (small_day d (allowed (is_day d) is))))
+    subst IsPlain (sym (date_written d (small_day d (holds (is_day d) is))))
     (plain_digits _ _ _ (plain_digits _ _ _ (plain_hyphen _ (plain_digits _ _ _ (plain_hyphen _ (plain_digits _ _ [] plain_nothing))))))

@@ -65,8 +65,8 @@ is_latin c = (nat_lt 31 c && nat_lt c 127) || (nat_lt 159 c && nat_lt c 384) || 
 abbrev pub foreign_count : List ℕ → ℕ  -- how many characters are none of these
 foreign_count text = count_by (λ c. not (is_latin c)) (chars text)
 
-abbrev pub is_unsaid : List ℕ → Bool  -- a text with a character that no line may have: a control character, or one that the guidelines exclude
-is_unsaid text = list_any is_control text || not (foreign_count text == 0)
+abbrev pub has_disallowed : List ℕ → Bool  -- a text with a character that no line may have: a control character, or one that the guidelines exclude
+has_disallowed text = list_any is_control text || not (foreign_count text == 0)
 
 abbrev pub is_country : List ℕ → Bool  -- the form of a country code (ISO 3166-1): two capitals
 is_country text = length text == 2 && list_all is_capital text
@@ -95,12 +95,12 @@ reference_kind text =
 
 abbrev pub text_checks : Addressee → List (Option ContentError)  -- the checks for texts with a character that no line may have
 text_checks p =
-    refused_if (is_unsaid p.name) Name Character
-    ∷ refused_if (is_unsaid p.street) Street Character
-    ∷ refused_if (is_unsaid p.number) Number Character
-    ∷ refused_if (is_unsaid p.code) PostalCode Character
-    ∷ refused_if (is_unsaid p.city) City Character
-    ∷ refused_if (is_unsaid p.country) Country Character
+    refused_if (has_disallowed p.name) Name Character
+    ∷ refused_if (has_disallowed p.street) Street Character
+    ∷ refused_if (has_disallowed p.number) Number Character
+    ∷ refused_if (has_disallowed p.code) PostalCode Character
+    ∷ refused_if (has_disallowed p.city) City Character
+    ∷ refused_if (has_disallowed p.country) Country Character
     ∷ []
 
 abbrev pub length_checks : Addressee → List (Option ContentError)  -- the checks for long texts
@@ -165,7 +165,7 @@ is_out_of_range (Some cents) = nat_lt cents 1 || nat_lt 99999999999 cents
 
 abbrev pub account_checks : Invoice → List (Option ContentError)  -- the checks for a wrong IBAN and an amount out of range
 account_checks b =
-    refused_if (is_unsaid b.iban) Iban Character
+    refused_if (has_disallowed b.iban) Iban Character
     ∷ refused_if (is_empty b.iban) Iban Empty
     ∷ refused_if (nat_lt (length (chars b.iban)) 21) Iban TooShort
     ∷ refused_if (nat_lt 21 (length (chars b.iban))) Iban TooLong
@@ -179,8 +179,8 @@ account_refusal b = first_refusal (account_checks b)
 
 abbrev pub message_checks : Invoice → List (Option ContentError)  -- the checks for characters that no line may have in reference and message, and for a long message
 message_checks b =
-    refused_if (is_unsaid b.reference) Reference Character
-    ∷ refused_if (is_unsaid b.message) Message Character
+    refused_if (has_disallowed b.reference) Reference Character
+    ∷ refused_if (has_disallowed b.message) Message Character
     ∷ refused_if (nat_lt 140 (length (chars b.message))) Message TooLong
     ∷ []
 

@@ -10,7 +10,7 @@ use Rattle.qrcode_contents.specs.declared.fields.errors.Field.{Field}
 use Rattle.qrcode_contents.specs.declared.fields.errors.Field.TheVariants.{Name, Family, Given, Organisation, Title, Phone, Mobile, WorkPhone, HomePhone, Email, Url, Birthday, Street, City, Region, PostalCode, Country, Note}
 use Rattle.qrcode_contents.specs.declared.fields.errors.Cause.TheVariants.{Empty, ControlCharacter, Character, Range}
 use Rattle.qrcode_contents.specs.declared.times.Day.{Day}
-use Rattle.qrcode_contents.specs.fields.Characters.{is_control, stray_checks}
+use Rattle.qrcode_contents.specs.fields.Characters.{is_control, other_control_checks}
 use Rattle.qrcode_contents.specs.fields.ContentLines.{content_text, structured, text_lines, read_content, unfolded, part_in}
 use Rattle.qrcode_contents.specs.fields.Entries.{Entry, is_empty, read_or_none, value_of}
 use Rattle.qrcode_contents.specs.fields.Escapes.{unescaped_from, pieces_from}
@@ -55,13 +55,13 @@ number_checks fields = map (λ field. refused_if (is_no_number field.1) field.0 
 
 abbrev pub first_checks : Contact → List (Option ContentError)  -- the checks for missing names and control characters
 first_checks c =
-    refused_if (is_empty c.name) Name Empty ∷ refused_if (is_empty c.person.family) Family Empty ∷ stray_checks (first_fields c)
+    refused_if (is_empty c.name) Name Empty ∷ refused_if (is_empty c.person.family) Family Empty ∷ other_control_checks (first_fields c)
 
 -- the checks for control characters (in the web address tabs and line feeds too) and for a birthday that does not exist
 abbrev pub last_checks : Contact → List (Option ContentError)
 last_checks c =
     refused_if (list_any is_control c.person.url) Url ControlCharacter ∷ refused_if (wrong_day c.person.birthday) Birthday Range
-    ∷ stray_checks (last_fields c)
+    ∷ other_control_checks (last_fields c)
 
 unfoldable pub first_refused : Contact → Option ContentError
 first_refused c = first_refusal (first_checks c)

@@ -6,7 +6,7 @@ use Rattle.std.specs.Option.{option_map, option_and_then}
 use Rattle.qrcode_contents.specs.declared.fields.errors.ContentError.{ContentError}
 use Rattle.qrcode_contents.specs.declared.fields.errors.Field.TheVariants.{Uid, Stamp, Begin, End, Summary, Location, Description}
 use Rattle.qrcode_contents.specs.declared.fields.errors.Cause.TheVariants.{ControlCharacter, Range}
-use Rattle.qrcode_contents.specs.fields.Characters.{is_control, is_stray}
+use Rattle.qrcode_contents.specs.fields.Characters.{is_control, is_other_control}
 use Rattle.qrcode_contents.specs.fields.ContentLines.{content_text, structured, unfolded, read_content, part_in}
 use Rattle.qrcode_contents.specs.fields.Entries.{Entry, is_filled, read_or_none, value_of}
 use Rattle.qrcode_contents.specs.fields.Escapes.{unescaped_from, pieces_from}
@@ -60,9 +60,9 @@ event_checks h =
     ∷ refused_if (begins_never h.span) Begin Range
     ∷ refused_if (ends_never h.span) End Range
     ∷ refused_if (ends_early h.span) End Range
-    ∷ refused_if (list_any is_stray h.summary) Summary ControlCharacter
-    ∷ refused_if (list_any is_stray h.location) Location ControlCharacter
-    ∷ refused_if (list_any is_stray h.description) Description ControlCharacter
+    ∷ refused_if (list_any is_other_control h.summary) Summary ControlCharacter
+    ∷ refused_if (list_any is_other_control h.location) Location ControlCharacter
+    ∷ refused_if (list_any is_other_control h.description) Description ControlCharacter
     ∷ []
 
 unfoldable pub event_refusal : Happening → Option ContentError  -- the error of the first check that fails

@@ -7,7 +7,7 @@ use Rattle.qrcode_contents.specs.declared.fields.errors.Field.TheVariants.{Email
 use Rattle.qrcode_contents.specs.declared.fields.errors.Cause.TheVariants.{Empty, ControlCharacter, Character}
 use Rattle.qrcode_contents.specs.declared.fields.links.Part.TheVariants.{Path}
 use Rattle.qrcode_contents.specs.declared.mail.Mail.{Mail}
-use Rattle.qrcode_contents.specs.fields.Characters.{is_control, is_stray, before}
+use Rattle.qrcode_contents.specs.fields.Characters.{is_control, is_other_control, before}
 use Rattle.qrcode_contents.specs.fields.Entries.{behind, is_empty}
 use Rattle.qrcode_contents.specs.fields.Links.{Parameter, part_text, query_text, read_parameter, value_in}
 use Rattle.qrcode_contents.specs.fields.Percents.{decoded}
@@ -18,8 +18,8 @@ pub record Letter : Type 0 where  -- the fields of an e-mail, with texts as byte
   pub subject : List ℕ
   pub body : List ℕ
 
-abbrev pub letter_of : Mail → Letter  -- the fields of a `Mail`
-letter_of m = record { address = m.address.now; subject = m.subject.now; body = m.body.now }
+abbrev pub mail_fields : Mail → Letter  -- the fields of a `Mail`
+mail_fields m = record { address = m.address.now; subject = m.subject.now; body = m.body.now }
 
 -- the checks of the fields, in order: the address has one `@`, and the body no control characters except tabs and line feeds
 abbrev pub mail_checks : Letter → List (Option ContentError)
@@ -28,7 +28,7 @@ mail_checks m =
     ∷ refused_if (list_any is_control m.address) Email ControlCharacter
     ∷ refused_if (not (count_by (λ b. b == 64) m.address == 1)) Email Character
     ∷ refused_if (list_any is_control m.subject) Subject ControlCharacter
-    ∷ refused_if (list_any is_stray m.body) Message ControlCharacter
+    ∷ refused_if (list_any is_other_control m.body) Message ControlCharacter
     ∷ []
 
 unfoldable pub mail_refusal : Letter → Option ContentError  -- the error of the first check that fails

@@ -1,20 +1,21 @@
 //! Swiss QR-bills.
 
-ghost use Rattle.std.specs.Prelude.{◌≡◌, ◌++◌, ◌∷◌, Option, Some, [], IfOk, OnOk, IsOkUnless, string_bytes};
+ghost use Rattle.std.specs.Prelude.{◌≡◌, ◌++◌, Option, Some, IfOk, OnOk, IsOkUnless, string_bytes};
 ghost use Rattle.std.specs.Option.{option_map};
+ghost use Rattle.qrcode_contents.specs.declared.fields.errors.Cause.TheVariants.{Character};
 ghost use Rattle.qrcode_contents.specs.declared.fields.errors.ContentError.{ContentError};
 ghost use Rattle.qrcode_contents.specs.declared.fields.errors.ContentError.TheVariants.{OutOfMemory};
-ghost use Rattle.qrcode_contents.specs.Bill.{addressee_of, invoice_of, is_latin, foreign_count, is_unsaid, is_country, is_account, is_qr_account, is_creditor_reference, is_qr_reference, reference_kind, text_refusal, length_refusal, form_refusal, named_refusal, is_nobody, party_refusal, debtor_field, of_debtor, debtor_refusal, is_out_of_range, account_refusal, message_refusal, reference_refusal, bill_refusal, currency_name, address_kind, address_lines, amount_line, end_lines, bill_text, read_bill};
+ghost use Rattle.qrcode_contents.specs.Bill.{addressee_of, invoice_of, is_latin, foreign_count, has_disallowed, is_country, is_account, is_qr_account, is_creditor_reference, is_qr_reference, reference_kind, text_refusal, length_refusal, form_refusal, named_refusal, is_nobody, party_refusal, debtor_field, of_debtor, debtor_refusal, is_out_of_range, account_refusal, message_refusal, reference_refusal, bill_refusal, currency_name, address_kind, address_lines, end_lines, bill_text, read_bill};
 ghost use Rattle.qrcode_contents.specs.fields.Lines.{later_text};
 ghost use Rattle.qrcode_contents.specs.fields.Refusals.{Answers, checked};
 
 use crate::accounts::{LEAST, has_form, is_checked};
-use crate::fields::amounts::push_amount;
+use crate::fields::amounts::open_amount;
 use crate::fields::characters::{are_capitals, are_digits, character_count, has_control};
 use crate::fields::errors::{Cause, ContentError, ContentResult, Field};
 use crate::fields::lines::push_lines;
 use crate::fields::numbers::carry_of;
-use crate::fields::refusals::{refuse_first, too_long, too_short};
+use crate::fields::refusals::{Check, refuse_first, too_long, too_short};
 use qrcode_types::types::{EcLevel, Version};
 use std::alloc::Global;
 
@@ -100,11 +101,12 @@ fn foreign_count(text: &str) -> usize
         .count()
 }
 
-// Whether a text has a character that no line may have.
-fn is_unsaid(text: &str) -> bool
-    ensures { result ≡ is_unsaid text.now }
+// The check that rejects a character that no line may have.
+fn disallowed(field: Field, text: &str) -> Check
+    ensures { result ≡ (has_disallowed text.now, field, Character) }
 {
-    has_control(text) || foreign_count(text) != 0
+    let found = has_control(text) || foreign_count(text) != 0;
+    (found, field, Cause::Character)
 }
 
 // Whether a text has the form of a country code, two capitals.
@@ -202,12 +204,12 @@ impl Party<'_> {
         ensures { result ≡ checked (text_refusal (addressee_of self.now)) }
     {
         refuse_first(&[
-            (is_unsaid(self.name), Field::Name, Cause::Character),
-            (is_unsaid(self.street), Field::Street, Cause::Character),
-            (is_unsaid(self.number), Field::Number, Cause::Character),
-            (is_unsaid(self.code), Field::PostalCode, Cause::Character),
-            (is_unsaid(self.city), Field::City, Cause::Character),
-            (is_unsaid(self.country), Field::Country, Cause::Character),
+            disallowed(Field::Name, self.name),
+            disallowed(Field::Street, self.street),
+            disallowed(Field::Number, self.number),
+            disallowed(Field::PostalCode, self.code),
+            disallowed(Field::City, self.city),
+            disallowed(Field::Country, self.country),
         ])
     }
 
@@ -309,7 +311,7 @@ impl Bill<'_> {
         ensures { result ≡ checked (account_refusal (invoice_of self.now)) }
     {
         refuse_first(&[
-            (is_unsaid(self.iban), Field::Iban, Cause::Character),
+            disallowed(Field::Iban, self.iban),
             (self.iban.is_empty(), Field::Iban, Cause::Empty),
             too_short(Field::Iban, self.iban, 21),
             too_long(Field::Iban, self.iban, 21),
@@ -324,10 +326,9 @@ impl Bill<'_> {
     fn check_message(&self) -> ContentResult<()>
         ensures { result ≡ checked (message_refusal (invoice_of self.now)) }
     {
-        let wrong_reference = is_unsaid(self.reference);
         refuse_first(&[
-            (wrong_reference, Field::Reference, Cause::Character),
-            (is_unsaid(self.message), Field::Message, Cause::Character),
+            disallowed(Field::Reference, self.reference),
+            disallowed(Field::Message, self.message),
             too_long(Field::Message, self.message, 140),
         ])
     }
@@ -375,19 +376,6 @@ impl Bill<'_> {
         self.check_reference()
     }
 
-    // Appends the line of the amount, empty if it is left open.
-    fn push_amount_line(&self, text: &mut String) -> ContentResult<()>
-        ensures appends { OnOk result (string_bytes text.new
-            ≡ string_bytes text.old ++ later_text (amount_line self.now.cents ∷ [])) }
-        ensures memory { IsOkUnless result OutOfMemory }
-    {
-        text.push_str("\n")?;
-        if let Some(cents) = self.cents {
-            push_amount(text, cents)?;
-        }
-        Ok(())
-    }
-
     // Appends the last lines, from the reference's type to `EPD`.
     fn push_end(&self, text: &mut String) -> ContentResult<()>
         ensures appends { OnOk result (string_bytes text.new ≡ string_bytes text.old
@@ -405,12 +393,12 @@ impl Bill<'_> {
         ensures value { IfOk result (λ text. string_bytes text ≡ bill_text (invoice_of self.now)) }
         ensures memory { IsOkUnless result OutOfMemory }
     {
+        let amount = open_amount(alloc, self.cents)?;
         let mut text = String::from_str(alloc, "SPC\n0200\n1")?;
         push_lines(&mut text, &[self.iban])?;
         self.creditor.push(&mut text)?;
         text.push_str("\n\n\n\n\n\n\n")?;
-        self.push_amount_line(&mut text)?;
-        push_lines(&mut text, &[self.currency.name()])?;
+        push_lines(&mut text, &[amount.as_str(), self.currency.name()])?;
         self.debtor.push(&mut text)?;
         self.push_end(&mut text)?;
         Ok(text)

@@ -9,7 +9,7 @@ ghost use Rattle.qrcode_contents.specs.fields.Refusals.{Answers, checked};
 use crate::contact::Contact;
 use crate::fields::content_lines::{push_content, push_texts, push_value};
 use crate::fields::errors::{Cause, ContentResult, Field};
-use crate::fields::refusals::{controls, refuse_first, stray};
+use crate::fields::refusals::{controls, other_controls, refuse_first};
 use crate::phone::no_number;
 use crate::times::{date_or_none, is_wrong_day};
 use std::alloc::Global;
@@ -43,11 +43,11 @@ impl Card<'_> {
         refuse_first(&[
             (self.name.is_empty(), Field::Name, Cause::Empty),
             (self.contact.family.is_empty(), Field::Family, Cause::Empty),
-            stray(Field::Name, self.name),
-            stray(Field::Family, self.contact.family),
-            stray(Field::Given, self.contact.given),
-            stray(Field::Organisation, self.organisation),
-            stray(Field::Title, self.title),
+            other_controls(Field::Name, self.name),
+            other_controls(Field::Family, self.contact.family),
+            other_controls(Field::Given, self.contact.given),
+            other_controls(Field::Organisation, self.organisation),
+            other_controls(Field::Title, self.title),
         ])
     }
 
@@ -76,13 +76,13 @@ impl Card<'_> {
                 Field::Birthday,
                 Cause::Range,
             ),
-            stray(Field::Email, self.contact.email),
-            stray(Field::Note, self.contact.note),
-            stray(Field::Street, self.contact.street),
-            stray(Field::City, self.contact.city),
-            stray(Field::Region, self.contact.region),
-            stray(Field::PostalCode, self.contact.code),
-            stray(Field::Country, self.contact.country),
+            other_controls(Field::Email, self.contact.email),
+            other_controls(Field::Note, self.contact.note),
+            other_controls(Field::Street, self.contact.street),
+            other_controls(Field::City, self.contact.city),
+            other_controls(Field::Region, self.contact.region),
+            other_controls(Field::PostalCode, self.contact.code),
+            other_controls(Field::Country, self.contact.country),
         ])
     }
 

@@ -9,7 +9,7 @@ ghost use Rattle.qrcode_contents.specs.Times.{day_text, moment_text};
 
 use crate::fields::content_lines::{push_texts, push_value};
 use crate::fields::errors::{Cause, ContentResult, Field};
-use crate::fields::refusals::{controls, refuse_first, stray};
+use crate::fields::refusals::{controls, other_controls, refuse_first};
 use crate::times::{Day, Moment};
 use std::alloc::Global;
 
@@ -129,9 +129,9 @@ impl Event<'_> {
             (begins_never, Field::Begin, Cause::Range),
             (ends_never, Field::End, Cause::Range),
             (ends_early, Field::End, Cause::Range),
-            stray(Field::Summary, self.summary),
-            stray(Field::Location, self.location),
-            stray(Field::Description, self.description),
+            other_controls(Field::Summary, self.summary),
+            other_controls(Field::Location, self.location),
+            other_controls(Field::Description, self.description),
         ])
     }
 

@@ -4,7 +4,7 @@ ghost use Rattle.std.specs.Prelude.{◌≡◌, ◌↔◌, IsTrue};
 ghost use Rattle.qrcode_contents.specs.Bill.{addressee_of, invoice_of};
 ghost use Rattle.qrcode_contents.specs.Card.{contact_of};
 ghost use Rattle.qrcode_contents.specs.Contact.{person_of};
-ghost use Rattle.qrcode_contents.specs.Mail.{letter_of};
+ghost use Rattle.qrcode_contents.specs.Mail.{mail_fields};
 ghost use Rattle.qrcode_contents.specs.OneTime.{key_of};
 ghost use Rattle.qrcode_contents.specs.Payment.{payment_fields};
 ghost use Rattle.qrcode_contents.specs.Merchant.{charge_of, claim_of};
@@ -67,7 +67,7 @@ pub fn equality<'a>()
     ensures parties { (a b : Party)
         → IsTrue (⟦<Party<'a> as PartialEq>⟧.eq a b) ↔ (addressee_of a ≡ addressee_of b) }
     ensures mails { (a b : Mail)
-        → IsTrue (⟦<Mail<'a> as PartialEq>⟧.eq a b) ↔ (letter_of a ≡ letter_of b) }
+        → IsTrue (⟦<Mail<'a> as PartialEq>⟧.eq a b) ↔ (mail_fields a ≡ mail_fields b) }
     ensures payments { (a b : Payment)
         → IsTrue (⟦<Payment<'a> as PartialEq>⟧.eq a b) ↔ (payment_fields a ≡ payment_fields b) }
     ensures phones { (a b : Phone)

@@ -2,13 +2,13 @@
 
 ghost use Rattle.std.specs.Prelude.{◌≡◌, Some, IfOk, IsOkUnless, string_bytes};
 ghost use Rattle.qrcode_contents.specs.declared.fields.errors.ContentError.TheVariants.{OutOfMemory};
-ghost use Rattle.qrcode_contents.specs.Mail.{letter_of, mail_refusal, mail_text, read_mail};
+ghost use Rattle.qrcode_contents.specs.Mail.{mail_fields, mail_refusal, mail_text, read_mail};
 ghost use Rattle.qrcode_contents.specs.fields.Refusals.{Answers, checked};
 
 use crate::fields::characters::has_one_at;
 use crate::fields::errors::{Cause, ContentResult, Field};
 use crate::fields::links::{Part, push_parameters, push_part};
-use crate::fields::refusals::{controls, refuse_first, stray};
+use crate::fields::refusals::{controls, other_controls, refuse_first};
 use std::alloc::Global;
 
 /// An e-mail to be written. `subject` and `body` may be empty.
@@ -26,20 +26,20 @@ impl Mail<'_> {
     // Fails on the first wrong field.
     #[tactic(auto, unfolding(crate::specs::Mail::mail_refusal))]
     fn check(&self) -> ContentResult<()>
-        ensures { result ≡ checked (mail_refusal (letter_of self.now)) }
+        ensures { result ≡ checked (mail_refusal (mail_fields self.now)) }
     {
         refuse_first(&[
             (self.address.is_empty(), Field::Email, Cause::Empty),
             controls(Field::Email, self.address),
             (!has_one_at(self.address), Field::Email, Cause::Character),
             controls(Field::Subject, self.subject),
-            stray(Field::Message, self.body),
+            other_controls(Field::Message, self.body),
         ])
     }
 
     // Writes the link without checking the fields.
     fn written(&self, alloc: Global) -> ContentResult<String>
-        ensures value { IfOk result (λ text. string_bytes text ≡ mail_text (letter_of self.now)) }
+        ensures value { IfOk result (λ text. string_bytes text ≡ mail_text (mail_fields self.now)) }
         ensures memory { IsOkUnless result OutOfMemory }
     {
         let mut text = String::from_str(alloc, "mailto:")?;
@@ -53,9 +53,9 @@ impl Mail<'_> {
     ///
     /// Errors: `Refused` names the first wrong field and why; `OutOfMemory` if memory runs out.
     pub fn text(&self, alloc: Global) -> ContentResult<String>
-        ensures reads { Answers (mail_refusal (letter_of self.now)) result
-            (λ text. read_mail text ≡ Some (letter_of self.now)) }
-        ensures value { IfOk result (λ text. string_bytes text ≡ mail_text (letter_of self.now)) }
+        ensures reads { Answers (mail_refusal (mail_fields self.now)) result
+            (λ text. read_mail text ≡ Some (mail_fields self.now)) }
+        ensures value { IfOk result (λ text. string_bytes text ≡ mail_text (mail_fields self.now)) }
     {
         self.check()?;
         self.written(alloc)

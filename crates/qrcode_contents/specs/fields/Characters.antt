@@ -24,8 +24,8 @@ is_base32 b = is_capital b || (nat_lt 49 b && nat_lt b 56)
 abbrev pub is_control : ℕ → Bool  -- an ASCII control character
 is_control b = nat_lt b 32 || b == 127
 
-abbrev pub is_stray : ℕ → Bool  -- an ASCII control character other than tab and line feed
-is_stray b = is_control b && not (b == 9) && not (b == 10)
+abbrev pub is_other_control : ℕ → Bool  -- an ASCII control character other than tab and line feed
+is_other_control b = is_control b && not (b == 9) && not (b == 10)
 
 abbrev pub is_unicode_break : ℕ → Bool  -- a line break outside ASCII: NEL, LS or PS
 is_unicode_break c = c == 133 || c == 8232 || c == 8233
@@ -42,5 +42,5 @@ abbrev pub control_refusal : List (Field × List ℕ) → Option ContentError  -
 control_refusal fields =
     first_refusal (map (λ field. refused_if (list_any is_control field.1) field.0 ControlCharacter) fields)
 
-abbrev pub stray_checks : List (Field × List ℕ) → List (Option ContentError)  -- for each field, the check for control characters other than tab and line feed
-stray_checks fields = map (λ field. refused_if (list_any is_stray field.1) field.0 ControlCharacter) fields
+abbrev pub other_control_checks : List (Field × List ℕ) → List (Option ContentError)  -- for each field, the check for control characters other than tab and line feed
+other_control_checks fields = map (λ field. refused_if (list_any is_other_control field.1) field.0 ControlCharacter) fields

@@ -3,7 +3,7 @@
 ghost use Rattle.std.specs.Prelude.{◌≡◌, ◌<◌, ◌==◌, length, count_by};
 ghost use Rattle.std.specs.List.{after_first, before_first, list_all, list_any};
 ghost use Rattle.std.specs.Str.{chars};
-ghost use Rattle.qrcode_contents.specs.fields.Characters.{is_base32, is_capital, is_capital_or_digit, is_control, is_dialled, is_digit, is_stray, is_unicode_break};
+ghost use Rattle.qrcode_contents.specs.fields.Characters.{is_base32, is_capital, is_capital_or_digit, is_control, is_dialled, is_digit, is_other_control, is_unicode_break};
 
 /// Returns whether all bytes are letters A to Z.
 pub fn are_capitals(bytes: &[u8]) -> bool
@@ -64,8 +64,8 @@ pub fn has_control(text: &str) -> bool
 }
 
 /// Returns whether `text` has an ASCII control character other than tab and line feed.
-pub fn has_stray(text: &str) -> bool
-    ensures { result ≡ list_any is_stray text.now }
+pub fn has_other_control(text: &str) -> bool
+    ensures { result ≡ list_any is_other_control text.now }
 {
     let bytes = text.as_bytes();
     bytes.iter().any(|byte| (*byte < 32 || *byte == 127) && *byte != b'\t' && *byte != b'\n')

@@ -4,10 +4,12 @@ ghost use Rattle.std.specs.Prelude.{◌≡◌, length, map, nat_lt};
 ghost use Rattle.std.specs.List.{list_any};
 ghost use Rattle.std.specs.Str.{chars};
 ghost use Rattle.qrcode_contents.specs.declared.fields.errors.Cause.TheVariants.{ControlCharacter, TooLong, TooShort};
-ghost use Rattle.qrcode_contents.specs.fields.Characters.{is_control, is_stray, is_unicode_break};
+ghost use Rattle.qrcode_contents.specs.fields.Characters.{is_control, is_other_control, is_unicode_break};
 ghost use Rattle.qrcode_contents.specs.fields.Refusals.{checked, first_refusal, refused_if};
 
-use crate::fields::characters::{character_count, has_control, has_stray, has_unicode_break};
+use crate::fields::characters::{
+    character_count, has_control, has_other_control, has_unicode_break,
+};
 use crate::fields::errors::{Cause, ContentError, ContentResult, Field};
 
 /// A check: whether it rejects the field, which field, and for what cause.
@@ -21,10 +23,10 @@ pub fn controls(field: Field, text: &str) -> Check
 }
 
 /// Returns the check that rejects an ASCII control character other than tab and line feed.
-pub fn stray(field: Field, text: &str) -> Check
-    ensures { result ≡ (list_any is_stray text.now, field, ControlCharacter) }
+pub fn other_controls(field: Field, text: &str) -> Check
+    ensures { result ≡ (list_any is_other_control text.now, field, ControlCharacter) }
 {
-    (has_stray(text), field, Cause::ControlCharacter)
+    (has_other_control(text), field, Cause::ControlCharacter)
 }
 
 /// Returns the check that rejects a line break outside ASCII: U+0085, U+2028 or U+2029.

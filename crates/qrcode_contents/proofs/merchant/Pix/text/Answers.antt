@@ -14,11 +14,10 @@ use Rattle.qrcode_contents.specs.fields.EntryTests.{are_distinct}
 use Rattle.qrcode_contents.specs.fields.Links.{Parameter}
 use Rattle.qrcode_contents.specs.fields.Objects.{objects_text, read_objects}
 use Rattle.qrcode_contents.proofs.BillReading.{cents_read, cents_short}
-use Rattle.qrcode_contents.proofs.EntryReading.{part_of-filled}
+use Rattle.qrcode_contents.proofs.EntryReading.{part_of-filled, holds}
 use Rattle.qrcode_contents.proofs.LinkReading.{entries_of}
 use Rattle.qrcode_contents.proofs.ObjectReading.{AreObjects, length_filled, length_empty, objects_read, checked_read, with_check, no_length}
 use Rattle.qrcode_contents.proofs.Passing.{all_pass, test_passes}
-use Rattle.qrcode_contents.proofs.PhoneReading.{holds}
 use Rattle.qrcode_contents.proofs.Answering.{answered}
 use Rattle.qrcode_contents.proofs.merchant.Pix.text.Goals as goal
 

@@ -14,12 +14,11 @@ use Rattle.qrcode_contents.specs.fields.EntryTests.{are_distinct}
 use Rattle.qrcode_contents.specs.fields.Links.{Parameter, parameter_text, query_text, read_parameter, value_in}
 use Rattle.qrcode_contents.specs.fields.Percents.{decoded}
 use Rattle.qrcode_contents.proofs.BillReading.{amount_below, cents_read}
-use Rattle.qrcode_contents.proofs.EntryReading.{both, second_fails, part_of-filled, HasNo}
+use Rattle.qrcode_contents.proofs.EntryReading.{both, second_fails, part_of-filled, HasNo, holds}
 use Rattle.qrcode_contents.proofs.LinkReading.{HasNo-append, AreParameters, entries_of, is_kept, kept_first, later_read, no_return, all_without, read_pieces, and_text}
 use Rattle.qrcode_contents.proofs.OneTimeReading.{decimal_plain}
 use Rattle.qrcode_contents.proofs.Passing.{all_pass, test_passes}
 use Rattle.qrcode_contents.proofs.PercentReading.{kept_byte}
-use Rattle.qrcode_contents.proofs.PhoneReading.{holds}
 use Rattle.qrcode_contents.proofs.Answering.{answered}
 use Rattle.qrcode_contents.proofs.upi.Upi.text.Goals as goal
 
