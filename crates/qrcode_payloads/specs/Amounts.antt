@@ -3,9 +3,8 @@ use Rattle.std.specs.Prelude.{◌≡◌, ℕ, ◌%◌, ◌==◌, ◌&&◌, ◌||
 use Rattle.std.specs.List.{after_first, before_first, list_all}
 use Rattle.qrcode_contents.specs.fields.Characters.{is_digit}
 use Rattle.qrcode_contents.specs.fields.Entries.{is_filled}
-use Rattle.qrcode_payloads.specs.Numbers.{is_point}
-use Rattle.qrcode_payloads.specs.Plain.{plain}
-use Rattle.qrcode_payloads.specs.declared.plain.Between.TheVariants as between
+use Rattle.qrcode_payloads.specs.Plain.{is_byte, plain}
+use Rattle.qrcode_payloads.specs.declared.plain.Cleaning.TheVariants as cleaning
 
 abbrev pub are_groups : ℕ → List ℕ → Bool  -- groups of three digits, with the separator before each
 are_groups separator [] = true
@@ -24,14 +23,14 @@ abbrev pub is_whole : List ℕ → Bool
 is_whole text = list_all is_digit text || is_grouped 32 text || is_grouped 39 text
 
 abbrev pub is_amount : List ℕ → Bool  -- digits before the point, perhaps in groups, and digits after it, without groups
-is_amount text = is_whole (before_first is_point text) && list_all is_digit (after_first is_point text)
+is_amount text = is_whole (before_first (is_byte 46) text) && list_all is_digit (after_first (is_byte 46) text)
 
 -- an amount without the separators of its groups; any other text unchanged, so that it is no number
 abbrev pub ungrouped : List ℕ → List ℕ
-ungrouped text = if is_amount text then plain between.Groups text else text
+ungrouped text = if is_amount text then plain cleaning.Groups text else text
 
 abbrev pub plain_amount : List ℕ → List ℕ  -- an amount as formats write it: without separators of groups, and with a decimal point
-plain_amount text = ungrouped (plain between.Amount text)
+plain_amount text = ungrouped (plain cleaning.Amount text)
 
 grouped_row : is_amount (codes "12'345.6") ≡ true
 grouped_row = refl

@@ -6,9 +6,7 @@ use Rattle.std.specs.Str.Parse.{digits_value}
 use Rattle.qrcode_contents.specs.Geo.{negative}
 use Rattle.qrcode_contents.specs.fields.Characters.{is_digit}
 use Rattle.qrcode_contents.specs.fields.Entries.{is_filled}
-
-abbrev pub is_point : ℕ → Bool  -- a point
-is_point b = b == 46
+use Rattle.qrcode_payloads.specs.Plain.{is_byte}
 
 abbrev pub at_most_u64 : ℕ → ℕ  -- a number, or the largest of 64 bits if it is larger
 at_most_u64 n = min n (2 ^ 64 - 1)
@@ -27,7 +25,7 @@ placed_value places whole part =
 
 -- the number that a text is, split at its first point, in units of the last place; None for any other text
 abbrev pub scaled_value : ℕ → List ℕ → Option ℕ
-scaled_value places text = placed_value places (before_first is_point text) (after_first is_point text)
+scaled_value places text = placed_value places (before_first (is_byte 46) text) (after_first (is_byte 46) text)
 
 amount_row : scaled_value 2 (codes "12.5") ≡ Some 1250
 amount_row = refl

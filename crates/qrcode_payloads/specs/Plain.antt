@@ -5,23 +5,23 @@ use Rattle.std.specs.Char.{to_ascii_uppercase}
 use Rattle.qrcode_contents.specs.Phone.{is_number}
 use Rattle.qrcode_contents.specs.fields.Characters.{is_digit}
 use Rattle.qrcode_contents.specs.fields.Entries.{is_empty}
-use Rattle.qrcode_payloads.specs.declared.plain.Between.{Between}
-use Rattle.qrcode_payloads.specs.declared.plain.Between.TheVariants.{Spaces, Digits, Amount, Groups, Degrees, Person, Time, Clock}
+use Rattle.qrcode_payloads.specs.declared.plain.Cleaning.{Cleaning}
+use Rattle.qrcode_payloads.specs.declared.plain.Cleaning.TheVariants.{Spaces, Digits, Amount, Groups, Degrees, Person, Time, Clock}
 
 abbrev pub is_space : ℕ → Bool  -- a space, or a no-break space
 is_space c = c == 32 || c == 160 || c == 8239
 
-abbrev pub is_between : Between → ℕ → Bool  -- a character that is removed
-is_between Spaces c = is_space c
-is_between Digits c = c == 45 || c == 46 || c == 40 || c == 41
-is_between Amount c = false
-is_between Groups c = c == 32 || c == 39
-is_between Degrees c = false
-is_between Person c = is_space c || c == 45
-is_between Time c = false
-is_between Clock c = c == 58
+abbrev pub is_removed : Cleaning → ℕ → Bool  -- a character that is removed
+is_removed Spaces c = is_space c
+is_removed Digits c = c == 45 || c == 46 || c == 40 || c == 41
+is_removed Amount c = false
+is_removed Groups c = c == 32 || c == 39
+is_removed Degrees c = false
+is_removed Person c = is_space c || c == 45
+is_removed Time c = false
+is_removed Clock c = c == 58
 
-abbrev pub as_written : Between → ℕ → ℕ  -- a character as formats write it: a capital; in numbers a point for a comma; in amounts a plain space or apostrophe; in times a T for a space
+abbrev pub as_written : Cleaning → ℕ → ℕ  -- a character as formats write it: a capital; in numbers a point for a comma; in amounts a plain space or apostrophe; in times a T for a space
 as_written Spaces c = to_ascii_uppercase c
 as_written Digits c = to_ascii_uppercase c
 as_written Amount c = if c == 44 then 46 else (if c == 160 || c == 8239 then 32 else (if c == 8217 then 39 else to_ascii_uppercase c))
@@ -32,17 +32,14 @@ as_written Person c = to_ascii_uppercase c
 as_written Clock c = to_ascii_uppercase c
 
 -- a character as formats write it; None if it is removed
-abbrev pub kept : Between → ℕ → Option ℕ
-kept between c = if is_between between c then None else Some (as_written between c)
+abbrev pub kept : Cleaning → ℕ → Option ℕ
+kept cleaning c = if is_removed cleaning c then None else Some (as_written cleaning c)
 
-unfoldable pub plain : Between → List ℕ → List ℕ  -- a value without these characters, the others as formats write them
-plain between text = encode_utf8_all (filter_map (kept between) (chars text))
+unfoldable pub plain : Cleaning → List ℕ → List ℕ  -- a value without these characters, the others as formats write them
+plain cleaning text = encode_utf8_all (filter_map (kept cleaning) (chars text))
 
-abbrev pub is_opening : ℕ → Bool  -- an opening bracket
-is_opening b = b == 40
-
-abbrev pub is_closing : ℕ → Bool  -- a closing bracket
-is_closing b = b == 41
+abbrev pub is_byte : ℕ → ℕ → Bool  -- this byte
+is_byte c b = b == c
 
 -- a byte that matches one of a form: a digit matches d, a plus or minus sign matches s, any other only itself
 abbrev pub is_placed : ℕ → ℕ → Bool
@@ -54,9 +51,6 @@ has_form [] (b ∷ bytes) = false
 has_form (place ∷ form) [] = false
 has_form (place ∷ form) (b ∷ bytes) = is_placed place b && has_form form bytes
 
-abbrev pub is_hyphen : ℕ → Bool  -- a hyphen
-is_hyphen b = b == 45
-
 -- a country code: one to three digits after + or 00
 unfoldable pub is_code : List ℕ → Bool
 is_code text =
@@ -64,13 +58,13 @@ is_code text =
 
 -- such a code, perhaps with a hyphen after it
 unfoldable pub is_country : List ℕ → Bool
-is_country text = is_code (before_first is_hyphen text) && is_empty (after_first is_hyphen text)
+is_country text = is_code (before_first (is_byte 45) text) && is_empty (after_first (is_byte 45) text)
 
 -- a number without a (0) right after its country code, where it is not dialled
 unfoldable pub without_zero : List ℕ → List ℕ
 without_zero number =
-    if is_country (before_first is_opening number) && starts_with eqb (after_first is_opening number) (codes "0)")
-    then before_first is_opening number ++ after_first is_closing (after_first is_opening number)
+    if is_country (before_first (is_byte 40) number) && starts_with eqb (after_first (is_byte 40) number) (codes "0)")
+    then before_first (is_byte 40) number ++ after_first (is_byte 41) (after_first (is_byte 40) number)
     else number
 
 abbrev pub phone_number : List ℕ → List ℕ  -- a telephone number without spaces and such a (0)
@@ -107,12 +101,9 @@ home_row : without_zero (codes "(0)791234567") ≡ codes "(0)791234567"
 unfolding without_zero is_country is_code
 home_row = refl
 
-abbrev pub is_equals : ℕ → Bool  -- an equals sign, which fills up base 32 to eight characters
-is_equals b = b == 61
-
--- a secret without the equals signs at its end; unchanged if any other byte follows one
+-- a secret without the equals signs at its end, which fill up base 32 to eight characters; unchanged if any other byte follows one
 abbrev pub without_padding : List ℕ → List ℕ
-without_padding secret = if list_all is_equals (after_first is_equals secret) then before_first is_equals secret else secret
+without_padding secret = if list_all (is_byte 61) (after_first (is_byte 61) secret) then before_first (is_byte 61) secret else secret
 
 padded_row : without_padding (codes "JBSWY3DP====") ≡ codes "JBSWY3DP"
 padded_row = refl

@@ -41,7 +41,7 @@ use Rattle.qrcode_payloads.specs.Numbers.{scaled_value, degrees_of, unsigned}
 use Rattle.qrcode_payloads.specs.Plain.{plain, phone_number, phone_digits, without_padding}
 use Rattle.qrcode_payloads.specs.Times.{day_said, is_local, moment_said, plain_day, plain_time}
 use Rattle.qrcode_payloads.specs.Words.{named, security_words, currency_words, algorithm_words, digits_words, flag_words}
-use Rattle.qrcode_payloads.specs.declared.plain.Between.TheVariants as between
+use Rattle.qrcode_payloads.specs.declared.plain.Cleaning.TheVariants as cleaning
 
 -- the value of a word; `other` if the text is empty
 abbrev pub word_in : {A : Type 0} → List (List ℕ × A) → A → List ℕ → Field → Result A ContentError
@@ -130,13 +130,13 @@ contact_in g = with_value (birthday_in (plain_day (g Birthday))) (λ birthday. O
 
 abbrev pub transfer_in : (Field → List ℕ) → Result Transfer ContentError  -- a SEPA credit transfer
 transfer_in g = with_value (amount_in (plain_amount (g Amount))) (λ cents. Ok (record {
-  version = version_for (plain between.Spaces (g Bic));
-  bic = plain between.Spaces (g Bic);
+  version = version_for (plain cleaning.Spaces (g Bic));
+  bic = plain cleaning.Spaces (g Bic);
   name = g Name;
-  iban = plain between.Spaces (g Iban);
+  iban = plain cleaning.Spaces (g Iban);
   cents = cents;
-  purpose = plain between.Spaces (g Purpose);
-  reference = plain between.Spaces (g Reference);
+  purpose = plain cleaning.Spaces (g Purpose);
+  reference = plain cleaning.Spaces (g Reference);
   message = g Message;
   information = g Information;
 }))
@@ -148,7 +148,7 @@ creditor_in g = record {
   number = g Number;
   code = g PostalCode;
   city = g City;
-  country = plain between.Spaces (g Country);
+  country = plain cleaning.Spaces (g Country);
 }
 
 abbrev pub debtor_in : (Field → List ℕ) → Addressee  -- the debtor of a bill
@@ -158,17 +158,17 @@ debtor_in g = record {
   number = g DebtorNumber;
   code = g DebtorPostalCode;
   city = g DebtorCity;
-  country = plain between.Spaces (g DebtorCountry);
+  country = plain cleaning.Spaces (g DebtorCountry);
 }
 
 abbrev pub invoice_in : (Field → List ℕ) → Result Invoice ContentError  -- a bill
 invoice_in g = with_value (open_amount_in (plain_amount (g Amount))) (λ cents. with_value (currency_in (g Currency)) (λ currency. Ok (record {
-  iban = plain between.Spaces (g Iban);
+  iban = plain cleaning.Spaces (g Iban);
   creditor = creditor_in g;
   cents = cents;
   currency = currency;
   debtor = debtor_in g;
-  reference = plain between.Spaces (g Reference);
+  reference = plain cleaning.Spaces (g Reference);
   message = g Message;
 })))
 
@@ -180,7 +180,7 @@ degrees_in text field = said (degrees_of text) field (degrees_cause text)
 
 -- degrees of a field, in millionths; white space around them is ignored
 abbrev pub degrees_given : (Field → List ℕ) → Field → Result ℤ ContentError
-degrees_given g field = degrees_in (plain between.Degrees (trim (g field))) field
+degrees_given g field = degrees_in (plain cleaning.Degrees (trim (g field))) field
 
 abbrev pub place_in : (Field → List ℕ) → Result Place ContentError  -- a location
 place_in g = with_value (degrees_given g Latitude) (λ north. with_value (degrees_given g Longitude) (λ east. Ok (record { latitude = north; longitude = east })))
@@ -204,7 +204,7 @@ key_in g = with_value (factor_in (g Counter) (g Period)) (λ factor. with_value 
   factor = factor;
   issuer = g Issuer;
   account = g Account;
-  secret = without_padding (plain between.Person (g Secret));
+  secret = without_padding (plain cleaning.Person (g Secret));
   algorithm = algorithm;
   digits = digits;
 }))))
@@ -212,15 +212,15 @@ key_in g = with_value (factor_in (g Counter) (g Period)) (λ factor. with_value 
 abbrev pub stamp_in : List ℕ → Result (Option Moment) ContentError  -- the time when an event was written; None if the text is empty
 stamp_in text = if is_empty text then Ok None else with_value (said (moment_said text) Stamp (time_cause text)) (λ moment. Ok (Some moment))
 
-abbrev pub days_in : Day → List ℕ → Result Span ContentError  -- the whole days from the first until the day before the end
-days_in first end = with_value (said (day_said end) End (time_cause end)) (λ last. Ok (Days first last))
+abbrev pub day_span_in : Day → List ℕ → Result Span ContentError  -- the whole days from the first until the day before the end
+day_span_in first end = with_value (said (day_said end) End (time_cause end)) (λ last. Ok (Days first last))
 
-abbrev pub times_in : List ℕ → List ℕ → Result Span ContentError  -- from one time to another
-times_in begin end = with_value (said (moment_said begin) Begin (time_cause begin)) (λ first. with_value (said (moment_said end) End (time_cause end)) (λ last. Ok (Times first last)))
+abbrev pub time_span_in : List ℕ → List ℕ → Result Span ContentError  -- from one time to another
+time_span_in begin end = with_value (said (moment_said begin) Begin (time_cause begin)) (λ first. with_value (said (moment_said end) End (time_cause end)) (λ last. Ok (Times first last)))
 
 abbrev pub span_from : Option Day → List ℕ → List ℕ → Result Span ContentError
-span_from (Some first) begin end = days_in first end
-span_from None begin end = times_in begin end
+span_from (Some first) begin end = day_span_in first end
+span_from None begin end = time_span_in begin end
 
 -- the beginning and end of an event: both are days, or both are times
 abbrev pub span_in : List ℕ → List ℕ → Result Span ContentError
@@ -258,6 +258,6 @@ charge_in g = with_value (open_amount_in (plain_amount (g Amount))) (λ cents. O
 
 abbrev pub claim_in : (Field → List ℕ) → Result Claim ContentError  -- a payment by PromptPay
 claim_in g = with_value (open_amount_in (plain_amount (g Amount))) (λ cents. Ok (record {
-  payee = plain between.Person (g Payee);
+  payee = plain cleaning.Person (g Payee);
   cents = cents;
 }))

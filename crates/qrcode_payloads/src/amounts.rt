@@ -3,7 +3,7 @@
 ghost use Rattle.std.specs.Prelude.{◌≡◌, IfOk, string_bytes};
 ghost use Rattle.qrcode_payloads.specs.Amounts.{are_groups, is_grouped, is_whole, is_amount, ungrouped, plain_amount};
 
-use crate::plain::{Between, plain};
+use crate::plain::{Cleaning, plain};
 use qrcode_contents::fields::characters::{are_digits, parts};
 use std::alloc::{AllocError, Global};
 
@@ -50,7 +50,7 @@ fn ungrouped(alloc: Global, text: String) -> Result<String, AllocError>
     ensures { IfOk result (λ value. string_bytes value ≡ ungrouped (string_bytes text)) }
 {
     if is_amount(text.as_str()) {
-        plain(alloc, text.as_str(), Between::Groups)
+        plain(alloc, text.as_str(), Cleaning::Groups)
     } else {
         Ok(text)
     }
@@ -60,5 +60,5 @@ fn ungrouped(alloc: Global, text: String) -> Result<String, AllocError>
 pub(crate) fn plain_amount(alloc: Global, text: &str) -> Result<String, AllocError>
     ensures { IfOk result (λ value. string_bytes value ≡ plain_amount text.now) }
 {
-    ungrouped(alloc, plain(alloc, text, Between::Amount)?)
+    ungrouped(alloc, plain(alloc, text, Cleaning::Amount)?)
 }

@@ -2,7 +2,7 @@
 
 ghost use Rattle.std.specs.Prelude.{◌≡◌, IfOk, string_bytes};
 ghost use Rattle.std.specs.List.{list_all};
-ghost use Rattle.qrcode_payloads.specs.Plain.{is_between, as_written, kept, plain, is_placed, has_form, is_code, is_country, without_zero, phone_number, phone_digits, is_equals, without_padding};
+ghost use Rattle.qrcode_payloads.specs.Plain.{is_removed, as_written, kept, plain, is_placed, has_form, is_code, is_country, without_zero, phone_number, phone_digits, is_byte, without_padding};
 
 use qrcode_contents::fields::characters::parts;
 use qrcode_contents::phone::is_number;
@@ -10,7 +10,7 @@ use std::alloc::{AllocError, Global};
 
 /// Which characters to remove from a value.
 #[derive(Clone, Copy)]
-pub(crate) enum Between {
+pub(crate) enum Cleaning {
     /// Spaces, in account numbers, references, codes and telephone numbers.
     Spaces,
     /// Hyphens, points and brackets, in telephone numbers and days that formats write in digits
@@ -30,18 +30,18 @@ pub(crate) enum Between {
     Clock,
 }
 
-impl Between {
+impl Cleaning {
     // Whether to remove a character. `Spaces` and `Person` also remove no-break spaces.
-    fn is_between(self, character: char) -> bool
-        ensures { result ≡ is_between self character }
+    fn is_removed(self, character: char) -> bool
+        ensures { result ≡ is_removed self character }
     {
         match (self, character) {
-            (Between::Amount | Between::Degrees | Between::Time, _) => false,
-            (Between::Groups, _) => matches!(character, ' ' | '\''),
-            (Between::Digits, _) => matches!(character, '-' | '.' | '(' | ')'),
-            (Between::Clock, _) => character == ':',
+            (Cleaning::Amount | Cleaning::Degrees | Cleaning::Time, _) => false,
+            (Cleaning::Groups, _) => matches!(character, ' ' | '\''),
+            (Cleaning::Digits, _) => matches!(character, '-' | '.' | '(' | ')'),
+            (Cleaning::Clock, _) => character == ':',
             (_, ' ' | '\u{a0}' | '\u{202f}') => true,
-            (Between::Person, '-') => true,
+            (Cleaning::Person, '-') => true,
             _ => false,
         }
     }
@@ -52,10 +52,10 @@ impl Between {
         ensures { result ≡ as_written self character }
     {
         match (self, character) {
-            (Between::Amount | Between::Degrees, ',') => '.',
-            (Between::Amount, '\u{a0}' | '\u{202f}') => ' ',
-            (Between::Amount, '\u{2019}') => '\'',
-            (Between::Time, ' ') => 'T',
+            (Cleaning::Amount | Cleaning::Degrees, ',') => '.',
+            (Cleaning::Amount, '\u{a0}' | '\u{202f}') => ' ',
+            (Cleaning::Amount, '\u{2019}') => '\'',
+            (Cleaning::Time, ' ') => 'T',
             _ => character.to_ascii_uppercase(),
         }
     }
@@ -64,20 +64,20 @@ impl Between {
     fn kept(self, character: char) -> Option<char>
         ensures { result ≡ kept self character }
     {
-        if self.is_between(character) {
+        if self.is_removed(character) {
             return None;
         }
         Some(self.as_written(character))
     }
 }
 
-/// Returns `text` without the characters that `between` removes, the others as formats write them:
+/// Returns `text` without the characters that `cleaning` removes, the others as formats write them:
 /// capitals, a decimal point.
-pub(crate) fn plain(alloc: Global, text: &str, between: Between) -> Result<String, AllocError>
-    ensures { IfOk result (λ value. string_bytes value ≡ plain between text.now) }
+pub(crate) fn plain(alloc: Global, text: &str, cleaning: Cleaning) -> Result<String, AllocError>
+    ensures { IfOk result (λ value. string_bytes value ≡ plain cleaning text.now) }
 {
     text.chars()
-        .filter_map(|character| between.kept(character))
+        .filter_map(|character| cleaning.kept(character))
         .collect(alloc)
 }
 
@@ -154,7 +154,7 @@ fn without_zero(alloc: Global, number: String) -> Result<String, AllocError>
 pub(crate) fn phone_number(alloc: Global, text: &str) -> Result<String, AllocError>
     ensures { IfOk result (λ value. string_bytes value ≡ phone_number text.now) }
 {
-    without_zero(alloc, plain(alloc, text, Between::Spaces)?)
+    without_zero(alloc, plain(alloc, text, Cleaning::Spaces)?)
 }
 
 /// Returns a telephone number as MECARD writes it: digits, perhaps after a plus sign. What is no
@@ -166,11 +166,11 @@ pub(crate) fn phone_digits(alloc: Global, text: &str) -> Result<String, AllocErr
     if !is_number(number.as_str()) {
         return Ok(number);
     }
-    plain(alloc, number.as_str(), Between::Digits)
+    plain(alloc, number.as_str(), Cleaning::Digits)
 }
 
 fn are_equals(bytes: &[u8]) -> bool
-    ensures { result ≡ list_all is_equals bytes.now }
+    ensures { result ≡ list_all (is_byte 61) bytes.now }
 {
     bytes.iter().all(|byte| *byte == b'=')
 }

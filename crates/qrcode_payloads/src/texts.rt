@@ -7,7 +7,7 @@ ghost use Rattle.qrcode_contents.specs.Phone.{phone_refusal};
 ghost use Rattle.qrcode_contents.specs.fields.Refusals.{Answers, checked};
 ghost use Rattle.qrcode_contents.specs.declared.fields.errors.Field.TheVariants.{Country, DebtorCountry};
 ghost use Rattle.qrcode_payloads.specs.Plain.{plain};
-ghost use Rattle.qrcode_payloads.specs.declared.plain.Between.TheVariants as between;
+ghost use Rattle.qrcode_payloads.specs.declared.plain.Cleaning.TheVariants as cleaning;
 ghost use Rattle.qrcode_payloads.specs.Values.{creditor_in, debtor_in, person_said};
 ghost use Rattle.qrcode_payloads.specs.Texts.{is_long, long_refusal, content_refusal, payload_text, sms_text, HasText, IsReadAs, IsReadAsSms};
 ghost use Rattle.qrcode_payloads.specs.declared.kinds.Kind.TheVariants.{Wifi, Mecard, Vcard, Payment, Bill, Mail, Geo, Tel, Sms, Otp, Event, Upi, Pix, Promptpay};
@@ -15,7 +15,7 @@ ghost use Rattle.qrcode_payloads.specs.declared.kinds.Kind.TheVariants.{Wifi, Me
 use crate::amounts::plain_amount;
 use crate::given::Given;
 use crate::kinds::{Kind, fields_of};
-use crate::plain::{Between, phone_digits, phone_number, plain, without_padding};
+use crate::plain::{Cleaning, phone_digits, phone_number, plain, without_padding};
 use crate::times::{plain_day, plain_time};
 use crate::values;
 use qrcode_contents::card::Card;
@@ -46,10 +46,10 @@ fn payment_text<G: Given>(alloc: Global, given: &G) -> ContentResult<String>
     ensures { HasText Payment (G.fields given.now) result }
 {
     let amount = plain_amount(alloc, given.text(Field::Amount))?;
-    let iban = plain(alloc, given.text(Field::Iban), Between::Spaces)?;
-    let bic = plain(alloc, given.text(Field::Bic), Between::Spaces)?;
-    let purpose = plain(alloc, given.text(Field::Purpose), Between::Spaces)?;
-    let reference = plain(alloc, given.text(Field::Reference), Between::Spaces)?;
+    let iban = plain(alloc, given.text(Field::Iban), Cleaning::Spaces)?;
+    let bic = plain(alloc, given.text(Field::Bic), Cleaning::Spaces)?;
+    let purpose = plain(alloc, given.text(Field::Purpose), Cleaning::Spaces)?;
+    let reference = plain(alloc, given.text(Field::Reference), Cleaning::Spaces)?;
     let cents = values::amount(amount.as_str())?;
     let payment = payment::Payment {
         version: payment::PaymentVersion::for_bic(bic.as_str()),
@@ -68,8 +68,12 @@ fn payment_text<G: Given>(alloc: Global, given: &G) -> ContentResult<String>
 fn geo_text<G: Given>(alloc: Global, given: &G) -> ContentResult<String>
     ensures { HasText Geo (G.fields given.now) result }
 {
-    let north = plain(alloc, given.text(Field::Latitude).trim(), Between::Degrees)?;
-    let east = plain(alloc, given.text(Field::Longitude).trim(), Between::Degrees)?;
+    let north = plain(alloc, given.text(Field::Latitude).trim(), Cleaning::Degrees)?;
+    let east = plain(
+        alloc,
+        given.text(Field::Longitude).trim(),
+        Cleaning::Degrees,
+    )?;
     let latitude = values::coordinate(north.as_str(), Field::Latitude)?;
     let longitude = values::coordinate(east.as_str(), Field::Longitude)?;
     let place = Place {
@@ -131,7 +135,7 @@ fn vcard_text<G: Given>(alloc: Global, given: &G) -> ContentResult<String>
 
 // The creditor of a bill, with this country code.
 fn creditor<'a, G: Given>(given: &'a G, country: &'a str) -> bill::Party<'a>
-    ensures { country.now ≡ plain between.Spaces (G.fields given.now Country)
+    ensures { country.now ≡ plain cleaning.Spaces (G.fields given.now Country)
         → addressee_of result ≡ creditor_in (G.fields given.now) }
 {
     bill::Party {
@@ -146,7 +150,7 @@ fn creditor<'a, G: Given>(given: &'a G, country: &'a str) -> bill::Party<'a>
 
 // The debtor of a bill, with this country code.
 fn debtor<'a, G: Given>(given: &'a G, country: &'a str) -> bill::Party<'a>
-    ensures { country.now ≡ plain between.Spaces (G.fields given.now DebtorCountry)
+    ensures { country.now ≡ plain cleaning.Spaces (G.fields given.now DebtorCountry)
         → addressee_of result ≡ debtor_in (G.fields given.now) }
 {
     bill::Party {
@@ -163,10 +167,10 @@ fn bill_text<G: Given>(alloc: Global, given: &G) -> ContentResult<String>
     ensures { HasText Bill (G.fields given.now) result }
 {
     let amount = plain_amount(alloc, given.text(Field::Amount))?;
-    let iban = plain(alloc, given.text(Field::Iban), Between::Spaces)?;
-    let country = plain(alloc, given.text(Field::Country), Between::Spaces)?;
-    let other = plain(alloc, given.text(Field::DebtorCountry), Between::Spaces)?;
-    let reference = plain(alloc, given.text(Field::Reference), Between::Spaces)?;
+    let iban = plain(alloc, given.text(Field::Iban), Cleaning::Spaces)?;
+    let country = plain(alloc, given.text(Field::Country), Cleaning::Spaces)?;
+    let other = plain(alloc, given.text(Field::DebtorCountry), Cleaning::Spaces)?;
+    let reference = plain(alloc, given.text(Field::Reference), Cleaning::Spaces)?;
     let cents = values::open_amount(amount.as_str())?;
     let currency = values::currency(given.text(Field::Currency))?;
     let bill = bill::Bill {
@@ -225,7 +229,7 @@ fn sms_text<G: Given>(alloc: Global, given: &G) -> ContentResult<String>
 fn otp_text<G: Given>(alloc: Global, given: &G) -> ContentResult<String>
     ensures { HasText Otp (G.fields given.now) result }
 {
-    let secret = plain(alloc, given.text(Field::Secret), Between::Person)?;
+    let secret = plain(alloc, given.text(Field::Secret), Cleaning::Person)?;
     let factor = values::factor(given.text(Field::Counter), given.text(Field::Period))?;
     let algorithm = values::algorithm(given.text(Field::Algorithm))?;
     let digits = values::digits(given.text(Field::Digits))?;
@@ -294,7 +298,7 @@ fn pix_text<G: Given>(alloc: Global, given: &G) -> ContentResult<String>
 fn promptpay_text<G: Given>(alloc: Global, given: &G) -> ContentResult<String>
     ensures { HasText Promptpay (G.fields given.now) result }
 {
-    let payee = plain(alloc, given.text(Field::Payee), Between::Person)?;
+    let payee = plain(alloc, given.text(Field::Payee), Cleaning::Person)?;
     let amount = plain_amount(alloc, given.text(Field::Amount))?;
     let cents = values::open_amount(amount.as_str())?;
     let payment = merchant::PromptPay {

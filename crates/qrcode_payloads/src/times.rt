@@ -1,11 +1,11 @@
 //! Reads days and times as people write them, also with a time zone.
 
 ghost use Rattle.std.specs.Prelude.{◌≡◌, ◌<◌, ◌+◌, IfOk, IfSome, Some, true, string_bytes};
-ghost use Rattle.qrcode_payloads.specs.Times.{day_numbered, day_said, clock_number, moment_at, local_said, day_after, day_before, clock_minutes, with_minutes, earlier, later, zone_minutes, minute_count, day_count, from_ahead, from_behind, is_utc, zoned, moment_said, is_local, plain_day, has_colons, plain_clock, plain_time};
+ghost use Rattle.qrcode_payloads.specs.Times.{day_numbered, number_of, day_said, clock_number, moment_at, local_said, day_after, day_before, clock_minutes, with_minutes, earlier, later, zone_minutes, minute_count, day_count, from_zone, is_utc, zoned, moment_said, is_local, plain_day, has_colons, plain_clock, plain_time};
 ghost use Rattle.qrcode_contents.specs.Times.{is_moment};
 
 use crate::numbers::decimal;
-use crate::plain::{Between, has_form, plain};
+use crate::plain::{Cleaning, has_form, plain};
 use qrcode_contents::fields::characters::{are_digits, parts};
 use qrcode_contents::times::{Day, Moment, days_in};
 use std::alloc::{AllocError, Global};
@@ -21,29 +21,32 @@ fn day_numbered(number: u64) -> Day
     }
 }
 
+// Reads a number of `count` digits. Returns `None` for any other text.
+fn number_of(count: usize, text: &str) -> Option<u64>
+    ensures value { result ≡ number_of count text.now }
+{
+    if text.len() != count || !are_digits(text.as_bytes()) {
+        return None;
+    }
+    decimal(text, 0)
+}
+
 /// Reads a day of eight digits, e.g. 19970714, which need not exist. Returns `None` for any other
 /// text.
 pub(crate) fn day_said(text: &str) -> Option<Day>
     ensures value { result ≡ day_said text.now }
 {
-    if text.len() != 8 || !are_digits(text.as_bytes()) {
-        return None;
-    }
-    Some(day_numbered(decimal(text, 0)?))
+    Some(day_numbered(number_of(8, text)?))
 }
 
 // Reads a time of day as a number: six digits, or four without seconds (`1700` gives 170000).
 fn clock_number(text: &str) -> Option<u64>
     ensures value { result ≡ clock_number text.now }
 {
-    if !are_digits(text.as_bytes()) {
-        return None;
+    if text.len() == 4 {
+        return Some(number_of(4, text)?.saturating_mul(100));
     }
-    match text.len() {
-        4 => Some(decimal(text, 0)?.saturating_mul(100)),
-        6 => decimal(text, 0),
-        _ => None,
-    }
+    number_of(6, text)
 }
 
 // The moment on `day` at the time with this number, e.g. 170000.
@@ -140,16 +143,15 @@ fn later(minutes: u16, moment: Moment) -> Moment
     with_minutes(moment, day_after(moment.day), clock - 1440)
 }
 
-// Reads the offset of a zone from UTC, in minutes: two digits of hours, two of minutes, and perhaps
-// `00` for seconds.
+// Reads the offset of a zone from UTC, in minutes: two digits of hours, and two of minutes.
 #[tactic(auto, unfolding(crate::specs::Times::zone_minutes))]
 fn zone_minutes(text: &str) -> Option<u16>
     ensures value { result ≡ zone_minutes text.now }
     ensures at_most { IfSome result (λ minutes. minutes < 1440) }
 {
-    let number = clock_number(text)?;
-    let (hours, minutes) = (number / 10_000, number / 100 % 100);
-    if hours < 24 && minutes < 60 && number % 100 == 0 {
+    let number = number_of(4, text)?;
+    let (hours, minutes) = (number / 100, number % 100);
+    if hours < 24 && minutes < 60 {
         return Some((hours * 60 + minutes) as u16);
     }
     None
@@ -165,31 +167,19 @@ fn local_said(day: &str, clock: &str) -> Option<Moment>
     Some(moment_at(day, number))
 }
 
-// Converts a moment of a zone ahead of UTC to UTC. One that does not exist stays as it is. `None`
-// if `zone` is no offset, or before the year 0.
-#[tactic(auto, unfolding(crate::specs::Times::from_ahead))]
-fn from_ahead(zone: &str, local: Moment) -> Option<Moment>
-    ensures value { result ≡ from_ahead (zone_minutes zone.now) local }
+// Converts a moment of a zone `ahead` of UTC, or else behind it, to UTC. One that does not exist
+// stays as it is. `None` if `zone` is no offset, or before the year 0.
+#[tactic(auto, unfolding(crate::specs::Times::from_zone))]
+fn from_zone(ahead: bool, zone: &str, local: Moment) -> Option<Moment>
+    ensures value { result ≡ from_zone ahead (zone_minutes zone.now) local }
 {
     let minutes = zone_minutes(zone)?;
-    if local.is_valid() {
+    if !local.is_valid() {
+        Some(local)
+    } else if ahead {
         earlier(minutes, local)
     } else {
-        Some(local)
-    }
-}
-
-// Converts a moment of a zone behind UTC to UTC. One that does not exist stays as it is. `None` if
-// `zone` is no offset.
-#[tactic(auto, unfolding(crate::specs::Times::from_behind))]
-fn from_behind(zone: &str, local: Moment) -> Option<Moment>
-    ensures value { result ≡ from_behind (zone_minutes zone.now) local }
-{
-    let minutes = zone_minutes(zone)?;
-    if local.is_valid() {
         Some(later(minutes, local))
-    } else {
-        Some(local)
     }
 }
 
@@ -208,9 +198,9 @@ fn zoned(day: &str, time: &str) -> Option<Moment>
     let (clock, zone) = parts(time, '+');
     if zone.is_empty() {
         let (clock, zone) = parts(time, '-');
-        return from_behind(zone, local_said(day, clock)?);
+        return from_zone(false, zone, local_said(day, clock)?);
     }
-    from_ahead(zone, local_said(day, clock)?)
+    from_zone(true, zone, local_said(day, clock)?)
 }
 
 /// Reads a day, a T, a time, and a Z or a zone, in UTC: e.g. 19970714T170000Z, 19970714T1700Z or
@@ -240,7 +230,7 @@ pub(crate) fn plain_day(alloc: Global, text: &str) -> Result<String, AllocError>
     ensures { IfOk result (λ value. string_bytes value ≡ plain_day text.now) }
 {
     if has_form(b"dddd-dd-dd", text.as_bytes()) {
-        return plain(alloc, text, Between::Digits);
+        return plain(alloc, text, Cleaning::Digits);
     }
     String::from_str(alloc, text)
 }
@@ -267,7 +257,7 @@ fn plain_clock(alloc: Global, time: &str) -> Result<String, AllocError>
     ensures { IfOk result (λ value. string_bytes value ≡ plain_clock time.now) }
 {
     if has_colons(time.as_bytes()) {
-        return plain(alloc, time, Between::Clock);
+        return plain(alloc, time, Cleaning::Clock);
     }
     String::from_str(alloc, time)
 }
@@ -278,7 +268,7 @@ fn plain_clock(alloc: Global, time: &str) -> Result<String, AllocError>
 pub(crate) fn plain_time(alloc: Global, text: &str) -> Result<String, AllocError>
     ensures { IfOk result (λ value. string_bytes value ≡ plain_time text.now) }
 {
-    let written = plain(alloc, text, Between::Time)?;
+    let written = plain(alloc, text, Cleaning::Time)?;
     let (day, time) = parts(written.as_str(), 'T');
     if time.is_empty() {
         return plain_day(alloc, written.as_str());

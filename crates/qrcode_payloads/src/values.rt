@@ -2,7 +2,7 @@
 
 ghost use Rattle.std.specs.Prelude.{◌≡◌, ◌≤◌, IfOk};
 ghost use Rattle.qrcode_contents.specs.declared.fields.errors.ContentError.TheVariants.{Refused};
-ghost use Rattle.qrcode_payloads.specs.Values.{number_cause, amount_in, open_amount_in, day_cause, birthday_in, security_in, hidden_in, currency_in, algorithm_in, digits_in, degrees_in, whole_in, factor_in, time_cause, days_in, times_in, span_in, stamp_in};
+ghost use Rattle.qrcode_payloads.specs.Values.{number_cause, amount_in, open_amount_in, day_cause, birthday_in, security_in, hidden_in, currency_in, algorithm_in, digits_in, degrees_in, whole_in, factor_in, time_cause, day_span_in, time_span_in, span_in, stamp_in};
 
 use crate::given::Given;
 use crate::numbers::{decimal, degrees, unsigned};
@@ -205,7 +205,7 @@ pub(crate) fn stamp(text: &str) -> ContentResult<Option<Moment>>
 
 // The whole days from `first` until the day before `end`.
 fn days(first: Day, end: &str) -> ContentResult<Span>
-    ensures value { result ≡ days_in first end.now }
+    ensures value { result ≡ day_span_in first end.now }
 {
     match day_said(end) {
         Some(last) => Ok(Span::Days(first, last)),
@@ -215,7 +215,7 @@ fn days(first: Day, end: &str) -> ContentResult<Span>
 
 // The time from `begin` to `end`.
 fn times(begin: &str, end: &str) -> ContentResult<Span>
-    ensures value { result ≡ times_in begin.now end.now }
+    ensures value { result ≡ time_span_in begin.now end.now }
 {
     match (moment_said(begin), moment_said(end)) {
         (Some(first), Some(last)) => Ok(Span::Times(first, last)),
