@@ -15,7 +15,6 @@ use Rattle.qrcode_contents.specs.fields.ContentLines.{content_text, structured, 
 use Rattle.qrcode_contents.specs.fields.Entries.{Entry, read_or_none, value_of}
 use Rattle.qrcode_contents.specs.fields.EntryTests.{are_distinct}
 use Rattle.qrcode_contents.specs.fields.Links.{Parameter}
-use Rattle.qrcode_contents.proofs.EntryReading.{holds}
 use Rattle.qrcode_contents.proofs.ContentParts.{HaveNoReturns, IsPlain, IsPlain-structured, part_read, text_content, line_with}
 use Rattle.qrcode_contents.proofs.ContentReading.{AreContent, content_read}
 use Rattle.qrcode_contents.proofs.LinkReading.{none_of, all_without, no_return, other_no_return, entries_of}

@@ -8,7 +8,7 @@ use Rattle.std.proofs.lemmas.List.Folds.{list_any-append}
 use Rattle.std.proofs.lemmas.List.Splits.{slice_split_none, slice_split_at}
 use Rattle.qrcode_contents.specs.declared.fields.links.Part.{Part}
 use Rattle.qrcode_contents.specs.declared.fields.links.Part.TheVariants.{Path, Value}
-use Rattle.qrcode_contents.specs.fields.Characters.{is_control, is_other_control, before, after}
+use Rattle.qrcode_contents.specs.fields.Characters.{is_control, is_other_control, before}
 use Rattle.qrcode_contents.specs.fields.Entries.{Entry, single, is_filled, filled, value_of}
 use Rattle.qrcode_contents.specs.fields.EntryTests.{are_distinct}
 use Rattle.qrcode_contents.specs.fields.Links.{part_byte, part_text, Parameter, parameter_text, query_text, read_parameter, value_in}

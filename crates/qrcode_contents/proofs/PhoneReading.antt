@@ -1,11 +1,11 @@
 -- The text of a message is read back.
-use Rattle.std.proofs.Common.{◌≡◌, ℕ, ◌==◌, ◌&&◌, not, drop, List, [], ◌∷◌, ◌++◌, Bool, true, false, Some, None, codes, refl, ap, ap₂, ◌∙◌, arith}
+use Rattle.std.proofs.Common.{◌≡◌, ℕ, ◌==◌, ◌&&◌, not, drop, List, [], ◌∷◌, ◌++◌, true, false, Some, None, codes, refl, ap, ap₂, ◌∙◌, arith}
 use Rattle.std.specs.List.{list_all, list_any}
 use Rattle.std.specs.Option.{option_map}
 use Rattle.std.proofs.lemmas.Bool.Decides.{nat_tests}
 use Rattle.qrcode_contents.specs.declared.fields.errors.Field.TheVariants.{Phone}
 use Rattle.qrcode_contents.specs.declared.fields.errors.Cause.TheVariants.{Character}
-use Rattle.qrcode_contents.specs.fields.Characters.{is_dialled, before, after}
+use Rattle.qrcode_contents.specs.fields.Characters.{is_dialled, before}
 use Rattle.qrcode_contents.specs.fields.Entries.{behind, is_filled}
 use Rattle.qrcode_contents.specs.fields.Percents.{encoded, decoded}
 use Rattle.qrcode_contents.specs.Phone.{is_number, is_no_number, phone_checks, phone_refusal, message_text, read_message}

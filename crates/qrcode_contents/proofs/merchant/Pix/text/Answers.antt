@@ -1,4 +1,4 @@
-use Rattle.std.proofs.Common.{◌≡◌, ℕ, nat_lt, ◌+◌, ◌-◌, ◌<◌, ◌==◌, ◌&&◌, not, List, [], ◌∷◌, ◌++◌, Bool, true, false, Option, Some, None, length, codes, if◌then◌else◌, refl, ap, ap₂, ◌∙◌, subst, arith}
+use Rattle.std.proofs.Common.{◌≡◌, ℕ, nat_lt, ◌+◌, ◌-◌, ◌<◌, ◌&&◌, not, List, [], ◌∷◌, Bool, true, false, Some, None, length, codes, if◌then◌else◌, refl, ap, ap₂, ◌∙◌, subst, arith}
 use Rattle.std.specs.List.{list_all}
 use Rattle.std.specs.Option.{option_and_then}
 use Rattle.std.specs.Str.{bytes_eq}
@@ -7,7 +7,7 @@ use Rattle.std.proofs.lemmas.Bool.Decides.{nat_tests}
 use Rattle.std.proofs.lemmas.Slice.Eq.{bytes_eq-Decides}
 use Rattle.qrcode_contents.specs.declared.fields.errors.Field.TheVariants.{Amount, City, Description, Name, Payee, Reference}
 use Rattle.qrcode_contents.specs.declared.fields.errors.Cause.TheVariants.{Character, Empty, Range, TooLong}
-use Rattle.qrcode_contents.specs.Bill.{amount_line, is_out_of_range, read_cents}
+use Rattle.qrcode_contents.specs.Bill.{is_out_of_range}
 use Rattle.qrcode_contents.specs.Merchant.{Charge, charge_of, is_reference_byte, account_checks, account_refusal, receiver_checks, receiver_refusal, pix_refusal, key_objects, reference_text, pix_objects, pix_text, read_reference, charge_in, pix_in, read_pix}
 use Rattle.qrcode_contents.specs.fields.Entries.{Entry, is_empty, is_filled, filled, value_of}
 use Rattle.qrcode_contents.specs.fields.EntryTests.{are_distinct}

@@ -1,11 +1,11 @@
-use Rattle.std.proofs.Common.{◌≡◌, ℕ, nat_lt, ◌+◌, ◌<◌, ◌==◌, ◌&&◌, not, List, [], ◌∷◌, ◌++◌, Bool, true, false, Option, Some, None, length, get_or, codes, refl, ap, ◌∙◌, sym, subst, arith}
+use Rattle.std.proofs.Common.{◌≡◌, ℕ, ◌+◌, ◌<◌, ◌==◌, ◌&&◌, not, List, [], ◌∷◌, ◌++◌, Bool, true, false, Option, Some, None, length, get_or, codes, refl, ap, ◌∙◌, subst, arith}
 use Rattle.std.specs.List.{after_first}
 use Rattle.std.specs.Option.{option_and_then}
 use Rattle.std.proofs.lemmas.Bool.Decides.{nat_tests}
 use Rattle.qrcode_contents.specs.declared.fields.errors.Field.TheVariants.{Amount, Payee}
 use Rattle.qrcode_contents.specs.declared.fields.errors.Cause.TheVariants.{Character, Range, TooShort}
-use Rattle.qrcode_contents.specs.Bill.{amount_line, is_out_of_range, read_cents}
-use Rattle.qrcode_contents.specs.Merchant.{Claim, claim_of, is_phone, is_identity, is_wallet, is_zero, promptpay_checks, promptpay_refusal, payee_tag, payee_text, payee_objects, initiation, promptpay_objects, promptpay_text, read_payee, claim_in, promptpay_in, read_promptpay}
+use Rattle.qrcode_contents.specs.Bill.{is_out_of_range}
+use Rattle.qrcode_contents.specs.Merchant.{Claim, claim_of, is_phone, is_identity, is_wallet, is_zero, promptpay_checks, promptpay_refusal, payee_objects, initiation, promptpay_objects, promptpay_text, read_payee, claim_in, promptpay_in, read_promptpay}
 use Rattle.qrcode_contents.specs.fields.Entries.{Entry, is_filled, filled, value_of}
 use Rattle.qrcode_contents.specs.fields.EntryTests.{are_distinct}
 use Rattle.qrcode_contents.specs.fields.Links.{Parameter}

@@ -1,4 +1,4 @@
-use Rattle.std.proofs.Common.{◌≡◌, ℕ, nat_lt, ◌/◌, ◌%◌, ◌<◌, ◌^◌, ◌==◌, ◌&&◌, not, List, [], ◌∷◌, ◌++◌, Bool, true, false, Option, Some, None, filter, length, decimal, codes, if◌then◌else◌, refl, ap, ◌∙◌, sym, arith, append_assoc}
+use Rattle.std.proofs.Common.{◌≡◌, ℕ, ◌/◌, ◌%◌, ◌==◌, ◌&&◌, not, List, [], ◌∷◌, ◌++◌, true, false, Option, Some, None, filter, length, decimal, codes, refl, ap, ◌∙◌, arith}
 use Rattle.std.specs.List.{list_all, list_any}
 use Rattle.std.specs.Option.{option_map}
 use Rattle.std.specs.Str.{bytes_eq}
@@ -8,10 +8,10 @@ use Rattle.qrcode_contents.specs.declared.fields.errors.Cause.TheVariants.{Chara
 use Rattle.qrcode_contents.specs.Bill.{amount_line, is_out_of_range, read_cents}
 use Rattle.qrcode_contents.specs.Upi.{Request, request_of, request_with, is_address_byte, is_category, upi_checks, upi_refusal, upi_parameters, upi_text, read_upi}
 use Rattle.qrcode_contents.specs.fields.Amounts.{amount_text}
-use Rattle.qrcode_contents.specs.fields.Characters.{is_control, is_digit, before, after}
-use Rattle.qrcode_contents.specs.fields.Entries.{Entry, is_filled, filled, single, value_of}
+use Rattle.qrcode_contents.specs.fields.Characters.{is_control, is_digit}
+use Rattle.qrcode_contents.specs.fields.Entries.{is_filled, filled, single, value_of}
 use Rattle.qrcode_contents.specs.fields.EntryTests.{are_distinct}
-use Rattle.qrcode_contents.specs.fields.Links.{Parameter, parameter_text, query_text, read_parameter, value_in}
+use Rattle.qrcode_contents.specs.fields.Links.{read_parameter, value_in}
 use Rattle.qrcode_contents.specs.fields.Percents.{decoded}
 use Rattle.qrcode_contents.proofs.BillReading.{amount_below, cents_read}
 use Rattle.qrcode_contents.proofs.EntryReading.{both, second_fails, part_of-filled, HasNo, holds}
