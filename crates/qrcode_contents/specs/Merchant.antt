@@ -2,7 +2,7 @@
 -- Thailand's standard for QR payments.
 use Rattle.std.specs.Prelude.{◌≡◌, ℕ, nat_lt, ◌-◌, ◌==◌, ◌&&◌, ◌||◌, not, Bool, List, [], ◌∷◌, ◌++◌, length, drop, slice_index_or, Option, Some, None, codes, if◌then◌else◌, refl}
 use Rattle.std.specs.Str.{bytes_eq}
-use Rattle.std.specs.List.{after_first, list_all}
+use Rattle.std.specs.List.{after_first, list_all, starts_with}
 use Rattle.std.specs.Option.{option_map, option_and_then}
 use Rattle.qrcode_contents.specs.declared.fields.errors.ContentError.{ContentError}
 use Rattle.qrcode_contents.specs.declared.fields.errors.Field.TheVariants.{Amount, City, Description, Name, Payee, Reference}
@@ -148,6 +148,9 @@ is_identity payee = length payee == 13
 abbrev pub is_wallet : List ℕ → Bool  -- fifteen digits, an e-wallet
 is_wallet payee = length payee == 15
 
+abbrev pub is_foreign : List ℕ → Bool  -- with Thailand's country code: a telephone number, since no ID begins so
+is_foreign payee = starts_with (λ a b. a == b) payee (codes "0066")
+
 abbrev pub promptpay_checks : Claim → List (Option ContentError)  -- the checks of the fields, in order
 promptpay_checks p =
     refused_if (is_empty p.payee) Payee Empty
@@ -156,6 +159,7 @@ promptpay_checks p =
     ∷ refused_if (not (is_phone p.payee) && not (is_identity p.payee) && not (is_wallet p.payee)) Payee TooShort
     ∷ refused_if (is_phone p.payee && not (slice_index_or p.payee 0 0 == 48)) Payee Character
     ∷ refused_if (is_out_of_range p.cents) Amount Range
+    ∷ refused_if (is_identity p.payee && is_foreign p.payee) Payee Character
     ∷ []
 
 unfoldable pub promptpay_refusal : Claim → Option ContentError  -- the error of the first check that fails

@@ -236,8 +236,9 @@ impl PromptPay<'_> {
         let payee = self.payee;
         let phone = payee.len() == 10;
         let other = !matches!(payee.len(), 10 | 13 | 15);
-        let foreign = phone & !payee.as_bytes().starts_with(b"0");
+        let odd = phone & !payee.as_bytes().starts_with(b"0");
         let outside = is_out_of_range(self.cents);
+        let foreign = (payee.len() == 13) & payee.as_bytes().starts_with(b"0066");
         refuse_first(&[
             (payee.is_empty(), Field::Payee, Cause::Empty),
             (
@@ -247,8 +248,9 @@ impl PromptPay<'_> {
             ),
             (payee.len() > 15, Field::Payee, Cause::TooLong),
             (other, Field::Payee, Cause::TooShort),
-            (foreign, Field::Payee, Cause::Character),
+            (odd, Field::Payee, Cause::Character),
             (outside, Field::Amount, Cause::Range),
+            (foreign, Field::Payee, Cause::Character),
         ])
     }
 

@@ -34,6 +34,8 @@ fn what_is_wrong(kind: Kind, field: Field, cause: Cause) -> &'static str {
     match (kind, field, cause) {
         (_, Field::Reference, Cause::Unused) => "it does not go with this account",
         (Kind::Mail, Field::Email, Cause::Character) => "it has no @, or more than one",
+        (Kind::Promptpay, Field::Payee, Cause::Character) =>
+            "it may only have digits, and a phone number begins with 0, without a country code",
         (Kind::Upi, Field::Payee, Cause::Character) =>
             "it may only have letters, digits and -._ around one @",
         (_, Field::Phone | Field::Mobile | Field::WorkPhone | Field::HomePhone, Cause::Character) =>
