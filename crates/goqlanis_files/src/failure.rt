@@ -4,6 +4,7 @@ ghost use Rattle.std.specs.Prelude.{IsErr};
 
 use crate::streams::shown;
 use std::alloc::{AllocError, AllocFailed, Global};
+use std::fmt::Display;
 use std::process::ExitCode;
 
 /// Why the program fails.
@@ -50,15 +51,39 @@ pub fn status(rt: &HostRuntime, run: Result<ExitCode, Failure>) -> ExitCode {
 
 /// Fails with `Usage`: the command line is wrong because of `why`. If memory runs out, fails with
 /// `OutOfMemory` instead.
-pub fn usage<T>(alloc: Global, why: &str) -> Result<T, Failure>
+pub fn usage<T, D: Display + Drop>(alloc: Global, why: D) -> Result<T, Failure>
     ensures { IsErr result }
 {
-    Err(Failure::Usage(String::from_str(alloc, why)?))
+    Err(Failure::Usage(String::format(alloc, why)?))
 }
 
 /// Fails with `Refused` because of `why`. If memory runs out, fails with `OutOfMemory` instead.
-pub fn refused<T>(alloc: Global, why: &str) -> Result<T, Failure>
+pub fn refused<T, D: Display + Drop>(alloc: Global, why: D) -> Result<T, Failure>
     ensures { IsErr result }
 {
-    Err(Failure::Refused(String::from_str(alloc, why)?))
+    Err(Failure::Refused(String::format(alloc, why)?))
+}
+
+/// Fails like the function `usage`, with a message as for `format!`.
+#[macro_export]
+macro_rules! usage {
+    ($alloc:expr; $($why:tt)+) => {
+        $crate::failure::usage($alloc, format_args!($($why)+))
+    };
+}
+
+/// Fails like the function `refused`, with a message as for `format!`.
+#[macro_export]
+macro_rules! refused {
+    ($alloc:expr; $($why:tt)+) => {
+        $crate::failure::refused($alloc, format_args!($($why)+))
+    };
+}
+
+/// Prints a warning on standard error, with a message as for `format!`.
+#[macro_export]
+macro_rules! warning {
+    ($rt:expr; $($what:tt)+) => {{
+        let _ = eprintln!($rt; "goqlanis: warning: {}", format_args!($($what)+));
+    }};
 }

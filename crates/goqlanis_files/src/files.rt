@@ -59,7 +59,7 @@ struct Folder {
 
 // Opens a folder. One that cannot be opened is rejected: with only its name, the output would go to
 // whatever takes its place.
-fn opened(rt: &HostRuntime, name: &str) -> Result<Folder, Unwritten> {
+fn open_folder(rt: &HostRuntime, name: &str) -> Result<Folder, Unwritten> {
     let name = format!(in rt.alloc(); "{name}/")?;
     let open = match File::open(rt, name.as_str()) {
         Ok(open) => open,
@@ -90,7 +90,7 @@ pub fn write_whole(rt: &HostRuntime, path: &str, bytes: &[u8]) -> Result<(), Unw
     let mut place = String::from_str(rt.alloc(), path)?;
     for _ in 0..LINKS {
         let (within, name) = parts_of(place.as_str());
-        let folder = opened(rt, within)?;
+        let folder = open_folder(rt, within)?;
         let inside = format!(in rt.alloc(); "{}{name}", folder.way.as_str())?;
         let found = match fs::symlink_metadata(rt, inside.as_str()) {
             Ok(found) => found,
@@ -114,7 +114,7 @@ pub fn write_whole(rt: &HostRuntime, path: &str, bytes: &[u8]) -> Result<(), Unw
         if !found.is_symlink() {
             return write_straight(rt, inside.as_str(), false, bytes);
         }
-        place = followed(rt, inside.as_str(), within)?;
+        place = link_target(rt, inside.as_str(), within)?;
     }
     // Opens it, so that the error is the one that Linux gives for this many links.
     write_straight(rt, place.as_str(), false, bytes)
@@ -142,7 +142,7 @@ fn leads_to_open_file(rt: &HostRuntime, path: &str) -> Result<bool, Unwritten> {
         if !found.is_symlink() || is_open_file(rt, name, &found) {
             return Ok(found.is_symlink());
         }
-        place = followed(rt, place.as_str(), folder)?;
+        place = link_target(rt, place.as_str(), folder)?;
     }
     Ok(false)
 }
@@ -155,7 +155,7 @@ pub fn is_stream(rt: &HostRuntime, path: &str) -> bool {
 }
 
 // Returns the path that a link in `folder` points to.
-fn followed(rt: &HostRuntime, link: &str, folder: &str) -> Result<String, Unwritten> {
+fn link_target(rt: &HostRuntime, link: &str, folder: &str) -> Result<String, Unwritten> {
     let named = fs::read_link(rt, link)?;
     let target = named.as_path().as_str();
     if target.starts_with('/') {
@@ -212,7 +212,7 @@ fn replace(
         match private_file(rt, beside.as_str()) {
             Ok((file, usual)) => {
                 let filled = fill(file, usual, old.as_ref(), bytes);
-                return settle(rt, filled, beside.as_str(), path);
+                return rename_filled(rt, filled, beside.as_str(), path);
             }
             Err(error) if error.kind() == ErrorKind::AlreadyExists => {}
             Err(error) => return Err(Unwritten::Folder(folder.name, error)),
@@ -222,10 +222,11 @@ fn replace(
 }
 
 // Creates a file that only its owner can access. Also returns the permissions that a new file
-// usually gets in this folder.
+// usually gets in this folder: those of an empty one that is created first, and removed.
 fn private_file(rt: &HostRuntime, path: &str) -> io::Result<(File, u32)> {
-    let usual = usual_rights(rt, path)?;
-    Ok((created(rt, path, 0o600)?, usual))
+    let usual = create(rt, path, 0o666)?.metadata()?.mode() & 0o777;
+    fs::remove_file(rt, path)?;
+    Ok((create(rt, path, 0o600)?, usual))
 }
 
 // The permissions that are kept of an old file: the owner's, and those that both group and others
@@ -235,14 +236,7 @@ fn kept_rights(mode: u32) -> u32 {
     mode & 0o700 | shared << 3 | shared
 }
 
-// Finds the permissions that a new file usually gets, by creating an empty one and removing it.
-fn usual_rights(rt: &HostRuntime, path: &str) -> io::Result<u32> {
-    let mode = created(rt, path, 0o666)?.metadata()?.mode();
-    fs::remove_file(rt, path)?;
-    Ok(mode & 0o777)
-}
-
-fn created(rt: &HostRuntime, path: &str, mode: u32) -> io::Result<File> {
+fn create(rt: &HostRuntime, path: &str, mode: u32) -> io::Result<File> {
     OpenOptions::new()
         .write(true)
         .create_new(true)
@@ -281,7 +275,7 @@ fn rights_after(file: &File, usual: u32, old: &Metadata) -> Result<u32, Unwritte
 }
 
 // Renames a completely written file to `path`. Removes it if writing or renaming failed.
-fn settle(
+fn rename_filled(
     rt: &HostRuntime,
     filled: Result<(), Unwritten>,
     beside: &str,

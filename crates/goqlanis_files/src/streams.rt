@@ -2,6 +2,7 @@
 
 use crate::failure::Failure;
 use crate::files::{Unwritten, write_whole};
+use crate::refused;
 use goqlanis_core::Grouped;
 use std::alloc::Global;
 use std::io::{ErrorKind, IsTerminal, Read, Write};
@@ -121,9 +122,9 @@ fn read_all<R: Read + Drop>(
                 ""
             };
             let most = Grouped(most);
-            Err(Failure::Refused(format!(in alloc;
+            refused!(alloc;
                 "cannot read {name}: it has more than {most} bytes, the most that are taken{help}"
-            )?))
+            )
         }
         Ok(_) => Ok(bytes),
         Err(error) => unread(alloc, name, &error),
@@ -133,7 +134,7 @@ fn read_all<R: Read + Drop>(
 /// Fails with `Refused`: `name` cannot be read. If memory runs out, fails with `OutOfMemory`
 /// instead.
 pub fn unread<T>(alloc: Global, name: &str, error: &io::Error) -> Result<T, Failure> {
-    Err(Failure::Refused(format!(in alloc; "cannot read {name}: {error}")?))
+    refused!(alloc; "cannot read {name}: {error}")
 }
 
 /// Displays bytes so that they are safe in a terminal. Characters that control it, or hide or
