@@ -10,8 +10,9 @@ use clap::ArgMatches;
 use clap::parser::ValueSource;
 use goqlanis_core::formats::{FORMATS, format_named, format_of_ending};
 use goqlanis_core::{Choice, Format, Request};
-use goqlanis_files::failure::{Failure, usage};
+use goqlanis_files::failure::Failure;
 use goqlanis_files::streams::has_colours;
+use goqlanis_files::usage;
 use qrcode::bits::Manner;
 use qrcode::types::{EcLevel, Version};
 use qrcode_append::Versions;
@@ -88,12 +89,12 @@ pub fn asked_for<'a, 'w>(
         logo: logo_of(alloc, given)?,
     };
     if asked.delimiter().is_empty() {
-        return usage(alloc, "--delimiter: give it a text, e.g. \";\"");
+        return usage!(alloc; "--delimiter: give it a text, e.g. \";\"");
     }
     if asked.is_by_line() {
         check_one_behind_another(alloc, &asked)?;
     } else if given.contains_id("field") {
-        return usage(alloc, "--field: it is a field of a line; add --lines");
+        return usage!(alloc; "--field: it is a field of a line; add --lines");
     }
     warn(rt, &asked);
     Ok(asked)
@@ -104,10 +105,9 @@ pub fn check_one_behind_another(alloc: Global, asked: &Asked<'_, '_>) -> Result<
     match (asked.target, asked.request.format) {
         (Target::File(_), _)
         | (_, Format::HalfBlocks | Format::Terminal | Format::Chars | Format::Ascii) => Ok(()),
-        _ => usage(
-            alloc,
+        _ => usage!(alloc;
             "only text formats go to standard output one after another: \
-            add --output, e.g. -o a.png, and files are numbered",
+            add --output, e.g. -o a.png, and files are numbered"
         ),
     }
 }
@@ -133,9 +133,7 @@ fn check_conflicts(alloc: Global, given: &ArgMatches<'_>) -> Result<(), Failure>
     for (one, others, help) in CONFLICTS {
         let other = others.iter().find(|other| is_given(given, other));
         if let Some(other) = other.filter(|_| is_given(given, one)) {
-            return Err(Failure::Usage(format!(in alloc;
-                "{one} and {other} do not go together: {help}"
-            )?));
+            return usage!(alloc; "{one} and {other} do not go together: {help}");
         }
     }
     Ok(())
@@ -160,10 +158,7 @@ fn target_of<'a>(alloc: Global, given: &ArgMatches<'a>) -> Result<Target<'a>, Fa
     match given.get_str("output") {
         None => Ok(Target::Terminal),
         Some("-") => Ok(Target::StandardOutput),
-        Some("") => usage(
-            alloc,
-            "--output: it is empty, e.g. of a variable that is not set",
-        ),
+        Some("") => usage!(alloc; "--output: it is empty, e.g. of a variable that is not set"),
         Some(path) => Ok(Target::File(path)),
     }
 }
@@ -202,9 +197,8 @@ pub fn versions_of(
             least: least.unsigned_abs() as usize,
             greatest: greatest.unsigned_abs() as usize,
         }),
-        _ => usage(
-            alloc,
-            "split uses versions 1 to 40, and --max-version cannot be below --min-version",
+        _ => usage!(alloc;
+            "split uses versions 1 to 40, and --max-version cannot be below --min-version"
         ),
     }
 }
@@ -220,9 +214,7 @@ fn version_of(
     };
     match version(name) {
         Some(version) => Ok(Some(version)),
-        None => Err(Failure::Usage(format!(in alloc;
-            "--{option} {name}: versions are 1 to 40, and M1 to M4"
-        )?)),
+        None => usage!(alloc; "--{option} {name}: versions are 1 to 40, and M1 to M4"),
     }
 }
 
@@ -284,7 +276,7 @@ fn check_format(alloc: Global, given: &ArgMatches<'_>, format: Format) -> Result
     for (options, has, why) in &rows {
         let option = options.iter().find(|option| is_given(given, option));
         if let Some(option) = option.filter(|_| !*has) {
-            return Err(Failure::Usage(format!(in alloc; "--{option}: {why}")?));
+            return usage!(alloc; "--{option}: {why}");
         }
     }
     Ok(())
@@ -332,19 +324,17 @@ fn format(rt: &HostRuntime, name: Option<&str>, target: Target<'_>) -> Result<Fo
         return Ok(format);
     }
     if fs::metadata(rt, path).is_ok_and(|found| found.is_dir()) {
-        return Err(Failure::Usage(format!(in rt.alloc();
-            "--output {path}: it is a folder; name a file in it"
-        )?));
+        return usage!(rt.alloc(); "--output {path}: it is a folder; name a file in it");
     }
     let known = FORMATS
         .iter()
         .filter_map(|row| row.ending)
         .collect::<Vec<&str>>(rt.alloc())?;
     let endings = known.join(rt.alloc(), " .")?;
-    Err(Failure::Usage(format!(in rt.alloc();
+    usage!(rt.alloc();
         "--output {path}: the file extension is none of .{endings}; use one of these and convert \
         the file, or add --format"
-    )?))
+    )
 }
 
 /// Returns the format that belongs to the file extension of `path`.

@@ -11,17 +11,17 @@ pub enum Shell {
     Fish,
 }
 
+static SHELLS: &[(&str, Shell)] = &[
+    ("bash", Shell::Bash),
+    ("zsh", Shell::Zsh),
+    ("fish", Shell::Fish),
+];
+
 /// Returns the shell called `name`, ignoring case.
 pub fn shell_named(name: &str) -> Option<Shell> {
-    if name.eq_ignore_ascii_case("bash") {
-        Some(Shell::Bash)
-    } else if name.eq_ignore_ascii_case("zsh") {
-        Some(Shell::Zsh)
-    } else if name.eq_ignore_ascii_case("fish") {
-        Some(Shell::Fish)
-    } else {
-        None
-    }
+    let mut shells = SHELLS.iter();
+    let (_, shell) = shells.find(|(known, _)| known.eq_ignore_ascii_case(name))?;
+    Some(*shell)
 }
 
 // The script before and after the list of commands.

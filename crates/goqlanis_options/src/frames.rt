@@ -2,6 +2,7 @@
 
 use clap::ArgMatches;
 use goqlanis_files::failure::Failure;
+use goqlanis_files::usage;
 use qrcode::render::svg::{Frame, Size};
 use std::alloc::Global;
 
@@ -15,9 +16,9 @@ pub fn place_of(alloc: Global, given: &ArgMatches<'_>) -> Result<(u32, u32), Fai
     let place = text.split_once(',').unwrap_or(("", ""));
     match (place.0.parse::<u32>(), place.1.parse::<u32>()) {
         (Ok(x), Ok(y)) if x.max(y) <= 32_000 => Ok((x, y)),
-        _ => Err(Failure::Usage(format!(in alloc;
+        _ => usage!(alloc;
             "--at {text}: use dots from the left and from the top, each 0 to 32,000, e.g. 50,30"
-        )?)),
+        ),
     }
 }
 
@@ -26,25 +27,19 @@ pub fn place_of(alloc: Global, given: &ArgMatches<'_>) -> Result<(u32, u32), Fai
 /// Errors: `Usage` for a text that is empty, has line breaks, or characters that XML forbids;
 /// `OutOfMemory`.
 pub fn frame_of<'a>(alloc: Global, given: &ArgMatches<'a>) -> Result<Frame<'a>, Failure> {
-    let [id, class, in_svg, description, in_pdf] = [
-        text_of(alloc, given, "svg-id")?,
-        text_of(alloc, given, "svg-class")?,
-        text_of(alloc, given, "svg-title")?,
-        text_of(alloc, given, "svg-desc")?,
-        text_of(alloc, given, "pdf-title")?,
-    ];
-    let title = if in_pdf.is_empty() { in_svg } else { in_pdf };
-    let size = if given.get_flag("no-size") {
-        Size::Free
-    } else {
-        Size::Pixels
-    };
     Ok(Frame {
-        id,
-        class,
-        title,
-        description,
-        size,
+        id: text_of(alloc, given, "svg-id")?,
+        class: text_of(alloc, given, "svg-class")?,
+        title: match text_of(alloc, given, "pdf-title")? {
+            "" => text_of(alloc, given, "svg-title")?,
+            title => title,
+        },
+        description: text_of(alloc, given, "svg-desc")?,
+        size: if given.get_flag("no-size") {
+            Size::Free
+        } else {
+            Size::Pixels
+        },
     })
 }
 
@@ -54,13 +49,13 @@ fn text_of<'a>(alloc: Global, given: &ArgMatches<'a>, option: &str) -> Result<&'
         return Ok("");
     };
     if text.is_empty() || text.contains('\n') {
-        return Err(Failure::Usage(format!(in alloc; "--{option}: give it a text of one line")?));
+        return usage!(alloc; "--{option}: give it a text of one line");
     }
     if let Some(character) = text.chars().find(is_foreign) {
         let code = character as u32;
-        return Err(Failure::Usage(format!(in alloc;
+        return usage!(alloc;
             "--{option}: it has U+{code:04X}, which cannot stand there; leave it out"
-        )?));
+        );
     }
     Ok(text)
 }

@@ -2,7 +2,8 @@
 
 use clap::ArgMatches;
 use goqlanis_core::areas::LogoSize;
-use goqlanis_files::failure::{Failure, usage};
+use goqlanis_files::failure::Failure;
+use goqlanis_files::usage;
 use qrcode_area::rectangles::Kept;
 use std::alloc::Global;
 
@@ -60,9 +61,8 @@ pub fn logo_of(
         }));
     }
     if keeps_alignment || given.contains_id("logo-size") || given.contains_id("logo-margin") {
-        return usage(
-            alloc,
-            "--logo-size, --logo-margin and --keep-alignment go with --logo FILE or --logo-area",
+        return usage!(alloc;
+            "--logo-size, --logo-margin and --keep-alignment go with --logo FILE or --logo-area"
         );
     }
     Ok(None)
@@ -79,8 +79,8 @@ fn size_of(alloc: Global, text: Option<&str>) -> Result<LogoSize, Failure> {
     };
     match size {
         Ok(size) if !matches!(size, LogoSize::Percent(0)) => Ok(size),
-        _ => Err(Failure::Usage(format!(in alloc;
+        _ => usage!(alloc;
             "--logo-size {text}: use modules, e.g. 9, or percent of the code's side, e.g. 20%"
-        )?)),
+        ),
     }
 }

@@ -175,13 +175,10 @@ impl Task {
             push_under(&mut all, heading, options)?;
         }
         if self.draws() {
-            let colours = PART_COLOURS.iter().map(|colour| colour.entry);
-            let colours = colours.collect::<Vec<Entry>>(alloc)?;
-            push_under(
-                &mut all,
-                "Colours of patterns, in PNG, SVG, EPS and PDF",
-                &colours,
-            )?;
+            let heading = "Colours of patterns, in PNG, SVG, EPS and PDF";
+            for colour in PART_COLOURS {
+                all.push((heading, colour.entry))?;
+            }
         }
         if self.word.is_empty() {
             push_under(&mut all, "Other", ABOUT)?;

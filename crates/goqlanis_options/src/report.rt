@@ -8,6 +8,18 @@ use qrcode::types::EcLevel;
 use qrcode_area::areas::Rectangle;
 use std::alloc::{AllocError, Global};
 
+/// Appends a part of a report: as JSON, or as text for people, with the same values.
+#[macro_export]
+macro_rules! push_either {
+    ($text:expr, $is_json:expr; $json:tt, $plain:tt) => {
+        if $is_json {
+            write!($text, $json)
+        } else {
+            write!($text, $plain)
+        }
+    };
+}
+
 // The facts to report about a code.
 #[derive(Clone, Copy)]
 struct Report {
@@ -39,32 +51,27 @@ pub fn show_report(
 ) -> Result<(), AllocError> {
     let (request, code) = (&asked.request, &drawing.code);
     let (modules, zone) = (code.width() as u32, quiet_zone(request, code));
-    let (scale, all) = (
-        scale(request, code).max(1),
-        modules.saturating_add(zone.saturating_mul(2)),
-    );
+    let all = modules.saturating_add(zone.saturating_mul(2));
+    let scale = scale(request, code).max(1);
     let dots = dots(request, code).or(asked.dots.map(u32::from));
     warn_of_sizes(rt, asked, all, scale, dots);
-    let report = Report {
-        version: VersionName(code.version()),
-        level: code.error_correction_level(),
-        mask: request.mask.unwrap_or(own_mask(code)),
-        modules,
-        zone,
-        scale,
-        side: all.saturating_mul(scale),
-        dots,
-        is_length: request.length.is_some(),
-        area,
-    };
-    let text = if asked.given.get_flag("json") {
-        json(rt.alloc(), &report)?
-    } else if asked.given.get_flag("verbose") {
-        lines(rt.alloc(), &report)?
-    } else {
-        return Ok(());
-    };
-    let _ = eprint!(rt; "{text}");
+    let is_json = asked.given.get_flag("json");
+    if is_json || asked.given.get_flag("verbose") {
+        let report = Report {
+            version: VersionName(code.version()),
+            level: code.error_correction_level(),
+            mask: request.mask.unwrap_or(own_mask(code)),
+            modules,
+            zone,
+            scale,
+            side: all.saturating_mul(scale),
+            dots,
+            is_length: request.length.is_some(),
+            area,
+        };
+        let text = text_of(rt.alloc(), &report, is_json)?;
+        let _ = eprint!(rt; "{text}");
+    }
     Ok(())
 }
 
@@ -77,67 +84,44 @@ fn own_mask(code: &QrCode) -> usize {
     }
 }
 
-// Formats a report as lines of text.
-fn lines(alloc: Global, report: &Report) -> Result<String, AllocError> {
+// Formats a report as one line of JSON, or as lines of text.
+fn text_of(alloc: Global, report: &Report, is_json: bool) -> Result<String, AllocError> {
     let (version, level, mask) = (report.version, report.level, report.mask);
-    let mut text = format!(in alloc; "version {version}, level {level:?}, mask {mask}\n")?;
-    push_sizes(&mut text, report)?;
+    let (modules, zone) = (report.modules, report.zone);
+    let mut text = String::new(alloc);
+    push_either!(text, is_json;
+        "{{\"version\": \"{version}\", \"level\": \"{level:?}\", \"mask\": {mask}, \
+        \"modules\": {modules}, \"quiet_zone\": {zone}",
+        "version {version}, level {level:?}, mask {mask}\nmodules: {modules} by {modules}; "
+    )?;
+    push_sizes(&mut text, report, is_json)?;
     if let Some(area) = report.area {
         let (width, height, left, top) = (area.width, area.height, area.left, area.top);
-        write!(
-            text,
-            "area: {width} by {height} modules, from column {left} and row {top}\n"
-        )?;
-    }
-    Ok(text)
-}
-
-// Appends the sizes, in two lines.
-fn push_sizes(text: &mut String, report: &Report) -> Result<(), AllocError> {
-    let (modules, zone, scale, side) = (report.modules, report.zone, report.scale, report.side);
-    let length = Decimal(hundredths_of(side, report.dots.unwrap_or(0)));
-    write!(text, "modules: {modules} by {modules}; ")?;
-    if report.is_length {
-        return write!(text, "quiet zone: {zone}\nsize: {length} by {length} mm\n");
-    }
-    write!(
-        text,
-        "pixels of a module: {scale}; quiet zone: {zone}\nsize: {side} by {side} pixels"
-    )?;
-    if let Some(dots) = report.dots {
-        write!(text, ", {length} mm at {dots} per inch")?;
-    }
-    text.push_str("\n")
-}
-
-// Formats a report as one line of JSON.
-fn json(alloc: Global, report: &Report) -> Result<String, AllocError> {
-    let (version, level, mask) = (report.version, report.level, report.mask);
-    let mut text = format!(in alloc;
-        "{{\"version\": \"{version}\", \"level\": \"{level:?}\", \"mask\": {mask}"
-    )?;
-    let numbers = [
-        ("modules", report.modules),
-        ("quiet_zone", report.zone),
-        ("scale", report.scale),
-        ("pixels", report.side),
-    ];
-    let known = if report.is_length { 2 } else { 4 };
-    for (name, number) in numbers.iter().take(known) {
-        write!(text, ", \"{name}\": {number}")?;
-    }
-    if let Some(dots) = report.dots {
-        let side = Decimal(hundredths_of(report.side, dots));
-        write!(text, ", \"millimetres\": {side}")?;
-    }
-    if let Some(area) = report.area {
-        let (width, height, left, top) = (area.width, area.height, area.left, area.top);
-        write!(
-            text,
+        push_either!(text, is_json;
             ", \"area\": {{\"width\": {width}, \"height\": {height}, \"column\": {left}, \
-            \"row\": {top}}}"
+            \"row\": {top}}}",
+            "\narea: {width} by {height} modules, from column {left} and row {top}"
         )?;
     }
-    text.push_str("}\n")?;
+    text.push_str(if is_json { "}\n" } else { "\n" })?;
     Ok(text)
+}
+
+// Appends the sizes of a report.
+fn push_sizes(text: &mut String, report: &Report, is_json: bool) -> Result<(), AllocError> {
+    let (zone, scale, side) = (report.zone, report.scale, report.side);
+    let length = Decimal(hundredths_of(side, report.dots.unwrap_or(0)));
+    if !report.is_length {
+        push_either!(text, is_json;
+            ", \"scale\": {scale}, \"pixels\": {side}",
+            "pixels of a module: {scale}; quiet zone: {zone}\nsize: {side} by {side} pixels"
+        )?;
+    } else if !is_json {
+        write!(text, "quiet zone: {zone}\nsize: {length} by {length} mm")?;
+    }
+    match report.dots {
+        Some(_) if is_json => write!(text, ", \"millimetres\": {length}"),
+        Some(dots) if !report.is_length => write!(text, ", {length} mm at {dots} per inch"),
+        _ => Ok(()),
+    }
 }

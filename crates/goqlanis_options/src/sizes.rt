@@ -3,6 +3,7 @@
 use clap::ArgMatches;
 use goqlanis_core::{Format, Length};
 use goqlanis_files::failure::Failure;
+use goqlanis_files::usage;
 use qrcode_payloads::numbers::decimal;
 use std::alloc::Global;
 
@@ -45,7 +46,7 @@ pub fn sizes_of(alloc: Global, given: &ArgMatches<'_>, format: Format) -> Result
             continue;
         };
         if let Err(why) = take_size(&mut sizes, text, is_exact, is_side) {
-            return Err(Failure::Usage(format!(in alloc; "--{option} {text}: {why}")?));
+            return usage!(alloc; "--{option} {text}: {why}");
         }
     }
     Ok(sizes)

@@ -4,40 +4,44 @@ use crate::asked::{Asked, Target, ending_format};
 use clap::ArgMatches;
 use goqlanis_core::{Format, Grouped, Ink, Request};
 use goqlanis_files::streams::shown;
+use goqlanis_files::warning;
 use qrcode::types::Color;
 use std::fmt;
 
 /// Warns of colours with too little contrast, of UTF-8 text after the ECI of another character set,
 /// and of a file extension that belongs to another format.
 pub fn warn(rt: &HostRuntime, asked: &Asked<'_, '_>) {
-    let request = &asked.request;
-    if let Some((dark, light)) = close_colours(request) {
+    warn_of_colours(rt, &asked.request);
+    if let Some(words) = asked.given.get_strs("segment") {
+        warn_of_character_set(rt, words);
+    }
+    if let Target::File(path) = asked.target {
+        if is_named_otherwise(path, asked.request.format) {
+            let path = shown(path);
+            warning!(rt; "{path} has the file extension of another format than --format");
+        }
+    }
+}
+
+// Warns of a dark and a light colour that are too close, or else of a colour on the wrong side of
+// the threshold that readers use.
+fn warn_of_colours(rt: &HostRuntime, request: &Request<'_>) {
+    let dark = extremes(request, Color::Dark);
+    let light = extremes(request, Color::Light);
+    if let Some((dark, light)) = close_colours(dark, light, request.is_inverted) {
         let why = if is_brighter(dark, light) {
             "are lighter than these; few readers accept that; to swap them, use --invert"
         } else {
             "have less than 40 % contrast, which many readers need"
         };
         let (dark, light) = (name_of(dark), name_of(light));
-        let _ = eprintln!(rt;
-            "goqlanis: warning: dark modules {dark} on light modules {light} {why}"
-        );
-    } else if let Some((ink, better)) = stray_colour(request) {
+        warning!(rt; "dark modules {dark} on light modules {light} {why}");
+    } else if let Some((ink, better)) = stray_colour(dark, light) {
         let name = name_of(ink);
-        let _ = eprintln!(rt;
-            "goqlanis: warning: {name} is on the wrong side of halfway between the darkest and the \
-            lightest colour, so readers may misread it; use a {better} one"
+        warning!(rt;
+            "{name} is on the wrong side of halfway between the darkest and the lightest colour, \
+            so readers may misread it; use a {better} one"
         );
-    }
-    if let Some(words) = asked.given.get_strs("segment") {
-        warn_of_character_set(rt, words);
-    }
-    if let Target::File(path) = asked.target {
-        if is_named_otherwise(path, request.format) {
-            let path = shown(path);
-            let _ = eprintln!(rt;
-                "goqlanis: warning: {path} has the file extension of another format than --format"
-            );
-        }
     }
 }
 
@@ -51,9 +55,9 @@ fn warn_of_character_set(rt: &HostRuntime, words: &[&str]) {
             set = text.parse::<u32>().unwrap_or(26);
         } else if set != 26 && set < 899 && name.eq_ignore_ascii_case("byte") && !text.is_ascii() {
             let word = shown(word);
-            let _ = eprintln!(rt;
-                "goqlanis: warning: --segment {word}: this text is UTF-8, but eci:{set} names \
-                another character set, so readers show it wrongly; use eci:26"
+            warning!(rt;
+                "--segment {word}: this text is UTF-8, but eci:{set} names another character set, \
+                so readers show it wrongly; use eci:26"
             );
             return;
         }
@@ -66,9 +70,7 @@ pub fn warn_of_password(rt: &HostRuntime, given: &ArgMatches<'_>) {
     let security = given.get_str("security").unwrap_or("WPA");
     let is_wpa = security.eq_ignore_ascii_case("WPA") || security.eq_ignore_ascii_case("WPA2");
     if is_wpa && !password.is_empty() && password.len() < 8 {
-        let _ = eprintln!(rt;
-            "goqlanis: warning: --password has fewer than 8 characters, which WPA and WPA2 need"
-        );
+        warning!(rt; "--password has fewer than 8 characters, which WPA and WPA2 need");
     }
 }
 
@@ -92,26 +94,23 @@ pub fn warn_of_sizes(
         let (wanted, made) = (asked.hundredths.unwrap_or(0), hundredths_of(side, dots));
         if made.saturating_add(10) <= wanted {
             let (wanted, made) = (Decimal(wanted), Decimal(made));
-            let _ = eprintln!(rt;
-                "goqlanis: warning: --size {wanted}mm comes out at {made} mm: {modules} modules of \
-                {scale} whole pixels"
+            warning!(rt;
+                "--size {wanted}mm comes out at {made} mm: {modules} modules of {scale} whole \
+                pixels"
             );
         }
         let module = hundredths_of(scale, dots);
         if module < 25 {
             let module = Decimal(module);
-            let _ = eprintln!(rt;
-                "goqlanis: warning: modules of {module} mm are under the 0.25 mm that many readers \
-                need"
-            );
+            warning!(rt; "modules of {module} mm are under the 0.25 mm that many readers need");
         }
     }
     let bytes = side.div_ceil(8).saturating_mul(side);
     if asked.request.format == Format::Zpl && bytes > MOST_FIELD {
         let most = Grouped(MOST_FIELD as usize);
-        let _ = eprintln!(rt;
-            "goqlanis: warning: ZPL takes at most {most} bytes of a picture, and this one has more; \
-            use a smaller --scale, --size, --module or --dpi"
+        warning!(rt;
+            "ZPL takes at most {most} bytes of a picture, and this one has more; use a smaller \
+            --scale, --size, --module or --dpi"
         );
     }
 }
@@ -150,14 +149,14 @@ const CONTRAST: u32 = 102;
 
 // Returns the brightest dark colour and the darkest light colour if they are too close. With
 // `--invert`, dark modules may also all be lighter than the light ones.
-fn close_colours<'a>(request: &Request<'a>) -> Option<(Ink<'a>, Ink<'a>)> {
-    let (dark, light) = (
-        extremes(request, Color::Dark),
-        extremes(request, Color::Light),
-    );
+fn close_colours<'a>(
+    dark: Extremes<'a>,
+    light: Extremes<'a>,
+    is_inverted: bool,
+) -> Option<(Ink<'a>, Ink<'a>)> {
     if is_brighter(light.0, dark.1) {
         None
-    } else if !request.is_inverted {
+    } else if !is_inverted {
         Some((dark.1, light.0))
     } else {
         (!is_brighter(dark.0, light.1)).then_some((dark.0, light.1))
@@ -166,11 +165,7 @@ fn close_colours<'a>(request: &Request<'a>) -> Option<(Ink<'a>, Ink<'a>)> {
 
 // Returns a colour on the wrong side of the threshold halfway between the darkest and the brightest
 // colour, and whether it should be darker or lighter.
-fn stray_colour<'a>(request: &Request<'a>) -> Option<(Ink<'a>, &'static str)> {
-    let (dark, light) = (
-        extremes(request, Color::Dark),
-        extremes(request, Color::Light),
-    );
+fn stray_colour<'a>(dark: Extremes<'a>, light: Extremes<'a>) -> Option<(Ink<'a>, &'static str)> {
     let (below, above) = if is_brighter(light.0, dark.1) {
         (dark, light)
     } else {
@@ -186,8 +181,10 @@ fn stray_colour<'a>(request: &Request<'a>) -> Option<(Ink<'a>, &'static str)> {
     }
 }
 
-// Returns the darkest and the brightest colour of dark (or of light) modules.
-fn extremes<'a>(request: &Request<'a>, tone: Color) -> (Ink<'a>, Ink<'a>) {
+// The darkest and the brightest colour of dark (or of light) modules.
+type Extremes<'a> = (Ink<'a>, Ink<'a>);
+
+fn extremes<'a>(request: &Request<'a>, tone: Color) -> Extremes<'a> {
     let ink = match tone {
         Color::Dark => request.dark,
         Color::Light => request.light,
