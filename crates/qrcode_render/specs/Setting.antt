@@ -59,12 +59,6 @@ setting_of m dark light whole = record {
   whole_zone = whole;
 }
 
--- what holds for every renderer: its modules form a square, and each has at least one pixel across and down
-pub record IsWhole {P : Type 0} (s : Setting P) : Type 0 where
-  pub square : length s.content ≡ s.count * s.count
-  pub across : 1 ≤ s.across
-  pub down : 1 ≤ s.down
-
 -- where the modules are in the picture
 abbrev pub layout_of : {P : Type 0} → Setting P → Layout
 layout_of s = layout s.count s.zone s.across s.down

@@ -8,7 +8,7 @@ ghost use Rattle.std.specs.List.{range_with_len, slice_range};
 ghost use Rattle.qrcode_render.specs.Drawn.{drawn, drawn_row, filled};
 ghost use Rattle.qrcode_render.specs.GridOf.{grid_of};
 ghost use Rattle.qrcode_render.specs.Layout.{layout};
-ghost use Rattle.qrcode_render.specs.Setting.{Setting, IsWhole, IsSquare, setting_of, HasPixels, fits, drawing_of};
+ghost use Rattle.qrcode_render.specs.Setting.{Setting, IsSquare, setting_of, square_of, HasPixels, fits, drawing_of};
 
 use crate::grid::Grid;
 use qrcode_types::types::{Color, QrResult};
@@ -183,7 +183,7 @@ pub trait Canvas: Drop {
         ensures memory { IsOkUnless result OutOfMemory }
 
         // A renderer's drawing is finished as its picture.
-        ensures picture { (s : Setting Self.Pixel) → IsWhole s
+        ensures picture { (s : Setting Self.Pixel) → IsSquare (square_of s)
             → shown self ≡ drawing_of start rect_step s → IfOk result (is_picture s) };
 
     /// Draws the dark modules of the square `content` row by row. It has `count` modules along a
@@ -454,7 +454,7 @@ impl<'a, P: Pixel> Renderer<'a, P> {
 
         // A symbol with modules gives a picture with pixels.
         ensures pixels { 1 ≤ self.now.count → HasPixels self.now }
-        ensures whole { IsWhole self.now }
+        ensures whole { IsSquare (square_of self.now) }
 
         // On any canvas, the picture is what the drawing of the dark modules is finished as.
         ensures ends { IfOk result
@@ -478,7 +478,7 @@ impl<'a, P: Pixel> Renderer<'a, P> {
         ensures picture { IfOk result (P.Canvas.is_picture self.now) }
         ensures memory { IsOkUnless result OutOfMemory }
         ensures pixels { 1 ≤ self.now.count → HasPixels self.now }
-        ensures whole { IsWhole self.now }
+        ensures whole { IsSquare (square_of self.now) }
         ensures ends { IfOk result
             (P.Canvas.is_end (drawing_of P.Canvas.start P.Canvas.rect_step self.now)) }
     {

@@ -7,7 +7,6 @@ use Rattle.qrcode_render.proofs.Canvas.picture.Goals as goal
 -- The start of the canvas, and the modules drawn on it.
 pub returns-clause-picture : goal.returns-clause-picture
 returns-clause-picture g c = λ whole.
-    let square = c.pixels-width.ensures.whole in
     let start = g.Self.Canvas.start in
     let draw = drawn g.Self.Canvas.rect_step in
     let m = c.modules.inside in
@@ -17,4 +16,4 @@ returns-clause-picture g c = λ whole.
     ∙ ap (draw at m.content.now) c.in_ok-canvas.ensures.starts
     ∙ ap₂ (λ w h. draw at m.content.now (start w h c.args.dark_pixel c.args.light_pixel)) c.pixels-width.ensures.across c.pixels-width.ensures.down
     ∙ ap (λ (s : Square). draw (layout s.count s.zone s.across s.down) s.content (start ((q.count + 2 * q.zone) * q.across) ((q.count + 2 * q.zone) * q.down) c.args.dark_pixel c.args.light_pixel)) c.modules.view_is in
-    c.into_image.ensures.picture _ (record { square = square.square; across = square.across; down = square.down }) shown
+    c.into_image.ensures.picture _ c.pixels-width.ensures.whole shown
