@@ -4,7 +4,9 @@ use crate::reading::{picture_of, warn_of_missed};
 use clap::ArgMatches;
 use goqlanis_core::{Unread, VersionName, check_codes};
 use goqlanis_files::failure::Failure;
+use goqlanis_files::refused;
 use goqlanis_files::streams::print;
+use goqlanis_options::push_either;
 use goqlanis_options::warnings::Decimal;
 use qrcode_check::correction::grade_of;
 use qrcode_check::modules::WrongModules;
@@ -21,9 +23,7 @@ pub(crate) fn check(rt: &HostRuntime, given: &ArgMatches<'_>) -> Result<ExitCode
     let found = match check_codes(alloc, &bytes) {
         Ok(found) => found,
         Err(Unread::OutOfMemory) => return Err(Failure::OutOfMemory),
-        Err(error) => {
-            return Err(Failure::Refused(format!(in alloc; "cannot check {name}: {error}")?));
-        }
+        Err(error) => return refused!(alloc; "cannot check {name}: {error}"),
     };
     let checks = found.checks.as_slice();
     let text = report(alloc, checks, given.get_flag("json"))?;
@@ -44,87 +44,37 @@ fn report(alloc: Global, checks: &[Check], is_json: bool) -> Result<String, Allo
         let number = place.saturating_add(1);
         if is_json {
             text.push_str(if place == 0 { "\n" } else { ",\n" })?;
-            push_object(&mut text, check)?;
-        } else {
-            if count > 1 {
-                write!(text, "code {number} of {count}\n")?;
-            }
-            push_lines(&mut text, check)?;
+        } else if count > 1 {
+            write!(text, "code {number} of {count}\n")?;
         }
+        push_check(&mut text, check, is_json)?;
     }
     text.push_str(if is_json { "\n]\n" } else { "" })?;
     Ok(text)
 }
 
-// Appends the report on a code as a JSON object, on one line.
-fn push_object(text: &mut String, check: &Check) -> Result<(), AllocError> {
-    let (version, level, mask) = (
-        VersionName(check.version),
-        check.ec_level,
-        check.mask_number(),
-    );
-    let (wrong, allowed) = (numbers(*text.allocator(), &check.wrong)?, check.allowed);
-    let (unused, grade) = (Decimal(check.unused as u64), grade_of(check.unused));
-    write!(
-        text,
+// Appends the report on a code: a JSON object on one line, or lines of text.
+fn push_check(text: &mut String, check: &Check, is_json: bool) -> Result<(), AllocError> {
+    let (version, level) = (VersionName(check.version), check.ec_level);
+    let (mask, allowed) = (check.mask_number(), check.allowed);
+    let wrong = numbers(*text.allocator(), &check.wrong)?;
+    let (unused, grade) = (check.unused, grade_of(check.unused));
+    let share = Decimal(unused as u64);
+    if !is_json {
+        push_verdict(text, check)?;
+    }
+    push_either!(text, is_json;
         "{{\"version\": \"{version}\", \"level\": \"{level:?}\", \"mask\": {mask}, \
         \"wrong_by_block\": [{wrong}], \"allowed_by_block\": {allowed}, \
-        \"unused_correction\": {unused}, \"grade\": \"{grade:?}\", \"wrong_modules\": {{"
-    )?;
-    push_modules(text, check.modules, "\"", "\":")?;
-    text.push_str("}, ")?;
-    push_members(text, &check.content)?;
-    let (stepped, own, is_standard) = (check.stepped, check.own, check.is_standard());
-    write!(
-        text,
-        ", \"masks\": {{\"lower\": {}, \"same_before\": {}}}, \
-        \"masks_here\": {{\"lower\": {}, \"same_before\": {}}}, \"standard\": {is_standard}}}",
-        stepped.lower, stepped.equal, own.lower, own.equal
-    )
-}
-
-// Appends the findings about the data as JSON members.
-fn push_members(text: &mut String, content: &Option<Content>) -> Result<(), AllocError> {
-    let Some(content) = content else {
-        return text.push_str("\"segments\": false");
-    };
-    text.push_str("\"segments\": true")?;
-    if let Some(Taken { bits, least }) = content.taken {
-        write!(text, ", \"bits\": {bits}, \"fewest_bits\": {least}")?;
-    }
-    let (ending, guesses) = (content.ending, content.guesses);
-    write!(
-        text,
-        ", \"wrong_terminator\": {}, \"wrong_padding\": {}, \"guessed_segments\": {}, \
-        \"guessed_utf8\": {}",
-        ending.terminator, ending.padding, guesses.segments, guesses.are_utf8
-    )
-}
-
-// Appends the report on a code as lines of text. If modules are wrong, the penalties of masks mean
-// nothing and are left out.
-fn push_lines(text: &mut String, check: &Check) -> Result<(), AllocError> {
-    let (version, level, mask) = (
-        VersionName(check.version),
-        check.ec_level,
-        check.mask_number(),
-    );
-    let (wrong, allowed) = (numbers(*text.allocator(), &check.wrong)?, check.allowed);
-    let (unused, grade) = (check.unused, grade_of(check.unused));
-    push_verdict(text, check)?;
-    write!(
-        text,
+        \"unused_correction\": {share}, \"grade\": \"{grade:?}\", \"wrong_modules\": {{",
         "version {version}, level {level:?}, mask {mask}\n\
         wrong codewords in each block: {wrong}; the standard allows {allowed}\n\
         unused error correction: {unused} %, grade {grade:?}\n\
         wrong modules outside the data: "
     )?;
-    push_modules(text, check.modules, "", "")?;
-    push_content(text, &check.content)?;
-    if is_whole(check) {
-        push_ranks(text, check.stepped.lower, check.own.lower)?;
-    }
-    Ok(())
+    push_modules(text, check.modules, is_json)?;
+    push_content(text, &check.content, is_json)?;
+    push_masks(text, check, is_json)
 }
 
 // Appends whether a code meets the standard, and if not, why.
@@ -178,13 +128,8 @@ fn numbers(alloc: Global, numbers: &[usize]) -> Result<String, AllocError> {
     Ok(text)
 }
 
-// Appends how many modules of each pattern are wrong; `before` and `behind` enclose its name.
-fn push_modules(
-    text: &mut String,
-    modules: WrongModules,
-    before: &str,
-    behind: &str,
-) -> Result<(), AllocError> {
+// Appends how many modules of each pattern are wrong.
+fn push_modules(text: &mut String, modules: WrongModules, is_json: bool) -> Result<(), AllocError> {
     let counts = [
         ("finder", modules.finder),
         ("alignment", modules.alignment),
@@ -195,45 +140,74 @@ fn push_modules(
     ];
     let mut sign = "";
     for (name, count) in &counts {
-        write!(text, "{sign}{before}{name}{behind} {count}")?;
+        push_either!(text, is_json; "{sign}\"{name}\": {count}", "{sign}{name} {count}")?;
         sign = ", ";
     }
-    Ok(())
+    text.push_str(if is_json { "}, " } else { "\n" })
 }
 
-// Appends the findings about the data as lines of text, after ending the current line.
-fn push_content(text: &mut String, content: &Option<Content>) -> Result<(), AllocError> {
+// Appends the findings about the data.
+fn push_content(
+    text: &mut String,
+    content: &Option<Content>,
+    is_json: bool,
+) -> Result<(), AllocError> {
     let Some(content) = content else {
-        return text.push_str("\ndata: its bits are not segments and a terminator\n");
+        return push_either!(text, is_json;
+            "\"segments\": false",
+            "data: its bits are not segments and a terminator\n"
+        );
     };
-    if let Some(Taken { bits, least }) = content.taken {
-        let more = bits.saturating_sub(least);
-        write!(text, "\ndata: {bits} bits, {more} more than needed\n")?;
-    } else {
-        text.push_str("\ndata: with headers such as FNC1, not compared with the fewest bits\n")?;
+    match content.taken {
+        Some(Taken { bits, least }) => {
+            let more = bits.saturating_sub(least);
+            push_either!(text, is_json;
+                "\"segments\": true, \"bits\": {bits}, \"fewest_bits\": {least}",
+                "data: {bits} bits, {more} more than needed\n"
+            )?;
+        }
+        None => push_either!(text, is_json;
+            "\"segments\": true",
+            "data: with headers such as FNC1, not compared with the fewest bits\n"
+        )?,
     }
-    let (ending, guesses) = (content.ending, content.guesses);
-    let set = match (guesses.segments, guesses.are_utf8) {
+    let (terminator, padding) = (content.ending.terminator, content.ending.padding);
+    let (guessed, is_utf8) = (content.guesses.segments, content.guesses.are_utf8);
+    let set = match (guessed, is_utf8) {
         (0, _) => "",
         (_, true) => ", UTF-8",
         (_, false) => ", not all UTF-8",
     };
-    write!(
-        text,
-        "wrong bits after the data: terminator {}, padding {}\n\
-        segments whose character set readers guess: {}{set}\n",
-        ending.terminator, ending.padding, guesses.segments
+    push_either!(text, is_json;
+        ", \"wrong_terminator\": {terminator}, \"wrong_padding\": {padding}, \
+        \"guessed_segments\": {guessed}, \"guessed_utf8\": {is_utf8}",
+        "wrong bits after the data: terminator {terminator}, padding {padding}\n\
+        segments whose character set readers guess: {guessed}{set}\n"
     )
 }
 
 // Appends how many masks have a lower penalty: with the dark share rounded as in the standard, and
-// if that differs, unrounded as in this project.
-fn push_ranks(text: &mut String, stepped: usize, own: usize) -> Result<(), AllocError> {
-    write!(text, "masks with a lower penalty: {stepped}")?;
-    if own != stepped {
+// unrounded as in this project, in text only if that differs. If modules are wrong, penalties mean
+// nothing, and text has none.
+fn push_masks(text: &mut String, check: &Check, is_json: bool) -> Result<(), AllocError> {
+    let (stepped, own, is_standard) = (check.stepped, check.own, check.is_standard());
+    if is_json {
+        return write!(
+            text,
+            ", \"masks\": {{\"lower\": {}, \"same_before\": {}}}, \
+            \"masks_here\": {{\"lower\": {}, \"same_before\": {}}}, \"standard\": {is_standard}}}",
+            stepped.lower, stepped.equal, own.lower, own.equal
+        );
+    }
+    if !is_whole(check) {
+        return Ok(());
+    }
+    write!(text, "masks with a lower penalty: {}", stepped.lower)?;
+    if own.lower != stepped.lower {
+        let lower = own.lower;
         write!(
             text,
-            "; {own} if the share of dark modules is not rounded to 5 %"
+            "; {lower} if the share of dark modules is not rounded to 5 %"
         )?;
     }
     text.push_str("\n")

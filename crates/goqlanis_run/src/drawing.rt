@@ -8,15 +8,16 @@ ghost use Rattle.goqlanis_core.specs.Elements.{IsApplicationIn, IsElementsIn};
 ghost use Rattle.goqlanis_run.specs.Labels.{label_text};
 
 use crate::contents::Elements;
-use crate::middle::redrawn;
+use crate::middle::draw_with_middle;
 use crate::segments::{characters_of, is_empty, segments_of};
 use goqlanis_core::{
     Drawing, Format, GREATEST_PAINTED, Request, Segment, application_refusal_text, drawing_of,
     elements_refusal_text, manner_of, quiet_zone, refusal_text, scale, segments_refusal_text,
     symbol_for_application, symbol_in, symbol_of, symbol_of_elements, unwritable,
 };
-use goqlanis_files::failure::{Failure, refused};
+use goqlanis_files::failure::Failure;
 use goqlanis_files::streams::{print, write_data, write_file};
+use goqlanis_files::{refused, usage};
 use goqlanis_options::asked::{Asked, Target};
 use goqlanis_options::report::show_report;
 use qrcode::QrCode;
@@ -42,7 +43,7 @@ pub(crate) fn draw_one(
         ..asked.request
     };
     match symbol_in(alloc, request.choice, request.manner, request.level, bytes) {
-        Ok(code) => write_drawing(rt, asked, &drawn(alloc, &request, code)?),
+        Ok(code) => write_drawing(rt, asked, &draw_code(alloc, &request, code)?),
         Err(error) => Err(Failure::Refused(refusal_text(alloc, &request, bytes, error)?)),
     }
 }
@@ -50,7 +51,11 @@ pub(crate) fn draw_one(
 /// Draws `code` as `request` asks.
 ///
 /// Errors: `Refused` if a side would have too many pixels, or fewer than modules; `OutOfMemory`.
-pub(crate) fn drawn(alloc: Global, request: &Request<'_>, code: QrCode) -> Result<Drawing, Failure>
+pub(crate) fn draw_code(
+    alloc: Global,
+    request: &Request<'_>,
+    code: QrCode,
+) -> Result<Drawing, Failure>
     ensures symbol { IfOk result (λ drawing. drawing.code ≡ code) }
     ensures shown { IfOk result (IsShownIn request.now) }
 {
@@ -71,28 +76,23 @@ fn check_side(alloc: Global, request: &Request<'_>, code: &QrCode) -> Result<(),
     let side = modules.saturating_mul(scale);
     let most = match request.format {
         Format::Png if !request.parts.is_empty() => GREATEST_PAINTED,
-        Format::Pbm | Format::Pgm | Format::Ppm => GREATEST_WHOLE,
-        Format::Tspl | Format::EscPos | Format::Xbm => GREATEST_WHOLE,
+        Format::Pbm | Format::Pgm | Format::Ppm | Format::Tspl | Format::EscPos | Format::Xbm =>
+            GREATEST_WHOLE,
         format => format.greatest_side(),
     };
-    let why = match request.size {
-        Some(size) if scale == 0 => format!(in alloc;
+    let (option, limit) = match request.size {
+        Some(size) if scale == 0 => return refused!(alloc;
             "a side of {size} pixels is too small: the code and its quiet zone have {modules} \
             modules a side; use --size {modules} or more, or a smaller --quiet-zone"
-        )?,
-        _ if side > most => {
-            let (option, limit) = match request.size {
-                Some(_) => ("size", most),
-                None => ("scale", most / modules.max(1)),
-            };
-            format!(in alloc;
-                "a side of {side} pixels is too large: this format has at most {most}; use \
-                --{option} {limit} or less"
-            )?
-        }
-        _ => return Ok(()),
+        ),
+        _ if side <= most => return Ok(()),
+        Some(_) => ("size", most),
+        None => ("scale", most / modules.max(1)),
     };
-    Err(Failure::Refused(why))
+    refused!(alloc;
+        "a side of {side} pixels is too large: this format has at most {most}; use --{option} \
+        {limit} or less"
+    )
 }
 
 /// Checks that data is not empty, unless `--allow-empty` is given.
@@ -102,16 +102,14 @@ pub(crate) fn check_empty(
     bytes: &[u8],
 ) -> Result<(), Failure> {
     if !bytes.is_empty() || asked.given.get_flag("allow-empty") {
-        return Ok(());
-    }
-    refused(
-        alloc,
-        if asked.is_by_line() {
-            "it is empty; --allow-empty accepts it"
-        } else {
+        Ok(())
+    } else if asked.is_by_line() {
+        refused!(alloc; "it is empty; --allow-empty accepts it")
+    } else {
+        refused!(alloc;
             "the input is empty, e.g. of a variable that is not set; --allow-empty accepts it"
-        },
-    )
+        )
+    }
 }
 
 /// Draws a code of chosen segments, given as words MODE:DATA or eci:NUMBER.
@@ -125,10 +123,9 @@ pub(crate) fn segments_drawing(
     let segments = segments_of(alloc, words)?;
     let has_none = segments.iter().all(|segment| is_empty(segment));
     if has_none && !asked.given.get_flag("allow-empty") {
-        return refused(
-            alloc,
+        return refused!(alloc;
             "--segment gives no data, and standard input is not read; add --segment byte:TEXT, or \
-            --allow-empty",
+            --allow-empty"
         );
     }
     if let Some(place) = unwritable(&segments) {
@@ -137,11 +134,11 @@ pub(crate) fn segments_drawing(
             _ => "",
         };
         let number = place.saturating_add(1);
-        return Err(Failure::Refused(format!(in alloc; "segment {number}: {why}")?));
+        return refused!(alloc; "segment {number}: {why}");
     }
     let request = &asked.request;
     match symbol_of(alloc, request.choice, request.level, &segments) {
-        Ok(code) => drawn(alloc, request, code),
+        Ok(code) => draw_code(alloc, request, code),
         Err(error) => {
             let why = segments_refusal_text(alloc, request, &segments, error)?;
             Err(Failure::Refused(why))
@@ -162,7 +159,7 @@ pub(crate) fn elements_drawing(
     let read = Elements::read(alloc, text)?;
     let elements = read.elements(alloc)?;
     match symbol_of_elements(alloc, request.choice, request.level, &elements) {
-        Ok(code) => drawn(alloc, request, code),
+        Ok(code) => draw_code(alloc, request, code),
         Err(SymbolError::Elements(Gs1Error::Refused(index, cause))) => {
             Err(Failure::Refused(read.refusal(alloc, index, cause)?))
         }
@@ -187,19 +184,18 @@ pub(crate) fn application_drawing(
     ensures shown { IfOk result (IsShownIn request.now) }
 {
     let Some(application) = indicator_of(indicator.as_bytes()) else {
-        return Err(Failure::Usage(format!(in alloc;
+        return usage!(alloc;
             "--application {indicator}: an indicator is two digits or one letter, as 37 or a"
-        )?));
+        );
     };
     if text.is_empty() {
-        return refused(
-            alloc,
-            "ELEMENTS: after --application, give its data, e.g. \"AA1234BBB112text\"",
+        return refused!(alloc;
+            "ELEMENTS: after --application, give its data, e.g. \"AA1234BBB112text\""
         );
     }
     let bytes = text.as_bytes();
     match symbol_for_application(alloc, request.choice, request.level, application, bytes) {
-        Ok(code) => drawn(alloc, request, code),
+        Ok(code) => draw_code(alloc, request, code),
         Err(QrError::OutOfMemory) => Err(Failure::OutOfMemory),
         Err(_) => {
             let why = application_refusal_text(alloc, request, application, bytes)?;
@@ -214,23 +210,21 @@ pub(crate) fn write_drawing(
     asked: &Asked<'_, '_>,
     drawing: &Drawing,
 ) -> Result<ExitCode, Failure> {
-    let covered = redrawn(rt.alloc(), asked, &drawing.code)?;
+    let covered = draw_with_middle(rt.alloc(), asked, &drawing.code)?;
     let (area, bytes) = match &covered {
         Some((area, bytes)) => (Some(*area), bytes.as_slice()),
         None => (None, drawing.bytes.as_slice()),
     };
     show_report(rt, asked, drawing, area)?;
+    let format = asked.request.format;
     match asked.target {
         Target::File(path) => write_file(rt, path, bytes),
-        Target::Terminal if !asked.request.format.is_text() && rt.stdout().is_terminal() => {
-            refused(
-                rt.alloc(),
-                "this format is not for a terminal: \
-                add --output FILE, or --output - to write it there anyway",
-            )
-        }
+        Target::Terminal if !format.is_text() && rt.stdout().is_terminal() => refused!(rt.alloc();
+            "this format is not for a terminal: add --output FILE, or --output - to write it there \
+            anyway"
+        ),
         // Its title may have characters that hide or reorder others on a terminal.
-        Target::Terminal if asked.request.format == Format::SvgPath => write_data(rt, None, bytes),
+        Target::Terminal if format == Format::SvgPath => write_data(rt, None, bytes),
         Target::Terminal | Target::StandardOutput => print(rt, bytes),
     }
 }
@@ -244,7 +238,7 @@ pub(crate) fn manner(
     match manner_of(bytes) {
         _ if asked.given.get_flag("bytes") => Ok(Manner::Bytes),
         manner if !asked.given.get_flag("eci") => Ok(manner),
-        Manner::Bytes => refused(alloc, "the data is not UTF-8: leave out --eci"),
+        Manner::Bytes => refused!(alloc; "the data is not UTF-8: leave out --eci"),
         _ => Ok(Manner::MarkedText),
     }
 }

@@ -3,8 +3,9 @@
 use crate::drawing::draw_one;
 use crate::names::{check_made, check_names, field_of, name_of, take_name};
 use goqlanis_core::Grouped;
-use goqlanis_files::failure::{Failure, refused};
+use goqlanis_files::failure::Failure;
 use goqlanis_files::progress::Progress;
+use goqlanis_files::refused;
 use goqlanis_files::streams::{ask, shown, unread};
 use goqlanis_options::asked::{Asked, Source, Target, source_of};
 use std::alloc::Global;
@@ -20,13 +21,12 @@ const MOST_IN_LINE: usize = 100_000;
 /// reported by number and skipped; if a drawing cannot be written, the remaining lines are not
 /// drawn.
 pub(crate) fn draw_lines(rt: &HostRuntime, asked: &Asked<'_, '_>) -> Result<ExitCode, Failure> {
-    let alloc = rt.alloc();
     check_names(rt, asked)?;
     match source_of(asked.given) {
         Source::Text(text) => draw_from(rt, asked, "TEXT", text.as_bytes()),
         Source::File(path) => match fs::open(rt, path) {
             Ok(file) => draw_from(rt, asked, path, file),
-            Err(error) => unread(alloc, path, &error),
+            Err(error) => unread(rt.alloc(), path, &error),
         },
         Source::StandardInput => {
             ask(rt, "the lines");
@@ -107,7 +107,7 @@ fn field_in(alloc: Global, asked: &Asked<'_, '_>, line: &[u8]) -> Result<Option<
     };
     match str::from_utf8(line) {
         Ok(text) => Ok(Some(field_of(alloc, text, asked.delimiter(), number as usize)?)),
-        Err(_) => refused(alloc, "it is not UTF-8: leave out --field"),
+        Err(_) => refused!(alloc; "it is not UTF-8: leave out --field"),
     }
 }
 
@@ -120,19 +120,16 @@ fn next_line<R: BufRead>(
     number: usize,
 ) -> Result<bool, Failure> {
     line.clear();
-    match from
-        .by_ref()
-        .take(MOST_IN_LINE as u64 + 2)
-        .read_until(b'\n', line)
-    {
+    let mut from = from.by_ref().take(MOST_IN_LINE as u64 + 2);
+    match from.read_until(b'\n', line) {
         Ok(0) => Ok(false),
         Ok(_) if without_ending(line).len() <= MOST_IN_LINE => Ok(true),
         Ok(_) => {
             let most = Grouped(MOST_IN_LINE);
-            Err(Failure::Refused(format!(in alloc;
-                "cannot read {name}: line {number} has more than {most} bytes; \
-                neither it nor the lines after it are encoded"
-            )?))
+            refused!(alloc;
+                "cannot read {name}: line {number} has more than {most} bytes; neither it nor the \
+                lines after it are encoded"
+            )
         }
         Err(error) => unread(alloc, name, &error),
     }

@@ -2,6 +2,7 @@
 
 use base64::engine::general_purpose::STANDARD;
 use goqlanis_files::failure::Failure;
+use goqlanis_files::refused;
 use goqlanis_options::logos::Logo;
 use qrcode_png::{Picture, Unread, read};
 use std::alloc::{AllocError, Global};
@@ -23,7 +24,7 @@ pub(crate) fn element_of(alloc: Global, path: &str, file: &[u8]) -> Result<Logo,
     };
     match svg_sides(text) {
         Ok((across, down)) => Ok(image(alloc, across, down, "svg+xml", file)?),
-        Err(why) => Err(Failure::Refused(format!(in alloc; "--logo {path}: {why}")?)),
+        Err(why) => refused!(alloc; "--logo {path}: {why}"),
     }
 }
 
@@ -32,10 +33,8 @@ fn picture_of(alloc: Global, path: &str, file: &[u8], other: &str) -> Result<Pic
     match read(alloc, file) {
         Ok(picture) => Ok(picture),
         Err(Unread::OutOfMemory) => Err(Failure::OutOfMemory),
-        Err(Unread::NotPng) => {
-            Err(Failure::Refused(format!(in alloc; "--logo {path}: {other}")?))
-        }
-        Err(why) => Err(Failure::Refused(format!(in alloc; "--logo {path}: {why}")?)),
+        Err(Unread::NotPng) => refused!(alloc; "--logo {path}: {other}"),
+        Err(why) => refused!(alloc; "--logo {path}: {why}"),
     }
 }
 
@@ -67,42 +66,29 @@ fn image(
     Ok(Logo::Element(across, down, rest))
 }
 
-// The attributes of the root element of an SVG file that give its size, and its namespace.
-#[derive(Clone, Copy)]
-struct Root<'a> {
-    view: &'a str,
-    width: &'a str,
-    height: &'a str,
-    space: &'a str,
-}
-
 // Returns the width and height of an SVG file, in proportion.
 fn svg_sides(text: &str) -> Result<(u32, u32), &'static str> {
     if text.contains("<script") || text.contains("<!ENTITY") || has_handler(text) {
         return Err(SCRIPTS);
     }
-    let Some(mut left) = behind_prolog(text).and_then(|text| text.strip_prefix("<svg")) else {
-        return Err(UNKNOWN);
-    };
-    let mut root = Root {
-        view: "",
-        width: "",
-        height: "",
-        space: "",
-    };
+    let root = behind_prolog(text).and_then(|text| text.strip_prefix("<svg"));
+    let mut left = root.ok_or(UNKNOWN)?;
+    let (mut view, mut width, mut height, mut space) = ("", "", "", "");
     for _ in 0..text.len() {
         left = left.trim_start();
         if left.starts_with('>') && text.trim_end().ends_with("</svg>") {
-            return sides(&root);
+            let found = sides(width, height, view).ok_or(SIZELESS)?;
+            return match space {
+                "http://www.w3.org/2000/svg" => Ok(found),
+                _ => Err(NAMELESS),
+            };
         }
-        let Some((name, value, rest)) = next_attribute(left) else {
-            return Err(UNKNOWN);
-        };
+        let (name, value, rest) = next_attribute(left).ok_or(UNKNOWN)?;
         match name {
-            "width" => root.width = value,
-            "height" => root.height = value,
-            "viewBox" => root.view = value,
-            "xmlns" => root.space = value,
+            "width" => width = value,
+            "height" => height = value,
+            "viewBox" => view = value,
+            "xmlns" => space = value,
             _ => {}
         }
         left = rest;
@@ -114,13 +100,11 @@ fn svg_sides(text: &str) -> Result<(u32, u32), &'static str> {
 fn has_handler(text: &str) -> bool {
     let mut begins = false;
     for word in text.split_whitespace() {
-        if begins && word.starts_with('=') {
+        let is_event = word.starts_with("on");
+        if begins && word.starts_with('=') || is_event && word.contains('=') {
             return true;
         }
-        begins = word.starts_with("on");
-        if begins && word.contains('=') {
-            return true;
-        }
+        begins = is_event;
     }
     text.contains("javascript:")
 }
@@ -157,27 +141,20 @@ fn next_attribute(text: &str) -> Option<(&str, &str, &str)> {
     Some((name, value, rest))
 }
 
-// Returns the proportions of a root element: of its width and height in pixels, or of its viewBox.
-fn sides(root: &Root<'_>) -> Result<(u32, u32), &'static str> {
-    let mut units = root
-        .view
+// Returns the proportions of an SVG file: of its width and height in pixels, or of its viewBox.
+fn sides(width: &str, height: &str, view: &str) -> Option<(u32, u32)> {
+    let mut units = view
         .split(|c: char| c == ',' || c.is_ascii_whitespace())
         .filter(|number| !number.is_empty())
         .skip(2);
-    let found = pixels(root.width).zip(pixels(root.height));
-    let (across, down) = found.or(units.next().zip(units.next())).ok_or(SIZELESS)?;
-    if root.space != "http://www.w3.org/2000/svg" {
-        return Err(NAMELESS);
-    }
-    whole(across).zip(whole(down)).ok_or(SIZELESS)
+    let found = pixels(width).zip(pixels(height));
+    let (across, down) = found.or(units.next().zip(units.next()))?;
+    whole(across).zip(whole(down))
 }
 
 // Strips the unit of a number of pixels; `None` if it is not one.
 fn pixels(text: &str) -> Option<&str> {
-    let number = match text.strip_suffix("px") {
-        Some(number) => number.trim_end(),
-        None => text,
-    };
+    let number = text.strip_suffix("px").map_or(text, str::trim_end);
     let is_number = number
         .bytes()
         .all(|byte| byte.is_ascii_digit() || byte == b'.');
@@ -186,9 +163,6 @@ fn pixels(text: &str) -> Option<&str> {
 
 // Returns the integer part of a decimal number, at least 1.
 fn whole(number: &str) -> Option<u32> {
-    let digits = match number.split_once('.') {
-        Some((digits, _)) => digits,
-        None => number,
-    };
+    let digits = number.split_once('.').map_or(number, |(digits, _)| digits);
     Some(digits.parse::<u32>().ok()?.max(1))
 }

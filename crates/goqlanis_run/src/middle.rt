@@ -1,6 +1,6 @@
 //! The middle of a code: a logo, the Swiss cross, or an empty area.
 
-ghost use Rattle.std.specs.Prelude.{IfOk};
+ghost use Rattle.std.specs.Prelude.{IfOk, IsErr};
 ghost use Rattle.goqlanis_core.specs.Places.{HasPixels};
 
 use crate::logos::{element_of, pixels_of};
@@ -13,6 +13,7 @@ use goqlanis_core::places::{Place, place_in};
 use goqlanis_core::{Format, GREATEST_PAINTED, Request, VersionName, quiet_zone, scale};
 use goqlanis_files::failure::Failure;
 use goqlanis_files::streams::read_file;
+use goqlanis_files::refused;
 use goqlanis_options::asked::Asked;
 use goqlanis_options::logos::{AskedLogo, Logo, Middle};
 use qrcode::QrCode;
@@ -43,30 +44,16 @@ pub(crate) fn read_logo(rt: &HostRuntime, asked: &Asked<'_, '_>) -> Result<Optio
         return Ok(None);
     };
     let file = read_file(rt, path, MOST_LOGO)?;
-    if asked.request.format == Format::Png {
-        Ok(Some(pixels_of(rt.alloc(), path, &file)?))
+    Ok(Some(if asked.request.format == Format::Png {
+        pixels_of(rt.alloc(), path, &file)?
     } else {
-        Ok(Some(element_of(rt.alloc(), path, &file)?))
-    }
-}
-
-/// Puts the logo that was read into the request for it.
-pub(crate) fn with_read<'a>(
-    asked: Option<AskedLogo<'a>>,
-    read: &'a Option<Logo>,
-) -> Option<AskedLogo<'a>> {
-    match (asked, read) {
-        (Some(logo), Some(read)) => {
-            let middle = Middle::Logo(read);
-            Some(AskedLogo { middle, ..logo })
-        }
-        (logo, _) => logo,
-    }
+        element_of(rt.alloc(), path, &file)?
+    }))
 }
 
 /// Draws a code with the requested logo, cross or empty area, and returns the area with the bytes
 /// of the drawing; `None` if nothing is requested.
-pub(crate) fn redrawn(
+pub(crate) fn draw_with_middle(
     alloc: Global,
     asked: &Asked<'_, '_>,
     code: &QrCode,
@@ -86,21 +73,21 @@ pub(crate) fn redrawn(
                 down: *down,
                 place: place.fitted(*across, *down),
             };
-            inset_drawn(alloc, request, code, area, &inset)
+            draw_inset(alloc, request, code, area, &inset)
         }
         Middle::Logo(Logo::Element(_, _, rest)) => {
             let inside = Inside::Element(logo.margin, rest.as_str());
-            drawn(alloc, request, code, area, inside)
+            draw_inside(alloc, request, code, area, inside)
         }
-        Middle::Cross if is_png => cross_in_pixels(alloc, request, code, area),
-        Middle::Cross => drawn(alloc, request, code, area, Inside::Cross),
-        Middle::Light => drawn(alloc, request, code, area, Inside::Nothing),
+        Middle::Cross if is_png => draw_cross(alloc, request, code, area),
+        Middle::Cross => draw_inside(alloc, request, code, area, Inside::Cross),
+        Middle::Light => draw_inside(alloc, request, code, area, Inside::Nothing),
     };
     Ok(Some((area, bytes?)))
 }
 
 // Draws a code with the Swiss cross, as a PNG file.
-fn cross_in_pixels(
+fn draw_cross(
     alloc: Global,
     request: &Request<'_>,
     code: &QrCode,
@@ -114,11 +101,11 @@ fn cross_in_pixels(
         down: CROSS_UNITS,
         place: place.square(cross_width(request, code)),
     };
-    inset_drawn(alloc, request, code, area, &inset)
+    draw_inset(alloc, request, code, area, &inset)
 }
 
 // Draws a code with a picture in its area, as a PNG file.
-fn inset_drawn(
+fn draw_inset(
     alloc: Global,
     request: &Request<'_>,
     code: &QrCode,
@@ -127,16 +114,16 @@ fn inset_drawn(
 ) -> Result<Vec<u8>, Failure> {
     let side = code.width() as u64 + 2 * quiet_zone(request, code) as u64;
     if side * scale(request, code) as u64 > GREATEST_PAINTED as u64 {
-        return Err(Failure::Refused(format!(in alloc;
+        return refused!(alloc;
             "a PNG file with a picture in its middle has at most {GREATEST_PAINTED} pixels a side; \
             use a smaller --scale or --size"
-        )?));
+        );
     }
     pasted(alloc, request, code, area, inset).map_err(|_| Failure::OutOfMemory)
 }
 
 // Draws a code with something other than pixels in its area.
-fn drawn(
+fn draw_inside(
     alloc: Global,
     request: &Request<'_>,
     code: &QrCode,
@@ -145,7 +132,7 @@ fn drawn(
 ) -> Result<Vec<u8>, Failure> {
     match with_logo(alloc, request, code, area, inside) {
         Ok(Some(bytes)) => Ok(bytes),
-        Ok(None) => Err(no_room(alloc, area)?),
+        Ok(None) => no_room(alloc, area),
         Err(_) => Err(Failure::OutOfMemory),
     }
 }
@@ -169,13 +156,15 @@ fn wish_of(asked: &AskedLogo<'_>, code: &QrCode) -> LogoWish {
     }
 }
 
-// The message for an area too small for a logo within its margin.
-fn no_room(alloc: Global, area: Rectangle) -> Result<Failure, AllocError> {
+// Fails: the area is too small for a logo within its margin.
+fn no_room<T>(alloc: Global, area: Rectangle) -> Result<T, Failure>
+    ensures { IsErr result }
+{
     let (width, height) = (area.width, area.height);
-    Ok(Failure::Refused(format!(in alloc;
-        "the area of {width} by {height} modules leaves no room for a logo within its margin; use a \
-        smaller --logo-margin, or a higher version with -v"
-    )?))
+    refused!(alloc;
+        "the area of {width} by {height} modules leaves no room for a logo within its margin; use \
+        a smaller --logo-margin, or a higher version with -v"
+    )
 }
 
 // Returns the place of an area within a margin, in pixels.
@@ -190,7 +179,7 @@ fn place_of(
 {
     match place_in(request, code, area, margin) {
         Some(place) => Ok(place),
-        None => Err(no_room(alloc, area)?),
+        None => no_room(alloc, area),
     }
 }
 

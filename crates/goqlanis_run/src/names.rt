@@ -1,8 +1,9 @@
 //! Names of numbered files, and of files named after lines, from the pattern in `--output`.
 
-use goqlanis_files::failure::{Failure, refused, usage};
+use goqlanis_files::failure::Failure;
 use goqlanis_files::files::is_stream;
 use goqlanis_files::streams::is_unseen;
+use goqlanis_files::{refused, usage};
 use goqlanis_options::asked::{Asked, Target};
 use std::alloc::{AllocError, Global};
 use std::collections::BTreeSet;
@@ -27,25 +28,21 @@ pub(crate) fn check_names(rt: &HostRuntime, asked: &Asked<'_, '_>) -> Result<(),
     };
     let folder = path.rsplit_once('/').map_or("", |(folder, _)| folder);
     if is_stream(rt, path) {
-        Err(Failure::Usage(format!(in rt.alloc();
-            "--output {path}: each code gets its own file; \
-            name one, e.g. a.png, or leave out --output for text"
-        )?))
+        usage!(rt.alloc();
+            "--output {path}: each code gets its own file; name one, e.g. a.png, or leave out \
+            --output for text"
+        )
     } else if folder.contains("{}") || has_text(folder) {
-        usage(
-            rt.alloc(),
-            "--output: {}, {text} and {1} are for the file name, not for its folder",
+        usage!(rt.alloc();
+            "--output: {{}}, {{text}} and {{1}} are for the file name, not for its folder"
         )
     } else if has_text(path) && !asked.is_by_line() {
-        usage(
-            rt.alloc(),
-            "--output: {text} and {1} are for --lines; {} is the number",
-        )
+        usage!(rt.alloc(); "--output: {{text}} and {{1}} are for --lines; {{}} is the number")
     } else if let Some(word) = unknown_word(path) {
-        Err(Failure::Usage(format!(in rt.alloc();
-            "--output: {{{word}}} is unknown; {{}} is the number, {{text}} the line, {{1}} its first \
-            field"
-        )?))
+        usage!(rt.alloc();
+            "--output: {{{word}}} is unknown; {{}} is the number, {{text}} the line, {{1}} its \
+            first field"
+        )
     } else {
         Ok(())
     }
@@ -70,9 +67,9 @@ pub(crate) fn take_name(
     if !has_text(path) || taken.insert(String::from_str(alloc, name)?)? {
         return Ok(());
     }
-    Err(Failure::Refused(format!(in alloc;
+    refused!(alloc;
         "{name} is the file of an earlier line; {{}} in --output is the number of the line"
-    )?))
+    )
 }
 
 /// Checks that a generated name is a plain file, and not the input: no line may write elsewhere.
@@ -90,7 +87,7 @@ pub(crate) fn check_made(
     } else {
         return Ok(());
     };
-    Err(Failure::Refused(format!(in rt.alloc(); "{name} is {what}; each code gets its own file")?))
+    refused!(rt.alloc(); "{name} is {what}; each code gets its own file")
 }
 
 /// Returns the file name for a line: `path` with its placeholders filled in, or else with `number`
@@ -117,9 +114,9 @@ pub(crate) fn name_of(
 fn check_name(alloc: Global, path: &str) -> Result<(), Failure> {
     let name = path.rsplit('/').next().unwrap_or("");
     if name.len() > MOST_IN_NAME {
-        refused(alloc, "its file name would have more than 255 bytes")
+        refused!(alloc; "its file name would have more than 255 bytes")
     } else if matches!(name, "" | "." | "..") {
-        refused(alloc, "its file would have no name, or that of a folder")
+        refused!(alloc; "its file would have no name, or that of a folder")
     } else {
         Ok(())
     }
@@ -205,11 +202,9 @@ pub(crate) fn field_of(
         }
     }
     if is_open {
-        return refused(alloc, "a field has no quotation mark at its end");
+        return refused!(alloc; "a field has no quotation mark at its end");
     }
-    Err(Failure::Refused(format!(in alloc;
-        "it has no field {number}; --delimiter says what separates fields"
-    )?))
+    refused!(alloc; "it has no field {number}; --delimiter says what separates fields")
 }
 
 fn has_odd_quotes(text: &str) -> bool {
@@ -224,12 +219,8 @@ fn unquoted(alloc: Global, field: &str) -> Result<String, AllocError> {
     let Some(inner) = inner else {
         return String::from_str(alloc, field);
     };
-    let mut text = String::new(alloc);
-    for (at, part) in inner.split("\"\"").enumerate() {
-        text.push_str(if at == 0 { "" } else { "\"" })?;
-        text.push_str(part)?;
-    }
-    Ok(text)
+    let parts = inner.split("\"\"").collect::<Vec<&str>>(alloc)?;
+    parts.join(alloc, "\"")
 }
 
 // Appends text to a file name. `_` replaces characters that some systems forbid, invisible ones, a

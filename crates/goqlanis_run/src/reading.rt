@@ -5,6 +5,7 @@ use clap::ArgMatches;
 use goqlanis_core::{Codes, Scan, Unread, read_codes};
 use goqlanis_files::failure::Failure;
 use goqlanis_files::streams::{MOST_PICTURE, read_file, read_standard_input, write_data};
+use goqlanis_files::{refused, warning};
 use qrcode::types::Version;
 use std::process::ExitCode;
 
@@ -19,15 +20,12 @@ pub(crate) fn read(rt: &HostRuntime, given: &ArgMatches<'_>) -> Result<ExitCode,
     for scan in scans {
         let read = &scan.any.reading;
         if read.version == Version::Micro(1) && !read.wrong.is_empty() {
-            let _ = eprintln!(rt;
-                "goqlanis: warning: version M1 lets readers notice damage, not correct it; the data may \
-                be wrong"
+            warning!(rt;
+                "version M1 lets readers notice damage, not correct it; the data may be wrong"
             );
         }
         if let Some(set) = other_set(&scan.parts) {
-            let _ = eprintln!(rt;
-                "goqlanis: warning: the data has text in {set}, which is written as its bytes"
-            );
+            warning!(rt; "the data has text in {set}, which is written as its bytes");
         }
     }
     let output = given.get_str("output");
@@ -62,7 +60,7 @@ pub(crate) fn codes_of(rt: &HostRuntime, path: &str) -> Result<Codes, Failure> {
             Ok(codes)
         }
         Err(Unread::OutOfMemory) => Err(Failure::OutOfMemory),
-        Err(error) => { Err(Failure::Refused(format!(in alloc; "cannot read {name}: {error}")?)) }
+        Err(error) => refused!(alloc; "cannot read {name}: {error}"),
     }
 }
 
@@ -85,13 +83,13 @@ pub(crate) fn picture_of<'a>(
         (path, read_file(rt, path, MOST_PICTURE)?)
     };
     if bytes.is_empty() {
-        return Err(Failure::Refused(format!(in rt.alloc(); "cannot read {name}: it is empty")?));
+        return refused!(rt.alloc(); "cannot read {name}: it is empty");
     }
     if bytes.starts_with(b"P4") && bytes.len() > MOST_PACKED {
-        return Err(Failure::Refused(format!(in rt.alloc();
-            "cannot read {name}: it has more than 8,389,632 bytes, those of 67,108,864 pixels; crop it, or \
-            make it smaller"
-        )?));
+        return refused!(rt.alloc();
+            "cannot read {name}: it has more than 8,389,632 bytes, those of 67,108,864 pixels; \
+            crop it, or make it smaller"
+        );
     }
     Ok((name, bytes))
 }
@@ -100,18 +98,16 @@ pub(crate) fn picture_of<'a>(
 pub(crate) fn warn_of_missed(rt: &HostRuntime, codes: &Codes) -> bool {
     let mut is_none = true;
     if codes.scans.len() > MOST_SURE {
-        let _ = eprintln!(rt;
-            "goqlanis: warning: of more than {MOST_SURE} codes some may be missed; crop the picture"
-        );
+        warning!(rt; "of more than {MOST_SURE} codes some may be missed; crop the picture");
     }
     for missed in &codes.missed {
         if !codes.has_read(&missed.grid) {
             is_none = false;
             let (count, cause) = (missed.grid.count, missed.cause);
             let (x, y) = missed.corner();
-            let _ = eprintln!(rt;
-                "goqlanis: warning: a code of {count} by {count} modules, at column {x} and row {y} \
-                of pixels, is not read: {cause}"
+            warning!(rt;
+                "a code of {count} by {count} modules, at column {x} and row {y} of pixels, is not \
+                read: {cause}"
             );
         }
     }

@@ -3,6 +3,7 @@
 use crate::segments::mode_name;
 use goqlanis_core::{Scan, VersionName};
 use goqlanis_files::streams::is_unseen;
+use goqlanis_options::push_either;
 use qrcode::types::Mode;
 use qrcode_check::masks::place_of;
 use qrcode_reader::spell::{Header, Part};
@@ -81,24 +82,19 @@ pub(crate) fn report(alloc: Global, scans: &[Scan], is_json: bool) -> Result<Str
 
 // Appends the report on one code: a JSON object with the data, on one line, or lines of text.
 fn push_scan(text: &mut String, scan: &Scan, is_json: bool) -> Result<(), AllocError> {
-    let reading = &scan.any.reading;
     push_symbol(text, scan, is_json)?;
-    push_wrong(text, &reading.wrong, is_json)?;
+    push_wrong(text, &scan.any.reading.wrong, is_json)?;
     let mut sign = "";
     for part in &scan.parts {
         text.push_str(sign)?;
         push_part(text, *part, is_json)?;
         sign = if is_json { ", " } else { "" };
     }
-    if !is_json {
-        return Ok(());
+    if is_json {
+        push_data(text, scan)
+    } else {
+        Ok(())
     }
-    text.push_str("], ")?;
-    if is_in_utf8(&scan.parts) {
-        push_text(text, &reading.data)?;
-    }
-    let data = hex::encode(*text.allocator(), reading.data.as_slice())?;
-    write!(text, "\"hex\": \"{data}\"}}")
 }
 
 // Appends version, level, mask, sizes and position of a code.
@@ -107,85 +103,73 @@ fn push_symbol(text: &mut String, scan: &Scan, is_json: bool) -> Result<(), Allo
     let (version, level) = (VersionName(reading.version), reading.ec_level);
     let mask = place_of(reading.version, reading.mask);
     let (count, zone, scale) = (square.count, square.zone, square.scale);
-    let place = position_text(scan.any.position);
-    let inverted = scan.is_inverted != scan.any.is_inverted;
-    let is_framed = scan.grid.is_none();
-    if is_json {
-        write!(
-            text,
-            "{{\"version\": \"{version}\", \"level\": \"{level:?}\", \"mask\": {mask}, \
-            \"modules\": {count}"
-        )?;
-        if is_framed {
-            write!(text, ", \"quiet_zone\": {zone}")?;
-        }
-        return write!(
-            text,
-            ", \"scale\": {scale}, \"position\": \"{place}\", \"inverted\": {inverted}, "
-        );
-    }
-    write!(
-        text,
+    push_either!(text, is_json;
+        "{{\"version\": \"{version}\", \"level\": \"{level:?}\", \"mask\": {mask}, \
+        \"modules\": {count}",
         "version {version}, level {level:?}, mask {mask}\n\
         modules: {count} by {count}; pixels of a module: {scale}"
     )?;
-    if is_framed {
-        write!(text, "; quiet zone: {zone}")?;
+    if scan.grid.is_none() {
+        push_either!(text, is_json; ", \"quiet_zone\": {zone}", "; quiet zone: {zone}")?;
     }
+    let place = position_text(scan.any.position);
+    let inverted = scan.is_inverted != scan.any.is_inverted;
     let shades = if inverted { ", inverted" } else { "" };
-    write!(text, "\nposition: {place}{shades}\n")
+    push_either!(text, is_json;
+        ", \"scale\": {scale}, \"position\": \"{place}\", \"inverted\": {inverted}, ",
+        "\nposition: {place}{shades}\n"
+    )
 }
 
 // Appends the wrong codewords: their number, and the block and place of each.
 fn push_wrong(text: &mut String, wrong: &[WrongCodeword], is_json: bool) -> Result<(), AllocError> {
     let count = wrong.len();
-    let mut sign = "";
-    if is_json {
-        text.push_str("\"wrong_codewords\": [")?;
+    push_either!(text, is_json; "\"wrong_codewords\": [", "wrong codewords: {count}")?;
+    let mut sign = if is_json {
+        ""
     } else {
-        write!(text, "wrong codewords: {count}")?;
-        sign = ", all corrected; block.place, from 0: ";
-    }
+        ", all corrected; block.place, from 0: "
+    };
     for each in wrong {
         let (block, place) = (each.block, each.place);
-        if is_json {
-            write!(text, "{sign}[{block}, {place}]")?;
-        } else {
-            write!(text, "{sign}{block}.{place}")?;
-        }
+        push_either!(text, is_json; "{sign}[{block}, {place}]", "{sign}{block}.{place}")?;
         sign = ", ";
     }
     text.push_str(if is_json { "], \"parts\": [" } else { "\n" })
 }
 
-// Appends a header or a segment.
+// Appends a segment or a header: a JSON object, or a line of text.
 fn push_part(text: &mut String, part: Part, is_json: bool) -> Result<(), AllocError> {
-    match (part, is_json) {
-        (Part::Bytes(mode, count), true) => {
+    match part {
+        Part::Bytes(mode, count) => {
             let mode = mode_name(mode);
-            write!(text, "{{\"mode\": \"{mode}\", \"bytes\": {count}}}")
+            push_either!(text, is_json;
+                "{{\"mode\": \"{mode}\", \"bytes\": {count}}}",
+                "segment: {mode} mode, bytes: {count}\n"
+            )
         }
-        (Part::Bytes(mode, count), false) => {
-            let mode = mode_name(mode);
-            write!(text, "segment: {mode} mode, bytes: {count}\n")
-        }
-        (Part::Front(header), true) => push_object(text, header),
-        (Part::Front(header), false) => push_header(text, header),
+        Part::Front(header) => push_header(text, header, is_json),
     }
 }
 
-// Appends a header as a line of text.
-fn push_header(text: &mut String, header: Header) -> Result<(), AllocError> {
+fn push_header(text: &mut String, header: Header, is_json: bool) -> Result<(), AllocError> {
     match header {
         Header::Eci(number) => {
             let set = CharacterSet(number);
-            write!(text, "header: {set}\n")
+            match set.name() {
+                _ if !is_json => write!(text, "header: {set}\n"),
+                Some(name) => write!(text, "{{\"eci\": {number}, \"name\": \"{name}\"}}"),
+                None => write!(text, "{{\"eci\": {number}}}"),
+            }
         }
-        Header::Fnc1First => text.push_str("header: FNC1 in first position, elements of GS1\n"),
+        Header::Fnc1First => push_either!(text, is_json;
+            "{{\"fnc1\": \"first\"}}",
+            "header: FNC1 in first position, elements of GS1\n"
+        ),
         Header::Fnc1Second(indicator) => {
             let application = Application(indicator);
-            write!(
-                text,
+            push_either!(text, is_json;
+                "{{\"fnc1\": \"second\", \"application\": \"{application}\"}}",
                 "header: FNC1 in second position, application {application}\n"
             )
         }
@@ -195,38 +179,9 @@ fn push_header(text: &mut String, header: Header) -> Result<(), AllocError> {
             parity,
         } => {
             let (number, count) = (place.saturating_add(1), last.saturating_add(1));
-            write!(
-                text,
+            push_either!(text, is_json;
+                "{{\"symbol\": {number}, \"of\": {count}, \"parity\": {parity}}}",
                 "header: structured append, symbol {number} of {count}, parity {parity}\n"
-            )
-        }
-    }
-}
-
-// Appends a header as a JSON object.
-fn push_object(text: &mut String, header: Header) -> Result<(), AllocError> {
-    match header {
-        Header::Eci(number) => match CharacterSet(number).name() {
-            Some(name) => write!(text, "{{\"eci\": {number}, \"name\": \"{name}\"}}"),
-            None => write!(text, "{{\"eci\": {number}}}"),
-        },
-        Header::Fnc1First => text.push_str("{\"fnc1\": \"first\"}"),
-        Header::Fnc1Second(indicator) => {
-            let application = Application(indicator);
-            write!(
-                text,
-                "{{\"fnc1\": \"second\", \"application\": \"{application}\"}}"
-            )
-        }
-        Header::StructuredAppend {
-            place,
-            last,
-            parity,
-        } => {
-            let (number, count) = (place.saturating_add(1), last.saturating_add(1));
-            write!(
-                text,
-                "{{\"symbol\": {number}, \"of\": {count}, \"parity\": {parity}}}"
             )
         }
     }
@@ -262,16 +217,19 @@ fn position_text(position: Position) -> &'static str {
     }
 }
 
-// Appends the data as a JSON member, if it is UTF-8.
-fn push_text(text: &mut String, data: &[u8]) -> Result<(), AllocError> {
-    if let Ok(known) = std::str::from_utf8(data) {
+// Ends the JSON object of a code with its data: as text if it is UTF-8, and in hex.
+fn push_data(text: &mut String, scan: &Scan) -> Result<(), AllocError> {
+    let data = scan.any.reading.data.as_slice();
+    text.push_str("], ")?;
+    if let (true, Ok(known)) = (is_in_utf8(&scan.parts), str::from_utf8(data)) {
         text.push_str("\"text\": \"")?;
         for character in known.chars() {
             push_escaped(text, character)?;
         }
         text.push_str("\", ")?;
     }
-    Ok(())
+    let data = hex::encode(*text.allocator(), data)?;
+    write!(text, "\"hex\": \"{data}\"}}")
 }
 
 // Appends a character of a JSON string. Control and invisible characters become `\u` escapes.

@@ -2,6 +2,7 @@
 
 use goqlanis_core::Segment;
 use goqlanis_files::failure::Failure;
+use goqlanis_files::usage;
 use hex::FromHexError;
 use qrcode::types::Mode;
 use std::alloc::Global;
@@ -23,7 +24,7 @@ fn segment_of<'a>(alloc: Global, word: &'a str) -> Result<Segment<'a>, Failure> 
         },
         None => "use MODE:DATA with the mode numeric, alphanumeric, byte or kanji, or eci:NUMBER",
     };
-    Err(Failure::Usage(format!(in alloc; "--segment {word}: {why}")?))
+    usage!(alloc; "--segment {word}: {why}")
 }
 
 /// Parses segments.

@@ -1,11 +1,12 @@
 //! `goqlanis split` and `goqlanis join`: structured append.
 
-use crate::drawing::{check_empty, drawn, manner, write_drawing};
+use crate::drawing::{check_empty, draw_code, manner, write_drawing};
 use crate::names::{check_made, check_names, name_of};
 use crate::reading::codes_of;
 use clap::ArgMatches;
 use goqlanis_core::{Grouped, Scan};
-use goqlanis_files::failure::{Failure, refused};
+use goqlanis_files::failure::Failure;
+use goqlanis_files::refused;
 use goqlanis_files::streams::{MOST_DATA, shown, write_data};
 use goqlanis_options::asked::{Asked, Target, check_one_behind_another, versions_of};
 use qrcode::QrCode;
@@ -42,10 +43,9 @@ pub(crate) fn draw_several(
     };
     match made {
         Ok(codes) => draw_each(rt, asked, codes),
-        Err(QrError::DataTooLong) => refused(
-            alloc,
+        Err(QrError::DataTooLong) => refused!(alloc;
             "the data does not fit: allow more codes (--count, up to 16), larger versions or a \
-            lower --level",
+            lower --level"
         ),
         Err(_) => Err(Failure::OutOfMemory),
     }
@@ -59,7 +59,7 @@ fn draw_each(
 ) -> Result<ExitCode, Failure> {
     let count = codes.len();
     for (index, code) in codes.into_iter().enumerate() {
-        let drawing = drawn(rt.alloc(), &asked.request, code)?;
+        let drawing = draw_code(rt.alloc(), &asked.request, code)?;
         if let Target::File(path) = asked.target {
             let name = name_of(rt.alloc(), path, index.saturating_add(1), "", "")?;
             check_made(rt, asked, name.as_str())?;
@@ -98,9 +98,9 @@ pub(crate) fn join_pictures(rt: &HostRuntime, given: &ArgMatches<'_>) -> Result<
     let output = given.get_str("output");
     if names.len() > MOST_SYMBOLS {
         let count = Grouped(names.len());
-        return Err(Failure::Refused(format!(in rt.alloc();
+        return refused!(rt.alloc();
             "{count} pictures: a split has at most {MOST_SYMBOLS} codes; name those of one"
-        )?));
+        );
     }
     let (mut sources, mut scans) = (Vec::new(rt.alloc()), Vec::new(rt.alloc()));
     for name in names {
@@ -111,78 +111,71 @@ pub(crate) fn join_pictures(rt: &HostRuntime, given: &ArgMatches<'_>) -> Result<
     }
     match scans.as_slice() {
         [only] if part_of(only).is_none() => write_data(rt, output, &only.any.reading.data),
-        scans => write_data(rt, output, &joined(rt.alloc(), &sources, scans)?),
+        scans => write_data(rt, output, &join_scans(rt.alloc(), &sources, scans)?),
     }
 }
 
 // Joins the data of codes, found in pictures of these names, in the order of their headers.
-fn joined(alloc: Global, names: &[&str], scans: &[Scan]) -> Result<Vec<u8>, Failure> {
+fn join_scans(alloc: Global, names: &[&str], scans: &[Scan]) -> Result<Vec<u8>, Failure> {
     let mut parts = Vec::with_capacity(alloc, scans.len())?;
     for (name, scan) in names.iter().zip(scans) {
         let Some(part) = part_of(scan) else {
-            return Err(Failure::Refused(format!(in alloc;
-                "{name}: it is not part of a split; goqlanis read decodes it"
-            )?));
+            return refused!(alloc; "{name}: it is not part of a split; goqlanis read decodes it");
         };
         parts.push(part)?;
     }
     match join(alloc, &parts) {
         Ok(data) => Ok(data),
-        Err(error) => Err(not_joined(alloc, names, &parts, error)?),
+        Err(error) => not_joined(alloc, names, &parts, error),
     }
 }
 
 // Returns the part of a split that a code holds, if it has that header.
 fn part_of(scan: &Scan) -> Option<Part<'_>> {
-    for part in &scan.parts {
-        if let spell::Part::Front(
+    scan.parts.iter().find_map(|part| match *part {
+        spell::Part::Front(
             Header::StructuredAppend {
                 place,
                 last,
                 parity,
             },
-        ) = *part
-        {
-            return Some(Part {
-                place,
-                last,
-                parity,
-                bytes: &scan.any.reading.data,
-            });
-        }
-    }
-    None
+        ) => Some(Part {
+            place,
+            last,
+            parity,
+            bytes: &scan.any.reading.data,
+        }),
+        _ => None,
+    })
 }
 
-// Explains why parts, found in pictures of these names, cannot be joined.
+// Fails: parts, found in pictures of these names, cannot be joined.
 fn not_joined(
     alloc: Global,
     names: &[&str],
     parts: &[Part<'_>],
     error: JoinError,
-) -> Result<Failure, AllocError> {
-    let text = match error {
-        JoinError::OutOfMemory => return Ok(Failure::OutOfMemory),
+) -> Result<Vec<u8>, Failure> {
+    match error {
+        JoinError::OutOfMemory => Err(Failure::OutOfMemory),
         JoinError::Stranger(index) => {
             let first = names.first().unwrap_or(&"");
             let name = names.get(index).unwrap_or(&"");
-            format!(in alloc; "{name}: it belongs to other data than {first}")?
+            refused!(alloc; "{name}: it belongs to other data than {first}")
         }
         JoinError::Missing(_) => {
             let missing = missing_places(alloc, parts)?;
-            format!(in alloc; "missing parts: {missing}; name the pictures of all parts")?
+            refused!(alloc; "missing parts: {missing}; name the pictures of all parts")
         }
         JoinError::Twice(place) => {
             let number = place.saturating_add(1);
             let both = names_at(alloc, names, parts, place)?;
-            format!(in alloc; "part {number} is there twice:{both}; leave one out")?
+            refused!(alloc; "part {number} is there twice:{both}; leave one out")
         }
-        JoinError::Parity => {
-            let why = "the pictures do not belong to the same data: their parity differs";
-            String::from_str(alloc, why)?
-        }
-    };
-    Ok(Failure::Refused(text))
+        JoinError::Parity => refused!(alloc;
+            "the pictures do not belong to the same data: their parity differs"
+        ),
+    }
 }
 
 // Lists the pictures that show the part at `place`, each after a space.

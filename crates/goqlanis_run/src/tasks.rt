@@ -6,17 +6,19 @@ use crate::drawing::{
     application_drawing, draw_one, elements_drawing, segments_drawing, write_drawing,
 };
 use crate::lines::draw_lines;
-use crate::middle::{SWISS_CROSS, has_cross, read_logo, with_read};
+use crate::middle::{SWISS_CROSS, has_cross, read_logo};
 use crate::reading::read;
 use crate::several::{MOST_IN_SEVERAL, draw_several, join_pictures};
 use clap::ArgMatches;
 use clap::error::{Error, ErrorKind};
-use goqlanis_files::failure::{Failure, refused, status, usage};
+use goqlanis_files::failure::{Failure, status};
 use goqlanis_files::streams::{Escaped, MOST_DATA, print, read_file, read_standard_input};
+use goqlanis_files::{refused, usage, warning};
 use goqlanis_options::advice::{advice, wrapped_help};
 use goqlanis_options::asked::{Asked, Source, asked_for, source_of};
 use goqlanis_options::command::{command_of, end_of_help};
 use goqlanis_options::completions::{completions_of, shell_named};
+use goqlanis_options::logos::{AskedLogo, Middle};
 use goqlanis_options::manual::manual_page;
 use goqlanis_options::options::{DRAWING, Purpose, Task, task_named};
 use goqlanis_options::warnings::warn_of_password;
@@ -74,9 +76,8 @@ fn take_command(alloc: Global, words: &mut Vec<String>) -> Result<&'static Task,
 fn all_words(rt: &HostRuntime) -> Result<Vec<String>, Failure> {
     match env::args(rt) {
         Ok(words) => Ok(words.collect(rt.alloc())?),
-        Err(error) if error.kind() == io::ErrorKind::InvalidData => refused(
-            rt.alloc(),
-            "an argument is not UTF-8: use --input FILE for other data, and UTF-8 in file names",
+        Err(error) if error.kind() == io::ErrorKind::InvalidData => refused!(rt.alloc();
+            "an argument is not UTF-8: use --input FILE for other data, and UTF-8 in file names"
         ),
         Err(_) => Err(Failure::OutOfMemory),
     }
@@ -125,7 +126,8 @@ fn perform(rt: &HostRuntime, task: &Task, given: &ArgMatches<'_>) -> Result<Exit
 fn make(rt: &HostRuntime, task: &Task, given: &ArgMatches<'_>) -> Result<ExitCode, Failure> {
     let asked = asked_for(rt, task, given)?;
     let file = read_logo(rt, &asked)?;
-    let logo = with_read(asked.logo, &file);
+    let middle = file.as_ref().map_or(Middle::Light, Middle::Logo);
+    let logo = asked.logo.map(|logo| AskedLogo { middle, ..logo });
     draw(rt, task, &Asked { logo, ..asked })
 }
 
@@ -176,19 +178,12 @@ fn draw_content(rt: &HostRuntime, kind: Kind, asked: &Asked<'_, '_>) -> Result<E
 fn draw_bill(rt: &HostRuntime, asked: &Asked<'_, '_>, text: &str) -> Result<ExitCode, Failure> {
     check_bill(rt.alloc(), text)?;
     if asked.logo.is_some() {
-        return usage(
-            rt.alloc(),
-            "--logo, --logo-area: a bill has the Swiss cross in its middle",
-        );
+        return usage!(rt.alloc(); "--logo, --logo-area: a bill has the Swiss cross in its middle");
     }
-    if !has_cross(asked.request.format) {
-        let _ = eprintln!(rt;
-            "goqlanis: warning: this format lacks the Swiss cross of a bill; png, svg, eps and pdf have \
-            it"
-        );
-        return draw_one(rt, asked, text.as_bytes());
+    let logo = has_cross(asked.request.format).then_some(SWISS_CROSS);
+    if logo.is_none() {
+        warning!(rt; "this format lacks the Swiss cross of a bill; png, svg, eps and pdf have it");
     }
-    let logo = Some(SWISS_CROSS);
     draw_one(rt, &Asked { logo, ..*asked }, text.as_bytes())
 }
 
@@ -205,10 +200,10 @@ fn check_bill(alloc: Global, text: &str) -> Result<(), Failure> {
         Err(QrError::OutOfMemory) => Err(Failure::OutOfMemory),
         Err(_) => {
             let more = text.len() - BILL_ROOM;
-            Err(Failure::Refused(format!(in alloc;
-                "the whole text: a bill has at most version 25, of {BILL_ROOM} bytes; \
-                shorten fields by {more} bytes (a letter with an accent takes two)"
-            )?))
+            refused!(alloc;
+                "the whole text: a bill has at most version 25, of {BILL_ROOM} bytes; shorten \
+                fields by {more} bytes (a letter with an accent takes two)"
+            )
         }
     }
 }

@@ -4,9 +4,10 @@ ghost use Rattle.std.specs.Prelude.{◌≡◌, IfOk, string_bytes};
 ghost use Rattle.qrcode_payloads.specs.Texts.{payload_text};
 ghost use Rattle.goqlanis_run.specs.Options.{texts_in};
 
-use super::refusals::refusal_of;
+use super::refusals::not_made;
 use clap::ArgMatches;
 use goqlanis_files::failure::Failure;
+use goqlanis_files::refused;
 use goqlanis_options::options::fields::option_of;
 use qrcode_contents::fields::errors::Field;
 use qrcode_payloads::given::Given;
@@ -40,9 +41,9 @@ const DECISIVE: &[&str] = &["password", "amount", "counter", "period"];
 fn check_given(alloc: Global, given: &ArgMatches<'_>) -> Result<(), Failure> {
     for name in DECISIVE {
         if given.get_str(name) == Some("") {
-            return Err(Failure::Refused(format!(in alloc;
+            return refused!(alloc;
                 "--{name}: it is empty, e.g. of a variable that is not set; leave it out for none"
-            )?));
+            );
         }
     }
     Ok(())
@@ -62,6 +63,6 @@ pub(crate) fn payload_of(
     check_given(alloc, given)?;
     match text_of(alloc, kind, &Options { given }) {
         Ok(text) => Ok(text),
-        Err(error) => Err(refusal_of(alloc, kind, error)?),
+        Err(error) => not_made(alloc, kind, error),
     }
 }

@@ -1,32 +1,32 @@
 //! Explains why a payload is refused: which option is wrong, and what would help.
 
+ghost use Rattle.std.specs.Prelude.{IsErr};
+
 use goqlanis_files::failure::Failure;
+use goqlanis_files::refused;
 use goqlanis_options::options::entry_of;
 use qrcode_contents::fields::errors::{Cause, ContentError, Field};
 use qrcode_payloads::kinds::Kind;
-use std::alloc::{AllocError, Global};
+use std::alloc::Global;
 
-/// Turns an error of a payload format into a message: the option, what is wrong with it, and what
-/// its help says.
-pub(crate) fn refusal_of(
-    alloc: Global,
-    kind: Kind,
-    error: ContentError,
-) -> Result<Failure, AllocError> {
+/// Fails because of an error of a payload format, with a message: the option, what is wrong with
+/// it, and what its help says.
+pub(crate) fn not_made(alloc: Global, kind: Kind, error: ContentError) -> Result<String, Failure>
+    ensures { IsErr result }
+{
     let ContentError::Refused(field, cause) = error else {
-        return Ok(Failure::OutOfMemory);
+        return Err(Failure::OutOfMemory);
     };
     let what = what_is_wrong(kind, field, cause);
     let entry = entry_of(kind, field);
     let (name, help) = (entry.long, entry.help);
-    let text = if name.is_empty() {
-        format!(in alloc; "the whole text: {what}")
+    if name.is_empty() {
+        refused!(alloc; "the whole text: {what}")
     } else if matches!(cause, Cause::ControlCharacter | Cause::CheckDigits) {
-        format!(in alloc; "--{name}: {what}")
+        refused!(alloc; "--{name}: {what}")
     } else {
-        format!(in alloc; "--{name}: {what}; expected: {help}")
-    };
-    Ok(Failure::Refused(text?))
+        refused!(alloc; "--{name}: {what}; expected: {help}")
+    }
 }
 
 // Says what is wrong with a field, more precisely than its cause if possible.
