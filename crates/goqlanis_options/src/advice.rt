@@ -65,15 +65,15 @@ fn between<'a>(text: &'a str, start: &str, end: &str) -> Option<&'a str> {
     Some(found)
 }
 
-// Options that do not apply to payloads whose format fixes the level.
-const CODE_OPTIONS: &str = "-l --level -v --symbol-version --min-version --boost";
+// Options that do not apply to payloads whose format fixes level, version and encoding.
+const CODE_OPTIONS: &str = "-l --level -v --symbol-version --min-version --micro --boost --eci";
 
 // Advice on a word that other programs accept.
 fn known_help(alloc: Global, task: &Task, word: &str) -> Result<Option<String>, AllocError> {
     let name = task.word;
     if task.has_its_level() && CODE_OPTIONS.split(' ').any(|option| option == word) {
         return Ok(Some(format!(in alloc;
-            "{word}: {name} has level M and the smallest version, as its format demands; leave it out"
+            "{word}: the format of {name} demands level M, the smallest version and no ECI; leave it out"
         )?));
     }
     for (known, help) in ADVICE {

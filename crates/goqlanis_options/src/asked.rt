@@ -94,7 +94,7 @@ pub fn asked_for<'a, 'w>(
     if asked.is_by_line() {
         check_one_behind_another(alloc, &asked)?;
     } else if given.contains_id("field") {
-        return usage!(alloc; "--field: it is a field of a line; add --lines");
+        return usage!(alloc; "--field needs --lines");
     }
     warn(rt, &asked);
     Ok(asked)
@@ -158,7 +158,7 @@ fn target_of<'a>(alloc: Global, given: &ArgMatches<'a>) -> Result<Target<'a>, Fa
     match given.get_str("output") {
         None => Ok(Target::Terminal),
         Some("-") => Ok(Target::StandardOutput),
-        Some("") => usage!(alloc; "--output: it is empty, e.g. of a variable that is not set"),
+        Some("") => usage!(alloc; "--output: it is empty, e.g. from a variable that is not set"),
         Some(path) => Ok(Target::File(path)),
     }
 }

@@ -51,6 +51,9 @@ fn text_of<'a>(alloc: Global, given: &ArgMatches<'a>, option: &str) -> Result<&'
     if text.is_empty() || text.contains('\n') {
         return usage!(alloc; "--{option}: give it a text of one line");
     }
+    if option == "svg-id" && text.contains(' ') {
+        return usage!(alloc; "--svg-id: an ID has no spaces");
+    }
     if let Some(character) = text.chars().find(is_foreign) {
         let code = character as u32;
         return usage!(alloc;

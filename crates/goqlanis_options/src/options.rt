@@ -145,7 +145,8 @@ impl Task {
             Purpose::Elements => (
                 "ELEMENTS",
                 "Application identifiers (AI) in round brackets, each with its value, e.g. \
-                (01)09521234543213(10)AB; write ( in a value as \\(. With --application: plain data",
+                (01)09521234543213(10)AB; write ( in a value as \\(. With --application: plain data. Not read \
+                from standard input",
             ),
             Purpose::Content(_) => return None,
         })

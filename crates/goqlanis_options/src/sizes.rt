@@ -64,7 +64,7 @@ fn take_size(
         (Some(parts), _) if is_exact => return take_length(sizes, parts, is_side),
         (Some(parts), Some(dots)) => pixels_of(parts, dots, is_side)?,
         (Some(_), None) => return Err(
-            "lengths need --dpi, e.g. --dpi 300 of a PNG, or --format svg, eps or pdf",
+            "lengths need --dpi, e.g. --dpi 300 for PNG, or --format svg, eps or pdf",
         ),
         (None, _) => match text.parse::<u16>() {
             Ok(pixels) if is_side && pixels > 0 => pixels,

@@ -64,13 +64,21 @@ fn warn_of_character_set(rt: &HostRuntime, words: &[&str]) {
     }
 }
 
-/// Warns of a Wi-Fi password that is too short for WPA.
+/// Warns of a Wi-Fi password that is too short or too long for WPA: it takes 8 to 63 characters, or
+/// a key of 64 hexadecimal digits.
 pub fn warn_of_password(rt: &HostRuntime, given: &ArgMatches<'_>) {
     let password = given.get_str("password").unwrap_or("");
     let security = given.get_str("security").unwrap_or("WPA");
     let is_wpa = security.eq_ignore_ascii_case("WPA") || security.eq_ignore_ascii_case("WPA2");
-    if is_wpa && !password.is_empty() && password.len() < 8 {
+    if !is_wpa || password.is_empty() {
+        return;
+    }
+    let length = password.chars().count();
+    let is_key = length == 64 && password.bytes().all(|byte| byte.is_ascii_hexdigit());
+    if length < 8 {
         warning!(rt; "--password has fewer than 8 characters, which WPA and WPA2 need");
+    } else if length > 63 && !is_key {
+        warning!(rt; "--password has more than 63 characters, which WPA and WPA2 do not allow");
     }
 }
 

@@ -107,7 +107,7 @@ pub(crate) fn check_empty(
         refused!(alloc; "it is empty; --allow-empty accepts it")
     } else {
         refused!(alloc;
-            "the input is empty, e.g. of a variable that is not set; --allow-empty accepts it"
+            "the input is empty, e.g. from a variable that is not set; --allow-empty accepts it"
         )
     }
 }

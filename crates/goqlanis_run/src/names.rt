@@ -106,17 +106,21 @@ pub(crate) fn name_of(
     for piece in path.split('{').skip(1) {
         push_piece(&mut name, piece, number, line, delimiter)?;
     }
-    check_name(alloc, name.as_str())?;
+    check_name(alloc, path, name.as_str())?;
     Ok(name)
 }
 
-// Checks the last part of a generated path: not too long, not empty, and not `.` or `..`.
-fn check_name(alloc: Global, path: &str) -> Result<(), Failure> {
+// Checks the file name of a generated path: not too long, not empty, not `.` or `..`, and not hidden
+// unless the pattern says so, since a field was empty.
+fn check_name(alloc: Global, pattern: &str, path: &str) -> Result<(), Failure> {
     let name = path.rsplit('/').next().unwrap_or("");
+    let wanted = pattern.rsplit('/').next().unwrap_or("");
     if name.len() > MOST_IN_NAME {
         refused!(alloc; "its file name would have more than 255 bytes")
     } else if matches!(name, "" | "." | "..") {
         refused!(alloc; "its file would have no name, or that of a folder")
+    } else if name.starts_with('.') && !wanted.starts_with('.') {
+        refused!(alloc; "its file name would begin with a dot, since the field is empty")
     } else {
         Ok(())
     }

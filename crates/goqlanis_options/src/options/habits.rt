@@ -37,7 +37,7 @@ pub static ADVICE: &[(&str, &str)] = &[
     ("-c --casesensitive --ignorecase", "upper and lower case are always kept; leave it out"),
     ("--file", "to encode a file, add --input FILE; to write one, --output FILE"),
     ("--gs1 --gs1parens", "for a GS1 element string: goqlanis gs1 \"(01)09521234543213\""),
-    ("-S --structured --seq --structapp --symbol-count",
+    ("-S --structured --seq --structapp --symbol-count --count --max-version",
         "to split data over several codes: goqlanis split"),
     ("--batch", "for one code for each line, add --lines"),
     ("--decode decode scan", "to decode a picture: goqlanis read PICTURE"),

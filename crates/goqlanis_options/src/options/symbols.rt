@@ -39,7 +39,8 @@ pub static DATA: &[Entry] = &[
     entry!("input", 'i', Path, "Encode the contents of a file"),
     entry!("trim", Nothing, "Drop one trailing newline"),
     entry!("allow-empty", Nothing, "Accept empty input"),
-    entry!("bytes", Nothing, "Use the fewest bits, even if some readers then show UTF-8 wrongly"),
+    entry!("bytes", Nothing, "Treat the input as bytes, not text, in the modes that take the fewest bits; some readers \
+        may then show UTF-8 wrongly"),
 ];
 
 /// Input options of plain codes only.
@@ -49,8 +50,8 @@ pub static ONE_CODE: &[Entry] = &[
         "Choose the segments: numeric:DIGITS, alphanumeric:TEXT, byte:TEXT (UTF-8), kanji:HEX (Shift \
         JIS) or eci:NUMBER; repeat as needed"),
     entry!("lines", Nothing,
-        "Make one code per line, in numbered files; or name them in --output with {} (line \
-        number), {text} (the line), {1}, {2} .. (its fields)"),
+        "Make one code per line. --output FILE gets a number per line; in its name, {} is the \
+        number, {text} the line, {1}, {2} .. its fields"),
     entry!("field", Number("N", 1, 65535), "With --lines: encode only field N of each line"),
     entry!("delimiter", Text("TEXT"),
         "Separator of the fields in a line [default: ,]"),
@@ -82,9 +83,10 @@ pub static NORMAL_LEVELS: &[Entry] = &[
 /// Options of tasks that make a single code.
 #[rattlefmt::skip]
 pub static TEXTS: &[Entry] = &[
-    entry!("micro", Nothing, "Allow Micro QR (--min-version M1); M1 needs --level L"),
+    entry!("micro", Nothing, "Use Micro QR if the data fits (same as --min-version M1), else QR; M1 needs --level L, and \
+        no Micro version has H"),
     entry!("boost", Nothing,
-        "Raise the level above --level as far as the code gets no larger; not with -v"),
+        "Use the highest level, from --level up, that fits the same version; not with -v"),
 ];
 
 /// The option that marks data as UTF-8.
@@ -96,24 +98,26 @@ pub static MARKS: &[Entry] = &[
 /// The mask option.
 #[rattlefmt::skip]
 pub static MASKS: &[Entry] = &[
-    entry!("mask", Number("0-7", 0, 7), "Mask pattern [default: lowest penalty]"),
+    entry!("mask", Number("0-7", 0, 7), "Mask pattern; Micro QR has only 0 to 3 [default: lowest penalty]"),
 ];
 
 /// Output options.
 #[rattlefmt::skip]
 pub static LOOKS: &[Entry] = &[
     entry!("output", 'o', Path,
-        "Write to FILE, atomically; several codes to numbered files; - is standard output"),
+        "Write to FILE, atomically; --lines and split add numbers, e.g. a-000001.png; - is standard \
+        output"),
     entry!("format", 'f', Word("FORMAT", FORMATS),
-        "Output format; zpl, tspl, escpos: printers [default: FILE's extension (.txt: half-blocks); \
+        "Output format; terminal: half-blocks in black on white; text: a block per module; ascii: \
+        ## per module; zpl, tspl, escpos: printers [default: FILE's extension (.txt: half-blocks); \
         to a terminal: terminal; else half-blocks]"),
     entry!("quiet-zone", 'q', Number("MODULES", 0, 255),
         "Quiet zone on each side, 0 to 255 [default: 4, Micro QR 2]"),
     entry!("scale", 's', Number("PIXELS", 1, 1000),
         "Pixels per module, 1 to 1,000 [default: 8; 1 in PIC, half-blocks, terminal, text, ascii]"),
     entry!("size", Text("SIZE"),
-        "Maximum side of the picture, e.g. 300 (pixels) or 30mm (or cm, in, pt); 30mm is exact in \
-        SVG, EPS and PDF, and needs --dpi elsewhere"),
+        "Maximum side in pixels, e.g. 300, or a length, e.g. 30mm (cm, in, pt): exactly this in \
+        SVG, EPS and PDF without --dpi; other formats need --dpi"),
     entry!("module", Text("LENGTH"),
         "Side of a module, e.g. 0.5mm; exact in SVG, EPS and PDF without --dpi, else whole pixels"),
     entry!("dpi", Number("N", 1, 65535), "Pixels per inch, 1 to 65,535"),
@@ -131,8 +135,8 @@ pub static LOOKS: &[Entry] = &[
         "Colour of light modules, or transparent (PNG, SVG) [default: white]"),
     entry!("invert", Nothing, "Swap dark and light"),
     entry!("logo", Path,
-        "Put a logo in the middle of SVG (an SVG or PNG file) or PNG (a PNG file); the code stays \
-        readable"),
+        "Put a logo in the middle: an SVG or PNG file for SVG output, a PNG file for PNG output; \
+        the code still decodes"),
     entry!("logo-area", Nothing, "Leave an empty area for a logo, in any format"),
     entry!("logo-size", Text("SIZE"),
         "Side of the area, in modules or percent of the code's side, e.g. 9 or 20% [default: the \

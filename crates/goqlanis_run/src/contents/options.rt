@@ -42,7 +42,7 @@ fn check_given(alloc: Global, given: &ArgMatches<'_>) -> Result<(), Failure> {
     for name in DECISIVE {
         if given.get_str(name) == Some("") {
             return refused!(alloc;
-                "--{name}: it is empty, e.g. of a variable that is not set; leave it out for none"
+                "--{name}: it is empty, e.g. from a variable that is not set; leave it out for none"
             );
         }
     }
