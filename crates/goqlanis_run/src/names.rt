@@ -113,17 +113,22 @@ pub(crate) fn name_of(
 // Checks the file name of a generated path: not too long, not empty, not `.` or `..`, and not hidden
 // unless the pattern says so, since a field was empty.
 fn check_name(alloc: Global, pattern: &str, path: &str) -> Result<(), Failure> {
-    let name = path.rsplit('/').next().unwrap_or("");
-    let wanted = pattern.rsplit('/').next().unwrap_or("");
+    let name = file_name(path);
+    let is_hidden = name.starts_with('.') && !file_name(pattern).starts_with('.');
     if name.len() > MOST_IN_NAME {
         refused!(alloc; "its file name would have more than 255 bytes")
     } else if matches!(name, "" | "." | "..") {
         refused!(alloc; "its file would have no name, or that of a folder")
-    } else if name.starts_with('.') && !wanted.starts_with('.') {
+    } else if is_hidden {
         refused!(alloc; "its file name would begin with a dot, since the field is empty")
     } else {
         Ok(())
     }
+}
+
+// Returns what follows the last slash.
+fn file_name(path: &str) -> &str {
+    path.rsplit('/').next().unwrap_or("")
 }
 
 // Inserts a number before the file extension.
