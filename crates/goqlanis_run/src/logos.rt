@@ -66,29 +66,42 @@ fn image(
     Ok(Logo::Element(across, down, rest))
 }
 
+// The attributes of the root element of an SVG file that give its size, and its namespace.
+#[derive(Clone, Copy)]
+struct Root<'a> {
+    view: &'a str,
+    width: &'a str,
+    height: &'a str,
+    space: &'a str,
+}
+
 // Returns the width and height of an SVG file, in proportion.
 fn svg_sides(text: &str) -> Result<(u32, u32), &'static str> {
     if text.contains("<script") || text.contains("<!ENTITY") || has_handler(text) {
         return Err(SCRIPTS);
     }
-    let root = behind_prolog(text).and_then(|text| text.strip_prefix("<svg"));
-    let mut left = root.ok_or(UNKNOWN)?;
-    let (mut view, mut width, mut height, mut space) = ("", "", "", "");
+    let Some(mut left) = behind_prolog(text).and_then(|text| text.strip_prefix("<svg")) else {
+        return Err(UNKNOWN);
+    };
+    let mut root = Root {
+        view: "",
+        width: "",
+        height: "",
+        space: "",
+    };
     for _ in 0..text.len() {
         left = left.trim_start();
         if left.starts_with('>') && text.trim_end().ends_with("</svg>") {
-            let found = sides(width, height, view).ok_or(SIZELESS)?;
-            return match space {
-                "http://www.w3.org/2000/svg" => Ok(found),
-                _ => Err(NAMELESS),
-            };
+            return sides(&root);
         }
-        let (name, value, rest) = next_attribute(left).ok_or(UNKNOWN)?;
+        let Some((name, value, rest)) = next_attribute(left) else {
+            return Err(UNKNOWN);
+        };
         match name {
-            "width" => width = value,
-            "height" => height = value,
-            "viewBox" => view = value,
-            "xmlns" => space = value,
+            "width" => root.width = value,
+            "height" => root.height = value,
+            "viewBox" => root.view = value,
+            "xmlns" => root.space = value,
             _ => {}
         }
         left = rest;
@@ -100,11 +113,13 @@ fn svg_sides(text: &str) -> Result<(u32, u32), &'static str> {
 fn has_handler(text: &str) -> bool {
     let mut begins = false;
     for word in text.split_whitespace() {
-        let is_event = word.starts_with("on");
-        if begins && word.starts_with('=') || is_event && word.contains('=') {
+        if begins && word.starts_with('=') {
             return true;
         }
-        begins = is_event;
+        begins = word.starts_with("on");
+        if begins && word.contains('=') {
+            return true;
+        }
     }
     text.contains("javascript:")
 }
@@ -141,20 +156,27 @@ fn next_attribute(text: &str) -> Option<(&str, &str, &str)> {
     Some((name, value, rest))
 }
 
-// Returns the proportions of an SVG file: of its width and height in pixels, or of its viewBox.
-fn sides(width: &str, height: &str, view: &str) -> Option<(u32, u32)> {
-    let mut units = view
+// Returns the proportions of a root element: of its width and height in pixels, or of its viewBox.
+fn sides(root: &Root<'_>) -> Result<(u32, u32), &'static str> {
+    let mut units = root
+        .view
         .split(|c: char| c == ',' || c.is_ascii_whitespace())
         .filter(|number| !number.is_empty())
         .skip(2);
-    let found = pixels(width).zip(pixels(height));
-    let (across, down) = found.or(units.next().zip(units.next()))?;
-    whole(across).zip(whole(down))
+    let found = pixels(root.width).zip(pixels(root.height));
+    let (across, down) = found.or(units.next().zip(units.next())).ok_or(SIZELESS)?;
+    if root.space != "http://www.w3.org/2000/svg" {
+        return Err(NAMELESS);
+    }
+    whole(across).zip(whole(down)).ok_or(SIZELESS)
 }
 
 // Strips the unit of a number of pixels; `None` if it is not one.
 fn pixels(text: &str) -> Option<&str> {
-    let number = text.strip_suffix("px").map_or(text, str::trim_end);
+    let number = match text.strip_suffix("px") {
+        Some(number) => number.trim_end(),
+        None => text,
+    };
     let is_number = number
         .bytes()
         .all(|byte| byte.is_ascii_digit() || byte == b'.');
@@ -163,6 +185,9 @@ fn pixels(text: &str) -> Option<&str> {
 
 // Returns the integer part of a decimal number, at least 1.
 fn whole(number: &str) -> Option<u32> {
-    let digits = number.split_once('.').map_or(number, |(digits, _)| digits);
+    let digits = match number.split_once('.') {
+        Some((digits, _)) => digits,
+        None => number,
+    };
     Some(digits.parse::<u32>().ok()?.max(1))
 }
