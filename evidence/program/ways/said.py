@@ -137,7 +137,7 @@ def man_shows_the_manual(program):
         put(folder, "goqlanis.1", written(program, "--manual"))
         env = {"PATH": "/usr/bin:/bin", "LC_ALL": "C.UTF-8", "MANWIDTH": "140"}
         ran = piped(["man", "--warnings", "-l", "goqlanis.1"], cwd=folder, env=env)
-        shown = ran.stdout.decode()
+        shown = " ".join(ran.stdout.decode().split())
         wanted = ("half-blocks, terminal, text, png", 'goqlanis "https://example.org"')
         return (ran.returncode, ran.stderr) == (0, b"") and all(it in shown for it in wanted)
 
