@@ -8,10 +8,6 @@ use Rattle.goqlanis_core.specs.declared.formats.Format.TheVariants.{Png}
 use Rattle.goqlanis_buffers.specs.Colours.{colour_shade, has_colours}
 use Rattle.goqlanis_buffers.specs.declared.pictures.Drawing.{Drawing}
 
-abbrev pub plain : ℕ → ℕ → ℕ → Drawing  -- a drawing in black on white
-plain zone scale format =
-    record { size = 28; format = format; zone = zone; scale = scale; dark = 0; light = 0xffffff; dpi = 0 }
-
 abbrev pub density : ℕ → Option ℕ  -- the dots per inch; none for 0
 density dpi = if dpi == 0 then None else Some dpi
 

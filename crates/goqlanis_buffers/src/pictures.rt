@@ -1,6 +1,6 @@
 //! Draws pictures into buffers.
 
-ghost use Rattle.std.specs.Prelude.{◌≡◌, ◌<◌, ◌≤◌, ◌↔◌, ◌^◌, ℕ, length, IfOk, IfErr, IsOkUnless, IsTrue};
+ghost use Rattle.std.specs.Prelude.{◌≡◌, ◌<◌, ◌↔◌, ◌^◌, ℕ, length, IfOk, IfErr, IsOkUnless, IsTrue};
 ghost use Rattle.std.specs.Bool.{OnTrue};
 ghost use Rattle.qrcode_types.specs.declared.types.QrError.TheVariants.{OutOfMemory};
 ghost use Rattle.qrcode_render.specs.Shades.{colors_of};
@@ -8,10 +8,10 @@ ghost use Rattle.goqlanis_buffers.specs.Colours.{colour_name};
 ghost use Rattle.goqlanis_buffers.specs.Calls.{TellsLength, WritesPicture};
 ghost use Rattle.goqlanis_buffers.specs.Answers.{HasSize};
 ghost use Rattle.goqlanis_buffers.specs.Asking.{IsCauseFor, IsDrawable, IsPictureFor};
-ghost use Rattle.goqlanis_buffers.specs.Drawings.{density, has_side, is_sayable, plain, IsDrawn};
+ghost use Rattle.goqlanis_buffers.specs.Drawings.{density, has_side, is_sayable, IsDrawn};
 
 use crate::answers::Refusal;
-use crate::colours::{BLACK, WHITE, has_colours, ink_of, name_of};
+use crate::colours::{has_colours, ink_of, name_of};
 use crate::lengths::known_length;
 use crate::symbols::{colors_of, fill};
 use goqlanis_core::formats::{Format, format_numbered};
@@ -43,21 +43,6 @@ pub struct Drawing {
 
 // The size of a `Drawing` in bytes.
 const SIZE: u32 = 28;
-
-/// Returns a drawing in black on white.
-pub fn plain(zone: u32, scale: u32, format: u32) -> Drawing
-    ensures value { result ≡ plain zone scale format }
-{
-    Drawing {
-        size: SIZE,
-        format,
-        zone,
-        scale,
-        dark: BLACK,
-        light: WHITE,
-        dpi: 0,
-    }
-}
 
 /// What is to be drawn, as C gives it.
 #[derive(Clone, Copy)]

@@ -318,26 +318,24 @@ impl QrCode {
 
     /// Encodes `data` at a level, in the smallest Normal version that holds it.
     pub fn with_error_correction_level<D: AsRef<[u8]>>(data: D, ec_level: EcLevel) -> QrResult<Self> {
-        let data = data.as_ref();
-        made!(goq_encode(data.as_ptr(), data.len(), ec_level as u32))
+        Self::with_options(data, &Options { ec_level, ..Options::default() })
     }
 
     /// Encodes `data` in a version and level.
     pub fn with_version<D: AsRef<[u8]>>(data: D, version: Version, ec_level: EcLevel) -> QrResult<Self> {
-        let data = data.as_ref();
-        made!(goq_encode_in(data.as_ptr(), data.len(), version.number(), ec_level as u32))
+        Self::with_options(data, &Options { ec_level, version: Some(version), ..Options::default() })
     }
 
     /// Encodes text at a level, in the smallest Normal version that holds it.
     ///
     /// Readers show the text if they take bytes for UTF-8; see `of_marked_text` for others.
     pub fn of_text(text: &str, ec_level: EcLevel) -> QrResult<Self> {
-        made!(goq_encode_text(text.as_ptr(), text.len(), ec_level as u32))
+        Self::with_options(text, &Options { ec_level, writing: Writing::Text, ..Options::default() })
     }
 
     /// Encodes text as `of_text` does, marked as UTF-8 (ECI 26), for readers that guess.
     pub fn of_marked_text(text: &str, ec_level: EcLevel) -> QrResult<Self> {
-        made!(goq_encode_marked_text(text.as_ptr(), text.len(), ec_level as u32))
+        Self::with_options(text, &Options { ec_level, writing: Writing::MarkedText, ..Options::default() })
     }
 
     /// Encodes `segments`, one after another, in a version and level.
