@@ -10,10 +10,10 @@ use Rattle.qrcode.specs.Reading.{ReadsOnly}
 use Rattle.qrcode.specs.Texts.{ShowsTextOnly}
 use Rattle.qrcode_reader.specs.Readings.{HasNoVersion, HasNoFormat, HasDamagedBlock, ShowsNothing, SpellsNothing}
 use Rattle.qrcode_render.specs.Shades.{colors_of}
-use Rattle.goqlanis_core.specs.Formats.{format_numbered}
+use Rattle.qrcode_formats.specs.Formats.{format_numbered}
 use Rattle.goqlanis_buffers.specs.Drawings.{has_side, is_sayable, IsDrawn}
 use Rattle.goqlanis_buffers.specs.declared.pictures.Drawing.{Drawing}
-use Rattle.goqlanis_core.specs.declared.formats.Format.{Format}
+use Rattle.qrcode_formats.specs.declared.Format.{Format}
 use Rattle.goqlanis_buffers.specs.Names.{level_named, version_named}
 use Rattle.goqlanis_buffers.specs.Readings.{Anywhere, IsReadAnywhere, IsReadNowhere}
 use Rattle.goqlanis_buffers.specs.Segments.{HasNoRoom, HaveNoRoom, IsFirstRefused}

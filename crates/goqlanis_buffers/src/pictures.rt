@@ -14,10 +14,10 @@ use crate::answers::Refusal;
 use crate::colours::{has_colours, ink_of, name_of};
 use crate::lengths::known_length;
 use crate::symbols::{colors_of, fill};
-use goqlanis_core::formats::{Format, format_numbered};
 use goqlanis_core::picture::Picture;
 use goqlanis_core::render::draw_in;
 use qrcode::types::{Color, QrResult};
+use qrcode_formats::{Density, Format, format_numbered};
 use std::alloc::Global;
 
 /// How C wants modules drawn. A colour is transparency, red, green and blue in its four bytes, from
@@ -143,8 +143,8 @@ fn has_size(format: Format, width: u32, drawing: &Drawing) -> bool
 fn has_side(format: Format, pixels: u64) -> bool
     ensures value { result ≡ has_side format pixels }
 {
-    let is_png = matches!(format, Format::Png);
-    !(is_png && pixels == 0) && pixels <= u64::from(format.greatest_side())
+    let row = format.row();
+    u64::from(row.least) <= pixels && pixels <= u64::from(row.most)
 }
 
 // Whether a format supports the colours, and the dots per inch if any.
@@ -152,10 +152,9 @@ fn is_sayable(format: Format, drawing: &Drawing) -> bool
     ensures value { result ≡ is_sayable format drawing.now }
     ensures dpi_at_most { OnTrue result (drawing.now.dpi < 2 ^ 16) }
 {
-    let most = if matches!(format, Format::Png) {
-        65_535
-    } else {
-        0
+    let most = match format.row().density {
+        Density::Stored => 65_535,
+        _ => 0,
     };
     drawing.dpi <= most && has_colours(format, drawing.dark, drawing.light)
 }

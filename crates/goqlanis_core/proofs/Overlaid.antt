@@ -16,8 +16,8 @@ use Rattle.goqlanis_core.specs.Areas.{wish_for}
 use Rattle.goqlanis_core.specs.Formats.{Sheet, View, IsDrawnOn, dark_of, eps_in, light_of, tail}
 use Rattle.goqlanis_core.specs.Layers.{HasTail}
 use Rattle.goqlanis_core.specs.declared.areas.LogoWish.{LogoWish}
-use Rattle.goqlanis_core.specs.declared.formats.Format.{Format}
-use Rattle.goqlanis_core.specs.declared.formats.Format.TheVariants.{Svg, SvgPath, Eps, HalfBlocks, LightHalfBlocks, Terminal, Chars, Png, Pic, Pbm, Pgm, Grey, Pdf, Zpl, Tspl, EscPos, Xbm, Ppm, Ascii}
+use Rattle.qrcode_formats.specs.declared.Format.{Format}
+use Rattle.qrcode_formats.specs.declared.Format.TheVariants.{Svg, SvgPath, Eps, HalfBlocks, LightHalfBlocks, Terminal, Chars, Png, Pic, Pbm, Pgm, Grey, Pdf, Zpl, Tspl, EscPos, Xbm, Ppm, Ascii}
 
 -- an area whose content can be corrected and which leaves the patterns alone fits the wish without a reserve
 pub fits_plainly : (v : Version) (l : EcLevel) (w : LogoWish) (area : ℕ → ℕ → Bool) → MayShowAnything v l area → LeavesPatterns w.kept v area → Fits v l (wish_for w 0) area

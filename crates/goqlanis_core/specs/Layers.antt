@@ -15,8 +15,8 @@ use Rattle.qrcode_render.specs.Picture.{picture}
 use Rattle.qrcode_png.specs.Image.{Shade as Pixel, image_of, rgba}
 use Rattle.goqlanis_core.specs.Formats.{Sheet, View, Shade, dark_of, light_of, eps_ink, per_metre, rgb, shade_of, tail, units, IsDrawnOn, IsPdfOn}
 use Rattle.goqlanis_core.specs.Parts.{part_of}
-use Rattle.goqlanis_core.specs.declared.formats.Format.{Format}
-use Rattle.goqlanis_core.specs.declared.formats.Format.TheVariants.{Png, Pdf, Eps}
+use Rattle.qrcode_formats.specs.declared.Format.{Format}
+use Rattle.qrcode_formats.specs.declared.Format.TheVariants.{Png, Pdf, Eps}
 use Rattle.goqlanis_core.specs.declared.layers.PartInk.{PartInk}
 use Rattle.goqlanis_core.specs.declared.parts.Part.{Part}
 use Rattle.goqlanis_core.specs.declared.parts.Part.TheVariants.{Finder, Alignment, Timing, FormatWord, VersionWord, Data}

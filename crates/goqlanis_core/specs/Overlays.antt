@@ -12,8 +12,8 @@ use Rattle.qrcode_png.specs.Image.{Shade, grey_shade}
 use Rattle.goqlanis_core.specs.Drawings.{layout_for, sheet_for, unit_for, view_for, zone_for}
 use Rattle.goqlanis_core.specs.Layers.{IsPaintedIn}
 use Rattle.goqlanis_core.specs.Masks.{AreUnder}
-use Rattle.goqlanis_core.specs.declared.formats.Format.{Format}
-use Rattle.goqlanis_core.specs.declared.formats.Format.TheVariants.{Eps, Pdf}
+use Rattle.qrcode_formats.specs.declared.Format.{Format}
+use Rattle.qrcode_formats.specs.declared.Format.TheVariants.{Eps, Pdf}
 use Rattle.goqlanis_core.specs.declared.overlays.Inside.{Inside}
 use Rattle.goqlanis_core.specs.declared.overlays.Inside.TheVariants.{Nothing, Cross, Element}
 use Rattle.goqlanis_core.specs.Places.{place_in, HasRoom}

@@ -9,13 +9,14 @@ ghost use Rattle.qrcode_render.specs.Eps.{eps_paint, eps_rect};
 ghost use Rattle.goqlanis_core.specs.Formats.{eps_ink, layout_of, shade_of, sheet_of, tail, view_of};
 ghost use Rattle.goqlanis_core.specs.Layers.{is_painted, layer, unit_layout, AreOver, HasTail, IsInserted, IsLayer, IsPaintedIn};
 
-use crate::formats::Format;
+use crate::formats::{tail, units};
 use crate::parts::{Part, part_of};
 use crate::picture::{Ink, Picture, Sheet};
 use crate::render::{draw_on, drawn, pdf_file, rgb};
 use crate::shades::png_file;
 use qrcode::render::{pdf, svg};
 use qrcode::types::{Color, QrResult, Version};
+use qrcode_formats::Format;
 use qrcode_layout::figures::color_of;
 use qrcode_types::versions::side;
 use std::alloc::{AllocError, Global};
@@ -50,7 +51,7 @@ pub(crate) fn painted(
         sheet.now.over.now shown.now.modules.now drawing.items) }
     ensures memory { IsOkUnless result OutOfMemory }
 {
-    if let Some(tail) = format.tail() {
+    if let Some(tail) = tail(format) {
         let over = over(alloc, format, version, shown, sheet)?;
         let bytes = draw_on(alloc, format, shown, sheet)?;
         return Ok(inserted(bytes, tail, &over)?);
@@ -138,7 +139,7 @@ fn layer_in(
         modules: &modules,
         width: shown.width,
         zone: shown.zone,
-        scale: format.units(shown.scale),
+        scale: units(format, shown.scale),
         dark: shown.dark,
         light: shown.light,
         is_inverted: false,

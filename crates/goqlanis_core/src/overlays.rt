@@ -10,7 +10,6 @@ ghost use Rattle.goqlanis_core.specs.Masks.{LacksMask};
 ghost use Rattle.goqlanis_core.specs.Overlays.{AreBeside, IsCrossSize, IsCrossWidth, IsShownWith, LacksRoom, cross_for, cross_shade, cross_text, element_for, is_black_unit, is_in_bar, lies_between, svg_element};
 
 use crate::drawing::{modules_drawn, quiet_zone, scale, unit};
-use crate::formats::Format;
 use crate::masking::modules_under;
 use crate::places::{Place, place_in};
 use crate::request::Request;
@@ -18,6 +17,7 @@ use qrcode::QrCode;
 use qrcode::types::{Color, QrResult};
 use qrcode_area::areas::{Area, Rectangle};
 use qrcode_area::covered::lightened;
+use qrcode_formats::Format;
 use std::alloc::{AllocError, Global};
 
 /// Returns the modules along the side of the area that the Swiss cross of a bill covers, in a

@@ -8,9 +8,8 @@ ghost use Rattle.qrcode_render.specs.Picture.{picture};
 ghost use Rattle.qrcode_render.specs.Printers.{packed_file};
 ghost use Rattle.qrcode_render.specs.Setting.{fits};
 ghost use Rattle.goqlanis_core.specs.Formats.{IsDrawnIn, IsDrawnOn, IsFramed, IsPdfOn, IsZplAt, dark_of, ended, eps_ink, eps_on, half_block_text, layout_of, light_of, per_metre, png_ink, rgb, setting_of, shade_of, sheet_of, view_of};
-ghost use Rattle.goqlanis_core.specs.declared.formats.Format.TheVariants.{Png, Tspl};
+ghost use Rattle.qrcode_formats.specs.declared.Format.TheVariants.{Png, Tspl};
 
-use crate::formats::Format;
 use crate::picture::{Ink, Picture, Sheet};
 use crate::terminal::coloured;
 use qrcode::render::image::Luma;
@@ -21,6 +20,7 @@ use qrcode::render::string::Str;
 use qrcode::render::unicode::Dense1x2;
 use qrcode::render::{Pixel, Renderer, eps, escpos, pdf, pgm, pic, ppm, svg, tspl, xbm, zpl};
 use qrcode::types::QrResult;
+use qrcode_formats::Format;
 use qrcode_png::with_density;
 use std::alloc::Global;
 

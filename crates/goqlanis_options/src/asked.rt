@@ -8,14 +8,14 @@ use crate::sizes::{Sizes, sizes_of};
 use crate::warnings::warn;
 use clap::ArgMatches;
 use clap::parser::ValueSource;
-use goqlanis_core::formats::{FORMATS, format_named, format_of_ending};
-use goqlanis_core::{Choice, Format, Request};
+use goqlanis_core::{Choice, Request};
 use goqlanis_files::failure::Failure;
 use goqlanis_files::streams::has_colours;
 use goqlanis_files::usage;
 use qrcode::bits::Manner;
 use qrcode::types::{EcLevel, Version};
 use qrcode_append::Versions;
+use qrcode_formats::{Colours, Density, FORMATS, Format, Middle, format_named, format_of_ending};
 use std::alloc::Global;
 use std::fs;
 
@@ -102,14 +102,13 @@ pub fn asked_for<'a, 'w>(
 
 /// Checks that several drawings go to files, or are text that can be printed one after another.
 pub fn check_one_behind_another(alloc: Global, asked: &Asked<'_, '_>) -> Result<(), Failure> {
-    match (asked.target, asked.request.format) {
-        (Target::File(_), _)
-        | (_, Format::HalfBlocks | Format::Terminal | Format::Chars | Format::Ascii) => Ok(()),
-        _ => usage!(alloc;
-            "only text formats go to standard output one after another: \
-            add --output, e.g. -o a.png, and files are numbered"
-        ),
+    if matches!(asked.target, Target::File(_)) || asked.request.format.row().is_series {
+        return Ok(());
     }
+    usage!(alloc;
+        "pictures of this format cannot follow one another on standard output: add --output, e.g. \
+        -o a.png, and files are numbered; text, zpl, tspl and escpos can"
+    )
 }
 
 // Options that exclude each other, with the advice for each.
@@ -254,18 +253,19 @@ fn check_format(alloc: Global, given: &ArgMatches<'_>, format: Format) -> Result
     // (No option is called "".)
     let part = part_colour(given).unwrap_or("");
     let is_svg = format == Format::SvgPath;
+    let row = format.row();
     let rows: [(&[&str], bool, &str); 8] = [
-        (&["dark", "light"], format.has_colours(),
+        (&["dark", "light"], row.colours != Colours::Fixed,
             "only PNG, SVG, EPS, PDF and PPM have colours; add --format png, svg or eps"),
-        (&[part], format.has_colours() && format != Format::Ppm,
+        (&[part], row.parts != Colours::Fixed,
             "only PNG, SVG, EPS and PDF have colours of parts; add --format png, svg, eps or pdf"),
-        (&["dpi"], format.pixels() > 1 && !is_svg,
+        (&["dpi"], row.density != Density::Nothing,
             "text, SVG and PIC have no resolution; use another --format, e.g. png"),
         (&["invert"], format != Format::Pic,
             "PIC draws no light modules; use another --format"),
-        (&["at"], matches!(format, Format::Zpl | Format::Tspl),
+        (&["at"], row.has_place,
             "only labels have a place for the code; add --format zpl or tspl"),
-        (&["logo"], is_svg || format == Format::Png,
+        (&["logo"], matches!(row.middle, Middle::Element | Middle::Pixels),
             "only SVG and PNG take a logo; add --format svg, or use --logo-area instead and put \
             the logo there yourself"),
         (&["svg-title", "svg-desc", "svg-id", "svg-class", "no-size"], is_svg,

@@ -1,9 +1,10 @@
 //! The size options: `--scale`, `--size`, `--module` and `--dpi`.
 
 use clap::ArgMatches;
-use goqlanis_core::{Format, Length};
+use goqlanis_core::Length;
 use goqlanis_files::failure::Failure;
 use goqlanis_files::usage;
+use qrcode_formats::{Density, Format};
 use qrcode_payloads::numbers::decimal;
 use std::alloc::Global;
 
@@ -28,13 +29,13 @@ pub struct Sizes {
 /// `OutOfMemory`.
 pub fn sizes_of(alloc: Global, given: &ArgMatches<'_>, format: Format) -> Result<Sizes, Failure> {
     let dpi = given.get_one::<u16>("dpi");
-    let is_paper = matches!(format, Format::Eps | Format::Pdf);
-    let is_exact = dpi.is_none() && (is_paper || format == Format::SvgPath);
+    let row = format.row();
+    let is_exact = dpi.is_none() && row.is_exact;
     let mut sizes = Sizes {
-        scale: given.get_one::<u16>("scale").unwrap_or(format.pixels()),
+        scale: given.get_one::<u16>("scale").unwrap_or(row.pixels),
         side: None,
         hundredths: None,
-        dots: if is_paper {
+        dots: if row.density == Density::Unit {
             Some(dpi.unwrap_or(72))
         } else {
             dpi

@@ -2,10 +2,11 @@
 
 use crate::asked::{Asked, Target, ending_format};
 use clap::ArgMatches;
-use goqlanis_core::{Format, Grouped, Ink, Request};
+use goqlanis_core::{Grouped, Ink, Request};
 use goqlanis_files::streams::shown;
 use goqlanis_files::warning;
 use qrcode::types::Color;
+use qrcode_formats::Format;
 use std::fmt;
 
 /// Warns of colours with too little contrast, of UTF-8 text after the ECI of another character set,
@@ -234,7 +235,7 @@ fn on_white(part: u8, opacity: u8) -> u32 {
 // Whether a path has the file extension of another format. A .txt file may be of any text format.
 fn is_named_otherwise(path: &str, format: Format) -> bool {
     match ending_format(path) {
-        Some(Format::HalfBlocks) => !format.is_text(),
+        Some(Format::HalfBlocks) => !format.row().is_text,
         Some(named) => named != format,
         None => false,
     }

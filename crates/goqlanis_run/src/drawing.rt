@@ -11,7 +11,7 @@ use crate::contents::Elements;
 use crate::middle::draw_with_middle;
 use crate::segments::{characters_of, is_empty, segments_of};
 use goqlanis_core::{
-    Drawing, Format, GREATEST_PAINTED, Request, Segment, application_refusal_text, drawing_of,
+    Drawing, GREATEST_PAINTED, Request, Segment, application_refusal_text, drawing_of,
     elements_refusal_text, manner_of, quiet_zone, refusal_text, scale, segments_refusal_text,
     symbol_for_application, symbol_in, symbol_of, symbol_of_elements, unwritable,
 };
@@ -23,6 +23,7 @@ use goqlanis_options::report::show_report;
 use qrcode::QrCode;
 use qrcode::bits::Manner;
 use qrcode::types::QrError;
+use qrcode_formats::{Colours, Format};
 use qrcode_gs1::errors::Gs1Error;
 use qrcode_gs1::symbol::errors::SymbolError;
 use qrcode_gs1::symbol::indicator_of;
@@ -74,11 +75,13 @@ fn check_side(alloc: Global, request: &Request<'_>, code: &QrCode) -> Result<(),
     let modules = code.width() as u32 + 2 * quiet_zone(request, code);
     let scale = scale(request, code);
     let side = modules.saturating_mul(scale);
-    let most = match request.format {
-        Format::Png if !request.parts.is_empty() => GREATEST_PAINTED,
-        Format::Pbm | Format::Pgm | Format::Ppm | Format::Tspl | Format::EscPos | Format::Xbm =>
-            GREATEST_WHOLE,
-        format => format.greatest_side(),
+    let row = request.format.row();
+    let most = if row.is_whole {
+        GREATEST_WHOLE
+    } else if row.parts == Colours::Any && !request.parts.is_empty() {
+        GREATEST_PAINTED
+    } else {
+        row.most
     };
     let (option, limit) = match request.size {
         Some(size) if scale == 0 => return refused!(alloc;
@@ -219,7 +222,8 @@ pub(crate) fn write_drawing(
     let format = asked.request.format;
     match asked.target {
         Target::File(path) => write_file(rt, path, bytes),
-        Target::Terminal if !format.is_text() && rt.stdout().is_terminal() => refused!(rt.alloc();
+        Target::Terminal if !format.row().is_text && rt.stdout().is_terminal() =>
+            refused!(rt.alloc();
             "this format is not for a terminal: add --output FILE, or --output - to write it there \
             anyway"
         ),

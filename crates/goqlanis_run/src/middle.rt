@@ -10,7 +10,7 @@ use goqlanis_core::overlays::{
 };
 use goqlanis_core::pasting::{Inset, pasted};
 use goqlanis_core::places::{Place, place_in};
-use goqlanis_core::{Format, GREATEST_PAINTED, Request, VersionName, quiet_zone, scale};
+use goqlanis_core::{GREATEST_PAINTED, Request, VersionName, quiet_zone, scale};
 use goqlanis_files::failure::Failure;
 use goqlanis_files::refused;
 use goqlanis_files::streams::read_file;
@@ -20,6 +20,7 @@ use qrcode::QrCode;
 use qrcode_area::areas::Rectangle;
 use qrcode_area::excess::Excess;
 use qrcode_area::rectangles::Kept;
+use qrcode_formats::{Format, Middle as Drawn};
 use std::alloc::{AllocError, Global};
 
 // The maximum size of a logo file: 1 MiB.
@@ -35,7 +36,7 @@ pub(crate) const SWISS_CROSS: AskedLogo<'static> = AskedLogo {
 
 /// Whether the format supports the Swiss cross.
 pub(crate) fn has_cross(format: Format) -> bool {
-    format.has_colours() && format != Format::Ppm
+    format.row().middle != Drawn::Light
 }
 
 /// Reads the logo file, once for all codes; returns `None` without `--logo`.
@@ -44,7 +45,7 @@ pub(crate) fn read_logo(rt: &HostRuntime, asked: &Asked<'_, '_>) -> Result<Optio
         return Ok(None);
     };
     let file = read_file(rt, path, MOST_LOGO)?;
-    Ok(Some(if asked.request.format == Format::Png {
+    Ok(Some(if asked.request.format.row().middle == Drawn::Pixels {
         pixels_of(rt.alloc(), path, &file)?
     } else {
         element_of(rt.alloc(), path, &file)?
@@ -62,7 +63,7 @@ pub(crate) fn draw_with_middle(
         return Ok(None);
     };
     let request = &asked.request;
-    let is_png = request.format == Format::Png;
+    let is_png = request.format.row().middle == Drawn::Pixels;
     let area = area_of(alloc, code, wish_of(logo, code))?;
     let bytes = match logo.middle {
         Middle::Logo(Logo::Pixels(pixels, across, down)) => {

@@ -1,5 +1,5 @@
-use Rattle.goqlanis_core.specs.Formats.{formats}
-use Rattle.goqlanis_core.proofs.formats.format_named.Goals as goal
+use Rattle.qrcode_formats.specs.Formats.{formats}
+use Rattle.qrcode_formats.proofs.format_named.Goals as goal
 
 -- the table of the code is the defined one
 pub returns : goal.returns
