@@ -69,22 +69,25 @@ fn argument<'a>(alloc: Global, entry: Entry) -> Result<Arg<'a>, AllocError> {
         Some(letter) => arg.short(letter),
         None => arg,
     };
-    Ok(with_values(with_other_names(arg, entry.long)?, entry.takes))
+    with_values(alloc, with_other_names(arg, entry.long)?, entry.takes)
 }
 
 // Adds what an option takes.
-fn with_values<'a>(arg: Arg<'a>, takes: Takes) -> Arg<'a> {
-    match takes {
-        Takes::Nothing => arg.action(ArgAction::SetTrue),
-        Takes::Text(name) => arg.value_name(name),
-        Takes::Wanted(name) => arg.value_name(name).required(true),
-        Takes::Texts(name) => arg.value_name(name).action(ArgAction::Append),
-        Takes::Path => arg.value_name("FILE"),
-        Takes::Word(name, words) => arg.value_name(name).value_parser(words).ignore_case(true),
-        Takes::Number(name, least, most) => arg
-            .value_name(name)
-            .value_parser(ValueParser::unsigned(least, most)),
+fn with_values<'a>(alloc: Global, arg: Arg<'a>, takes: Takes) -> Result<Arg<'a>, AllocError> {
+    if matches!(takes, Takes::Nothing) {
+        return Ok(arg.action(ArgAction::SetTrue));
     }
+    let arg = arg.value_name(takes.name());
+    Ok(match takes {
+        Takes::Wanted(_) => arg.required(true),
+        Takes::Texts(_) => arg.action(ArgAction::Append),
+        Takes::Word(_, _) | Takes::Format => {
+            let words: &'a [&'static str] = takes.words(alloc)?.leak();
+            arg.value_parser(words).ignore_case(true)
+        }
+        Takes::Number(_, least, most) => arg.value_parser(ValueParser::unsigned(least, most)),
+        _ => arg,
+    })
 }
 
 // Adds the hidden aliases of the option called `name`.

@@ -9,6 +9,7 @@ pub mod completions;
 pub mod frames;
 pub mod logos;
 pub mod manual;
+pub mod modes;
 pub mod nearest;
 pub mod options;
 pub mod report;

@@ -1,28 +1,7 @@
 //! The options of codes: input, level and version, output.
 
-use super::Takes::{self, Nothing, Number, Path, Text, Texts, Word};
+use super::Takes::{self, Format, Nothing, Number, Path, Text, Texts, Word};
 use super::{Entry, Purpose, Task};
-
-// From formats.rt of goqlanis_core, by bindings/same:
-const FORMATS: &[&str] = &[
-    "half-blocks",
-    "terminal",
-    "text",
-    "png",
-    "svg",
-    "eps",
-    "pic",
-    "pbm",
-    "pgm",
-    "pdf",
-    "zpl",
-    "tspl",
-    "escpos",
-    "xbm",
-    "ppm",
-    "ascii",
-];
-// Up to here.
 
 /// The task without a command: a plain code.
 #[rattlefmt::skip]
@@ -107,7 +86,7 @@ pub static LOOKS: &[Entry] = &[
     entry!("output", 'o', Path,
         "Write to FILE, atomically; --lines and split add numbers, e.g. a-000001.png; - is standard \
         output"),
-    entry!("format", 'f', Word("FORMAT", FORMATS),
+    entry!("format", 'f', Format,
         "Output format; terminal: half-blocks in black on white; text: a block per module; ascii: \
         ## per module; zpl, tspl, escpos: printers [default: FILE's extension (.txt: half-blocks); \
         to a terminal: terminal; else half-blocks]"),

@@ -1,0 +1,14 @@
+//! Makes and draws codes, and writes them to files.
+#![tactic(auto)]
+
+mod contents;
+mod drawing;
+mod lines;
+mod logos;
+mod making;
+mod middle;
+mod names;
+mod segments;
+mod splitting;
+
+pub use making::make;
