@@ -8,10 +8,12 @@ use goqlanis_files::refused;
 use goqlanis_files::streams::{Escaped, print};
 use goqlanis_look::{check, join_pictures, read};
 use goqlanis_options::advice::{advice, wrapped_help};
+use goqlanis_options::asked::asked_for;
 use goqlanis_options::command::{command_of, end_of_help};
 use goqlanis_options::completions::{completions_of, shell_named};
 use goqlanis_options::manual::manual_page;
 use goqlanis_options::options::{DRAWING, Purpose, Task, task_named};
+use goqlanis_options::pictures::pictures_of;
 use std::alloc::{AllocError, Global};
 use std::process::ExitCode;
 use std::{env, io};
@@ -97,14 +99,14 @@ fn refuse(
 // Runs a task.
 fn perform(rt: &HostRuntime, task: &Task, given: &ArgMatches<'_>) -> Result<ExitCode, Failure> {
     match task.purpose {
-        Purpose::Read => read(rt, given),
-        Purpose::Check => check(rt, given),
-        Purpose::Join => join_pictures(rt, given),
+        Purpose::Read => read(rt, &pictures_of(given)),
+        Purpose::Check => check(rt, &pictures_of(given)),
+        Purpose::Join => join_pictures(rt, &pictures_of(given)),
         Purpose::Draw => match text_about(rt.alloc(), given)? {
             Some(text) => print(rt, text.as_bytes()),
-            None => make(rt, task, given),
+            None => make(rt, task, &asked_for(rt, task, given)?),
         },
-        _ => make(rt, task, given),
+        _ => make(rt, task, &asked_for(rt, task, given)?),
     }
 }
 

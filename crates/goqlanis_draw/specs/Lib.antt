@@ -1,2 +1,2 @@
-pub mod Options
 pub mod Labels
+pub mod Rows

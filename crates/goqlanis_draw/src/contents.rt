@@ -1,8 +1,8 @@
-//! Payload commands such as `goqlanis wifi`: from options to the text of the payload.
+//! Payload commands such as `goqlanis wifi`: from fields to the text of the payload.
 
 mod elements;
-mod options;
+mod payloads;
 mod refusals;
 
 pub(crate) use elements::Elements;
-pub(crate) use options::payload_of;
+pub(crate) use payloads::payload_of;

@@ -1,6 +1,6 @@
 //! Draws codes and writes them.
 
-ghost use Rattle.std.specs.Prelude.{◌≡◌, ℕ, List, Some, IfOk};
+ghost use Rattle.std.specs.Prelude.{◌≡◌, ℕ, List, None, Some, IfOk};
 ghost use Rattle.qrcode_gs1.specs.Elements.{Item};
 ghost use Rattle.qrcode_gs1.specs.symbol.Indicators.{indicator_of};
 ghost use Rattle.goqlanis_core.specs.Drawings.{IsShownIn};
@@ -8,7 +8,7 @@ ghost use Rattle.goqlanis_core.specs.Elements.{IsApplicationIn, IsElementsIn};
 ghost use Rattle.goqlanis_draw.specs.Labels.{label_text};
 
 use crate::contents::Elements;
-use crate::middle::draw_with_middle;
+use crate::middle::{draw_with_middle, has_pixels, middle_of, warn_of_logo};
 use crate::segments::{characters_of, is_empty, segments_of};
 use goqlanis_core::{
     Drawing, GREATEST_PAINTED, Request, Segment, application_refusal_text, drawing_of,
@@ -23,7 +23,8 @@ use goqlanis_options::report::show_report;
 use qrcode::QrCode;
 use qrcode::bits::Manner;
 use qrcode::types::QrError;
-use qrcode_formats::{Colours, Format};
+use qrcode_area::areas::Rectangle;
+use qrcode_formats::{Format, Middle};
 use qrcode_gs1::errors::Gs1Error;
 use qrcode_gs1::symbol::errors::SymbolError;
 use qrcode_gs1::symbol::indicator_of;
@@ -44,26 +45,43 @@ pub(crate) fn draw_one(
         ..asked.request
     };
     match symbol_in(alloc, request.choice, request.manner, request.level, bytes) {
-        Ok(code) => write_drawing(rt, asked, &draw_code(alloc, &request, code)?),
+        Ok(code) => write_code(rt, &Asked { request, ..*asked }, code),
         Err(error) => Err(Failure::Refused(refusal_text(alloc, &request, bytes, error)?)),
     }
 }
 
-/// Draws `code` as `request` asks.
-///
-/// Errors: `Refused` if a side would have too many pixels, or fewer than modules; `OutOfMemory`.
-pub(crate) fn draw_code(
-    alloc: Global,
-    request: &Request<'_>,
-    code: QrCode,
-) -> Result<Drawing, Failure>
-    ensures symbol { IfOk result (λ drawing. drawing.code ≡ code) }
-    ensures shown { IfOk result (IsShownIn request.now) }
+// A drawing, and the area in its middle if it has one.
+#[derive(Drop)]
+struct Shown {
+    drawing: Drawing,
+    area: Option<Rectangle>,
+}
+
+// Draws `code` as the command line asks, with the logo, cross or area in its middle.
+//
+// Errors: `Refused` if the code has no such area; `OutOfMemory`.
+fn draw_code(alloc: Global, asked: &Asked<'_, '_>, code: QrCode) -> Result<Shown, Failure>
+    ensures symbol { IfOk result (λ shown. shown.drawing.code ≡ code) }
+    ensures shown { asked.now.logo ≡ None
+        → IfOk result (λ shown. IsShownIn asked.now.request shown.drawing) }
 {
-    check_side(alloc, request, &code)?;
-    match drawing_of(alloc, request, code) {
-        Ok(drawing) => Ok(drawing),
-        Err(error) => Err(Failure::Refused(refusal_text(alloc, request, &[], error)?)),
+    if let Some(logo) = &asked.logo {
+        let (area, bytes) = draw_with_middle(alloc, &asked.request, logo, &code)?;
+        let drawing = Drawing { code, bytes };
+        return Ok(Shown {
+            drawing,
+            area: Some(area),
+        });
+    }
+    match drawing_of(alloc, &asked.request, code) {
+        Ok(drawing) => Ok(Shown {
+            drawing,
+            area: None,
+        }),
+        Err(error) => {
+            let why = refusal_text(alloc, &asked.request, &[], error)?;
+            Err(Failure::Refused(why))
+        }
     }
 }
 
@@ -71,14 +89,15 @@ pub(crate) fn draw_code(
 const GREATEST_WHOLE: u32 = 16_384;
 
 // Checks that a side has no more pixels than the format allows, and at least one per module.
-fn check_side(alloc: Global, request: &Request<'_>, code: &QrCode) -> Result<(), Failure> {
+fn check_side(alloc: Global, asked: &Asked<'_, '_>, code: &QrCode) -> Result<(), Failure> {
+    let request = &asked.request;
     let modules = code.width() as u32 + 2 * quiet_zone(request, code);
     let scale = scale(request, code);
     let side = modules.saturating_mul(scale);
     let row = request.format.row();
     let most = if row.is_whole {
         GREATEST_WHOLE
-    } else if row.parts == Colours::Any && !request.parts.is_empty() {
+    } else if row.middle == Middle::Pixels && (!request.parts.is_empty() || has_pixels(asked)) {
         GREATEST_PAINTED
     } else {
         row.most
@@ -104,9 +123,9 @@ pub(crate) fn check_empty(
     asked: &Asked<'_, '_>,
     bytes: &[u8],
 ) -> Result<(), Failure> {
-    if !bytes.is_empty() || asked.given.get_flag("allow-empty") {
+    if !bytes.is_empty() || asked.input.allows_empty {
         Ok(())
-    } else if asked.is_by_line() {
+    } else if asked.input.lines.is_some() {
         refused!(alloc; "it is empty; --allow-empty accepts it")
     } else {
         refused!(alloc;
@@ -115,17 +134,15 @@ pub(crate) fn check_empty(
     }
 }
 
-/// Draws a code of chosen segments, given as words MODE:DATA or eci:NUMBER.
-pub(crate) fn segments_drawing(
+/// Makes a code of chosen segments, given as words MODE:DATA or eci:NUMBER.
+pub(crate) fn segments_code(
     alloc: Global,
     asked: &Asked<'_, '_>,
     words: &[&str],
-) -> Result<Drawing, Failure>
-    ensures { IfOk result (IsShownIn asked.now.request) }
-{
+) -> Result<QrCode, Failure> {
     let segments = segments_of(alloc, words)?;
     let has_none = segments.iter().all(|segment| is_empty(segment));
-    if has_none && !asked.given.get_flag("allow-empty") {
+    if has_none && !asked.input.allows_empty {
         return refused!(alloc;
             "--segment gives no data, and standard input is not read; add --segment byte:TEXT, or \
             --allow-empty"
@@ -141,7 +158,7 @@ pub(crate) fn segments_drawing(
     }
     let request = &asked.request;
     match symbol_of(alloc, request.choice, request.level, &segments) {
-        Ok(code) => draw_code(alloc, request, code),
+        Ok(code) => Ok(code),
         Err(error) => {
             let why = segments_refusal_text(alloc, request, &segments, error)?;
             Err(Failure::Refused(why))
@@ -149,20 +166,19 @@ pub(crate) fn segments_drawing(
     }
 }
 
-/// Draws a code of the GS1 element string in `text`, with identifiers in round brackets.
-pub(crate) fn elements_drawing(
+/// Makes a code of the GS1 element string in `text`, with identifiers in round brackets.
+pub(crate) fn elements_code(
     alloc: Global,
     request: &Request<'_>,
     text: &str,
-) -> Result<Drawing, Failure>
-    ensures symbol { IfOk result (λ drawing. (items : List Item) × ((label_text items ≡ text.now)
-        × IsElementsIn request.now.choice request.now.level items drawing.code)) }
-    ensures shown { IfOk result (IsShownIn request.now) }
+) -> Result<QrCode, Failure>
+    ensures symbol { IfOk result (λ code. (items : List Item) × ((label_text items ≡ text.now)
+        × IsElementsIn request.now.choice request.now.level items code)) }
 {
     let read = Elements::read(alloc, text)?;
     let elements = read.elements(alloc)?;
     match symbol_of_elements(alloc, request.choice, request.level, &elements) {
-        Ok(code) => draw_code(alloc, request, code),
+        Ok(code) => Ok(code),
         Err(SymbolError::Elements(Gs1Error::Refused(index, cause))) => {
             Err(Failure::Refused(read.refusal(alloc, index, cause)?))
         }
@@ -174,17 +190,16 @@ pub(crate) fn elements_drawing(
     }
 }
 
-/// Draws a code of `text` in an industry's own format, which `indicator` names.
-pub(crate) fn application_drawing(
+/// Makes a code of `text` in an industry's own format, which `indicator` names.
+pub(crate) fn application_code(
     alloc: Global,
     request: &Request<'_>,
     indicator: &str,
     text: &str,
-) -> Result<Drawing, Failure>
-    ensures symbol { IfOk result (λ drawing. (application : ℕ)
+) -> Result<QrCode, Failure>
+    ensures symbol { IfOk result (λ code. (application : ℕ)
         × ((indicator_of indicator.now ≡ Some application)
-        × IsApplicationIn request.now.choice application request.now.level text.now drawing.code)) }
-    ensures shown { IfOk result (IsShownIn request.now) }
+        × IsApplicationIn request.now.choice application request.now.level text.now code)) }
 {
     let Some(application) = indicator_of(indicator.as_bytes()) else {
         return usage!(alloc;
@@ -198,7 +213,7 @@ pub(crate) fn application_drawing(
     }
     let bytes = text.as_bytes();
     match symbol_for_application(alloc, request.choice, request.level, application, bytes) {
-        Ok(code) => draw_code(alloc, request, code),
+        Ok(code) => Ok(code),
         Err(QrError::OutOfMemory) => Err(Failure::OutOfMemory),
         Err(_) => {
             let why = application_refusal_text(alloc, request, application, bytes)?;
@@ -207,18 +222,26 @@ pub(crate) fn application_drawing(
     }
 }
 
-/// Writes a drawing to its target, with the logo or area in its middle, and reports it.
-pub(crate) fn write_drawing(
+/// Draws a code, reports it and writes it to its target; with `--dry-run` only reports it.
+pub(crate) fn write_code(
     rt: &HostRuntime,
     asked: &Asked<'_, '_>,
-    drawing: &Drawing,
+    code: QrCode,
 ) -> Result<ExitCode, Failure> {
-    let covered = draw_with_middle(rt.alloc(), asked, &drawing.code)?;
-    let (area, bytes) = match &covered {
-        Some((area, bytes)) => (Some(*area), bytes.as_slice()),
-        None => (None, drawing.bytes.as_slice()),
-    };
-    show_report(rt, asked, drawing, area)?;
+    check_side(rt.alloc(), asked, &code)?;
+    if asked.is_dry {
+        let area = middle_of(rt.alloc(), asked, &code)?;
+        show_report(rt, asked, &code, area)?;
+        return Ok(ExitCode::SUCCESS);
+    }
+    let shown = draw_code(rt.alloc(), asked, code)?;
+    warn_of_logo(rt, asked, &shown.drawing.code, shown.area);
+    show_report(rt, asked, &shown.drawing.code, shown.area)?;
+    write_bytes(rt, asked, &shown.drawing.bytes)
+}
+
+// Writes a drawing to its target.
+fn write_bytes(rt: &HostRuntime, asked: &Asked<'_, '_>, bytes: &[u8]) -> Result<ExitCode, Failure> {
     let format = asked.request.format;
     match asked.target {
         Target::File(path) => write_file(rt, path, bytes),
@@ -240,8 +263,8 @@ pub(crate) fn manner(
     bytes: &[u8],
 ) -> Result<Manner, Failure> {
     match manner_of(bytes) {
-        _ if asked.given.get_flag("bytes") => Ok(Manner::Bytes),
-        manner if !asked.given.get_flag("eci") => Ok(manner),
+        _ if asked.input.is_bytes => Ok(Manner::Bytes),
+        manner if !asked.input.is_eci => Ok(manner),
         Manner::Bytes => refused!(alloc; "the data is not UTF-8: leave out --eci"),
         _ => Ok(Manner::MarkedText),
     }

@@ -8,6 +8,7 @@ mod logos;
 mod making;
 mod middle;
 mod names;
+mod rows;
 mod segments;
 mod splitting;
 

@@ -1,62 +1,79 @@
 //! Makes the codes that the command line asks for.
 
 use crate::contents::payload_of;
-use crate::drawing::{
-    application_drawing, draw_one, elements_drawing, segments_drawing, write_drawing,
-};
-use crate::lines::draw_lines;
+use crate::drawing::{application_code, draw_one, elements_code, segments_code, write_code};
+use crate::lines::{Lined, draw_lines};
 use crate::middle::{SWISS_CROSS, has_cross, read_logo};
+use crate::rows::Columns;
 use crate::splitting::{MOST_IN_SEVERAL, draw_several};
-use clap::ArgMatches;
 use goqlanis_files::failure::Failure;
 use goqlanis_files::streams::{MOST_DATA, read_file, read_standard_input};
 use goqlanis_files::{refused, usage, warning};
-use goqlanis_options::asked::{Asked, Source, asked_for, source_of};
+use goqlanis_options::asked::{Asked, Source};
 use goqlanis_options::logos::{AskedLogo, Middle};
 use goqlanis_options::options::{Purpose, Task};
 use goqlanis_options::warnings::warn_of_password;
 use qrcode::QrCode;
 use qrcode::types::QrError;
 use qrcode_contents::bill;
+use qrcode_payloads::given::Given;
 use qrcode_payloads::kinds::Kind;
 use std::alloc::Global;
 use std::process::ExitCode;
 
 /// Makes codes, after reading the logo file if there is one.
-pub fn make(rt: &HostRuntime, task: &Task, given: &ArgMatches<'_>) -> Result<ExitCode, Failure> {
-    let asked = asked_for(rt, task, given)?;
-    let file = read_logo(rt, &asked)?;
+pub fn make(rt: &HostRuntime, task: &Task, asked: &Asked<'_, '_>) -> Result<ExitCode, Failure> {
+    let file = read_logo(rt, asked)?;
     let middle = file.as_ref().map_or(Middle::Light, Middle::Logo);
     let logo = asked.logo.map(|logo| AskedLogo { middle, ..logo });
-    draw(rt, task, &Asked { logo, ..asked })
+    draw(rt, task, &Asked { logo, ..*asked })
 }
 
 // Makes codes.
 fn draw(rt: &HostRuntime, task: &Task, asked: &Asked<'_, '_>) -> Result<ExitCode, Failure> {
-    let given = asked.given;
-    match task.purpose {
-        Purpose::Several => draw_several(rt, asked, &data(rt, given, MOST_IN_SEVERAL)?),
-        Purpose::Content(kind) => draw_content(rt, kind, asked),
-        Purpose::Elements => draw_gs1(rt, asked),
-        _ if asked.is_by_line() => draw_lines(rt, asked),
-        _ => match given.get_strs("segment") {
-            Some(words) => {
-                let drawing = segments_drawing(rt.alloc(), asked, words)?;
-                write_drawing(rt, asked, &drawing)
-            }
-            None => draw_one(rt, asked, &data(rt, given, MOST_DATA)?),
-        },
+    let what = match task.purpose {
+        Purpose::Several => return draw_several(rt, asked, &data(rt, asked, MOST_IN_SEVERAL)?),
+        Purpose::Content(kind) => Lined::Payload(kind),
+        Purpose::Elements => Lined::Elements,
+        _ => Lined::Data,
+    };
+    asked.fields.check(rt.alloc())?;
+    match (asked.input.lines, what, asked.input.segments) {
+        (Some(lines), _, _) => draw_lines(rt, asked, lines, what),
+        (None, Lined::Payload(kind), _) => draw_content(rt, kind, asked),
+        (None, Lined::Elements, _) => draw_gs1(rt, asked),
+        (None, Lined::Data, Some(words)) => {
+            write_code(rt, asked, segments_code(rt.alloc(), asked, words)?)
+        }
+        (None, Lined::Data, None) => draw_one(rt, asked, &data(rt, asked, MOST_DATA)?),
     }
 }
 
-// Draws a payload.
+// Draws a payload whose fields the options give.
 fn draw_content(rt: &HostRuntime, kind: Kind, asked: &Asked<'_, '_>) -> Result<ExitCode, Failure> {
-    let text = payload_of(rt.alloc(), kind, asked.given)?;
+    if matches!(asked.input.source, Source::File(_)) {
+        return usage!(rt.alloc();
+            "--input goes with --lines, which takes the fields from columns; without it, options \
+            give them"
+        );
+    }
+    draw_payload(rt, kind, asked, &asked.fields, &Columns::none(rt.alloc()))
+}
+
+/// Draws a payload with these fields; messages name those of `columns` by column.
+pub(crate) fn draw_payload<G: Given>(
+    rt: &HostRuntime,
+    kind: Kind,
+    asked: &Asked<'_, '_>,
+    given: &G,
+    columns: &Columns,
+) -> Result<ExitCode, Failure> {
+    let text = payload_of(rt.alloc(), kind, given, columns)?;
     if matches!(kind, Kind::Bill) {
         return draw_bill(rt, asked, text.as_str());
     }
     if matches!(kind, Kind::Wifi) {
-        warn_of_password(rt, asked.given);
+        warn_of_password(rt, given);
     }
     draw_one(rt, asked, text.as_bytes())
 }
@@ -70,6 +87,9 @@ fn draw_bill(rt: &HostRuntime, asked: &Asked<'_, '_>, text: &str) -> Result<Exit
     let logo = has_cross(asked.request.format).then_some(SWISS_CROSS);
     if logo.is_none() {
         warning!(rt; "this format lacks the Swiss cross of a bill; png, svg, eps and pdf have it");
+    }
+    if asked.request.is_inverted {
+        warning!(rt; "a bill is dark on light: leave out --invert");
     }
     draw_one(rt, &Asked { logo, ..*asked }, text.as_bytes())
 }
@@ -88,8 +108,8 @@ fn check_bill(alloc: Global, text: &str) -> Result<(), Failure> {
         Err(_) => {
             let more = text.len() - BILL_ROOM;
             refused!(alloc;
-                "the whole text: a bill has at most version 25, of {BILL_ROOM} bytes; shorten \
-                fields by {more} bytes (a letter with an accent takes two)"
+                "too long: a bill may use at most version 25 ({BILL_ROOM} bytes); shorten it by {more} \
+                bytes (a letter with an accent takes two)"
             )
         }
     }
@@ -97,22 +117,35 @@ fn check_bill(alloc: Global, text: &str) -> Result<(), Failure> {
 
 // Draws a GS1 element string, or data in an industry's own format.
 fn draw_gs1(rt: &HostRuntime, asked: &Asked<'_, '_>) -> Result<ExitCode, Failure> {
-    let text = asked.given.get_str("ELEMENTS").unwrap_or("");
-    let drawing = match asked.given.get_str("application") {
-        None => elements_drawing(rt.alloc(), &asked.request, text)?,
-        Some(indicator) => application_drawing(rt.alloc(), &asked.request, indicator, text)?,
+    let bytes = data(rt, asked, MOST_DATA)?;
+    let Ok(text) = str::from_utf8(&bytes) else {
+        return refused!(rt.alloc(); "ELEMENTS: they are not UTF-8");
     };
-    write_drawing(rt, asked, &drawing)
+    let text = text.trim_end_matches('\n');
+    let Some(indicator) = asked.input.application else {
+        return draw_elements(rt, asked, text);
+    };
+    let code = application_code(rt.alloc(), &asked.request, indicator, text)?;
+    write_code(rt, asked, code)
+}
+
+/// Draws a GS1 element string.
+pub(crate) fn draw_elements(
+    rt: &HostRuntime,
+    asked: &Asked<'_, '_>,
+    text: &str,
+) -> Result<ExitCode, Failure> {
+    write_code(rt, asked, elements_code(rt.alloc(), &asked.request, text)?)
 }
 
 // Returns the data to encode; at most `most` bytes are read.
-fn data(rt: &HostRuntime, given: &ArgMatches<'_>, most: usize) -> Result<Vec<u8>, Failure> {
-    let mut bytes = match source_of(given) {
+fn data(rt: &HostRuntime, asked: &Asked<'_, '_>, most: usize) -> Result<Vec<u8>, Failure> {
+    let mut bytes = match asked.input.source {
         Source::Text(text) => Vec::from_slice(rt.alloc(), text.as_bytes())?,
         Source::File(path) => read_file(rt, path, most)?,
         Source::StandardInput => read_standard_input(rt, "the text", most)?,
     };
-    if given.get_flag("trim") && bytes.last() == Some(&b'\n') {
+    if asked.input.is_trimmed && bytes.last() == Some(&b'\n') {
         bytes.pop();
     }
     Ok(bytes)

@@ -10,10 +10,10 @@ use goqlanis_core::overlays::{
 };
 use goqlanis_core::pasting::{Inset, pasted};
 use goqlanis_core::places::{Place, place_in};
-use goqlanis_core::{GREATEST_PAINTED, Request, VersionName, quiet_zone, scale};
+use goqlanis_core::{Request, VersionName};
 use goqlanis_files::failure::Failure;
-use goqlanis_files::refused;
 use goqlanis_files::streams::read_file;
+use goqlanis_files::{refused, warning};
 use goqlanis_options::asked::Asked;
 use goqlanis_options::logos::{AskedLogo, Logo, Middle};
 use qrcode::QrCode;
@@ -41,7 +41,7 @@ pub(crate) fn has_cross(format: Format) -> bool {
 
 /// Reads the logo file, once for all codes; returns `None` without `--logo`.
 pub(crate) fn read_logo(rt: &HostRuntime, asked: &Asked<'_, '_>) -> Result<Option<Logo>, Failure> {
-    let Some(path) = asked.given.get_str("logo") else {
+    let Some(path) = asked.logo_file else {
         return Ok(None);
     };
     let file = read_file(rt, path, MOST_LOGO)?;
@@ -52,17 +52,38 @@ pub(crate) fn read_logo(rt: &HostRuntime, asked: &Asked<'_, '_>) -> Result<Optio
     }))
 }
 
-/// Draws a code with the requested logo, cross or empty area, and returns the area with the bytes
-/// of the drawing; `None` if nothing is requested.
-pub(crate) fn draw_with_middle(
+/// Whether what is in the middle is drawn as pixels.
+pub(crate) fn has_pixels(asked: &Asked<'_, '_>) -> bool {
+    asked
+        .logo
+        .as_ref()
+        .is_some_and(|logo| !matches!(logo.middle, Middle::Light))
+}
+
+/// Returns the area in the middle of a code, if the command line asks for one.
+///
+/// Errors: `Refused` if the code has no such area; `OutOfMemory`.
+pub(crate) fn middle_of(
     alloc: Global,
     asked: &Asked<'_, '_>,
     code: &QrCode,
-) -> Result<Option<(Rectangle, Vec<u8>)>, Failure> {
-    let Some(logo) = &asked.logo else {
-        return Ok(None);
-    };
-    let request = &asked.request;
+) -> Result<Option<Rectangle>, Failure> {
+    match &asked.logo {
+        Some(logo) => Ok(Some(area_of(alloc, code, wish_of(logo, code))?)),
+        None => Ok(None),
+    }
+}
+
+/// Draws a code with the requested logo, cross or empty area; returns the area with the bytes of
+/// the drawing.
+///
+/// Errors: `Refused` if the code has no such area; `OutOfMemory`.
+pub(crate) fn draw_with_middle(
+    alloc: Global,
+    request: &Request<'_>,
+    logo: &AskedLogo<'_>,
+    code: &QrCode,
+) -> Result<(Rectangle, Vec<u8>), Failure> {
     let is_png = request.format.row().middle == Drawn::Pixels;
     let area = area_of(alloc, code, wish_of(logo, code))?;
     let bytes = match logo.middle {
@@ -84,7 +105,26 @@ pub(crate) fn draw_with_middle(
         Middle::Cross => draw_inside(alloc, request, code, area, Inside::Cross),
         Middle::Light => draw_inside(alloc, request, code, area, Inside::Nothing),
     };
-    Ok(Some((area, bytes?)))
+    Ok((area, bytes?))
+}
+
+/// Warns of a logo whose area is less than a tenth of the code's side, across or down.
+pub(crate) fn warn_of_logo(
+    rt: &HostRuntime,
+    asked: &Asked<'_, '_>,
+    code: &QrCode,
+    area: Option<Rectangle>,
+) {
+    let Some(area) = area.filter(|_| asked.logo_file.is_some()) else {
+        return;
+    };
+    let (width, height) = (area.width, area.height);
+    if width.min(height).saturating_mul(10) < code.width() {
+        warning!(rt;
+            "the logo gets only {width} by {height} modules; for more, use --logo-size 40% or a \
+            larger version with -v"
+        );
+    }
 }
 
 // Draws a code with the Swiss cross, as a PNG file.
@@ -113,13 +153,6 @@ fn draw_inset(
     area: Rectangle,
     inset: &Inset<'_>,
 ) -> Result<Vec<u8>, Failure> {
-    let side = code.width() as u64 + 2 * quiet_zone(request, code) as u64;
-    if side * scale(request, code) as u64 > GREATEST_PAINTED as u64 {
-        return refused!(alloc;
-            "a PNG file with a picture in its middle has at most {GREATEST_PAINTED} pixels a side; \
-            use a smaller --scale or --size"
-        );
-    }
     pasted(alloc, request, code, area, inset).map_err(|_| Failure::OutOfMemory)
 }
 

@@ -1,10 +1,11 @@
 //! Names of numbered files, and of files named after lines, from the pattern in `--output`.
 
+use crate::rows::{Columns, Line};
 use goqlanis_files::failure::Failure;
 use goqlanis_files::files::is_stream;
 use goqlanis_files::streams::is_unseen;
 use goqlanis_files::{refused, usage};
-use goqlanis_options::asked::{Asked, Target};
+use goqlanis_options::asked::{Asked, Source, Target};
 use std::alloc::{AllocError, Global};
 use std::collections::BTreeSet;
 use std::fs;
@@ -22,7 +23,11 @@ enum Place {
 }
 
 /// Checks that file names can be made from the path in `--output`.
-pub(crate) fn check_names(rt: &HostRuntime, asked: &Asked<'_, '_>) -> Result<(), Failure> {
+pub(crate) fn check_names(
+    rt: &HostRuntime,
+    asked: &Asked<'_, '_>,
+    columns: &Columns,
+) -> Result<(), Failure> {
     let Target::File(path) = asked.target else {
         return Ok(());
     };
@@ -32,16 +37,16 @@ pub(crate) fn check_names(rt: &HostRuntime, asked: &Asked<'_, '_>) -> Result<(),
             "--output {path}: each code gets its own file; name one, e.g. a.png, or leave out \
             --output for text"
         )
-    } else if folder.contains("{}") || has_text(folder) {
+    } else if folder.contains("{}") || has_text(folder, columns) {
         usage!(rt.alloc();
             "--output: {{}}, {{text}} and {{1}} are for the file name, not for its folder"
         )
-    } else if has_text(path) && !asked.is_by_line() {
+    } else if has_text(path, columns) && asked.input.lines.is_none() {
         usage!(rt.alloc(); "--output: {{text}} and {{1}} are for --lines; {{}} is the number")
-    } else if let Some(word) = unknown_word(path) {
+    } else if let Some(word) = unknown_word(path, columns) {
         usage!(rt.alloc();
             "--output: {{{word}}} is unknown; {{}} is the number, {{text}} the line, {{1}} its \
-            first field"
+            first field; --header or --columns name others"
         )
     } else {
         Ok(())
@@ -49,22 +54,21 @@ pub(crate) fn check_names(rt: &HostRuntime, asked: &Asked<'_, '_>) -> Result<(),
 }
 
 // Returns the first placeholder that is unknown.
-fn unknown_word(path: &str) -> Option<&str> {
+fn unknown_word<'a>(path: &'a str, columns: &Columns) -> Option<&'a str> {
     path.split('{').skip(1).find_map(|piece| {
         let (word, _) = piece.split_once('}')?;
-        place_of(piece).is_none().then_some(word)
+        place_of(piece, columns).is_none().then_some(word)
     })
 }
 
-/// Records `name` in `taken`, if it depends on the line's text; refuses it if an earlier line has
-/// the same.
+/// Records `name` in `taken`; refuses it if an earlier line has the same, or one that differs only
+/// in case, which some systems ignore.
 pub(crate) fn take_name(
     alloc: Global,
     taken: &mut BTreeSet<String>,
-    path: &str,
     name: &str,
 ) -> Result<(), Failure> {
-    if !has_text(path) || taken.insert(String::from_str(alloc, name)?)? {
+    if taken.insert(name.to_ascii_lowercase(alloc)?)? {
         return Ok(());
     }
     refused!(alloc;
@@ -82,7 +86,7 @@ pub(crate) fn check_made(
         "a pipe, device or folder"
     } else if fs::symlink_metadata(rt, name).is_ok_and(|found| found.is_symlink()) {
         "a link"
-    } else if asked.given.get_str("input") == Some(name) {
+    } else if matches!(asked.input.source, Source::File(path) if path == name) {
         "the input"
     } else {
         return Ok(());
@@ -90,21 +94,23 @@ pub(crate) fn check_made(
     refused!(rt.alloc(); "{name} is {what}; each code gets its own file")
 }
 
-/// Returns the file name for a line: `path` with its placeholders filled in, or else with `number`
-/// before the file extension. Numbers count from 1; `delimiter` separates the fields of `line`.
+/// Returns the file name for a line: `path` with its placeholders filled in, or else with the number
+/// of the line before the file extension.
+///
+/// Errors: `Refused` if the line lacks a field, or the name is none that a file may have;
+/// `OutOfMemory`.
 pub(crate) fn name_of(
     alloc: Global,
     path: &str,
-    number: usize,
-    line: &str,
-    delimiter: &str,
+    columns: &Columns,
+    line: &Line,
 ) -> Result<String, Failure> {
-    if !path.contains("{}") && !has_text(path) {
-        return Ok(numbered(alloc, path, number)?);
+    if !path.contains("{}") && !has_text(path, columns) {
+        return Ok(numbered(alloc, path, line.number)?);
     }
     let mut name = String::from_str(alloc, path.split('{').next().unwrap_or(""))?;
     for piece in path.split('{').skip(1) {
-        push_piece(&mut name, piece, number, line, delimiter)?;
+        push_piece(&mut name, piece, columns, line)?;
     }
     check_name(alloc, path, name.as_str())?;
     Ok(name)
@@ -118,7 +124,9 @@ fn check_name(alloc: Global, pattern: &str, path: &str) -> Result<(), Failure> {
     if name.len() > MOST_IN_NAME {
         refused!(alloc; "its file name would have more than 255 bytes")
     } else if matches!(name, "" | "." | "..") {
-        refused!(alloc; "its file would have no name, or that of a folder")
+        refused!(alloc; "its file name would be empty, \".\" or \"..\"")
+    } else if is_reserved(name) {
+        refused!(alloc; "its file would be {name}, a name that Windows reserves")
     } else if is_hidden {
         refused!(alloc; "its file name would begin with a dot, since the field is empty")
     } else {
@@ -126,13 +134,28 @@ fn check_name(alloc: Global, pattern: &str, path: &str) -> Result<(), Failure> {
     }
 }
 
+// Whether Windows reserves a name, with any file extension.
+fn is_reserved(name: &str) -> bool {
+    let stem = name.split('.').next().unwrap_or("");
+    let device = stem.trim_end_matches(|character: char| character.is_ascii_digit());
+    let is_numbered = stem.len() == device.len().saturating_add(1);
+    if is_numbered {
+        return ["com", "lpt"]
+            .iter()
+            .any(|known| device.eq_ignore_ascii_case(known));
+    }
+    ["con", "prn", "aux", "nul"]
+        .iter()
+        .any(|known| stem.eq_ignore_ascii_case(known))
+}
+
 // Returns what follows the last slash.
 fn file_name(path: &str) -> &str {
     path.rsplit('/').next().unwrap_or("")
 }
 
-// Inserts a number before the file extension.
-fn numbered(alloc: Global, path: &str, number: usize) -> Result<String, AllocError> {
+/// Inserts a number before the file extension.
+pub(crate) fn numbered(alloc: Global, path: &str, number: usize) -> Result<String, AllocError> {
     match path.rsplit_once('.') {
         Some((stem, ending)) if !ending.contains('/') => {
             format!(in alloc; "{stem}-{number:06}.{ending}")
@@ -141,21 +164,22 @@ fn numbered(alloc: Global, path: &str, number: usize) -> Result<String, AllocErr
     }
 }
 
-// Whether a path has a placeholder for text of the line.
-fn has_text(path: &str) -> bool {
+/// Whether a path has a placeholder for text of the line.
+pub(crate) fn has_text(path: &str, columns: &Columns) -> bool {
     path.split('{').skip(1).any(|piece| matches!(
-        place_of(piece),
+        place_of(piece, columns),
         Some((Place::Text | Place::Field(_), _))
     ))
 }
 
 // Parses the placeholder whose `{` precedes `piece`; returns it and the rest after its `}`.
-fn place_of(piece: &str) -> Option<(Place, &str)> {
+fn place_of<'a>(piece: &'a str, columns: &Columns) -> Option<(Place, &'a str)> {
     let (word, rest) = piece.split_once('}')?;
-    let place = match (word, word.parse::<usize>()) {
-        ("", _) => Place::Number,
-        ("text", _) => Place::Text,
-        (_, Ok(number)) if number > 0 && !word.starts_with('+') => Place::Field(number),
+    let place = match (word, word.parse::<usize>(), columns.number_of(word)) {
+        ("", _, _) => Place::Number,
+        (_, _, Some(number)) => Place::Field(number),
+        ("text", _, _) => Place::Text,
+        (_, Ok(number), _) if number > 0 && !word.starts_with('+') => Place::Field(number),
         _ => return None,
     };
     Some((place, rest))
@@ -166,70 +190,19 @@ fn place_of(piece: &str) -> Option<(Place, &str)> {
 fn push_piece(
     name: &mut String,
     piece: &str,
-    number: usize,
-    line: &str,
-    delimiter: &str,
+    columns: &Columns,
+    line: &Line,
 ) -> Result<(), Failure> {
-    let Some((place, rest)) = place_of(piece) else {
+    let Some((place, rest)) = place_of(piece, columns) else {
         return Ok(write!(name, "{{{piece}")?);
     };
+    let number = line.number;
     match place {
         Place::Number => write!(name, "{number}")?,
-        Place::Text => push_clean(name, line)?,
-        Place::Field(number) => {
-            let field = field_of(*name.allocator(), line, delimiter, number)?;
-            push_clean(name, field.as_str())?;
-        }
+        Place::Text => push_clean(name, line.text.as_str())?,
+        Place::Field(number) => push_clean(name, line.field(*name.allocator(), number)?)?,
     }
     Ok(name.push_str(rest)?)
-}
-
-/// Returns a field of `line`, counted from 1. As in CSV, a quoted field may contain the delimiter,
-/// and a quotation mark that is doubled.
-pub(crate) fn field_of(
-    alloc: Global,
-    line: &str,
-    delimiter: &str,
-    number: usize,
-) -> Result<String, Failure> {
-    let mut field = String::new(alloc);
-    let (mut place, mut is_open, mut is_odd) = (0usize, false, false);
-    for piece in line.split(delimiter) {
-        if is_open {
-            field.push_str(delimiter)?;
-            is_odd = is_odd != has_odd_quotes(delimiter);
-        } else {
-            field.clear();
-            place = place.saturating_add(1);
-            is_odd = false;
-        }
-        field.push_str(piece)?;
-        is_odd = is_odd != has_odd_quotes(piece);
-        is_open = is_odd && field.starts_with('"');
-        if place == number && !is_open {
-            return Ok(unquoted(alloc, field.as_str())?);
-        }
-    }
-    if is_open {
-        return refused!(alloc; "a field has no quotation mark at its end");
-    }
-    refused!(alloc; "it has no field {number}; --delimiter says what separates fields")
-}
-
-fn has_odd_quotes(text: &str) -> bool {
-    text.bytes().filter(|byte| *byte == b'"').count() % 2 == 1
-}
-
-// Removes the quotation marks around a field, and undoubles those inside.
-fn unquoted(alloc: Global, field: &str) -> Result<String, AllocError> {
-    let inner = field
-        .strip_prefix('"')
-        .and_then(|rest| rest.strip_suffix('"'));
-    let Some(inner) = inner else {
-        return String::from_str(alloc, field);
-    };
-    let parts = inner.split("\"\"").collect::<Vec<&str>>(alloc)?;
-    parts.join(alloc, "\"")
 }
 
 // Appends text to a file name. `_` replaces characters that some systems forbid, invisible ones, a

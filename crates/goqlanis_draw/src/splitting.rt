@@ -1,7 +1,8 @@
 //! `goqlanis split`: structured append.
 
-use crate::drawing::{check_empty, draw_code, manner, write_drawing};
+use crate::drawing::{check_empty, manner, write_code};
 use crate::names::{check_made, check_names, name_of};
+use crate::rows::{Columns, Line};
 use goqlanis_files::failure::Failure;
 use goqlanis_files::refused;
 use goqlanis_files::streams::{MOST_DATA, shown};
@@ -9,6 +10,7 @@ use goqlanis_options::asked::{Asked, Target, check_one_behind_another, versions_
 use qrcode::QrCode;
 use qrcode::types::QrError;
 use qrcode_append::{encode_among, encode_counted};
+use std::alloc::Global;
 use std::fs;
 use std::process::ExitCode;
 
@@ -26,12 +28,12 @@ pub(crate) fn draw_several(
 ) -> Result<ExitCode, Failure> {
     let alloc = rt.alloc();
     check_one_behind_another(alloc, asked)?;
-    check_names(rt, asked)?;
+    check_names(rt, asked, &Columns::none(alloc))?;
     check_empty(alloc, asked, bytes)?;
-    let versions = versions_of(alloc, asked.given, asked.request.choice)?;
+    let versions = versions_of(alloc, asked)?;
     let level = asked.request.level;
     let manner = manner(alloc, asked, bytes)?;
-    let made = match asked.given.get_one::<u8>("count") {
+    let made = match asked.split.count {
         None => encode_among(alloc, bytes, manner, versions, level),
         Some(count) => encode_counted(alloc, bytes, manner, versions, level, count as usize),
     };
@@ -39,7 +41,7 @@ pub(crate) fn draw_several(
         Ok(codes) => draw_each(rt, asked, codes),
         Err(QrError::DataTooLong) => refused!(alloc;
             "the data does not fit: allow more codes (--count, up to 16), larger versions or a \
-            lower --level"
+            lower --level; 16 codes hold at most 47,216 bytes, at --level L"
         ),
         Err(_) => Err(Failure::OutOfMemory),
     }
@@ -53,14 +55,13 @@ fn draw_each(
 ) -> Result<ExitCode, Failure> {
     let count = codes.len();
     for (index, code) in codes.into_iter().enumerate() {
-        let drawing = draw_code(rt.alloc(), &asked.request, code)?;
         if let Target::File(path) = asked.target {
-            let name = name_of(rt.alloc(), path, index.saturating_add(1), "", "")?;
+            let name = part_name(rt.alloc(), path, index.saturating_add(1))?;
             check_made(rt, asked, name.as_str())?;
             let target = Target::File(name.as_str());
-            write_drawing(rt, &Asked { target, ..*asked }, &drawing)?;
+            write_code(rt, &Asked { target, ..*asked }, code)?;
         } else {
-            write_drawing(rt, asked, &drawing)?;
+            write_code(rt, asked, code)?;
         }
     }
     if let Target::File(path) = asked.target {
@@ -69,11 +70,21 @@ fn draw_each(
     Ok(ExitCode::SUCCESS)
 }
 
+// Returns the file name of a part.
+fn part_name(alloc: Global, path: &str, number: usize) -> Result<String, Failure> {
+    let line = Line {
+        number,
+        text: String::new(alloc),
+        fields: Vec::new(alloc),
+    };
+    name_of(alloc, path, &Columns::none(alloc), &line)
+}
+
 // Warns of files with higher numbers, left by an earlier run.
 fn warn_of_others(rt: &HostRuntime, path: &str, count: usize) -> Result<(), Failure> {
     let mut others = String::new(rt.alloc());
     for number in count.saturating_add(1)..MOST_SYMBOLS + 1 {
-        let name = name_of(rt.alloc(), path, number, "", "")?;
+        let name = part_name(rt.alloc(), path, number)?;
         if fs::exists(rt, name.as_str()).unwrap_or(false) {
             write!(others, " {name}")?;
         }

@@ -15,7 +15,7 @@ pub enum Unwritten {
     #[error("{0}")]
     File(#[from] io::Error),
     /// No file can be created in this folder.
-    #[error("no file can be made in its folder {0}: {1}")]
+    #[error("cannot create a file in {0}: {1}")]
     Folder(String, io::Error),
     /// The user may not read this folder, in which the file would be created.
     #[error("its folder {0} cannot be read by this user: name another one, or allow it with chmod +r")]
@@ -24,13 +24,13 @@ pub enum Unwritten {
     #[error("it is a folder; name a file in it")]
     IsFolder,
     /// The new file was written under a temporary name, and cannot be renamed to its path.
-    #[error("another file cannot take its place: {0}")]
+    #[error("cannot replace it: {0}")]
     Place(io::Error),
     /// The path names a file of another user, who could not read the new one.
     #[error("it belongs to another user, who could not read the new one: remove it first")]
     Owner,
     /// The path names another user's file, link or pipe in a folder that everybody may write to.
-    #[error("it is another user's, in a folder for everybody: remove it, or take another name")]
+    #[error("it belongs to another user, in a folder writable by everybody: remove it, or take another name")]
     Strange,
     /// All temporary names are taken in this folder.
     #[error("its folder {0} has goqlanis-0.new to goqlanis-9999.new: remove those of ended runs")]

@@ -1,11 +1,13 @@
 //! `goqlanis check`: reports where the codes in a picture depart from the standard.
 
-use crate::reading::{picture_of, warn_of_missed};
-use clap::ArgMatches;
+use crate::reading::{complain, picture_of, warn_of_missed};
+use crate::reports::{push_file, push_heading};
 use goqlanis_core::{Unread, VersionName, check_codes};
 use goqlanis_files::failure::Failure;
 use goqlanis_files::refused;
 use goqlanis_files::streams::print;
+use goqlanis_options::asked::Report;
+use goqlanis_options::pictures::Pictures;
 use goqlanis_options::push_either;
 use goqlanis_options::warnings::Decimal;
 use qrcode_check::correction::grade_of;
@@ -15,42 +17,82 @@ use qrcode_check::{Check, Content};
 use std::alloc::{AllocError, Global};
 use std::process::ExitCode;
 
-/// Checks the codes in the picture that the command line names and prints a report. The status is 1
-/// if a code departs from the standard or is not decoded.
-pub fn check(rt: &HostRuntime, given: &ArgMatches<'_>) -> Result<ExitCode, Failure> {
+/// Checks the codes in pictures and prints a report. The status is 1 if a code departs from the
+/// standard or is not decoded, or if one of several pictures cannot be read.
+pub fn check(rt: &HostRuntime, pictures: &Pictures<'_, '_>) -> Result<ExitCode, Failure> {
+    let is_json = pictures.report == Report::Json;
+    let mut is_standard = true;
+    let mut text = String::new(rt.alloc());
+    for name in pictures.names {
+        let file = if pictures.is_many { *name } else { "" };
+        match check_one(rt, is_json, name, file, &mut text) {
+            Ok(is_so) => is_standard = is_standard && is_so,
+            Err(Failure::Refused(why)) if pictures.is_many => {
+                complain(rt, why.as_str());
+                is_standard = false;
+            }
+            Err(failure) => return Err(failure),
+        }
+    }
+    if is_json {
+        text.push_str(if text.is_empty() { "[\n]\n" } else { "\n]\n" })?;
+    }
+    print(rt, text.as_bytes())?;
+    Ok(if is_standard {
+        ExitCode::SUCCESS
+    } else {
+        ExitCode::FAILURE
+    })
+}
+
+// Checks the codes in a picture and appends the report; `file` names it there, unless it is empty.
+// Returns whether all are read and follow the standard.
+fn check_one(
+    rt: &HostRuntime,
+    is_json: bool,
+    name: &str,
+    file: &str,
+    text: &mut String,
+) -> Result<bool, Failure> {
     let alloc = rt.alloc();
-    let (name, bytes) = picture_of(rt, given.get_str("PICTURE").unwrap_or("-"))?;
+    let (name, bytes) = picture_of(rt, name)?;
     let found = match check_codes(alloc, &bytes) {
         Ok(found) => found,
         Err(Unread::OutOfMemory) => return Err(Failure::OutOfMemory),
         Err(error) => return refused!(alloc; "cannot check {name}: {error}"),
     };
     let checks = found.checks.as_slice();
-    let text = report(alloc, checks, given.get_flag("json"))?;
-    print(rt, text.as_bytes())?;
-    let is_whole = warn_of_missed(rt, &found.codes);
-    if is_whole && checks.iter().all(|check| check.is_standard()) {
-        Ok(ExitCode::SUCCESS)
+    if is_json {
+        push_objects(text, checks, file)?;
     } else {
-        Ok(ExitCode::FAILURE)
+        push_heading(text, file)?;
+        push_texts(text, checks)?;
     }
+    let is_whole = warn_of_missed(rt, &found.codes);
+    Ok(is_whole && checks.iter().all(|check| check.is_standard()))
 }
 
-// Reports on codes, as a JSON list, or as lines of text with a heading for each of several codes.
-fn report(alloc: Global, checks: &[Check], is_json: bool) -> Result<String, AllocError> {
-    let mut text = String::from_str(alloc, if is_json { "[" } else { "" })?;
+// Appends a JSON object for each code.
+fn push_objects(text: &mut String, checks: &[Check], file: &str) -> Result<(), AllocError> {
+    for check in checks {
+        text.push_str(if text.is_empty() { "[\n" } else { ",\n" })?;
+        push_file(text, file)?;
+        push_check(text, check, true)?;
+    }
+    Ok(())
+}
+
+// Appends lines of text, with a heading for each of several codes.
+fn push_texts(text: &mut String, checks: &[Check]) -> Result<(), AllocError> {
     let count = checks.len();
     for (place, check) in checks.iter().enumerate() {
         let number = place.saturating_add(1);
-        if is_json {
-            text.push_str(if place == 0 { "\n" } else { ",\n" })?;
-        } else if count > 1 {
+        if count > 1 {
             write!(text, "code {number} of {count}\n")?;
         }
-        push_check(&mut text, check, is_json)?;
+        push_check(text, check, false)?;
     }
-    text.push_str(if is_json { "\n]\n" } else { "" })?;
-    Ok(text)
+    Ok(())
 }
 
 // Appends the report on a code: a JSON object on one line, or lines of text.
@@ -64,7 +106,7 @@ fn push_check(text: &mut String, check: &Check, is_json: bool) -> Result<(), All
         push_verdict(text, check)?;
     }
     push_either!(text, is_json;
-        "{{\"version\": \"{version}\", \"level\": \"{level:?}\", \"mask\": {mask}, \
+        "\"version\": \"{version}\", \"level\": \"{level:?}\", \"mask\": {mask}, \
         \"wrong_by_block\": [{wrong}], \"allowed_by_block\": {allowed}, \
         \"unused_correction\": {share}, \"grade\": \"{grade:?}\", \"wrong_modules\": {{",
         "version {version}, level {level:?}, mask {mask}\n\
@@ -82,6 +124,19 @@ fn push_verdict(text: &mut String, check: &Check) -> Result<(), AllocError> {
     if check.is_standard() {
         return text.push_str("meets the standard: yes\n");
     }
+    let reasons = reasons_of(check);
+    let mut sign = "meets the standard: no: ";
+    for (is_so, reason) in &reasons {
+        if *is_so {
+            write!(text, "{sign}{reason}")?;
+            sign = "; ";
+        }
+    }
+    text.push_str("\n")
+}
+
+// Returns why a code may not meet the standard, each with whether it is so.
+fn reasons_of(check: &Check) -> [(bool, &'static str); 5] {
     let (is_longer, is_ended) = match &check.content {
         Some(Content { taken, ending, .. }) => (
             taken.is_some_and(|taken| taken.bits > taken.least),
@@ -90,7 +145,7 @@ fn push_verdict(text: &mut String, check: &Check) -> Result<(), AllocError> {
         None => (false, true),
     };
     let is_least = check.own.lower == 0 || check.stepped.lower == 0;
-    let reasons = [
+    [
         (
             !is_whole(check),
             "some modules are wrong, e.g. damaged or under a logo, but corrected",
@@ -102,15 +157,7 @@ fn push_verdict(text: &mut String, check: &Check) -> Result<(), AllocError> {
             is_whole(check) && !is_least,
             "another mask has a lower penalty, though readers take any",
         ),
-    ];
-    let mut sign = "meets the standard: no: ";
-    for (is_so, reason) in &reasons {
-        if *is_so {
-            write!(text, "{sign}{reason}")?;
-            sign = "; ";
-        }
-    }
-    text.push_str("\n")
+    ]
 }
 
 // Whether no codeword and no module outside the codewords is wrong.
@@ -158,19 +205,7 @@ fn push_content(
             "data: its bits are not segments and a terminator\n"
         );
     };
-    match content.taken {
-        Some(Taken { bits, least }) => {
-            let more = bits.saturating_sub(least);
-            push_either!(text, is_json;
-                "\"segments\": true, \"bits\": {bits}, \"fewest_bits\": {least}",
-                "data: {bits} bits, {more} more than needed\n"
-            )?;
-        }
-        None => push_either!(text, is_json;
-            "\"segments\": true",
-            "data: with headers such as FNC1, not compared with the fewest bits\n"
-        )?,
-    }
+    push_taken(text, content.taken, is_json)?;
     let (terminator, padding) = (content.ending.terminator, content.ending.padding);
     let (guessed, is_utf8) = (content.guesses.segments, content.guesses.are_utf8);
     let set = match (guessed, is_utf8) {
@@ -184,6 +219,23 @@ fn push_content(
         "wrong bits after the data: terminator {terminator}, padding {padding}\n\
         segments whose character set readers guess: {guessed}{set}\n"
     )
+}
+
+// Appends how many bits the data takes, and how many would do.
+fn push_taken(text: &mut String, taken: Option<Taken>, is_json: bool) -> Result<(), AllocError> {
+    match taken {
+        Some(Taken { bits, least }) => {
+            let more = bits.saturating_sub(least);
+            push_either!(text, is_json;
+                "\"segments\": true, \"bits\": {bits}, \"fewest_bits\": {least}",
+                "data: {bits} bits, {more} more than needed\n"
+            )
+        }
+        None => push_either!(text, is_json;
+            "\"segments\": true",
+            "data: with headers such as FNC1, not compared with the fewest bits\n"
+        ),
+    }
 }
 
 // Appends how many masks have a lower penalty: with the dark share rounded as in the standard, and

@@ -1,11 +1,11 @@
 //! `goqlanis join`: joins the data of the codes that `split` made.
 
 use crate::reading::codes_of;
-use clap::ArgMatches;
 use goqlanis_core::{Grouped, Scan};
 use goqlanis_files::failure::Failure;
 use goqlanis_files::refused;
 use goqlanis_files::streams::write_data;
+use goqlanis_options::pictures::Pictures;
 use qrcode_append::errors::JoinError;
 use qrcode_append::{Part, join};
 use qrcode_reader::spell::{self, Header};
@@ -17,9 +17,8 @@ const MOST_SYMBOLS: usize = 16;
 
 /// Decodes the codes of a split and writes their joined data. A single code may lack the structured
 /// append header, as `split` makes it.
-pub fn join_pictures(rt: &HostRuntime, given: &ArgMatches<'_>) -> Result<ExitCode, Failure> {
-    let names = given.get_strs("PICTURE").unwrap_or(&[]);
-    let output = given.get_str("output");
+pub fn join_pictures(rt: &HostRuntime, pictures: &Pictures<'_, '_>) -> Result<ExitCode, Failure> {
+    let (names, output) = (pictures.names, pictures.output);
     if names.len() > MOST_SYMBOLS {
         let count = Grouped(names.len());
         return refused!(rt.alloc();

@@ -1,52 +1,115 @@
 //! `goqlanis read`: decodes pictures.
 
-use crate::reports::{other_set, report};
-use clap::ArgMatches;
+use crate::reports::{object_of, other_set, report};
 use goqlanis_core::{Codes, Scan, Unread, read_codes};
 use goqlanis_files::failure::Failure;
-use goqlanis_files::streams::{MOST_PICTURE, read_file, read_standard_input, write_data};
+use goqlanis_files::streams::{MOST_PICTURE, read_file, read_standard_input, shown, write_data};
 use goqlanis_files::{refused, warning};
+use goqlanis_options::asked::Report;
+use goqlanis_options::pictures::Pictures;
 use qrcode::types::Version;
+use std::alloc::Global;
 use std::process::ExitCode;
 
-/// Decodes the picture that the command line names, and writes the data of its codes.
-pub fn read(rt: &HostRuntime, given: &ArgMatches<'_>) -> Result<ExitCode, Failure> {
-    let codes = codes_of(rt, given.get_str("PICTURE").unwrap_or("-"))?;
+/// Decodes pictures, and writes the data of their codes. Of several pictures, one that cannot be
+/// read is reported, and the status is then 1.
+pub fn read(rt: &HostRuntime, pictures: &Pictures<'_, '_>) -> Result<ExitCode, Failure> {
+    let is_json = pictures.report == Report::Json;
+    let mut code = ExitCode::SUCCESS;
+    let mut data = Vec::new(rt.alloc());
+    for name in pictures.names {
+        let file = if pictures.is_many { *name } else { "" };
+        match read_one(rt, pictures.report, name, file, &mut data) {
+            Ok(()) => {}
+            Err(Failure::Refused(why)) if pictures.is_many => {
+                complain(rt, why.as_str());
+                code = ExitCode::FAILURE;
+            }
+            Err(failure) => return Err(failure),
+        }
+    }
+    if is_json {
+        let end = if data.is_empty() { "[\n]\n" } else { "\n]\n" };
+        data.extend_from_slice(end.as_bytes())?;
+    }
+    write_data(rt, pictures.output, &data)?;
+    Ok(code)
+}
+
+// Decodes a picture, and appends the data of its codes; `file` names it there, unless it is empty.
+fn read_one(
+    rt: &HostRuntime,
+    wanted: Report,
+    name: &str,
+    file: &str,
+    data: &mut Vec<u8>,
+) -> Result<(), Failure> {
+    let codes = codes_of(rt, name)?;
     let scans = codes.scans.as_slice();
-    if given.get_flag("verbose") {
-        let text = report(rt.alloc(), scans, false)?;
+    if wanted == Report::Text {
+        let text = report(rt.alloc(), scans, file)?;
         let _ = eprint!(rt; "{text}");
     }
     for scan in scans {
-        let read = &scan.any.reading;
-        if read.version == Version::Micro(1) && !read.wrong.is_empty() {
-            warning!(rt;
-                "version M1 lets readers notice damage, not correct it; the data may be wrong"
-            );
-        }
-        if let Some(set) = other_set(&scan.parts) {
-            warning!(rt; "the data has text in {set}, which is written as its bytes");
-        }
+        warn_of_data(rt, scan);
     }
-    let output = given.get_str("output");
-    if given.get_flag("json") {
-        write_data(rt, output, report(rt.alloc(), scans, true)?.as_bytes())
+    if wanted == Report::Json {
+        push_objects(rt.alloc(), data, scans, file)
     } else {
-        write_all(rt, output, scans)
+        push_all(data, scans, file)
     }
 }
 
-// Writes the data of one code unchanged, or of several codes one per line.
-fn write_all(rt: &HostRuntime, output: Option<&str>, scans: &[Scan]) -> Result<ExitCode, Failure> {
-    if let [only] = scans {
-        return write_data(rt, output, &only.any.reading.data);
+// Warns of data that may be wrong, or is in another character set.
+fn warn_of_data(rt: &HostRuntime, scan: &Scan) {
+    let read = &scan.any.reading;
+    if read.version == Version::Micro(1) && !read.wrong.is_empty() {
+        warning!(rt;
+            "version M1 lets readers notice damage, not correct it; the data may be wrong"
+        );
     }
-    let mut lines = Vec::new(rt.alloc());
+    if let Some(set) = other_set(&scan.parts) {
+        warning!(rt; "the data has text in {set}, which is written as its bytes");
+    }
+}
+
+// Appends the data of a picture's only code unchanged; of several codes, or after the name of the
+// file, each on a line.
+fn push_all(data: &mut Vec<u8>, scans: &[Scan], file: &str) -> Result<(), Failure> {
+    if let ([only], "") = (scans, file) {
+        return Ok(data.extend_from_slice(&only.any.reading.data)?);
+    }
     for scan in scans {
-        lines.extend_from_slice(&scan.any.reading.data)?;
-        lines.push(b'\n')?;
+        if !file.is_empty() {
+            data.extend_from_slice(file.as_bytes())?;
+            data.extend_from_slice(b": ")?;
+        }
+        data.extend_from_slice(&scan.any.reading.data)?;
+        data.push(b'\n')?;
     }
-    write_data(rt, output, &lines)
+    Ok(())
+}
+
+// Appends a JSON object for each code.
+fn push_objects(
+    alloc: Global,
+    data: &mut Vec<u8>,
+    scans: &[Scan],
+    file: &str,
+) -> Result<(), Failure> {
+    for scan in scans {
+        let sign = if data.is_empty() { "[\n" } else { ",\n" };
+        data.extend_from_slice(sign.as_bytes())?;
+        let text = object_of(alloc, scan, file)?;
+        data.extend_from_slice(text.as_bytes())?;
+    }
+    Ok(())
+}
+
+/// Reports on standard error that one of several pictures is not read.
+pub(crate) fn complain(rt: &HostRuntime, why: &str) {
+    let why = shown(why);
+    let _ = eprintln!(rt; "goqlanis: {why}");
 }
 
 /// Decodes the picture in the file at `path`, or in standard input for `-`. Warns of codes that are

@@ -67,20 +67,54 @@ fn is_in_utf8(parts: &[Part]) -> bool {
     })
 }
 
-/// Reports on decoded codes, as a JSON list or as lines of text.
-pub(crate) fn report(alloc: Global, scans: &[Scan], is_json: bool) -> Result<String, AllocError> {
-    let mut text = String::from_str(alloc, if is_json { "[" } else { "" })?;
-    for (place, scan) in scans.iter().enumerate() {
-        if is_json {
-            text.push_str(if place == 0 { "\n" } else { ",\n" })?;
-        }
-        push_scan(&mut text, scan, is_json)?;
+/// Reports on decoded codes as lines of text, under the name of their file unless it is empty.
+///
+/// Errors: only `AllocError`.
+pub(crate) fn report(alloc: Global, scans: &[Scan], file: &str) -> Result<String, AllocError> {
+    let mut text = String::new(alloc);
+    push_heading(&mut text, file)?;
+    for scan in scans {
+        push_scan(&mut text, scan, false)?;
     }
-    text.push_str(if is_json { "\n]\n" } else { "" })?;
     Ok(text)
 }
 
-// Appends the report on one code: a JSON object with the data, on one line, or lines of text.
+/// Appends the name of a file as a heading, unless it is empty.
+///
+/// Errors: only `AllocError`.
+pub(crate) fn push_heading(text: &mut String, file: &str) -> Result<(), AllocError> {
+    if file.is_empty() {
+        return Ok(());
+    }
+    write!(text, "{file}:\n")
+}
+
+/// Returns a JSON object of a code with its data, on one line; it names the file unless that is
+/// empty.
+///
+/// Errors: only `AllocError`.
+pub(crate) fn object_of(alloc: Global, scan: &Scan, file: &str) -> Result<String, AllocError> {
+    let mut text = String::new(alloc);
+    push_file(&mut text, file)?;
+    push_scan(&mut text, scan, true)?;
+    push_data(&mut text, scan)?;
+    Ok(text)
+}
+
+/// Begins a JSON object with the name of a file, unless it is empty.
+///
+/// Errors: only `AllocError`.
+pub(crate) fn push_file(text: &mut String, file: &str) -> Result<(), AllocError> {
+    text.push('{')?;
+    if file.is_empty() {
+        return Ok(());
+    }
+    text.push_str("\"file\": \"")?;
+    push_string(text, file)?;
+    text.push_str("\", ")
+}
+
+// Appends the report on one code: members of a JSON object, or lines of text.
 fn push_scan(text: &mut String, scan: &Scan, is_json: bool) -> Result<(), AllocError> {
     push_symbol(text, scan, is_json)?;
     push_wrong(text, &scan.any.reading.wrong, is_json)?;
@@ -90,11 +124,7 @@ fn push_scan(text: &mut String, scan: &Scan, is_json: bool) -> Result<(), AllocE
         push_part(text, *part, is_json)?;
         sign = if is_json { ", " } else { "" };
     }
-    if is_json {
-        push_data(text, scan)
-    } else {
-        Ok(())
-    }
+    Ok(())
 }
 
 // Appends version, level, mask, sizes and position of a code.
@@ -104,7 +134,7 @@ fn push_symbol(text: &mut String, scan: &Scan, is_json: bool) -> Result<(), Allo
     let mask = place_of(reading.version, reading.mask);
     let (count, zone, scale) = (square.count, square.zone, square.scale);
     push_either!(text, is_json;
-        "{{\"version\": \"{version}\", \"level\": \"{level:?}\", \"mask\": {mask}, \
+        "\"version\": \"{version}\", \"level\": \"{level:?}\", \"mask\": {mask}, \
         \"modules\": {count}",
         "version {version}, level {level:?}, mask {mask}\n\
         modules: {count} by {count}; pixels of a module: {scale}"
@@ -154,25 +184,12 @@ fn push_part(text: &mut String, part: Part, is_json: bool) -> Result<(), AllocEr
 
 fn push_header(text: &mut String, header: Header, is_json: bool) -> Result<(), AllocError> {
     match header {
-        Header::Eci(number) => {
-            let set = CharacterSet(number);
-            match set.name() {
-                _ if !is_json => write!(text, "header: {set}\n"),
-                Some(name) => write!(text, "{{\"eci\": {number}, \"name\": \"{name}\"}}"),
-                None => write!(text, "{{\"eci\": {number}}}"),
-            }
-        }
+        Header::Eci(number) => push_set(text, CharacterSet(number), is_json),
         Header::Fnc1First => push_either!(text, is_json;
             "{{\"fnc1\": \"first\"}}",
             "header: FNC1 in first position, elements of GS1\n"
         ),
-        Header::Fnc1Second(indicator) => {
-            let application = Application(indicator);
-            push_either!(text, is_json;
-                "{{\"fnc1\": \"second\", \"application\": \"{application}\"}}",
-                "header: FNC1 in second position, application {application}\n"
-            )
-        }
+        Header::Fnc1Second(indicator) => push_application(text, Application(indicator), is_json),
         Header::StructuredAppend {
             place,
             last,
@@ -185,6 +202,28 @@ fn push_header(text: &mut String, header: Header, is_json: bool) -> Result<(), A
             )
         }
     }
+}
+
+// Appends the header of a character set.
+fn push_set(text: &mut String, set: CharacterSet, is_json: bool) -> Result<(), AllocError> {
+    let number = set.0;
+    match set.name() {
+        _ if !is_json => write!(text, "header: {set}\n"),
+        Some(name) => write!(text, "{{\"eci\": {number}, \"name\": \"{name}\"}}"),
+        None => write!(text, "{{\"eci\": {number}}}"),
+    }
+}
+
+// Appends the header of an industry's own format.
+fn push_application(
+    text: &mut String,
+    application: Application,
+    is_json: bool,
+) -> Result<(), AllocError> {
+    push_either!(text, is_json;
+        "{{\"fnc1\": \"second\", \"application\": \"{application}\"}}",
+        "header: FNC1 in second position, application {application}\n"
+    )
 }
 
 // An application indicator: two digits, or a letter, encoded as its ASCII code plus 100.
@@ -223,13 +262,19 @@ fn push_data(text: &mut String, scan: &Scan) -> Result<(), AllocError> {
     text.push_str("], ")?;
     if let (true, Ok(known)) = (is_in_utf8(&scan.parts), str::from_utf8(data)) {
         text.push_str("\"text\": \"")?;
-        for character in known.chars() {
-            push_escaped(text, character)?;
-        }
+        push_string(text, known)?;
         text.push_str("\", ")?;
     }
     let data = hex::encode(*text.allocator(), data)?;
     write!(text, "\"hex\": \"{data}\"}}")
+}
+
+// Appends the characters of a JSON string.
+fn push_string(text: &mut String, plain: &str) -> Result<(), AllocError> {
+    for character in plain.chars() {
+        push_escaped(text, character)?;
+    }
+    Ok(())
 }
 
 // Appends a character of a JSON string. Control and invisible characters become `\u` escapes.

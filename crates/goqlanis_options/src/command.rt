@@ -42,10 +42,10 @@ fn arguments<'a>(alloc: Global, task: &Task) -> Result<Vec<Arg<'a>>, AllocError>
     let mut arguments = Vec::new(alloc);
     if let Some((name, help)) = task.operand() {
         let arg = Arg::new(alloc, name).help(help);
-        arguments.push(if matches!(task.purpose, Purpose::Join) {
-            arg.num_args(1..).action(ArgAction::Append).required(true)
-        } else {
-            arg
+        arguments.push(match task.purpose {
+            Purpose::Join => arg.num_args(1..).action(ArgAction::Append).required(true),
+            Purpose::Read | Purpose::Check => arg.num_args(1..).action(ArgAction::Append),
+            _ => arg,
         })?;
     }
     for (heading, entry) in task.all_options(alloc)? {
@@ -79,7 +79,7 @@ fn with_values<'a>(alloc: Global, arg: Arg<'a>, takes: Takes) -> Result<Arg<'a>,
     }
     let arg = arg.value_name(takes.name());
     Ok(match takes {
-        Takes::Wanted(_) => arg.required(true),
+        Takes::Wanted(_) => arg.required_unless_present("lines")?,
         Takes::Texts(_) => arg.action(ArgAction::Append),
         Takes::Word(_, _) | Takes::Format => {
             let words: &'a [&'static str] = takes.words(alloc)?.leak();

@@ -1,19 +1,20 @@
 //! Warnings on standard error; the code is drawn anyway.
 
 use crate::asked::{Asked, Target, ending_format};
-use clap::ArgMatches;
 use goqlanis_core::{Grouped, Ink, Request};
 use goqlanis_files::streams::shown;
 use goqlanis_files::warning;
 use qrcode::types::Color;
+use qrcode_contents::fields::errors::Field;
 use qrcode_formats::Format;
+use qrcode_payloads::given::Given;
 use std::fmt;
 
 /// Warns of colours with too little contrast, of UTF-8 text after the ECI of another character set,
 /// and of a file extension that belongs to another format.
 pub fn warn(rt: &HostRuntime, asked: &Asked<'_, '_>) {
     warn_of_colours(rt, &asked.request);
-    if let Some(words) = asked.given.get_strs("segment") {
+    if let Some(words) = asked.input.segments {
         warn_of_character_set(rt, words);
     }
     if let Target::File(path) = asked.target {
@@ -31,7 +32,7 @@ fn warn_of_colours(rt: &HostRuntime, request: &Request<'_>) {
     let light = extremes(request, Color::Light);
     if let Some((dark, light)) = close_colours(dark, light, request.is_inverted) {
         let why = if is_brighter(dark, light) {
-            "are lighter than these; few readers accept that; to swap them, use --invert"
+            "are lighter, which few readers accept; to swap them, use --invert"
         } else {
             "have less than 40 % contrast, which many readers need"
         };
@@ -40,8 +41,7 @@ fn warn_of_colours(rt: &HostRuntime, request: &Request<'_>) {
     } else if let Some((ink, better)) = stray_colour(dark, light) {
         let name = name_of(ink);
         warning!(rt;
-            "{name} is on the wrong side of halfway between the darkest and the lightest colour, \
-            so readers may misread it; use a {better} one"
+            "readers may take {name} for the other kind of module; use a {better} colour"
         );
     }
 }
@@ -67,10 +67,11 @@ fn warn_of_character_set(rt: &HostRuntime, words: &[&str]) {
 
 /// Warns of a Wi-Fi password that is too short or too long for WPA: it takes 8 to 63 characters, or
 /// a key of 64 hexadecimal digits.
-pub fn warn_of_password(rt: &HostRuntime, given: &ArgMatches<'_>) {
-    let password = given.get_str("password").unwrap_or("");
-    let security = given.get_str("security").unwrap_or("WPA");
-    let is_wpa = security.eq_ignore_ascii_case("WPA") || security.eq_ignore_ascii_case("WPA2");
+pub fn warn_of_password<G: Given>(rt: &HostRuntime, given: &G) {
+    let (password, security) = (given.text(Field::Password), given.text(Field::Security));
+    let is_wpa = ["", "WPA", "WPA2"]
+        .iter()
+        .any(|name| security.eq_ignore_ascii_case(name));
     if !is_wpa || password.is_empty() {
         return;
     }
@@ -99,7 +100,7 @@ pub fn warn_of_sizes(
     dots: Option<u32>,
 ) {
     let side = modules.saturating_mul(scale);
-    if let Some(dots) = dots.filter(|_| !asked.is_by_line()) {
+    if let Some(dots) = dots.filter(|_| asked.input.lines.is_none()) {
         let (wanted, made) = (asked.hundredths.unwrap_or(0), hundredths_of(side, dots));
         if made.saturating_add(10) <= wanted {
             let (wanted, made) = (Decimal(wanted), Decimal(made));

@@ -2,6 +2,7 @@
 
 ghost use Rattle.std.specs.Prelude.{IsErr};
 
+use crate::rows::Columns;
 use goqlanis_files::failure::Failure;
 use goqlanis_files::refused;
 use goqlanis_options::options::entry_of;
@@ -11,7 +12,12 @@ use std::alloc::Global;
 
 /// Fails because of an error of a payload format, with a message: the option, what is wrong with
 /// it, and what its help says.
-pub(crate) fn not_made(alloc: Global, kind: Kind, error: ContentError) -> Result<String, Failure>
+pub(crate) fn not_made(
+    alloc: Global,
+    kind: Kind,
+    error: ContentError,
+    columns: &Columns,
+) -> Result<String, Failure>
     ensures { IsErr result }
 {
     let ContentError::Refused(field, cause) = error else {
@@ -19,19 +25,23 @@ pub(crate) fn not_made(alloc: Global, kind: Kind, error: ContentError) -> Result
     };
     let what = what_is_wrong(kind, field, cause);
     let entry = entry_of(kind, field);
-    let (name, help) = (entry.long, entry.help);
-    if name.is_empty() {
+    let (name, help) = (columns.label(alloc, entry.long)?, entry.help);
+    if entry.long.is_empty() {
         refused!(alloc; "the whole text: {what}")
     } else if matches!(cause, Cause::ControlCharacter | Cause::CheckDigits) {
-        refused!(alloc; "--{name}: {what}")
+        refused!(alloc; "{name}: {what}")
     } else {
-        refused!(alloc; "--{name}: {what}; expected: {help}")
+        refused!(alloc; "{name}: {what}; expected: {help}")
     }
 }
 
 // Says what is wrong with a field, more precisely than its cause if possible.
 fn what_is_wrong(kind: Kind, field: Field, cause: Cause) -> &'static str {
     match (kind, field, cause) {
+        (_, Field::Amount, Cause::Character) =>
+            "use a point before the decimals and no other sign, e.g. 1949.75",
+        (Kind::Pix, Field::Name | Field::City | Field::Description, Cause::Character) =>
+            "it may only have ASCII characters: write a for \u{e3}, c for \u{e7}",
         (_, Field::Reference, Cause::Unused) => "it does not go with this account",
         (Kind::Mail, Field::Email, Cause::Character) => "it has no @, or more than one",
         (Kind::Promptpay, Field::Payee, Cause::Character) =>

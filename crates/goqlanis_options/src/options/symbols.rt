@@ -18,22 +18,35 @@ pub static DATA: &[Entry] = &[
     entry!("input", 'i', Path, "Encode the contents of a file"),
     entry!("trim", Nothing, "Drop one trailing newline"),
     entry!("allow-empty", Nothing, "Accept empty input"),
-    entry!("bytes", Nothing, "Treat the input as bytes, not text, in the modes that take the fewest bits; some readers \
-        may then show UTF-8 wrongly"),
+    entry!("bytes", Nothing, "Encode raw bytes in the fewest bits; readers may show UTF-8 text wrongly"),
 ];
 
-/// Input options of plain codes only.
+/// Input options of tasks whose options give the data.
 #[rattlefmt::skip]
-pub static ONE_CODE: &[Entry] = &[
+pub static FILES: &[Entry] = &[
+    entry!("input", 'i', Path, "Read the data of one code, or with --lines of many, from a file"),
+];
+
+/// The option of segments.
+#[rattlefmt::skip]
+pub static SEGMENTS: &[Entry] = &[
     entry!("segment", Texts("MODE:DATA"),
         "Choose the segments: numeric:DIGITS, alphanumeric:TEXT, byte:TEXT (UTF-8), kanji:HEX (Shift \
         JIS) or eci:NUMBER; repeat as needed"),
+];
+
+/// Options of tasks that make a code for each line.
+#[rattlefmt::skip]
+pub static LINES: &[Entry] = &[
     entry!("lines", Nothing,
-        "Make one code per line. --output FILE gets a number per line; in its name, {} is the \
-        number, {text} the line, {1}, {2} .. its fields"),
-    entry!("field", Number("N", 1, 65535), "With --lines: encode only field N of each line"),
-    entry!("delimiter", Text("TEXT"),
-        "Separator of the fields in a line [default: ,]"),
+        "Make one code per input line. In --output, {} stands for the line number, {text} for the \
+        line, {1} for its first field; without them a number is added"),
+    entry!("header", Nothing,
+        "With --lines: the first line names the columns, e.g. ssid,password for wifi or 01,10 for \
+        gs1; {ssid} in --output is that field"),
+    entry!("columns", Text("NAMES"), "With --lines: names of the columns, if no line has them"),
+    entry!("field", Text("FIELD"), "With --lines: encode only this field of each line, by number or name"),
+    entry!("delimiter", Text("TEXT"), "Separator of the fields in a line [default: ,]"),
 ];
 
 // The value of `--level`.
@@ -95,8 +108,8 @@ pub static LOOKS: &[Entry] = &[
     entry!("scale", 's', Number("PIXELS", 1, 1000),
         "Pixels per module, 1 to 1,000 [default: 8; 1 in PIC, half-blocks, terminal, text, ascii]"),
     entry!("size", Text("SIZE"),
-        "Maximum side in pixels, e.g. 300, or a length, e.g. 30mm (cm, in, pt): exactly this in \
-        SVG, EPS and PDF without --dpi; other formats need --dpi"),
+        "Maximum side in pixels, e.g. 300, or a length (30mm; cm, in, pt). SVG, EPS and PDF have \
+        exactly that size unless --dpi is given; other formats need --dpi"),
     entry!("module", Text("LENGTH"),
         "Side of a module, e.g. 0.5mm; exact in SVG, EPS and PDF without --dpi, else whole pixels"),
     entry!("dpi", Number("N", 1, 65535), "Pixels per inch, 1 to 65,535"),
@@ -124,7 +137,11 @@ pub static LOOKS: &[Entry] = &[
     entry!("keep-alignment", Nothing,
         "Keep the logo off alignment patterns, which some readers need"),
     entry!("verbose", Nothing, "Report version, level, mask and sizes on standard error"),
-    entry!("json", Nothing, "Report like --verbose, as a line of JSON on standard error"),
+    entry!("json", Nothing,
+        "Print that report as one line of JSON: on standard output if the code goes to a file, else \
+        on standard error"),
+    entry!("dry-run", Nothing,
+        "Print the report only, with the smallest size that readers need at --dpi; write no code"),
 ];
 
 /// Options that print something about the program.
