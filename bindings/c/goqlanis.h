@@ -561,7 +561,7 @@ typedef struct {
     size_t length; /* how many modules */
 } goq_square;
 
-/* A rectangle of modules of a symbol. An area is one or more rectangles. */
+/* A rectangle of modules of a symbol. An area is one or more rectangles, up to GOQ_MODULES_MAX. */
 typedef struct {
     size_t left; /* its left column, counted from 0 */
     size_t top; /* its top row, counted from 0 */
@@ -648,10 +648,10 @@ bool goq_is_functional(uint32_t version, uint32_t x, uint32_t y);
    modules, row by row, dark if not zero. The picture goes to the start of `out`, and its length in
    bytes to `count`; text does not end with a zero. goq_draw_with_length tells how long `out` must
    be; GOQ_MODULES_MAX * 80 + 400 bytes are enough for any SVG, PIC or EPS in black on white. The
-   scale is 1 to 65,535; with the quiet zone, a side has at most 65,535 modules. PNG has 1 to 65,535
-   pixels a side, ESC/POS at most 65,535, and the text formats for terminals and pages (half blocks
-   and GOQ_ASCII) at most 4,096. Errors: GOQ_NO_SUCH_STRUCT, GOQ_NO_SUCH_FORMAT, GOQ_NOT_SQUARE,
-   GOQ_NO_SUCH_SIZE, GOQ_NOT_IN_FORMAT, GOQ_SMALL_BUFFER; GOQ_OUT_OF_MEMORY. */
+   scale is 1 to 65,535; a side has at most 177 modules, with the quiet zone 8,191. PNG has 1 to
+   65,535 pixels a side, ESC/POS at most 65,535, and the text formats for terminals and pages (half
+   blocks and GOQ_ASCII) at most 4,096. Errors: GOQ_NO_SUCH_STRUCT, GOQ_NO_SUCH_FORMAT,
+   GOQ_NOT_SQUARE, GOQ_NO_SUCH_SIZE, GOQ_NOT_IN_FORMAT, GOQ_SMALL_BUFFER; GOQ_OUT_OF_MEMORY. */
 goq_answer goq_draw_with(const uint8_t *modules, size_t modules_length, uint32_t width,
     const goq_drawing *drawing, void *out, size_t out_length, size_t *count);
 

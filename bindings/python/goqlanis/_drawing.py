@@ -98,7 +98,7 @@ def zone_of(look: Look, usual: int) -> int:
         raise TypeError("border and quiet_zone are the same: give one of them")
     name, value = ("border", look.border) if look.quiet_zone is None else \
         ("quiet_zone", look.quiet_zone)
-    return usual if value is None else _checks.whole(name, value, 0, 32000, NoSuchSize)
+    return usual if value is None else _checks.whole(name, value, 0, 4000, NoSuchSize)
 
 
 def _scale(look: Look, kind: Kind) -> int:

@@ -79,9 +79,10 @@ pub record IsOfSquare (modules : List ℕ) (width : ℕ) (d : Drawing) (f : Form
   pub format : format_numbered d.format ≡ Some f
   pub square : length modules ≡ width * width
 
--- the scale, the side in modules and the side in pixels are within their limits
+-- the sides in modules, without and with the quiet zone, the scale and the side in pixels are within their limits
 pub record HasSize (width : ℕ) (d : Drawing) (f : Format) : Type 0 where
-  pub side : width + 2 * d.zone < 2 ^ 16
+  pub width : width ≤ 177
+  pub side : width + 2 * d.zone < 2 ^ 13
   pub scale_least : 1 ≤ d.scale
   pub scale_most : d.scale < 2 ^ 16
   pub pixels : IsTrue (has_side f ((width + 2 * d.zone) * d.scale))

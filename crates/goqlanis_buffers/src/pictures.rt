@@ -128,12 +128,15 @@ fn format_of(asked: &Asked<'_>) -> Result<Format, Refusal>
     Ok(format)
 }
 
-// Whether the scale, the side in modules and the side in pixels are within their limits.
+// Whether the sides in modules and in pixels, and the scale, are within their limits.
 fn has_size(format: Format, width: u32, drawing: &Drawing) -> bool
     ensures size { IsTrue result ↔ HasSize width drawing.now format }
 {
     let side = u64::from(width) + 2 * u64::from(drawing.zone);
-    if drawing.scale == 0 || drawing.scale > 65_535 || side > 65_535 {
+    if width > 177 || side > 8_191 {
+        return false;
+    }
+    if drawing.scale == 0 || drawing.scale > 65_535 {
         return false;
     }
     has_side(format, side * u64::from(drawing.scale))

@@ -377,9 +377,9 @@ pixel! { unicode::Dense1x2: String, 1,
             (Light, Dark) => renderer.text(sys::GOQ_LIGHT_HALF_BLOCKS),
             // The same for all modules, as if all were dark or all light.
             (one, _) => {
-                let side = renderer.side() as usize;
-                let modules = vec![u8::from(one == Dark); side * side];
-                Renderer { modules: &modules, width: side, zone: 0, ..*renderer }.text(sys::GOQ_HALF_BLOCKS)
+                let modules = vec![0; renderer.modules.len()];
+                let plain = Renderer { modules: &modules, ..*renderer };
+                plain.text(if one == Dark { sys::GOQ_LIGHT_HALF_BLOCKS } else { sys::GOQ_HALF_BLOCKS })
             }
         }
     }
