@@ -170,7 +170,7 @@ pub(crate) fn element_error(answer: u32, place: usize) -> ContentError {
 macro_rules! words {
     ($(#[$about:meta])* $name:ident: $($(#[$told:meta])* $variant:ident = $word:literal,)+) => {
         $(#[$about])*
-        #[derive(Clone, Copy, Debug, PartialEq, Eq)]
+        #[derive(Clone, Copy, Debug, Default, PartialEq, Eq)]
         pub enum $name {
             $($(#[$told])* $variant,)+
         }
@@ -193,13 +193,14 @@ words! {
     /// WEP.
     Wep = "WEP",
     /// WPA, WPA2, or both with WPA3.
+    #[default]
     Wpa = "WPA",
     /// Only WPA3.
     Wpa3 = "WPA3",
 }
 
 /// A Wi-Fi network.
-#[derive(Clone, Copy, Debug, PartialEq, Eq)]
+#[derive(Clone, Copy, Debug, Default, PartialEq, Eq)]
 pub struct Wifi<'a> {
     /// How the network is secured.
     pub security: Security,
@@ -369,6 +370,7 @@ words! {
     /// The currency of a bill.
     Currency:
     /// Swiss francs, CHF.
+    #[default]
     Franc = "CHF",
     /// Euros, EUR.
     Euro = "EUR",
@@ -392,7 +394,7 @@ pub struct Party<'a> {
 }
 
 /// A Swiss QR bill, for a symbol of level M and at most version 25, without the Swiss cross.
-#[derive(Clone, Copy, Debug, PartialEq, Eq)]
+#[derive(Clone, Copy, Debug, Default, PartialEq, Eq)]
 pub struct Bill<'a> {
     /// The number of an account in Switzerland or Liechtenstein.
     pub iban: &'a str,
@@ -454,7 +456,7 @@ payload! {
 }
 
 /// A place on the earth.
-#[derive(Clone, Copy, Debug, PartialEq, Eq)]
+#[derive(Clone, Copy, Debug, Default, PartialEq, Eq)]
 pub struct Place {
     /// Millionths of a degree north of the equator.
     pub latitude: i32,
@@ -476,7 +478,7 @@ impl Place {
 }
 
 /// A telephone number.
-#[derive(Clone, Copy, Debug, PartialEq, Eq)]
+#[derive(Clone, Copy, Debug, Default, PartialEq, Eq)]
 pub struct Phone<'a> {
     /// The number.
     pub number: &'a str,
@@ -509,10 +511,17 @@ pub enum Factor {
     Counter(u64),
 }
 
+impl Default for Factor {
+    fn default() -> Self {
+        Factor::Time(30)
+    }
+}
+
 words! {
     /// The hash function of one-time passwords.
     Algorithm:
     /// SHA-1, the usual function.
+    #[default]
     Sha1 = "SHA1",
     /// SHA-256.
     Sha256 = "SHA256",
@@ -524,13 +533,14 @@ words! {
     /// How many digits a one-time password has.
     Digits:
     /// Six digits.
+    #[default]
     Six = "6",
     /// Eight digits.
     Eight = "8",
 }
 
 /// One-time passwords of an account, for authenticator apps.
-#[derive(Clone, Copy, Debug, PartialEq, Eq)]
+#[derive(Clone, Copy, Debug, Default, PartialEq, Eq)]
 pub struct OneTime<'a> {
     /// What makes the passwords change.
     pub factor: Factor,
