@@ -182,6 +182,12 @@ macro_rules! words {
                 }
             }
         }
+
+        impl Said for $name {
+            fn said(&self) -> String {
+                self.word().to_string()
+            }
+        }
     };
 }
 
@@ -199,26 +205,6 @@ words! {
     Wpa3 = "WPA3",
 }
 
-/// A Wi-Fi network.
-#[derive(Clone, Copy, Debug, Default, PartialEq, Eq)]
-pub struct Wifi<'a> {
-    /// How the network is secured.
-    pub security: Security,
-    /// The name of the network, 1 to 32 bytes.
-    pub ssid: &'a str,
-    /// The password, empty for an open network.
-    pub password: &'a str,
-    /// Whether the network does not broadcast its name.
-    pub hidden: bool,
-}
-
-impl Wifi<'_> {
-    /// Returns the text, to be encoded by `QrCode::of_text`.
-    pub fn text(&self) -> ContentResult {
-        text_of(sys::GOQ_WIFI, &[("ssid", self.ssid), ("password", self.password), ("security", self.security.word()), ("hidden", if self.hidden { "true" } else { "" })])
-    }
-}
-
 // The text of a field of a payload, as the library takes it.
 trait Said {
     fn said(&self) -> String;
@@ -227,6 +213,12 @@ trait Said {
 impl Said for &str {
     fn said(&self) -> String {
         self.to_string()
+    }
+}
+
+impl Said for bool {
+    fn said(&self) -> String {
+        if *self { "true" } else { "" }.to_string()
     }
 }
 
@@ -264,6 +256,22 @@ macro_rules! payload {
             }
         }
     };
+}
+
+payload! {
+    /// A Wi-Fi network.
+    Wifi of GOQ_WIFI {
+        /// The name of the network, 1 to 32 bytes.
+        ssid: &'a str,
+        /// The password, empty for an open network.
+        password: &'a str,
+        /// How the network is secured.
+        security: Security,
+        /// Whether the network does not broadcast its name.
+        hidden: bool,
+    }
+    /// Returns the text, to be encoded by `QrCode::of_text`.
+    fn text
 }
 
 payload! {
