@@ -1,9 +1,5 @@
 -- The symbols that the calls for C make.
 use Rattle.std.specs.Prelude.{◌≡◌, ◌⊎◌, ◌<◌, ℕ, List, length, Option, Some}
-use Rattle.qrcode_types.specs.declared.types.Color.{Color}
-use Rattle.qrcode_types.specs.declared.types.EcLevel.{EcLevel}
-use Rattle.qrcode_types.specs.declared.types.Version.{Version}
-use Rattle.qrcode_bits.specs.declared.bits.manner.Manner.{Manner}
 use Rattle.qrcode.specs.Code.{Code}
 use Rattle.goqlanis_core.specs.Masks.{AreUnder, LacksMask}
 use Rattle.goqlanis_buffers.specs.Names.{level_named, version_named}
