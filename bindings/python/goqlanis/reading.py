@@ -232,15 +232,28 @@ def _file_of(given: Any) -> Optional[bytes]:
     return _file_of_array(given)
 
 
-def _file_of_array(given: Any) -> Optional[bytes]:
-    """Returns a PNG file of an array of pixels, e.g. of numpy, or None if `given` is none. Truth
-    values, and whole numbers that are 0 or 1, are modules."""
+def _array(given: Any) -> Optional[memoryview]:
+    """Returns an array of two or three dimensions, e.g. of numpy, or None for anything else."""
     try:
         view = memoryview(given)
     except TypeError:
         return None
-    form, data, depth = view.format.lstrip("<=>@|"), view.tobytes(), view.shape[2:] or (1,)
-    if view.ndim < 2 or view.ndim == 2 and (form in "?bhilqHILQ" or max(data, default=0) <= 1):
+    return view if view.ndim > 1 else None
+
+
+def _form(view: memoryview) -> str:
+    """Returns the type of the numbers of an array."""
+    return view.format.lstrip("<>=@")
+
+
+def _file_of_array(given: Any) -> Optional[bytes]:
+    """Returns a PNG file of an array of pixels, or None for anything else. Truth values, and whole
+    numbers that are 0 or 1, are modules."""
+    view = _array(given)
+    if view is None:
+        return None
+    form, data, depth = _form(view), view.tobytes(), view.shape[2:] or (1,)
+    if view.ndim == 2 and (form in "?bhilqHILQ" or form == "B" and max(data, default=0) <= 1):
         return None
     if form != "B" or depth not in COLOUR_TYPES:
         raise TypeError("an array is a picture if it has rows, columns and 1, 3 or 4 numbers of "
@@ -381,11 +394,18 @@ def _modules_of(square: Modules, of: str = "rows of modules, or a Symbol") -> by
             _file_of_array(square) is not None:
         raise TypeError("square is a Symbol, or rows of modules, each True or False, not "
                         f"{_checks.shown(square)}: read reads pictures")
-    given = _checks.listed("square", square, of)
+    view = _array(square)
+    given = _checks.listed("square", square, of) if view is None else _rows_of(view)
     rows = [_row(f"row {at + 1} of the square", it) for at, it in enumerate(given)]
     if any(len(row) != len(rows) for row in rows):
         raise NoSuchSide(f"{len(rows)} rows, and not all of them have {len(rows)} modules")
     return b"".join(rows)
+
+
+def _rows_of(view: memoryview) -> List[List[Any]]:
+    """Returns the rows of an array of modules."""
+    numbers, across = memoryview(view.tobytes()).cast(_form(view)).tolist(), max(view.shape[1], 1)
+    return [numbers[at:at + across] for at in range(0, len(numbers), across)]
 
 
 def _row(name: str, given: Any) -> bytes:
