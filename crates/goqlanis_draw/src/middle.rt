@@ -46,9 +46,9 @@ pub(crate) fn read_logo(rt: &HostRuntime, asked: &Asked<'_, '_>) -> Result<Optio
     };
     let file = read_file(rt, path, MOST_LOGO)?;
     Ok(Some(if asked.request.format.row().middle == Drawn::Pixels {
-        pixels_of(rt.alloc(), path, &file)?
+        pixels_of(rt, path, &file)?
     } else {
-        element_of(rt.alloc(), path, &file)?
+        element_of(rt, path, &file)?
     }))
 }
 

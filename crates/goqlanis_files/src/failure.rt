@@ -49,6 +49,11 @@ pub fn status(rt: &HostRuntime, run: Result<ExitCode, Failure>) -> ExitCode {
     code
 }
 
+/// Warns on standard error that the PNG file `name` has more than its picture.
+pub fn warn_of_more(rt: &HostRuntime, name: &str) {
+    let _ = eprintln!(rt; "goqlanis: warning: {name} has data after its picture, which is ignored");
+}
+
 /// Fails with `Usage`: the command line is wrong because of `why`. If memory runs out, fails with
 /// `OutOfMemory` instead.
 pub fn usage<T, D: Display + Drop>(alloc: Global, why: D) -> Result<T, Failure>

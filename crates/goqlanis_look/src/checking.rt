@@ -3,7 +3,7 @@
 use crate::reading::{complain, picture_of, warn_of_missed};
 use crate::reports::{push_file, push_heading};
 use goqlanis_core::{Unread, VersionName, check_codes};
-use goqlanis_files::failure::Failure;
+use goqlanis_files::failure::{Failure, warn_of_more};
 use goqlanis_files::refused;
 use goqlanis_files::streams::print;
 use goqlanis_options::asked::Report;
@@ -67,6 +67,9 @@ fn check_one(
     } else {
         push_heading(text, file)?;
         push_texts(text, checks)?;
+    }
+    if found.codes.has_more {
+        warn_of_more(rt, name);
     }
     let is_whole = warn_of_missed(rt, &found.codes);
     Ok(is_whole && checks.iter().all(|check| check.is_standard()))

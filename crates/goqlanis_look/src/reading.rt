@@ -2,7 +2,7 @@
 
 use crate::reports::{object_of, other_set, report};
 use goqlanis_core::{Codes, Scan, Unread, read_codes};
-use goqlanis_files::failure::Failure;
+use goqlanis_files::failure::{Failure, warn_of_more};
 use goqlanis_files::streams::{MOST_PICTURE, read_file, read_standard_input, shown, write_data};
 use goqlanis_files::{refused, warning};
 use goqlanis_options::asked::Report;
@@ -119,6 +119,9 @@ pub(crate) fn codes_of(rt: &HostRuntime, path: &str) -> Result<Codes, Failure> {
     let (name, bytes) = picture_of(rt, path)?;
     match read_codes(alloc, &bytes) {
         Ok(codes) => {
+            if codes.has_more {
+                warn_of_more(rt, name);
+            }
             warn_of_missed(rt, &codes);
             Ok(codes)
         }
