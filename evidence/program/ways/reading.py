@@ -268,6 +268,17 @@ def codes_of_uneven_pixels_beside_another_are_read(program):
     return True
 
 
+def no_micro_code_is_read_inside_an_unread_code(program):
+    """A code with a Micro QR code over its data, too large to be corrected, is not read at all."""
+    rows = _square(program, "-v", "5", "-l", "L", "unread")
+    for row in rows[10:27]:
+        row[10:27] = [0] * 17
+    for row, line in zip(rows[12:], _square(program, "-v", "M2", "12")):
+        row[12:25] = line
+    ran = run(program, ["read"], "/", file_of(rows, 4, 3))
+    return (ran.returncode, ran.stdout) == (1, b"") and b"37 by 37 modules" in ran.stderr
+
+
 def wrong_codewords_of_micro_codes_on_a_page(program):
     """On a page one is corrected in M2 but none in M1, as the standard says; in a picture of a
     single code, one is corrected in M1 too, with a warning."""
