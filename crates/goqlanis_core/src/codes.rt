@@ -74,10 +74,11 @@ pub fn read_codes(alloc: Global, bytes: &[u8]) -> Result<Codes, scanning::Unread
         Err(cause) => return Err(cause),
     };
     match codes_in(alloc, &seen.pixels, seen.is_inverted) {
-        Ok(codes) => Ok(Codes {
-            has_more: seen.has_more,
-            ..codes
-        }),
+        Ok(codes) => {
+            let mut codes = codes;
+            codes.has_more = seen.has_more;
+            Ok(codes)
+        }
         Err(cause) => Err(cause),
     }
 }
