@@ -3,7 +3,9 @@
 ghost use Rattle.std.specs.Prelude.{◌≡◌, ◌==◌, ◌<◌, false, length, IsTrue, IfOk, IsOkUnless};
 ghost use Rattle.qrcode_types.specs.Versions.{is_valid, side};
 ghost use Rattle.qrcode_types.specs.declared.types.QrError.TheVariants.{OutOfMemory};
-ghost use Rattle.goqlanis_core.specs.Formats.{layout_of, sheet_of, tail, view_of};
+ghost use Rattle.qrcode_render.specs.Drawn.{drawn};
+ghost use Rattle.qrcode_render.specs.Eps.{eps_paint, eps_rect};
+ghost use Rattle.goqlanis_core.specs.Formats.{eps_ink, layout_of, shade_of, sheet_of, tail, view_of};
 ghost use Rattle.goqlanis_core.specs.Layers.{is_painted, layer, unit_layout, AreOver, HasTail, IsInserted, IsLayer, IsPaintedIn};
 
 use crate::formats::{tail, units};
@@ -144,7 +146,7 @@ fn layer_in(
         ends_lines: false,
     };
     match format {
-        Format::Eps => eps::layer(alloc, &renderer(&over, eps_ink(ink.ink), eps_ink(ink.ink))),
+        Format::Eps => eps_layer(alloc, &over, ink.ink),
         Format::Pdf => {
             let color = pdf::Color(rgb(ink.ink));
             pdf::layer(alloc, color, over.modules, over.width, over.zone)
@@ -154,6 +156,17 @@ fn layer_in(
             Ok(drawn(alloc, &over, dark, light)?.into_bytes())
         }
     }
+}
+
+// PostScript that fills the dark modules with a colour.
+fn eps_layer(alloc: Global, shown: &Picture<'_>, ink: Ink<'_>) -> QrResult<Vec<u8>>
+    requires { shown.now.is_inverted ≡ false }
+    ensures value { IfOk result (λ text. text.items ≡ drawn eps_rect (layout_of shown.now)
+        shown.now.modules.now (eps_paint (eps_ink (shade_of ink.entry)))) }
+    ensures memory { IsOkUnless result OutOfMemory }
+{
+    let renderer = renderer(shown, eps_ink(ink), eps_ink(ink));
+    eps::layer(alloc, &renderer)
 }
 
 /// Inserts `over` before `tail`, which `text` ends with.
