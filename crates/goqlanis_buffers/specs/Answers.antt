@@ -79,7 +79,7 @@ pub record IsOfSquare (modules : List ℕ) (width : ℕ) (d : Drawing) (f : Form
 
 -- the sides in modules, without and with the quiet zone, the scale and the side in pixels are within their limits
 pub record HasSize (width : ℕ) (d : Drawing) (f : Format) : Type 0 where
-  pub width : width ≤ 177
+  pub across : width ≤ 177
   pub side : width + 2 * d.zone < 2 ^ 13
   pub scale_least : 1 ≤ d.scale
   pub scale_most : d.scale < 2 ^ 16
