@@ -7,7 +7,7 @@ use goqlanis_files::failure::{Failure, warn_of_more};
 use goqlanis_files::refused;
 use goqlanis_files::streams::print;
 use goqlanis_options::asked::Report;
-use goqlanis_options::pictures::Pictures;
+use goqlanis_options::pictures::{Pictures, STANDARD_INPUT};
 use goqlanis_options::push_either;
 use goqlanis_options::warnings::Decimal;
 use qrcode_check::correction::grade_of;
@@ -23,7 +23,8 @@ pub fn check(rt: &HostRuntime, pictures: &Pictures<'_, '_>) -> Result<ExitCode, 
     let is_json = pictures.report == Report::Json;
     let mut is_standard = true;
     let mut text = String::new(rt.alloc());
-    for name in pictures.names {
+    let names = pictures.names.unwrap_or(STANDARD_INPUT);
+    for name in names {
         let file = if pictures.is_many { *name } else { "" };
         match check_one(rt, is_json, name, file, &mut text) {
             Ok(is_so) => is_standard = is_standard && is_so,

@@ -5,7 +5,7 @@ use goqlanis_core::{Grouped, Scan};
 use goqlanis_files::failure::Failure;
 use goqlanis_files::refused;
 use goqlanis_files::streams::write_data;
-use goqlanis_options::pictures::Pictures;
+use goqlanis_options::pictures::{Pictures, STANDARD_INPUT};
 use qrcode_append::errors::JoinError;
 use qrcode_append::{Part, join};
 use qrcode_reader::spell::{self, Header};
@@ -18,7 +18,8 @@ const MOST_SYMBOLS: usize = 16;
 /// Decodes the codes of a split and writes their joined data. A single code may lack the structured
 /// append header, as `split` makes it.
 pub fn join_pictures(rt: &HostRuntime, pictures: &Pictures<'_, '_>) -> Result<ExitCode, Failure> {
-    let (names, output) = (pictures.names, pictures.output);
+    let names = pictures.names.unwrap_or(STANDARD_INPUT);
+    let output = pictures.output;
     if names.len() > MOST_SYMBOLS {
         let count = Grouped(names.len());
         return refused!(rt.alloc();

@@ -6,7 +6,7 @@ use goqlanis_files::failure::{Failure, warn_of_more};
 use goqlanis_files::streams::{MOST_PICTURE, read_file, read_standard_input, shown, write_data};
 use goqlanis_files::{refused, warning};
 use goqlanis_options::asked::Report;
-use goqlanis_options::pictures::Pictures;
+use goqlanis_options::pictures::{Pictures, STANDARD_INPUT};
 use qrcode::types::Version;
 use std::alloc::Global;
 use std::process::ExitCode;
@@ -17,7 +17,8 @@ pub fn read(rt: &HostRuntime, pictures: &Pictures<'_, '_>) -> Result<ExitCode, F
     let is_json = pictures.report == Report::Json;
     let mut code = ExitCode::SUCCESS;
     let mut data = Vec::new(rt.alloc());
-    for name in pictures.names {
+    let names = pictures.names.unwrap_or(STANDARD_INPUT);
+    for name in names {
         let file = if pictures.is_many { *name } else { "" };
         match read_one(rt, pictures.report, name, file, &mut data) {
             Ok(()) => {}

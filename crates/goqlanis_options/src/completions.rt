@@ -125,7 +125,11 @@ fn push_task(text: &mut String, shell: &Shell, task: &Task, words: &str) -> Resu
     } else {
         " '*:picture:_files'"
     };
-    push_filled(text, shell.task, &[('p', pattern), ('f', files)])?;
+    let values = [
+        ('p', String::from_str(alloc, pattern)?),
+        ('f', String::from_str(alloc, files)?),
+    ];
+    push_filled(text, shell.task, &values)?;
     let seen = format!(in alloc; "{not}__fish_seen_subcommand_from {words}")?;
     for (_, entry) in &task.all_options(alloc)? {
         push_option(text, shell, seen.as_str(), entry)?;
@@ -154,12 +158,12 @@ fn push_option(
         None => (shell.long, String::new(alloc)),
     };
     let values = [
-        ('s', letter.as_str()),
-        ('l', entry.long),
-        ('v', value.as_str()),
-        ('h', help.as_str()),
-        ('n', seen),
-        ('m', many),
+        ('s', letter),
+        ('l', String::from_str(alloc, entry.long)?),
+        ('v', value),
+        ('h', help),
+        ('n', String::from_str(alloc, seen)?),
+        ('m', String::from_str(alloc, many)?),
     ];
     push_filled(text, template, &values)
 }
@@ -173,7 +177,7 @@ fn value_of(alloc: Global, shell: &Shell, takes: Takes) -> Result<String, AllocE
         _ => shell.value,
     };
     let words = takes.words(alloc)?.join(alloc, " ")?;
-    push_filled(&mut text, template, &[('w', words.as_str())])?;
+    push_filled(&mut text, template, &[('w', words)])?;
     Ok(text)
 }
 
@@ -181,7 +185,7 @@ fn value_of(alloc: Global, shell: &Shell, takes: Takes) -> Result<String, AllocE
 fn push_filled(
     text: &mut String,
     template: &str,
-    values: &[(char, &str)],
+    values: &[(char, String)],
 ) -> Result<(), AllocError> {
     let mut pieces = template.split('@');
     text.push_str(pieces.next().unwrap_or(""))?;
@@ -189,7 +193,7 @@ fn push_filled(
         let mut rest = piece.chars();
         let letter = rest.next().unwrap_or(' ');
         if let Some((_, value)) = values.iter().find(|(known, _)| *known == letter) {
-            text.push_str(value)?;
+            text.push_str(value.as_str())?;
         }
         text.push_str(rest.as_str())?;
     }

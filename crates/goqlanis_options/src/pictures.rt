@@ -6,8 +6,8 @@ use clap::ArgMatches;
 /// Pictures to decode, and what to write of them.
 #[derive(Clone, Copy)]
 pub struct Pictures<'a, 'w> {
-    /// Their files; - is standard input, which is also read if there are none.
-    pub names: &'a [&'w str],
+    /// Their files, if any are named; - is standard input.
+    pub names: Option<&'a [&'w str]>,
     /// The file for the data; standard output without it, and for -.
     pub output: Option<&'a str>,
     pub report: Report,
@@ -15,16 +15,16 @@ pub struct Pictures<'a, 'w> {
     pub is_many: bool,
 }
 
-// Standard input.
-static STANDARD_INPUT: &[&str] = &["-"];
+/// The picture that is read if none is named: standard input.
+pub static STANDARD_INPUT: &[&str] = &["-"];
 
 /// Returns the pictures that the command line names.
 pub fn pictures_of<'a, 'w>(given: &'a ArgMatches<'w>) -> Pictures<'a, 'w> {
-    let names = given.get_strs("PICTURE").unwrap_or(STANDARD_INPUT);
+    let names = given.get_strs("PICTURE");
     Pictures {
         names,
         output: given.get_str("output"),
         report: report_of(given),
-        is_many: names.len() > 1,
+        is_many: names.is_some_and(|names| names.len() > 1),
     }
 }
