@@ -33,7 +33,7 @@ static uint32_t call(const char *kind)
         return goq_draw(modules, side * side, symbol.width, 4, scale, format, out, sizeof out,
             &length);
     if (!strcmp(kind, "least"))
-        return goq_least_version(data, size, level, &symbol.version);
+        return goq_smallest_version(data, size, level, &symbol.version);
     if (!strcmp(kind, "read"))
         return goq_read(data, size, out, sizeof out, &reading);
     if (!strcmp(kind, "scan"))
