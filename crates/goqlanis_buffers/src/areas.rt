@@ -18,8 +18,8 @@ use qrcode::types::{EcLevel, Version};
 use qrcode_area::areas::{Area, Rectangle};
 use qrcode_area::rectangles::{Kept, Wish as Wanted, largest_rectangle};
 use qrcode_area::reserve::{Reserve, reserve_in};
-use qrcode_reader::walk::side;
 use qrcode_types::tables::Blocks;
+use qrcode_types::versions::side;
 use std::alloc::Global;
 
 /// What an area takes of a symbol, and how much error correction it leaves.

@@ -17,7 +17,7 @@ use crate::shades::png_file;
 use qrcode::render::{pdf, svg};
 use qrcode::types::{Color, QrResult, Version};
 use qrcode_layout::figures::color_of;
-use qrcode_reader::walk::side;
+use qrcode_types::versions::side;
 use std::alloc::{AllocError, Global};
 
 /// A colour for the dark or the light modules of one part, in PNG, SVG, EPS and PDF.

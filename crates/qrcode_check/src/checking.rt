@@ -16,9 +16,9 @@ use crate::modules::{WrongModules, wrong_modules};
 use crate::segments::{Taken, bits_taken};
 use qrcode_layout::masks::MaskPattern;
 use qrcode_reader::spell::{Unspelled, pieces};
-use qrcode_reader::walk::side;
 use qrcode_reader::{Position, Unread, read_bits, seen, version_of};
 use qrcode_types::types::{Color, EcLevel, Version};
+use qrcode_types::versions::side;
 use std::alloc::{AllocError, Global};
 
 /// What a check reports of headers and segments.

@@ -8,10 +8,10 @@ ghost use Rattle.qrcode_symbol.specs.Penalties.{penalty, is_dark_at, remasked};
 ghost use Rattle.qrcode_check.specs.Masks.{stepped_balance, stepped_penalty, penalties, place_of, IsRank};
 
 use qrcode_layout::masks::{MaskPattern, mask_count, nth_mask};
-use qrcode_reader::walk::side;
 pub use qrcode_symbol::canvas::penalty;
 use qrcode_symbol::canvas::remask;
 use qrcode_types::types::{Color, EcLevel, Version};
+use qrcode_types::versions::side;
 use std::alloc::{AllocError, Global};
 
 /// The rank of a mask among all masks of its version, by the penalty.

@@ -1,6 +1,6 @@
 //! The modules of a symbol while it is drawn: patterns, data and masks.
 
-ghost use Rattle.std.specs.Prelude.{◌≡◌, ◌+◌, ◌*◌, ◌%◌, ◌<◌, ◌≤◌, pos, neg_ℤ, ◌≤ℤ◌, ◌<ℤ◌, nat_abs, length, map, slice_index_or, slice_set, ◌↔◌, IsTrue, IfOk, IsOkUnless};
+ghost use Rattle.std.specs.Prelude.{◌≡◌, ◌+◌, ◌*◌, ◌<◌, ◌≤◌, pos, neg_ℤ, ◌≤ℤ◌, ◌<ℤ◌, nat_abs, length, map, slice_index_or, slice_set, ◌↔◌, IsTrue, IfOk, IsOkUnless};
 ghost use Rattle.std.specs.Borrow.{sem};
 ghost use Rattle.qrcode_types.specs.Versions.{is_valid, has_level, side};
 ghost use Rattle.qrcode_layout.specs.Masks.{exists_in};
@@ -42,6 +42,7 @@ pub use penalties::penalty;
 use qrcode_layout::laws;
 use qrcode_layout::patterns::is_functional_place;
 use qrcode_types::types::{Color, EcLevel, QrResult, Version};
+use qrcode_types::versions::side;
 pub use remasking::remask;
 use std::alloc::Global;
 use std::marker::Model;
@@ -115,17 +116,6 @@ impl Model for Canvas {
 
     ghost invariant = { λ c. IsTrue (is_valid c.version)
         × (length c.modules.items ≡ side c.version * side c.version) };
-}
-
-// Returns the number of modules along a side, which is odd.
-fn side(version: Version) -> usize
-    requires { IsTrue (is_valid version) }
-    ensures value { result ≡ side version }
-    ensures at_least { 11 ≤ result }
-    ensures at_most { result ≤ 177 }
-    ensures odd { result % 2 ≡ 1 }
-{
-    version.width() as usize
 }
 
 // Converts a coordinate from `-width` to `width - 1` into one from 0 to `width - 1`.

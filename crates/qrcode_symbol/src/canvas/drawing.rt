@@ -7,13 +7,14 @@ ghost use Rattle.qrcode_layout.specs.Figures.{alignment_row, alignments, fits, i
 ghost use Rattle.qrcode_symbol.specs.Canvas.{with_patterns};
 ghost use Rattle.qrcode_symbol.specs.Patterned.{IsPartDrawn, with_figure};
 
+use super::Module;
 use super::cells::Cell;
-use super::{Module, side};
 use qrcode_layout::centres::centres;
 use qrcode_layout::figures::{
     Figure, alignment, is_corner_centre, micro_figures, normal_figures, word_figures,
 };
 use qrcode_types::types::Version;
+use qrcode_types::versions::side;
 
 // Draws one row of a figure.
 #[inline(always)]

@@ -9,12 +9,13 @@ ghost use Rattle.qrcode_layout.specs.Stream.{right_column};
 ghost use Rattle.qrcode_symbol.specs.Canvas.{put_bits, with_bits_drawn};
 ghost use Rattle.qrcode_symbol.specs.Filling.{filled_from, drawn_if, left_if, is_empty_at, row_of_step, row_places, row_index};
 
+use super::Module;
 use super::cells::Cell;
 use super::codewords::Codewords;
-use super::{Module, side};
 use qrcode_layout::figures::color_of;
 use qrcode_layout::walk::right_column;
 use qrcode_types::types::{Color, Version};
+use qrcode_types::versions::side;
 
 // Short names, to keep `TWO_ROWS` readable.
 const L: Color = Color::Light;

@@ -11,13 +11,13 @@ use super::cells::Cell;
 use super::edges::{LastColumn, nth_micro_cost};
 use super::masked_rows::mask_rows;
 use super::packing::{PackedModules, pack_rows};
-use super::side;
 use super::unpacking::unpack_rows;
 use qrcode_layout::masks::{mask_count, nth_mask};
 use qrcode_penalty::penalty::normal_penalty;
 use qrcode_penalty::row::{PackedRow, Row128, Row192};
 use qrcode_penalty::square::PackedSquare;
 use qrcode_types::types::{Color, EcLevel, QrResult, Version};
+use qrcode_types::versions::side;
 use std::alloc::Global;
 
 // Returns the penalty under the `k`-th mask of a Normal version; `masked` is scratch space.

@@ -5,12 +5,13 @@ ghost use Rattle.qrcode_types.specs.Versions.{is_valid, side};
 ghost use Rattle.qrcode_symbol.specs.Penalties.{penalty};
 ghost use Rattle.qrcode_symbol.specs.declared.canvas.Module.TheVariants.{Masked};
 
+use super::Module;
 use super::packing::pack_rows;
-use super::{Module, side};
 use qrcode_penalty::penalty::{micro_penalty, normal_penalty};
 use qrcode_penalty::row::{PackedRow, Row192};
 use qrcode_penalty::square::PackedSquare;
 use qrcode_types::types::{Color, Version};
+use qrcode_types::versions::side;
 use std::alloc::{AllocError, Global};
 
 // Returns colours as modules that no mask reverses.
