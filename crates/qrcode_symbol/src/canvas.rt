@@ -20,10 +20,8 @@ pub use qrcode_layout::mask_functions;
 pub use qrcode_layout::masks::MaskPattern;
 
 mod applying;
-mod cells;
 mod codewords;
 mod drawing;
-mod edges;
 mod filling;
 mod layer;
 mod masked_rows;
@@ -34,7 +32,6 @@ mod remasking;
 mod unpacking;
 
 use applying::mask_modules;
-use cells::Cell;
 use codewords::Codewords;
 use drawing::draw_patterns;
 use filling::draw_codewords;
@@ -335,8 +332,7 @@ fn masked_modules(alloc: Global, colors: &[Color]) -> QrResult<Vec<Module>>
 }
 
 /// Returns the colours of a symbol with these codewords, row by row, under the first mask with the
-/// lowest penalty. The result is that of drawing the patterns and codewords on a new canvas, in
-/// half the memory.
+/// lowest penalty.
 ///
 /// Errors: only `OutOfMemory`.
 pub fn drawn_colors(
@@ -354,12 +350,10 @@ pub fn drawn_colors(
     // Under each mask, they carry the codewords.
     ensures carries { AreCarried version ec_level bytes.now ec.now }
 {
-    let width = side(version);
-    let mut cells = vec![in alloc; u8::of(Module::Empty); width * width]?;
-    draw_patterns(version, &mut cells);
-    let codewords = Codewords::new(version, ec_level, bytes, ec);
-    draw_codewords(version, codewords, &mut cells);
-    masking::best_colors(alloc, version, ec_level, cells)
+    let mut canvas = Canvas::new(alloc, version, ec_level)?;
+    canvas.draw_all_functional_patterns();
+    canvas.draw_data(bytes, ec);
+    canvas.into_best_colors(alloc)
 }
 
 // Returns whether a functional pattern or the format word covers column `x` and row `y`.
