@@ -1,6 +1,6 @@
 //! `goqlanis check`: reports where the codes in a picture depart from the standard.
 
-use crate::reading::{picture_of, warn_of_missed};
+use crate::reading::{picture_of, warn_of_missed, warn_of_more};
 use clap::ArgMatches;
 use goqlanis_core::{Unread, VersionName, check_codes};
 use goqlanis_files::failure::Failure;
@@ -28,6 +28,9 @@ pub(crate) fn check(rt: &HostRuntime, given: &ArgMatches<'_>) -> Result<ExitCode
     let checks = found.checks.as_slice();
     let text = report(alloc, checks, given.get_flag("json"))?;
     print(rt, text.as_bytes())?;
+    if found.codes.has_more {
+        warn_of_more(rt, name);
+    }
     let is_whole = warn_of_missed(rt, &found.codes);
     if is_whole && checks.iter().all(|check| check.is_standard()) {
         Ok(ExitCode::SUCCESS)

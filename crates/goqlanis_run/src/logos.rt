@@ -1,5 +1,6 @@
 //! Logo files: PNG and SVG.
 
+use crate::reading::warn_of_more;
 use base64::engine::general_purpose::STANDARD;
 use goqlanis_files::failure::Failure;
 use goqlanis_files::refused;
@@ -8,18 +9,19 @@ use qrcode_png::{Picture, Unread, read};
 use std::alloc::{AllocError, Global};
 
 /// Decodes a PNG logo to pixels; `path` names the file in messages, and `file` is its content.
-pub(crate) fn pixels_of(alloc: Global, path: &str, file: &[u8]) -> Result<Logo, Failure> {
+pub(crate) fn pixels_of(rt: &HostRuntime, path: &str, file: &[u8]) -> Result<Logo, Failure> {
     let why = "a PNG file takes a PNG logo; save it as PNG, or use --format svg";
-    let picture = picture_of(alloc, path, file, why)?;
+    let picture = picture_of(rt, path, file, why)?;
     let (across, down) = picture.sides();
-    Ok(Logo::Pixels(picture.pixels(alloc)?, across as u16, down as u16))
+    Ok(Logo::Pixels(picture.pixels(rt.alloc())?, across as u16, down as u16))
 }
 
 /// Makes an SVG element of a PNG or SVG logo; `path` names the file in messages, and `file` is its
 /// content.
-pub(crate) fn element_of(alloc: Global, path: &str, file: &[u8]) -> Result<Logo, Failure> {
+pub(crate) fn element_of(rt: &HostRuntime, path: &str, file: &[u8]) -> Result<Logo, Failure> {
+    let alloc = rt.alloc();
     let Ok(text) = str::from_utf8(file) else {
-        let (across, down) = picture_of(alloc, path, file, UNKNOWN)?.sides();
+        let (across, down) = picture_of(rt, path, file, UNKNOWN)?.sides();
         return Ok(image(alloc, across as u32, down as u32, "png", file)?);
     };
     match svg_sides(text) {
@@ -29,9 +31,15 @@ pub(crate) fn element_of(alloc: Global, path: &str, file: &[u8]) -> Result<Logo,
 }
 
 // Decodes a PNG file; `other` is the message for any other kind of file.
-fn picture_of(alloc: Global, path: &str, file: &[u8], other: &str) -> Result<Picture, Failure> {
+fn picture_of(rt: &HostRuntime, path: &str, file: &[u8], other: &str) -> Result<Picture, Failure> {
+    let alloc = rt.alloc();
     match read(alloc, file) {
-        Ok(picture) => Ok(picture),
+        Ok(picture) => {
+            if picture.has_more() {
+                warn_of_more(rt, path);
+            }
+            Ok(picture)
+        }
         Err(Unread::OutOfMemory) => Err(Failure::OutOfMemory),
         Err(Unread::NotPng) => refused!(alloc; "--logo {path}: {other}"),
         Err(why) => refused!(alloc; "--logo {path}: {why}"),

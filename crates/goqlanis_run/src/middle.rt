@@ -45,9 +45,9 @@ pub(crate) fn read_logo(rt: &HostRuntime, asked: &Asked<'_, '_>) -> Result<Optio
     };
     let file = read_file(rt, path, MOST_LOGO)?;
     Ok(Some(if asked.request.format == Format::Png {
-        pixels_of(rt.alloc(), path, &file)?
+        pixels_of(rt, path, &file)?
     } else {
-        element_of(rt.alloc(), path, &file)?
+        element_of(rt, path, &file)?
     }))
 }
 

@@ -56,6 +56,9 @@ pub(crate) fn codes_of(rt: &HostRuntime, path: &str) -> Result<Codes, Failure> {
     let (name, bytes) = picture_of(rt, path)?;
     match read_codes(alloc, &bytes) {
         Ok(codes) => {
+            if codes.has_more {
+                warn_of_more(rt, name);
+            }
             warn_of_missed(rt, &codes);
             Ok(codes)
         }
@@ -92,6 +95,11 @@ pub(crate) fn picture_of<'a>(
         );
     }
     Ok((name, bytes))
+}
+
+/// Warns that a PNG file has more than the picture.
+pub(crate) fn warn_of_more(rt: &HostRuntime, name: &str) {
+    warning!(rt; "{name} has data after its picture, which is ignored");
 }
 
 /// Warns of codes that are found but not decoded; returns whether there are none.

@@ -3,6 +3,7 @@ size."""
 import json
 import random
 import re
+import zlib
 
 import checked
 import crowds
@@ -124,6 +125,60 @@ def png_files_of_every_kind_are_read(program):
         if ran.returncode != 1 or ran.stdout or said not in ran.stderr:
             return False
     return True
+
+
+def png_files_with_more_than_a_picture_are_read(program):
+    """Bytes behind the end of a file, behind its zlib stream and behind its last row are ignored,
+    with a warning; so is the place of pHYs, without one."""
+    rows = SYMBOLS["one.pbm"]
+    whole, row = png.file_of(rows, 0, 8), bytes(1 + 3 * (len(rows) + 8))
+    ways = ((whole + b"PK\5\6" + bytes(18), True),
+            (png.with_stream(whole, lambda it: it + b"\0"), True),
+            (png.with_stream(whole, lambda it: zlib.compress(zlib.decompress(it) + row)), True),
+            (png.with_chunk(whole, b"pHYs", bytes(8) + b"\1", b"IDAT"), False))
+    warning = b"goqlanis: warning: standard input has data after its picture, which is ignored\n"
+    text = run(program, ["read"], "/", whole).stdout
+    return text and all(
+        (ran.returncode, ran.stdout, ran.stderr) == (0, text, warning if is_more else b"")
+        for ran, is_more in ((run(program, ["read"], "/", it), more) for it, more in ways))
+
+
+def _with_empty_block(stream):
+    """Returns a zlib stream that begins with an empty block. Of its own codes only the end has one,
+    of one bit, as zlib reads it (RFC 1951, 3.2.7)."""
+    lengths = "".join({2: "100", 3: "010", 17: "010"}.get(at, "000") for at in range(18))
+    zeros = "0" + "1111111" + "0" + "1101011"
+    bits = "001" + "00000" + "00000" + "0111" + lengths + zeros + "11" + "10" + "0" + "000"
+    bits = bits.ljust((len(bits) + 7) // 8 * 8, "0")
+    block = bytes(int(bits[at:at + 8][::-1], 2) for at in range(0, len(bits), 8))
+    made = stream[:2] + block + b"\0\0\xff\xff" + stream[2:]
+    assert zlib.decompress(made) == zlib.decompress(stream)
+    return made
+
+
+def png_files_are_read_as_the_standard_says(program):
+    """Of 16 bits the higher 8 count: 0x8000 is 128, which is light if the lightest pixel is 255. A
+    palette and its transparency have no entry too many, and the zlib window is at most 32,768."""
+    rows, corner = SYMBOLS["one.pbm"], iter([[0xffff]])
+    text = run(program, ["read"], "/", png.file_of(rows, 0, 1)).stdout
+    grey = png.file_of(rows, 0, 16, 0, lambda *it: [0] if it[2] else next(corner, [0x8000]))
+    plain, palette = png.file_of(rows, 0, 8), png.file_of(rows, 3, 1)
+    empty = png.with_stream(plain, _with_empty_block)
+    long = png.joined((kind, body + bytes(3) * (kind == b"PLTE"))
+                      for kind, body in png.chunks(palette))
+    for given, said in (
+            (grey, b""), (empty, b""), (long, b"not valid"),
+            (png.with_chunk(palette, b"tRNS", b"\xff\xff", b"PLTE"), b""),
+            (png.with_chunk(palette, b"tRNS", b"\xff\xff\xff", b"PLTE"), b"not valid"),
+            (png.with_stream(plain, lambda it: b"\x88\x1c" + it[2:]), b"damaged"),
+            (png.with_stream(plain, lambda it: it[:2] + b"\7" + it[3:]), b"damaged"),
+            (png.with_stream(plain, lambda it: it[:-1] + bytes([it[-1] ^ 1])), b"damaged")):
+        ran = run(program, ["read"], "/", given)
+        if (ran.returncode, ran.stdout) != ((1, b"") if said else (0, text)):
+            return False
+        if said not in ran.stderr or bool(said) != bool(ran.stderr):
+            return False
+    return text != b""
 
 
 def a_percent_sign_is_a_separator_behind_fnc1_alone(program):
