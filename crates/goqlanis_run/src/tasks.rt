@@ -171,6 +171,12 @@ fn draw_content(rt: &HostRuntime, kind: Kind, asked: &Asked<'_, '_>) -> Result<E
     if matches!(kind, Kind::Wifi) {
         warn_of_password(rt, asked.given);
     }
+    if matches!(kind, Kind::Payment) && !text.as_str().is_ascii() {
+        warning!(rt;
+            "some readers show letters outside ASCII wrong in a credit transfer, and the format \
+            allows no hint; write e.g. Maerz for März to be safe"
+        );
+    }
     draw_one(rt, asked, text.as_bytes())
 }
 

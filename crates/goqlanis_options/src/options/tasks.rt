@@ -120,7 +120,7 @@ fn own_help(kind: Kind, field: Field) -> Option<(&'static str, &'static str)> {
         (Kind::Upi, Field::Payee) => ("ADDRESS", "Payee's UPI address (VPA), e.g. name@bank"),
         (Kind::Upi, Field::Name) => ("NAME", "Payee's name"),
         (Kind::Pix, Field::Payee) => ("KEY",
-            "Payee's Pix key: CPF or CNPJ in digits, phone as +5561912345678, e-mail, random key"),
+            "Payee's Pix key: CPF or CNPJ, phone as +55 61 91234-5678, e-mail, random key"),
         (Kind::Pix, Field::Name) => ("NAME", "Payee's name, up to 25 ASCII characters"),
         (Kind::Pix, Field::City) => ("TEXT", "Payee's city, up to 15 ASCII characters"),
         (Kind::Pix, Field::Reference) => ("TEXT", "Reference (txid), up to 25 letters and digits"),

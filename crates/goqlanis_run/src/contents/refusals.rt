@@ -36,6 +36,9 @@ fn what_is_wrong(kind: Kind, field: Field, cause: Cause) -> &'static str {
         (Kind::Mail, Field::Email, Cause::Character) => "it has no @, or more than one",
         (Kind::Promptpay, Field::Payee, Cause::Character) =>
             "it may only have digits, and a phone number begins with 0, without a country code",
+        (Kind::Pix, Field::Payee, Cause::CheckDigits) =>
+            "the check digits match neither a CPF nor a CNPJ; write a phone number with +55",
+        (Kind::Pix, Field::Payee, Cause::Character) => "it is none of the keys that Pix has",
         (Kind::Upi, Field::Payee, Cause::Character) =>
             "it may only have letters, digits and -._ around one @",
         (_, Field::Phone | Field::Mobile | Field::WorkPhone | Field::HomePhone, Cause::Character) =>
