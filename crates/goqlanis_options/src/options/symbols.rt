@@ -140,7 +140,7 @@ pub static LOOKS: &[Entry] = &[
     entry!("logo-area", Nothing, "Leave an empty area for a logo, in any format"),
     entry!("logo-size", Text("SIZE"),
         "Side of the area, in modules or percent of the code's side, e.g. 9 or 20% [default: the \
-        largest that uses at most half of the error correction]"),
+        largest that uses about half of the error correction]"),
     entry!("logo-margin", Number("MODULES", 0, 20), "Light modules around the logo [default: 1]"),
     entry!("keep-alignment", Nothing,
         "Keep the logo off alignment patterns, which some readers need"),
