@@ -36,10 +36,10 @@ def all_below(name):
     return {it for each in near for it in (each, *all_below(each))}
 
 
-def words_over(name, command, *more):
+def words_over(name, command, *more, root="src/lib.rt"):
     """Returns the compiler's command for a crate, with the libraries in out/ of crates below it."""
     libraries, logic = f"{kit()}/rlibs", f"{kit()}/rattle/logic/antt-project.json"
-    words = [kit() / "bin" / "rattle", command, "--crate-name", name, "src/lib.rt"]
+    words = [kit() / "bin" / "rattle", command, "--crate-name", name, root]
     words += ["--extern", f"std={libraries}/std.rlib", "-L", f"dependency={libraries}"]
     for each in crates()[name]:
         folder = f"{CRATES}/{each}/out/rlib" if each in crates() else libraries

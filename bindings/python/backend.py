@@ -2,7 +2,7 @@
 offline: the package, and the shared library in it.
 
 The library is the one in GOQLANIS_LIB if that is set, otherwise the one that `bindings/c/build`
-makes. The tag names the oldest glibc that has all that the library needs.
+makes. The tag names its processor, and the oldest glibc that has all that it needs.
 """
 import ast
 import base64
@@ -29,6 +29,8 @@ Description-Content-Type: text/plain
 
 {SAID}
 """
+# The processors of ELF files (e_machine), and the oldest glibc 2.n that pip knows as manylinux_2_n.
+MACHINES, OLDEST = {62: "x86_64", 183: "aarch64"}, 5
 WHEEL = """Wheel-Version: 1.0
 Generator: goqlanis
 Root-Is-Purelib: false
@@ -51,11 +53,17 @@ def least_glibc(data):
     return max(int(it) for it in re.findall(rb"\0GLIBC_2\.(\d+)", data))
 
 
+def tag_of(data):
+    """Returns the tag of a wheel with this ELF file in it."""
+    machine = MACHINES[int.from_bytes(data[18:20], "little")]
+    return f"py3-none-manylinux_2_{max(least_glibc(data), OLDEST)}_{machine}"
+
+
 def build_wheel(wheel_directory, config_settings=None, metadata_directory=None):
     paths = [it for it in sorted((HERE / NAME).iterdir()) if it.suffix in (".py", ".txt", ".typed")]
     files = {f"{NAME}/{path.name}": path.read_bytes() for path in paths}
     files[f"{NAME}/libgoqlanis.so.1"] = library()
-    tag = f"py3-none-manylinux_2_{least_glibc(files[f'{NAME}/libgoqlanis.so.1'])}_x86_64"
+    tag = tag_of(files[f"{NAME}/libgoqlanis.so.1"])
     files[f"{INFO}/METADATA"] = METADATA.encode()
     files[f"{INFO}/WHEEL"] = WHEEL.format(tag=tag).encode()
     record = [f"{name},sha256={digest(data)},{len(data)}\n" for name, data in files.items()]

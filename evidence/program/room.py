@@ -16,7 +16,8 @@ import png  # noqa: F401 (files)
 
 HERE = Path(__file__).resolve().parent
 TOP = HERE.parents[1]
-PROGRAM = f"{TOP}/crates/goqlanis/out/goqlanis"
+# The program that is tried: the gate's, unless GOQLANIS_PROGRAM names another one.
+PROGRAM = os.environ.get("GOQLANIS_PROGRAM", f"{TOP}/crates/goqlanis/out/goqlanis")
 
 
 def rows_of(dump):
