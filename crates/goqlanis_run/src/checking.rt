@@ -85,24 +85,19 @@ fn push_verdict(text: &mut String, check: &Check) -> Result<(), AllocError> {
     if check.is_standard() {
         return text.push_str("meets the standard: yes\n");
     }
-    let (is_longer, is_ended) = match &check.content {
-        Some(Content { taken, ending, .. }) => (
-            taken.is_some_and(|taken| taken.bits > taken.least),
-            ending.terminator == 0 && ending.padding == 0,
-        ),
-        None => (false, true),
+    let is_ended = match &check.content {
+        Some(Content { ending, .. }) => ending.terminator == 0 && ending.padding == 0,
+        None => true,
     };
-    let is_least = check.own.lower == 0 || check.stepped.lower == 0;
     let reasons = [
         (
             !is_whole(check),
             "some modules are wrong, e.g. damaged or under a logo, but corrected",
         ),
         (check.content.is_none(), "the data cannot be decoded"),
-        (is_longer, "the data takes more bits than needed"),
         (!is_ended, "bits after the data are wrong"),
         (
-            is_whole(check) && !is_least,
+            is_whole(check) && !check.has_lowest(),
             "another mask has a lower penalty, though readers take any",
         ),
     ];
