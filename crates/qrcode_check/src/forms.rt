@@ -7,9 +7,9 @@ ghost use Rattle.qrcode_penalty.specs.Penalty.{is_finder_like};
 ghost use Rattle.qrcode_check.specs.Forms.{are_light, counts_at, dark_in, forms, has_short_ends, is_light, line_forms, read_penalty, reading, row_forms, row_of};
 ghost use Rattle.qrcode_check.specs.Masks.{stepped_penalty};
 
-use qrcode_reader::walk::side;
 use qrcode_reader::{Position, seen};
 use qrcode_types::types::{Color, Version};
+use qrcode_types::versions::side;
 use std::alloc::{AllocError, Global};
 
 /// A reading of the standard's words on what looks like a finder pattern: dark, light, three dark,
