@@ -201,9 +201,8 @@ pub fn rank_read(
     let mut numbers = Vec::new(alloc);
     for number in 0..mask_count(version) {
         let other = nth_mask(version, number);
-        let found =
-            read_penalty_under(alloc, reading, version, ec_level, mask, modules, other)?;
-        numbers.push(found)?;
+        let read = read_penalty_under(alloc, reading, version, ec_level, mask, modules, other)?;
+        numbers.push(read)?;
     }
     Ok(rank_at(&numbers, place_of(version, mask)))
 }

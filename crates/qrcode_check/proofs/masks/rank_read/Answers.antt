@@ -15,8 +15,8 @@ loop-number-preserved c =
     let i = c.loop-number.number in
     let one = λ (j : MaskPattern). read_penalty c.args.reading v (remasked v c.args.ec_level c.args.mask j c.args.modules.now) in
     let lt : i < length (masks_of v) = omega (arith, c.mask_count-number-end.ensures.value) in
-    c.in_ok-push.ensures.items ∙ ap (λ (xs : List ℕ). xs ++ c.in_ok-found.field-0 ∷ []) c.loop-number.invariant
-    ∙ masks_more one (masks_of v) i c.in_ok-found.field-0 Checkerboard lt (c.in_ok-found.ensures ∙ ap one c.nth_mask-other.ensures.value)
+    c.in_ok-push.ensures.items ∙ ap (λ (xs : List ℕ). xs ++ c.in_ok-read.read ∷ []) c.loop-number.invariant
+    ∙ masks_more one (masks_of v) i c.in_ok-read.read Checkerboard lt (c.in_ok-read.ensures ∙ ap one c.nth_mask-other.ensures.value)
 
 pub returns : goal.returns
 returns c =
