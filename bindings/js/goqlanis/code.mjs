@@ -1,0 +1,95 @@
+/* A QR or Micro QR code, and its drawings. */
+
+import * as checks from "./checks.mjs";
+import * as areas from "./areas.mjs";
+import { drawn, zoneOf } from "./drawing.mjs";
+import { QrError, refuse } from "./errors.mjs";
+import { answer, number, within } from "./memory.mjs";
+import { FORMATS } from "./numbers.mjs";
+
+/** A QR or Micro QR code: see index.d.ts. */
+export class QrCode {
+    constructor(modules, version, level, logo = null) {
+        const found = checks.version(version), width = number("goq_width", found);
+        const given = checks.bytesOf(modules);
+        if (given?.length !== width * width)
+            throw new QrError("NoSuchSide", `modules: version ${checks.versionName(found)} has `
+                + `${width} rows of ${width}, a byte for each module`);
+        this.modules = given;
+        this.version = checks.versionName(found);
+        this.level = checks.LEVELS[checks.level(level)];
+        this.width = width;
+        this.logo = logo;
+    }
+
+    get mask() {
+        return within((buffers) => {
+            const out = buffers.structs("goq_symbol", [{}]); /* its first field is the number */
+            refuse(answer("goq_mask", buffers.bytes(this.modules), this.modules.length, out));
+            return buffers.struct("goq_symbol", out).version;
+        });
+    }
+
+    get quietZone() {
+        return this.version.startsWith("M") ? 2 : 4;
+    }
+
+    /** Returns whether the module in column x and row y is dark; false outside the code. */
+    isDark(x, y) {
+        const inside = (it) => it >= 0 && it < this.width;
+        return inside(x) && inside(y) && this.modules[y * this.width + x] !== 0;
+    }
+
+    /** Returns the picture in a format, as bytes or, if the format is text, as a string. */
+    draw(format, options = {}) {
+        const bytes = drawn(this, format, options);
+        if (!FORMATS[format]?.isText && format !== "light")
+            return bytes;
+        const text = checks.textOf(bytes);
+        return this.logo === null || format !== "svg" ? text
+            : areas.withPicture(text, this.logo, zoneOf(this, options));
+    }
+
+    /** Returns SVG without the XML declaration, for an HTML page. */
+    svgInline(options) {
+        return this.svg(options).replace(/^<\?.*?\?>/, "");
+    }
+
+    svgDataUri(options) {
+        return `data:image/svg+xml,${encodeURIComponent(this.svgInline(options))
+            .replace(/%(2F|3A|3D|2C)/g, decodeURIComponent)
+            .replace(/[!'()*]/g, (it) => `%${it.charCodeAt(0).toString(16).toUpperCase()}`)}`;
+    }
+
+    pngDataUri(options) {
+        return `data:image/png;base64,${areas.base64(this.png(options))}`;
+    }
+
+    /** Returns half blocks, two modules per character. */
+    toString() {
+        return this.draw("txt");
+    }
+
+    reserve(area) {
+        return areas.reserve(this, area);
+    }
+
+    largestArea(options = {}) {
+        return areas.largest(this, options);
+    }
+
+    withArea(area = this.largestArea()) {
+        return new QrCode(areas.covered(this, area), this.version, this.level, this.logo);
+    }
+
+    withLogo(logo, options = {}) {
+        const placed = areas.placed(this, logo, options);
+        return new QrCode(areas.covered(this, placed.area), this.version, this.level, placed);
+    }
+}
+
+for (const format of [...Object.keys(FORMATS), "grey"])
+    if (format !== "txt")
+        QrCode.prototype[format] = function (options) {
+            return this.draw(format, options);
+        };

@@ -1,0 +1,118 @@
+/* Payloads of QR codes: Wi-Fi networks, contacts, payments and so on, and GS1 elements. */
+
+import * as checks from "./checks.mjs";
+import { QrError, refusal, refuse } from "./errors.mjs";
+import { answer, within } from "./memory.mjs";
+import { BYTES_MAX, CAUSES, HINTS, PAYLOADS, RANGES } from "./numbers.mjs";
+import { grouped, shown } from "./checks.mjs";
+
+/** Returns the text of a payload: its kind, such as "wifi", and its fields by their names. */
+export function payload(kind, fields) {
+    if (!Object.keys(PAYLOADS).includes(kind))
+        throw new RangeError(
+            `no kind ${shown(kind)}: take one of ${Object.keys(PAYLOADS).join(", ")}`);
+    const names = Object.keys(PAYLOADS[kind].fields);
+    const given = checks.options(kind, fields, Object.fromEntries(names.map((it) => [it, ""])));
+    const texts = names.map((name) => checks.utf8(name, textOf(name, given[name])));
+    return within((buffers) => {
+        const rows = texts.map((it) => ({ bytes: buffers.bytes(it), length: it.length }));
+        const out = buffers.room(BYTES_MAX), count = buffers.room(8), place = buffers.room(8);
+        const said = answer("goq_content", PAYLOADS[kind].number,
+            buffers.structs("goq_field", rows), rows.length, out, BYTES_MAX, count, place);
+        if (said === "SMALL_BUFFER")
+            throw new QrError(
+                "NoRoom", `no symbol holds a text of more than ${grouped(BYTES_MAX)} bytes`);
+        if (CAUSES[said]?.[2])
+            throw wrongField(said, names[buffers.sizes(place)[0]] ?? "text");
+        refuse(said);
+        return checks.textOf(buffers.copy(out, buffers.sizes(count)[0]));
+    });
+}
+
+export const [wifi, mecard, vcard, payment, bill, mail, geo, tel, sms, otp, event, upi, pix,
+    promptpay] = Object.keys(PAYLOADS).map((kind) => (fields) => payload(kind, fields));
+
+/** Returns the text of a field: of a string, a number, true or false, a date, or null. */
+function textOf(name, value) {
+    if (value === null || value === false)
+        return "";
+    if (value === true)
+        return "true";
+    if (value instanceof Date && !Number.isNaN(value.getTime()))
+        return value.toISOString().replace(/[.]\d+Z$/, "Z");
+    if (typeof value === "bigint" || (typeof value === "number" && Number.isFinite(value)))
+        return /e[+]/.test(`${value}`) ? `${BigInt(value)}`
+            : /e-/.test(`${value}`) ? value.toFixed(20) : `${value}`;
+    if (typeof value !== "string")
+        throw new TypeError(
+            `${name} is a string, a number, a Date, true or false, not ${shown(value)}`);
+    return value;
+}
+
+/** Returns the error for a field: what is wrong, and what would help. */
+function wrongField(said, field) {
+    const [name, why] = CAUSES[said];
+    const helps = said === "FIELD_RANGE" ? RANGES[field] ?? ""
+        : ["FIELD_TOO_LONG", "FIELD_TOO_SHORT", "FIELD_CHARACTER"].includes(said)
+            ? HINTS[field.replace(/^debtor(?=[A-Z])/, "").toLowerCase()] ?? HINTS[field] ?? "" : "";
+    const mark = said === "FIELD_RANGE" ? ":" : ";";
+    return new QrError(name, `${field}: ${why}${helps && `${mark} ${helps}`}`, field);
+}
+
+/** Returns the GS1 element string of pairs: an application identifier, and its value. */
+export function gs1(elements) {
+    const pairs = checks.listed("elements", elements, "pairs, as ['01', '09501101530003']");
+    if (pairs.length === 0)
+        throw wrongField("FIELD_EMPTY", "elements");
+    const { said, data, at } = stringOf(pairs);
+    if (CAUSES[said]?.[2])
+        throw new QrError(CAUSES[said][0], `element ${at + 1}${wrongElement(said, pairs[at])}`,
+            `elements[${at}]`);
+    if (said === "SMALL_BUFFER")
+        throw refusal("NO_ROOM", `no symbol holds a text of more than ${grouped(BYTES_MAX)} bytes`);
+    refuse(said);
+    return data;
+}
+
+/** Returns the library's answer, the element string, and the place of a wrong element. */
+function stringOf(pairs) {
+    return within((buffers) => {
+        const out = buffers.room(BYTES_MAX), count = buffers.room(8), place = buffers.room(8);
+        const said = answer("goq_gs1", ...elementsOf(buffers, pairs), out, BYTES_MAX, count, place);
+        return { said, data: said === "OK" ? buffers.copy(out, buffers.sizes(count)[0]) : null,
+            at: said === "OK" ? 0 : buffers.sizes(place)[0] };
+    });
+}
+
+/** Returns the address and the number of elements for the library. */
+export function elementsOf(buffers, pairs) {
+    const rows = pairs.map((pair, at) => {
+        if (!Array.isArray(pair) || pair.length !== 2)
+            throw new TypeError(`element ${at + 1} is a pair, as ['01', '09501101530003'], `
+                + `not ${shown(pair)}`);
+        const [identifier, value] = pair.map((it) =>
+            checks.utf8(`each part of element ${at + 1}`, it));
+        return { identifier: buffers.bytes(identifier), identifier_length: identifier.length,
+            value: buffers.bytes(value), value_length: value.length };
+    });
+    return [buffers.structs("goq_element", rows), rows.length];
+}
+
+/** Says what is wrong with an element. */
+function wrongElement(said, [identifier, value]) {
+    if (said === "NO_SUCH_IDENTIFIER" && identifier.startsWith("("))
+        return `: write ${identifier.replace(/[()]/g, "").slice(0, 38)} without brackets`;
+    const why = said === "NO_SUCH_IDENTIFIER"
+        ? "no such identifier is known; they have two to four digits, as 01, 414 and 3103"
+        : said === "ELEMENT_LENGTH"
+            ? `its value has ${grouped(value.length)} characters; it needs ${lengths(identifier)}`
+            : CAUSES[said][1];
+    return `, (${identifier.slice(0, 38)}): ${why}`;
+}
+
+/** Says how many characters a value may have: one number, or from one to another. */
+function lengths(identifier) {
+    const taken = Array.from({ length: 91 }, (_, count) => count).filter((count) =>
+        stringOf([[identifier, "0".repeat(count)]]).said !== "ELEMENT_LENGTH");
+    return [...new Set([taken[0], taken[taken.length - 1]])].join(" to ");
+}

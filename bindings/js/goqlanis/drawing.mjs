@@ -1,0 +1,136 @@
+/* Draws codes: the options of each format, and colours. */
+
+import * as checks from "./checks.mjs";
+import { QrError, refuse } from "./errors.mjs";
+import { answer, within } from "./memory.mjs";
+import { COLOURS, FORMATS, GREY, LIGHT_HALF_BLOCKS, SIDES } from "./numbers.mjs";
+import { grouped, shown } from "./checks.mjs";
+
+const KINDS = { ...FORMATS,
+    light: { number: LIGHT_HALF_BLOCKS, isText: true, scale: 1, hasColours: false },
+    grey: { number: GREY, isText: false, scale: 8, hasColours: false } };
+const TRANSPARENT = 0xff000000, BLACK = 0x000000, WHITE = 0xffffff, MOST_SIDE = 65535;
+/* The smallest difference of brightness, out of 255: two fifths, below which ISO/IEC 15415 grades
+   the contrast of a symbol D or F. */
+const CONTRAST = 102;
+const NAMES = new Map(COLOURS.split(" ").map((it) => it.split("=")));
+const USUAL = { scale: null, size: null, quietZone: null, dark: "black", light: "white",
+    dpi: null };
+
+/** Returns the bytes of the picture of a code. */
+export function drawn(code, format, given) {
+    if (!Object.keys(KINDS).includes(format))
+        throw new RangeError(
+            `no format ${shown(format)}: take one of ${Object.keys(KINDS).join(", ")}`);
+    const kind = KINDS[format], look = checks.options(format, given, USUAL);
+    const zone = zoneOf(code, look), across = code.width + 2 * zone;
+    const scale = scaleOf(look, format, across);
+    const { dark, light, dpi } = inkOf(look, format);
+    const side = across * scale, most = SIDES[kind.number] ?? side;
+    if (side > most)
+        throw new QrError("NoSuchSize", `a side of ${grouped(side)} pixels: this format has at most `
+            + `${grouped(most)}: take ` + (across > most ? "a smaller quietZone"
+                : `scale: ${Math.floor(most / across)} or less`));
+    return within((buffers) => {
+        const drawing = { format: kind.number, zone, scale, dark, light, dpi };
+        const asked = [buffers.bytes(code.modules), code.modules.length, code.width,
+            buffers.initial("goq_drawing", drawing)];
+        const count = buffers.room(8);
+        /* Always enough for SVG, PIC and EPS, and mostly for others, which are drawn to find how
+           long they are. */
+        let room = code.modules.length * 80 + 400, out = buffers.room(room);
+        let said = answer("goq_draw_with", ...asked, out, room, count);
+        if (said === "SMALL_BUFFER") {
+            refuse(answer("goq_draw_with_length", ...asked, count));
+            [room] = buffers.sizes(count);
+            out = buffers.room(room);
+            said = answer("goq_draw_with", ...asked, out, room, count);
+        }
+        refuse(said);
+        return buffers.copy(out, buffers.sizes(count)[0]);
+    });
+}
+
+/** Returns the width of the quiet zone in modules. */
+export function zoneOf(code, { quietZone = null }) {
+    return quietZone === null ? code.quietZone
+        : checks.whole("quietZone", quietZone, 0, 32000, "NoSuchSize");
+}
+
+/** Returns the pixels per module. */
+function scaleOf({ scale, size, dpi }, format, across) {
+    if (size === null)
+        return scale === null ? KINDS[format].scale
+            : checks.whole("scale", scale, 1, MOST_SIDE, "NoSuchSize");
+    if (scale !== null)
+        throw new RangeError("scale and size: give one of them");
+    const dots = format === "eps" || format === "pdf" ? 72 : dpi;
+    const millimetres = /^([0-9]{1,9}([.][0-9]{1,9})?)mm$/.exec(size);
+    if (millimetres !== null && dots === null)
+        throw new RangeError(`size: '${size}': how many pixels are these? Take PNG and dpi: 300, or `
+            + "EPS or PDF, in points");
+    const pixels = checks.whole("size in pixels, or as '30mm',", millimetres === null ? size
+        : Math.floor(Number(millimetres[1]) * checks.whole("dpi", dots, 1, MOST_SIDE) * 10 / 254),
+        1, MOST_SIDE, "NoSuchSize");
+    if (pixels < across)
+        throw new QrError("NoSuchSize", `a side of ${pixels} pixels: the symbol and its quiet zone `
+            + `have ${across} modules a side: take a larger size, or a smaller quietZone`);
+    return Math.floor(pixels / across);
+}
+
+/** Returns the colours of dark and light modules, and the dots per inch, 0 for none. */
+function inkOf(look, format) {
+    const dark = colour("dark", look.dark), light = colour("light", look.light);
+    const name = format.toUpperCase();
+    if (!KINDS[format].hasColours && (dark !== BLACK || light !== WHITE))
+        throw new QrError("NotInFormat",
+            `${name} is black on white; PNG, SVG, EPS, PDF and PPM have colours`);
+    if (format !== "png" && format !== "svg" && Math.max(dark, light) > WHITE)
+        throw new QrError("NotInFormat",
+            `${name} has only opaque colours; PNG and SVG have transparent ones`);
+    if (dark === light)
+        throw new RangeError(`dark and light are the same colour, ${shown(look.dark)}: the symbol `
+            + "would be invisible");
+    if (look.dpi !== null && format !== "png")
+        throw new QrError("NotInFormat", `${name} has no dots per inch: only PNG has dpi`);
+    if (areClose(look.dark, look.light))
+        console.warn(`dark modules in ${shown(look.dark)}, light ones in ${shown(look.light)}: `
+            + "many readers need the dark ones to be much darker");
+    return { dark, light,
+        dpi: look.dpi === null ? 0 : checks.whole("dpi", look.dpi, 1, MOST_SIDE) };
+}
+
+/** Returns whether many readers could not tell dark modules from light ones, on white paper. */
+export function areClose(dark, light) {
+    return brightness(colour("light", light)) < brightness(colour("dark", dark)) + CONTRAST;
+}
+
+/** Returns how bright a colour is on white, 0 to 255, by the weights of ITU-R BT.601. */
+function brightness(number) {
+    const [clear, red, green, blue] = [24, 16, 8, 0].map((it) => (number >>> it) & 255);
+    const own = Math.floor((299 * red + 587 * green + 114 * blue) / 1000);
+    return Math.floor((own * (255 - clear) + 255 * clear) / 255);
+}
+
+/** Returns the library's number of a colour, which is the option `name`. */
+function colour(name, value) {
+    const word = typeof value === "string" ? value.trim().toLowerCase() : "";
+    if (value === null || word === "transparent")
+        return TRANSPARENT;
+    if (Array.isArray(value) && (value.length === 3 || value.length === 4)) {
+        const parts = value.map((it) => checks.whole(`each part of ${name}`, it, 0, 255));
+        return numberOf([...parts, 255]);
+    }
+    if (typeof value !== "string")
+        throw new TypeError(`${name} is a colour, not ${shown(value)}: take a name, '#rgb', '#rrggbb', `
+            + "'#rrggbbaa', [red, green, blue], or null for transparent");
+    const digits = NAMES.get(word) ?? word.replace(/^#/, "");
+    if (!/^([0-9a-f]{3,4}|[0-9a-f]{6}|[0-9a-f]{8})$/.test(digits))
+        throw new RangeError(
+            `${name}: ${shown(word)} is not a colour: take '#rrggbb', or a CSS name`);
+    const all = digits.length > 4 ? digits : digits.replace(/./g, "$&$&");
+    return numberOf([...all.match(/../g).map((it) => parseInt(it, 16)), 255]);
+}
+
+const numberOf = ([red, green, blue, opacity]) =>
+    (((255 - opacity) << 24) | (red << 16) | (green << 8) | blue) >>> 0;

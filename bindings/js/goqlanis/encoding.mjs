@@ -1,0 +1,273 @@
+/* Encodes data, text, segments and GS1 elements. */
+
+import * as checks from "./checks.mjs";
+import { QrCode } from "./code.mjs";
+import { elementsOf, gs1 } from "./contents.mjs";
+import { refusal } from "./errors.mjs";
+import { answer, number, within } from "./memory.mjs";
+import { ALPHANUMERIC, AS_BYTES, AS_MARKED_TEXT, AS_TEXT, BYTES, ECI, FNC1_FIRST,
+    FNC1_SECOND, KANJI, MODULES_MAX, NUMERIC, SEVERAL_MAX } from "./numbers.mjs";
+import { LEVELS, grouped, shown, versionName } from "./checks.mjs";
+
+const MICRO_1 = 41, UTF_8 = 26, MOST_SET = 999999, MOST_DATA = 1048576;
+export const KINDS = { numeric: NUMERIC, alphanumeric: ALPHANUMERIC, byte: BYTES, kanji: KANJI,
+    eci: ECI, fnc1First: FNC1_FIRST, fnc1Second: FNC1_SECOND };
+const IN_MODES = ["numeric holds only digits",
+    "alphanumeric holds only digits, capitals, spaces and $%*+-./:", "",
+    "kanji holds only Shift JIS, 8140 to 9ffc and e040 to ebbf"];
+
+/* Each kind of request asks the library with `ask(buffers, outputs)`; `version` is 0 for any. */
+
+/** Returns the library's answer to a request, and the codes that it made. */
+function ask(request, most = 1) {
+    return within((buffers) => {
+        const modules = buffers.room(most * MODULES_MAX), symbol = buffers.many("goq_symbol", 1);
+        const count = buffers.room(8);
+        const said = request.ask(buffers, [modules, most * MODULES_MAX, symbol], count);
+        if (said !== "OK")
+            return [said, []];
+        const { version, level, width } = buffers.struct("goq_symbol", symbol);
+        const codes = Array.from({ length: most > 1 ? buffers.sizes(count)[0] : 1 }, (_, at) =>
+            new QrCode(buffers.copy(modules + at * width * width, width * width),
+                versionName(version), LEVELS[level]));
+        return ["OK", codes];
+    });
+}
+
+const askData = (it) => ({ ...it, ask: (buffers, out) => {
+    const { level, manner, version, min_version, boost, mask } = it;
+    const options = buffers.initial("goq_options",
+        { level, manner, version, min_version, boost, mask });
+    return answer("goq_encode_with", buffers.bytes(it.data), it.data.length, options, ...out);
+} });
+
+const askParts = (it) => ({ ...it, ask: (buffers, out, count) => {
+    const { level, manner, min_version, max_version, wanted } = it;
+    const options = buffers.initial("goq_several",
+        { level, manner, min_version, max_version, count: wanted });
+    return answer("goq_encode_several", buffers.bytes(it.data), it.data.length, options, ...out,
+        count);
+} });
+
+const askSegments = (it) => ({ ...it, ask: (buffers, out) => {
+    const rows = it.rows.map(({ kind, number, data }) =>
+        ({ kind, number, bytes: buffers.bytes(data), length: data.length }));
+    const given = [buffers.structs("goq_segment", rows), rows.length];
+    const least = buffers.structs("goq_symbol", [{ version: it.version }]);
+    const said = it.version ? "OK"
+        : answer("goq_smallest_version_of_segments", ...given, it.level, least);
+    return said !== "OK" ? said : answer("goq_encode_segments", ...given,
+        buffers.struct("goq_symbol", least).version, it.level, ...out);
+} });
+
+const askElements = (it) => ({ ...it, ask: (buffers, out, place) => {
+    const { level, version, min_version, mask } = it;
+    const options = buffers.initial("goq_options", { level, version, min_version, mask });
+    return answer("goq_encode_gs1", ...elementsOf(buffers, it.elements), options, ...out, place);
+} });
+
+/** Makes the code of a request; an error calls its data `said`. */
+function one(make, request, said) {
+    const [found, codes] = ask(make(request));
+    if (found !== "OK")
+        throw refused(make, request, found, said);
+    return codes[0];
+}
+
+/** Encodes a string or bytes. */
+export function encode(value, given = {}) {
+    const it = checks.options("encode", given, { level: "M", version: null, minVersion: null,
+        micro: false, boost: false, mask: null, marked: false, eci: null });
+    const [data, isText] = checks.data(value);
+    const request = { data, level: checks.level(it.level), manner: mannerOf(isText, it),
+        ...versionsOf(it), boost: Number(checks.flag("boost", it.boost)), mask: maskOf(it.mask) };
+    if (it.boost && it.version !== null)
+        throw new RangeError("version and boost: use minVersion in place of version");
+    if (it.eci === null || isText)
+        return one(askData, request, `${grouped(data.length)} bytes`);
+    if (it.minVersion !== null || it.micro || it.boost || it.mask !== null)
+        throw new RangeError("bytes with eci: only level and version may be given too");
+    return encodeSegments([["eci", it.eci], ["byte", data]],
+        { level: it.level, version: it.version ?? undefined });
+}
+
+function mannerOf(isText, { marked, eci }) {
+    if (checks.flag("marked", marked) && !isText)
+        throw new TypeError(
+            "marked is only for a string; for bytes, eci: 26 says that they are UTF-8");
+    if (eci !== null)
+        checks.whole("eci", eci, 0, MOST_SET, "NoSuchNumber");
+    if (isText && eci !== null && eci !== UTF_8)
+        throw new RangeError(`eci: ${eci} is for bytes: give those of that character set`);
+    return !isText ? AS_BYTES : marked || eci !== null ? AS_MARKED_TEXT : AS_TEXT;
+}
+
+function versionsOf({ version, minVersion, micro = false }) {
+    const asked = version === null ? 0 : checks.version(version);
+    const first = minVersion === null ? 1 : checks.version(minVersion);
+    if (checks.flag("micro", micro) && Math.max(asked, first) >= MICRO_1)
+        throw new RangeError(`leave out micro: ${asked ? "version" : "minVersion"} is Micro QR`);
+    if ((version !== null) + (minVersion !== null) + micro > 1)
+        throw new RangeError("version, minVersion and micro: give one of them");
+    return { version: asked, min_version: micro ? MICRO_1 : first };
+}
+
+const maskOf = (mask) => (mask === null ? 0 : 1 + checks.whole("mask", mask, 0, 7, "NoSuchMask"));
+
+/** Splits a string or bytes over up to 16 codes (structured append). */
+export function encodeSequence(value, given = {}) {
+    const it = checks.options("encodeSequence", given,
+        { level: "M", version: null, count: null, minVersion: null, maxVersion: null });
+    const [data, isText] = checks.data(value);
+    if (it.version !== null && (it.minVersion ?? it.maxVersion) !== null)
+        throw new RangeError("version with minVersion or maxVersion: give one of them");
+    const [min_version, max_version] = [it.minVersion ?? 1, it.maxVersion ?? 40]
+        .map((each) => checks.version(it.version ?? each));
+    const request = { data, level: checks.level(it.level), manner: isText ? AS_TEXT : AS_BYTES,
+        min_version, max_version,
+        wanted: it.count === null ? 0 : checks.whole("count", it.count, 1, SEVERAL_MAX) };
+    const [found, codes] = ask(askParts(request), SEVERAL_MAX);
+    if (found !== "OK")
+        throw refusedParts(request, found);
+    return codes;
+}
+
+/** Encodes segments, such as ["numeric", "123"], ["byte", bytes] or ["eci", 26]. */
+export function encodeSegments(segments, given = {}) {
+    const it = checks.options("encodeSegments", given, { level: "M", version: null });
+    const rows = checks.listed("segments", segments, "pairs, as ['byte', bytes]")
+        .map((each, at) => segmentOf(`segment ${at + 1}`, each));
+    const version = it.version === null ? 0 : checks.version(it.version);
+    return one(askSegments, { rows, level: checks.level(it.level), version }, "the segments");
+}
+
+function segmentOf(name, given) {
+    if (!Array.isArray(given) || given.length < 1 || given.length > 2)
+        throw new TypeError(
+            `${name} is a pair, as ['byte', bytes] or ['eci', 26], not ${shown(given)}`);
+    const [word, value] = given;
+    if (!Object.keys(KINDS).includes(word))
+        throw new RangeError(
+            `${name}: no kind ${shown(word)}: take one of ${Object.keys(KINDS).join(", ")}`);
+    const kind = KINDS[word], none = new Uint8Array(0);
+    if (kind === ECI || kind === FNC1_SECOND)
+        return { kind, data: none, number: checks.whole(`${name}: the number of ${word}`, value, 0,
+            kind === ECI ? MOST_SET : 255, "NoSuchNumber") };
+    if (kind === FNC1_FIRST)
+        return { kind, data: none, number: 0 };
+    const data = checks.bytesOf(value)
+        ?? (kind === KANJI ? null : checks.utf8(`${name}: the data of '${word}'`, value));
+    if (data === null)
+        throw new TypeError(
+            `${name}: the data of 'kanji' is bytes of Shift JIS, not ${shown(value)}`);
+    return { kind, data, number: 0 };
+}
+
+/** Encodes GS1 elements, pairs of an application identifier and a value. */
+export function encodeGs1(elements, given = {}) {
+    const it = checks.options("encodeGs1", given,
+        { level: "M", version: null, minVersion: null, mask: null });
+    const pairs = checks.listed("elements", elements, "pairs, as ['01', '09501101530003']");
+    gs1(pairs); /* throws the error of a wrong element */
+    return one(askElements, { elements: pairs, level: checks.level(it.level), ...versionsOf(it),
+        mask: maskOf(it.mask) }, "the elements");
+}
+
+/** Returns the error for a code that cannot be made: what is wrong, and what would help. */
+function refused(make, it, found, said) {
+    const isData = make === askData;
+    if (["LEVEL_NOT_IN_VERSION", "NO_MODE", "NO_ROOM"].includes(found) && isData && it.version
+            && it.data.length > MOST_DATA)
+        return refusal("TOO_LONG");
+    const texts = {
+        LEVEL_NOT_IN_VERSION: () => `version ${versionName(it.version)} has no level `
+            + `${LEVELS[it.level]}; it has ${{ 41: "only L", 44: "L, M and Q" }[it.version] ?? "L and M"}`,
+        NO_MODE: () => noMode(make, it),
+        NOT_IN_MODE: () => notInMode(it),
+        NO_SUCH_MASK: () => `version ${ask(make({ ...it, mask: 0 }))[1][0]?.version
+            ?? versionName(it.version)} has no mask ${it.mask - 1}: take one of 0 to 3`,
+        NO_ROOM: () => noRoom(make, it, said),
+    };
+    return refusal(found, texts[found]?.());
+}
+
+function noMode(make, it) {
+    const name = versionName(it.version);
+    if (make === askSegments)
+        return it.rows.some((row) => row.kind > KANJI)
+            ? `version ${name} has no headers, like all of Micro QR; take 1 to 40`
+            : `version ${name} lacks a mode of the segments; M3, M4 and 1 to 40 have all`;
+    if (it.manner === AS_MARKED_TEXT)
+        return `version ${name} cannot say which character set it holds; leave out marked and eci, `
+            + "or take 1 to 40";
+    const modes = name === "M1" ? "digits" : "digits, capitals, spaces and $%*+-./:";
+    return `version ${name} holds only ${modes}; M3, M4 and 1 to 40 hold any bytes`;
+}
+
+/** Names the first segment that is rejected on its own. */
+function notInMode(it) {
+    const at = it.rows.findIndex((row) =>
+        ask(askSegments({ ...it, rows: [row], version: 0 }))[0] === "NOT_IN_MODE");
+    return at < 0 ? "" : `segment ${at + 1}: ${IN_MODES[it.rows[at].kind]}`;
+}
+
+function noRoom(make, it, said) {
+    const isData = make === askData, level = LEVELS[it.level], name = versionName(it.version);
+    let text = it.version ? `version ${name} at level ${level} does not hold ${said}`
+        : `no version holds ${said} at level ${level}`;
+    if (isData) {
+        const most = mostBytes(it);
+        text = `${said} at ${it.version ? `version ${name} and ` : ""}level ${level}: `
+            + (most ? `at most ${grouped(most)} fit, more of digits or capitals` : "too many");
+    }
+    const helps = helpsOf(make, it);
+    if (helps.length > 0)
+        return `${text}; ${helps.join(" or ")} holds them`;
+    const several = { ...it, level: 0, min_version: 1, max_version: 40, wanted: 0 };
+    const areHeld = isData && it.manner !== AS_MARKED_TEXT
+        && ask(askParts(several), SEVERAL_MAX)[0] === "OK";
+    return `${text}; no level holds them`
+        + (areHeld ? ": encodeSequence splits them over several symbols" : "");
+}
+
+/** Names the smallest version, and the highest level, that would hold the data. */
+function helpsOf(make, it) {
+    const holds = (request) => ask(make(request))[1][0];
+    const any = it.version && holds({ ...it, version: 0, boost: 0, mask: 0,
+        min_version: make === askData && it.version >= MICRO_1 ? MICRO_1 : 1 });
+    const below = [2, 1, 0].find((level) => level < it.level && holds({ ...it, level }));
+    return [...(any ? [`version ${any.version}`] : []),
+        ...(below === undefined ? [] : [`level ${LEVELS[below]}`])];
+}
+
+/** Returns the most bytes, of any kind, that the version holds, or without one version 40. */
+function mostBytes(it) {
+    const at = { ...it, version: it.version || 40, boost: 0, mask: 0 };
+    let [most, beyond] = [0, 2954];
+    while (beyond - most > 1) {
+        const middle = (most + beyond) >> 1;
+        const isHeld = ask(askData({ ...at, data: new Uint8Array(middle) }))[0] === "OK";
+        [most, beyond] = isHeld ? [middle, beyond] : [most, middle];
+    }
+    return most;
+}
+
+function refusedParts(it, found) {
+    const last = versionName(it.max_version);
+    if (found === "NO_ROOM")
+        return refusal(found, `${grouped(it.data.length)} bytes: ${it.wanted || 16} symbols up to `
+            + `version ${last} at level ${LEVELS[it.level]} do not hold them; take a larger version or `
+            + `a lower level${it.wanted % 16 ? ", or more symbols" : ""}`);
+    return refusal(found, found !== "NO_SUCH_VERSION" ? "" : `versions ${versionName(it.min_version)} `
+        + `to ${last}: several symbols have versions 1 to 40, the smallest first`);
+}
+
+/** Returns whether the module in column x and row y of a version belongs to a pattern or to the
+    format or version information. */
+export function isFunctional(version, x, y) {
+    const known = checks.version(version);
+    const isPlace = [["x", x], ["y", y]].map(([name, it]) =>
+        checks.whole(name, it, Number.MIN_SAFE_INTEGER, Number.MAX_SAFE_INTEGER))
+        .every((it) => it >= 0 && it < number("goq_width", known));
+    return isPlace && number("goq_is_functional", known, x, y) !== 0;
+}

@@ -1,0 +1,17 @@
+/* What the types allow, and what they refuse: bindings/js/test has tsc look at it. */
+import { check, encode, encodeSegments, load, read, wifi } from "goqlanis";
+await load();
+const code = encode("a", { level: "H", version: "M3", mask: 3 });
+const s: string = code.svg({ dark: null, size: "30mm" });
+const b: Uint8Array = code.png({ dpi: 300 });
+encodeSegments([["eci", 26], ["byte", "x"], ["fnc1First"], ["kanji", new Uint8Array(2)]]);
+const t: string | null = read(b)[0].text;
+wifi({ ssid: "x", hidden: true });
+check(b)[0].wrongModules.finder.toFixed();
+code.withLogo(s, { margin: 1 }).logo?.area.left;
+// @ts-expect-error
+wifi({ ssdi: "x" });
+// @ts-expect-error
+encode("a", { levl: "H" });
+// @ts-expect-error
+encodeSegments([["kanji", "x"]]);
