@@ -1,0 +1,101 @@
+/* The forms of what a code holds, made from the library's table of payloads. */
+
+import { PAYLOADS, QrError, encode, encodeGs1, payload } from "./goqlanis/index.mjs";
+
+const LONG = ["text", "body", "note", "description"];
+const SHORT = ["ssid", "iban", "bic", "url", "uid"];
+const MODES = { phone: "tel", number: "tel", mobile: "tel", workPhone: "tel", homePhone: "tel",
+    email: "email", address: "email", url: "url", link: "url", amount: "decimal" };
+
+/** Each kind: its name, what it is, the fields with their hints, and what makes a code of them; for
+    some, the level and the largest version that the format wants. */
+export const FORMS = {
+    text: { name: "Text", about: "", fields: { text: "" },
+        make: ({ text }, options) => encode(text, options) },
+    link: { name: "Link", about: "", fields: { link: "as https://example.org" },
+        make: ({ link }, options) => encode(linked(link), options) },
+    ...Object.fromEntries(Object.entries(PAYLOADS).map(([kind, row]) => [kind, formOf(kind, row)])),
+    gs1: { name: "GS1 elements", about: "", fields:
+        { elements: "as (01)09521234543213(17)291231(10)ABC123" },
+    make: ({ elements }, options) => encodeGs1(pairs(elements), gs1Options(options)) },
+};
+
+function formOf(kind, { about, more, fields }) {
+    const [name, ...rules] = about.replace(/^an? /, "").split("; ");
+    const [, level, most] = /level (.) and at most version (\d+)/.exec(about) ?? [];
+    return { name: name[0].toUpperCase() + name.slice(1), about: [rules.join("; "), more].join(" ").trim(),
+        fields, level, most: Number(most),
+        make: (values, options) => encode(payload(kind, values), options) };
+}
+
+function linked(link) {
+    const text = link.trim();
+    if (text === "")
+        throw new QrError("EmptyField", "link: it may not be empty", "link");
+    if (!/^[a-z][a-z0-9+.-]*:\S+$/i.test(text))
+        throw new QrError("WrongCharacter", "link: write it as https://example.org", "link");
+    return text;
+}
+
+/** Returns the elements of a text such as (01)09521234543213(10)ABC. */
+function pairs(text) {
+    const found = [...text.trim().matchAll(/\((\d+)\)([^(]*)/g)];
+    if (found.map((it) => it[0]).join("") !== text.trim())
+        throw new QrError("WrongCharacter",
+            "elements: write each identifier in brackets, as (01)09521234543213", "elements");
+    return found.map((it) => [it[1], it[2]]);
+}
+
+/** Returns the options that encodeGs1 takes; it has no Micro QR, and bits are the fewest. */
+function gs1Options({ level, version, mask }) {
+    return { level, version, mask };
+}
+
+/** Returns the label of a field: "Work phone" for workPhone. */
+const words = (name) => (SHORT.includes(name) ? name.toUpperCase()
+    : name.replace(/[A-Z]/g, (it) => ` ${it.toLowerCase()}`).replace(/^./, (it) => it.toUpperCase()));
+
+/** Returns the element of a field, with its label, hint and place for an error. */
+export function fieldOf(name, hint) {
+    const box = document.createElement("div");
+    const label = document.createElement("label");
+    const below = document.createElement("p");
+    const wrong = document.createElement("p");
+    const input = inputOf(name, hint);
+    input.id = `field-${name}`;
+    input.name = name;
+    [label.htmlFor, below.id, wrong.id] = [input.id, `hint-${name}`, `error-${name}`];
+    input.setAttribute("aria-describedby", `${below.id} ${wrong.id}`);
+    [below.className, wrong.className, label.textContent] = ["hint", "error", words(name)];
+    const chosen = input.localName === "select";
+    below.textContent = input.type === "checkbox" ? hint.replace(/^"true" /, "")
+        : chosen ? hint.replace(/^.*?; empty/, "empty") : hint;
+    box.className = input.type === "checkbox" ? "" : "field";
+    if (input.type === "checkbox") {
+        label.className = "box";
+        label.prepend(input);
+        box.append(label, below, wrong);
+    } else {
+        box.append(label, input, below, wrong);
+    }
+    return box;
+}
+
+function inputOf(name, hint) {
+    const choices = /^("[^"]+"(?:,| or) )+"[^"]+"; empty/.test(hint)
+        ? ["", ...hint.split(";")[0].match(/"[^"]+"/g).map((it) => it.slice(1, -1))] : [];
+    if (choices.length > 0) {
+        const select = document.createElement("select");
+        select.append(...choices.map((it) => new Option(it || "default", it)));
+        return select;
+    }
+    const input = document.createElement(LONG.includes(name) ? "textarea" : "input");
+    if (LONG.includes(name))
+        input.rows = name === "text" ? 5 : 3;
+    else
+        input.type = hint.startsWith('"true" if') ? "checkbox" : "text";
+    input.spellcheck = false;
+    if (MODES[name])
+        input.inputMode = MODES[name];
+    return input;
+}

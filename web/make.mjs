@@ -1,0 +1,204 @@
+/* Makes codes: shows the code of what is typed, and saves it. */
+
+import { QrError, areClose } from "./goqlanis/index.mjs";
+import { FORMS, fieldOf } from "./forms.mjs";
+
+const at = (id) => document.getElementById(id);
+const TYPES = { svg: "image/svg+xml", png: "image/png", pdf: "application/pdf",
+    eps: "application/postscript", zpl: "text/plain" };
+/* The controls that say how the code is made; what the code holds is in the fields. */
+const OPTIONS = ["level", "version", "mask", "quietZone", "micro", "boost", "marked", "scale", "dpi",
+    "dark", "light", "transparent"];
+let code = null;
+let logo = null; /* its bytes */
+const touched = new Set();
+
+/** Begins the panel; `state` is what the address holds, or null. */
+export function start(state) {
+    for (const [kind, { name }] of Object.entries(FORMS))
+        at("kind").add(new Option(name, kind));
+    for (let version = 1; version <= 44; version++)
+        at("version").add(new Option(version > 40 ? `M${version - 40}` : version));
+    for (let mask = 0; mask < 8; mask++)
+        at("mask").add(new Option(mask));
+    at("kind").addEventListener("input", () => showForm());
+    at("form").addEventListener("submit", (event) => event.preventDefault());
+    at("form").addEventListener("input", (event) => {
+        touched.add(event.target.name);
+        draw();
+    });
+    at("logo").addEventListener("change", () => takeLogo(at("logo").files[0]));
+    at("no-logo").addEventListener("click", () => {
+        at("logo").value = "";
+        takeLogo(undefined);
+        at("logo").focus();
+    });
+    at("save").addEventListener("click", ({ target }) => target.dataset.format && save(target.dataset.format));
+    at("copy").addEventListener("click", copy);
+    at("share").addEventListener("click", share);
+    showForm(state ?? {});
+}
+
+/** Shows the form of the chosen kind, with these values, and draws. */
+function showForm(state = {}) {
+    if (Object.keys(FORMS).includes(state.kind))
+        at("kind").value = state.kind;
+    const form = FORMS[at("kind").value];
+    touched.clear();
+    at("about").textContent = form.about;
+    at("fields").replaceChildren(...Object.entries(form.fields).map((it) => fieldOf(...it)));
+    for (const id of [...OPTIONS, ...Object.keys(form.fields).map((it) => `field-${it}`)])
+        if (id in state)
+            put(at(id), state[id]);
+    if (form.level)
+        at("level").value = form.level;
+    at("level").disabled = form.level !== undefined;
+    draw();
+}
+
+const valueOf = (input) => (input.type === "checkbox" ? input.checked : input.value);
+
+function put(input, value) {
+    if (input.type === "checkbox")
+        input.checked = value === true;
+    else
+        input.value = value;
+}
+
+/** Returns a whole number that is typed, or null; what is no number is left to the library. */
+function whole(id) {
+    const text = at(id).value.trim();
+    return text === "" ? null : /^\d+$/.test(text) ? Number(text) : text;
+}
+
+function drawOptions(format) {
+    const look = { scale: whole("scale") ?? 8, quietZone: whole("quietZone"), dark: at("dark").value,
+        light: at("transparent").checked ? null : at("light").value };
+    return format === "png" ? { ...look, dpi: whole("dpi") } : look;
+}
+
+/** Makes the code of what is typed; throws what the library says. */
+function make() {
+    const form = FORMS[at("kind").value];
+    const values = Object.fromEntries(Object.keys(form.fields).map((it) => [it, valueOf(at(`field-${it}`))]));
+    const version = at("version").value || undefined;
+    const micro = at("micro").checked && version === undefined;
+    const made = form.make(values, { level: at("level").value, version, micro,
+        boost: at("boost").checked && version === undefined && !form.level, marked: at("marked").checked,
+        mask: whole("mask") });
+    if (form.most && !(Number(made.version) <= form.most))
+        throw new QrError("NoRoom", `version ${made.version}: this format has at most version ${form.most}`);
+    return logo === null ? made : made.withLogo(logo);
+}
+
+/** Draws the code, or says what is wrong. */
+function draw() {
+    let failure = null, svg = "";
+    code = null;
+    try {
+        const made = make();
+        svg = made.svg(drawOptions("svg"));
+        code = made;
+    } catch (error) {
+        failure = error;
+    }
+    showWrong(failure);
+    at("picture").hidden = code === null;
+    at("picture").src = code === null ? "" : `data:image/svg+xml,${encodeURIComponent(svg)}`;
+    at("picture").alt = code === null ? "" : `QR code, ${code.width} modules a side`;
+    for (const button of at("save").children)
+        button.disabled = code === null;
+    if (code !== null)
+        at("said").textContent = aboutOf(code);
+    at("warnings").replaceChildren(...warningsOf(code).map((it) => {
+        const item = document.createElement("li");
+        item.textContent = it;
+        return item;
+    }));
+    at("done").textContent = "";
+}
+
+/** Shows an error at its field, if the field was typed into, else below the code. */
+function showWrong(error) {
+    for (const input of at("fields").querySelectorAll("input, select, textarea")) {
+        const isWrong = error?.field?.replace(/\[\d+\]$/, "") === input.name && touched.has(input.name);
+        input.setAttribute("aria-invalid", isWrong);
+        at(`error-${input.name}`).textContent = isWrong ? error.message : "";
+    }
+    at("said").classList.toggle("wrong", error !== null && error.name !== "EmptyField");
+    if (error !== null)
+        at("said").textContent = error.message;
+}
+
+/** Says what the code is, and how large it will be. */
+function aboutOf({ version, level, mask, width, quietZone }) {
+    const { scale, quietZone: zone } = drawOptions("png");
+    const across = width + 2 * (zone ?? quietZone), pixels = across * scale, dots = whole("dpi");
+    const wide = (count, perInch) => `${(count * 25.4 / perInch).toFixed(1)} mm`;
+    return `Version ${version}, level ${level}, mask ${mask}: ${width} modules a side, ${across} with `
+        + `the quiet zone.\nPNG: ${pixels} pixels a side${dots ? `, ${wide(pixels, dots)}` : ""}. `
+        + `PDF and EPS: ${wide(pixels, 72)}.${logo === null ? "" : `\n${areaOf()}`}`;
+}
+
+/** Says which area the logo takes, and what that leaves. */
+function areaOf() {
+    const { area } = code.logo, { least, allowed } = code.reserve(area);
+    return `The logo has ${area.width} by ${area.height} modules. It is proved that the code decodes `
+        + `whatever these show; of ${allowed} codewords of a block that may be wrong, ${least} are left.`;
+}
+
+function warningsOf(made) {
+    if (made === null)
+        return [];
+    const { dark, light, quietZone } = drawOptions("svg");
+    return [
+        ...(areClose(dark, light) ? ["Many readers cannot tell these colours apart: take a much darker "
+            + "colour for the dark modules."] : []),
+        ...(quietZone !== null && quietZone < made.quietZone ? [`The quiet zone is narrower than the `
+            + `${made.quietZone} modules that the standard wants.`] : []),
+        ...(logo === null ? [] : ["Only SVG shows the logo; other files leave its area light."]),
+    ];
+}
+
+/** Takes a logo, a file or undefined. */
+export async function takeLogo(file) {
+    logo = file === undefined ? null : new Uint8Array(await file.arrayBuffer());
+    at("no-logo").hidden = logo === null;
+    draw();
+}
+
+function tell(text) {
+    at("done").textContent = text;
+}
+
+function save(format) {
+    try {
+        const data = code.draw(format, drawOptions(format));
+        const link = document.createElement("a");
+        link.href = URL.createObjectURL(new Blob([data], { type: TYPES[format] }));
+        link.download = `code.${format}`;
+        link.click();
+        setTimeout(() => URL.revokeObjectURL(link.href), 60000);
+        tell(`Saved as code.${format}.`);
+    } catch (error) {
+        tell(error.message);
+    }
+}
+
+async function copy() {
+    try {
+        const picture = new Blob([code.png(drawOptions("png"))], { type: "image/png" });
+        await navigator.clipboard.write([new ClipboardItem({ "image/png": picture })]);
+        tell("Copied as an image.");
+    } catch (error) {
+        tell(`The browser did not copy it: ${error.message}`);
+    }
+}
+
+/** Puts what is typed into the address. */
+function share() {
+    const fields = Object.keys(FORMS[at("kind").value].fields).map((it) => `field-${it}`);
+    const state = Object.fromEntries(["kind", ...OPTIONS, ...fields].map((it) => [it, valueOf(at(it))]));
+    history.replaceState(null, "", `#${encodeURIComponent(JSON.stringify(state))}`);
+    tell("The address now holds the code.");
+}

@@ -1,0 +1,114 @@
+/* Reads and checks the codes of a picture. */
+
+import { check, read } from "./goqlanis/index.mjs";
+
+const at = (id) => document.getElementById(id);
+const LINK = /^(https?|mailto|tel|sms|geo|upi):/i;
+/* The most pixels of a side that a canvas is made for. */
+const MOST = 8192;
+
+/** Begins the panel. */
+export function start() {
+    at("file").addEventListener("change", () => take(at("file").files[0]));
+}
+
+/** Reads the codes of a file, and shows them or what is wrong. */
+export async function take(file) {
+    if (file === undefined)
+        return;
+    at("heard").textContent = "Reading ..";
+    at("found").replaceChildren();
+    try {
+        const picture = await pictureOf(file);
+        const { codes, said } = readingOf(picture);
+        at("found").replaceChildren(...codes);
+        at("heard").textContent = said;
+    } catch (error) {
+        at("heard").textContent = `${file.name || "The picture"}: ${error.message}`;
+    }
+}
+
+/** Returns the bytes of a PNG, PBM or PGM file, or else the pixels that the browser decodes. */
+async function pictureOf(file) {
+    const bytes = new Uint8Array(await file.arrayBuffer());
+    const isKnown = [[137, 80, 78, 71], [80, 49], [80, 50], [80, 52], [80, 53]]
+        .some((head) => head.every((it, index) => bytes[index] === it));
+    if (isKnown)
+        try {
+            read(bytes);
+            return bytes;
+        } catch (error) {
+            if (error.name !== "BrokenPicture")
+                return bytes; /* what the library says is right; the browser may read what it does not */
+        }
+    return pixelsOf(file);
+}
+
+async function pixelsOf(file) {
+    let bitmap;
+    try {
+        bitmap = await createImageBitmap(file);
+    } catch {
+        throw new Error("your browser cannot decode it as a picture: save it as PNG or JPEG");
+    }
+    const shrink = Math.min(1, MOST / Math.max(bitmap.width, bitmap.height));
+    const canvas = document.createElement("canvas");
+    canvas.width = Math.max(1, Math.round(bitmap.width * shrink));
+    canvas.height = Math.max(1, Math.round(bitmap.height * shrink));
+    const context = canvas.getContext("2d", { willReadFrequently: true });
+    context.drawImage(bitmap, 0, 0, canvas.width, canvas.height);
+    return context.getImageData(0, 0, canvas.width, canvas.height);
+}
+
+/** Returns what is said about a picture, and an item for each code. */
+function readingOf(picture) {
+    let found = [], failure = null, checks = [];
+    try {
+        found = read(picture);
+    } catch (error) {
+        failure = error;
+    }
+    try {
+        checks = check(picture);
+    } catch (error) {
+        failure ??= error;
+    }
+    if (failure !== null && checks.length === 0)
+        throw failure;
+    const said = failure !== null ? `No code was read: ${failure.message}. What it shows was checked:`
+        : found.length === 1 ? "1 code:" : `${found.length} codes:`;
+    return { said, codes: checks.map((it, index) => itemOf(found[index], it)) };
+}
+
+const made = (name, text, more = {}) =>
+    Object.assign(document.createElement(name), { textContent: text }, more);
+
+function itemOf(code, checked) {
+    const item = document.createElement("li");
+    if (code !== undefined) {
+        const text = code.text ?? `${code.data.length} bytes: ${[...code.data]
+            .map((it) => it.toString(16).padStart(2, "0")).join(" ")}`;
+        const isLink = code.text !== null && LINK.test(text) && !/\s/.test(text);
+        item.append(made("h2", isLink ? "Link" : code.text === null ? "Data" : "Text"));
+        if (isLink) {
+            const line = document.createElement("p");
+            line.append(made("a", text, { href: text, rel: "noopener noreferrer", target: "_blank" }));
+            item.append(line);
+        } else {
+            item.append(made("pre", text));
+        }
+        const turned = [code.position, ...(code.isInverted ? ["inverted"] : [])].join(", ");
+        item.append(made("p", `Version ${code.version}, level ${code.level}, mask ${code.mask}; `
+            + `${turned}; ${code.wrong} codewords corrected. ${code.parts.map(partOf).join("; ")}.`));
+    }
+    item.append(made("h2", checked.isStandard ? "Check: as the standard says"
+        : "Check: it departs from the standard"), made("pre", `${checked}`));
+    return item;
+}
+
+function partOf({ kind, number, place, symbols, length }) {
+    const names = { eci: `character set (ECI) ${number}`, fnc1First: "GS1 (FNC1 in first position)",
+        fnc1Second: `FNC1 in second position, application ${number}`,
+        oneOfSeveral: `symbol ${place + 1} of ${symbols}, parity ${number}` };
+    return names[kind] ?? `${length} bytes in ${kind} mode`;
+}
