@@ -23,7 +23,8 @@ export const FORMS = {
 function formOf(kind, { about, more, fields }) {
     const [name, ...rules] = about.replace(/^an? /, "").split("; ");
     const [, level, most] = /level (.) and at most version (\d+)/.exec(about) ?? [];
-    return { name: name[0].toUpperCase() + name.slice(1), about: [rules.join("; "), more].join(" ").trim(),
+    return { name: name[0].toUpperCase() + name.slice(1),
+        about: [rules.join("; "), more].join(" ").trim(),
         fields, level, most: Number(most),
         make: (values, options) => encode(payload(kind, values), options) };
 }
@@ -69,7 +70,7 @@ export function fieldOf(name, hint) {
     [below.className, wrong.className, label.textContent] = ["hint", "error", words(name)];
     const chosen = input.localName === "select";
     below.textContent = input.type === "checkbox" ? hint.replace(/^"true" /, "")
-        : chosen ? hint.replace(/^.*?; empty/, "empty") : hint;
+        : chosen ? hint.replace(/^.*?; empty/, "default") : hint;
     box.className = input.type === "checkbox" ? "" : "field";
     if (input.type === "checkbox") {
         label.className = "box";

@@ -7,8 +7,8 @@ const at = (id) => document.getElementById(id);
 const TYPES = { svg: "image/svg+xml", png: "image/png", pdf: "application/pdf",
     eps: "application/postscript", zpl: "text/plain" };
 /* The controls that say how the code is made; what the code holds is in the fields. */
-const OPTIONS = ["level", "version", "mask", "quietZone", "micro", "boost", "marked", "scale", "dpi",
-    "dark", "light", "transparent"];
+const OPTIONS = ["level", "version", "mask", "quietZone", "micro", "boost", "marked", "scale",
+    "dpi", "dark", "light", "transparent"];
 let code = null;
 let logo = null; /* its bytes */
 const touched = new Set();
@@ -33,7 +33,8 @@ export function start(state) {
         takeLogo(undefined);
         at("logo").focus();
     });
-    at("save").addEventListener("click", ({ target }) => target.dataset.format && save(target.dataset.format));
+    for (const button of at("save").querySelectorAll("[data-format]"))
+        button.addEventListener("click", () => save(button.dataset.format));
     at("copy").addEventListener("click", copy);
     at("share").addEventListener("click", share);
     showForm(state ?? {});
@@ -72,22 +73,24 @@ function whole(id) {
 }
 
 function drawOptions(format) {
-    const look = { scale: whole("scale") ?? 8, quietZone: whole("quietZone"), dark: at("dark").value,
-        light: at("transparent").checked ? null : at("light").value };
+    const look = { scale: whole("scale") ?? 8, quietZone: whole("quietZone"),
+        dark: at("dark").value, light: at("transparent").checked ? null : at("light").value };
     return format === "png" ? { ...look, dpi: whole("dpi") } : look;
 }
 
 /** Makes the code of what is typed; throws what the library says. */
 function make() {
     const form = FORMS[at("kind").value];
-    const values = Object.fromEntries(Object.keys(form.fields).map((it) => [it, valueOf(at(`field-${it}`))]));
+    const names = Object.keys(form.fields);
+    const values = Object.fromEntries(names.map((it) => [it, valueOf(at(`field-${it}`))]));
     const version = at("version").value || undefined;
     const micro = at("micro").checked && version === undefined;
     const made = form.make(values, { level: at("level").value, version, micro,
-        boost: at("boost").checked && version === undefined && !form.level, marked: at("marked").checked,
-        mask: whole("mask") });
+        boost: at("boost").checked && version === undefined && !form.level,
+        marked: at("marked").checked, mask: whole("mask") });
     if (form.most && !(Number(made.version) <= form.most))
-        throw new QrError("NoRoom", `version ${made.version}: this format has at most version ${form.most}`);
+        throw new QrError("NoRoom",
+            `version ${made.version}: this format has at most version ${form.most}`);
     return logo === null ? made : made.withLogo(logo);
 }
 
@@ -121,7 +124,8 @@ function draw() {
 /** Shows an error at its field, if the field was typed into, else below the code. */
 function showWrong(error) {
     for (const input of at("fields").querySelectorAll("input, select, textarea")) {
-        const isWrong = error?.field?.replace(/\[\d+\]$/, "") === input.name && touched.has(input.name);
+        const isWrong = error?.field?.replace(/\[\d+\]$/, "") === input.name
+            && touched.has(input.name);
         input.setAttribute("aria-invalid", isWrong);
         at(`error-${input.name}`).textContent = isWrong ? error.message : "";
     }
@@ -198,7 +202,8 @@ async function copy() {
 /** Puts what is typed into the address. */
 function share() {
     const fields = Object.keys(FORMS[at("kind").value].fields).map((it) => `field-${it}`);
-    const state = Object.fromEntries(["kind", ...OPTIONS, ...fields].map((it) => [it, valueOf(at(it))]));
+    const ids = ["kind", ...OPTIONS, ...fields];
+    const state = Object.fromEntries(ids.map((it) => [it, valueOf(at(it))]));
     history.replaceState(null, "", `#${encodeURIComponent(JSON.stringify(state))}`);
     tell("The address now holds the code.");
 }

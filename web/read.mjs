@@ -39,7 +39,7 @@ async function pictureOf(file) {
             return bytes;
         } catch (error) {
             if (error.name !== "BrokenPicture")
-                return bytes; /* what the library says is right; the browser may read what it does not */
+                return bytes; /* the library says what is wrong; the browser helps if it is broken */
         }
     return pixelsOf(file);
 }
