@@ -1,4 +1,4 @@
-/* Tries what calls take: memory over a million calls, and answers when memory runs out or a call
+/* Tries wrong arguments, memory over a million calls, and answers when memory runs out or a call
    traps. trials.mjs FOLDER [COUNT]; the last line is 'N passed, M failed'. */
 
 import { readFileSync } from "node:fs";
@@ -70,6 +70,51 @@ const TRIALS = {
 
 await goqlanis.load();
 const wanted = Object.fromEntries(Object.entries(TRIALS).map(([name, call]) => [name, `${call(goqlanis)}`]));
+
+/* What is refused: the call, the name of the error, and a part of what it says. */
+const one = goqlanis.encode("1");
+const REFUSED = [
+    [(it) => it.encode(42), "TypeError", "take '42'"],
+    [(it) => it.encode([1, 2]), "TypeError", "encodeSegments"],
+    [(it) => it.encode("\ud800"), "TypeError", "surrogate"],
+    [(it) => it.encode("1", "H"), "TypeError", "{level: 'H'}"],
+    [(it) => it.encode("1", { errorCorrectionLevel: "H" }), "TypeError", "take level: 'H'"],
+    [(it) => it.encode("1", { level: "X" }), "NoSuchLevel", "take L, M, Q or H"],
+    [(it) => it.encode("1", { version: 41 }), "NoSuchVersion", "M1 to M4"],
+    [(it) => it.encode("1", { version: 1.5 }), "TypeError", "not 1.5"],
+    [(it) => it.encode("1", { version: 7, micro: true }), "RangeError", "give one of them"],
+    [(it) => it.encode("1", { mask: "3" }), "TypeError", "take 3"],
+    [(it) => it.encode("1", { mask: 8 }), "NoSuchMask", "not 8"],
+    [(it) => it.encode("1", { boost: 1 }), "TypeError", "true or false"],
+    [(it) => it.encode("1", { eci: 7 }), "RangeError", "is for bytes"],
+    [(it) => it.encodeSegments([["numeric", "12a"]]), "NotInMode", "segment 1: numeric"],
+    [(it) => it.encodeSegments([["byte"], ["eci", "26"]]), "TypeError", "segment 1"],
+    [() => one.svg({ margin: 4 }), "TypeError", "quietZone: 4"],
+    [() => one.png({ scale: 99999 }), "NoSuchSize", "65,535"],
+    [() => one.pbm({ dark: "navy" }), "NotInFormat", "black on white"],
+    [() => one.svg({ dark: "nvy" }), "RangeError", "not a colour"],
+    [() => one.svg({ size: "30mm" }), "RangeError", "how many pixels"],
+    [() => one.withArea({ left: 0, top: 0, width: 21, height: 21 }), "AreaTooLarge", "smaller area"],
+    [() => one.withArea({ left: 20, top: 0, width: 2, height: 2 }), "NoSuchArea", "inside the symbol"],
+    [(it) => it.wifi({ ssid: "a", pasword: "b" }), "TypeError", "it takes ssid, password"],
+    [(it) => it.gs1([["(01)", "1"]]), "UnknownIdentifier", "without brackets"],
+    [(it) => it.gs1([["20", "123"]]), "WrongLength", "it needs 2"],
+    [(it) => it.read("text"), "NotPicture", "convert it to PNG"],
+    [(it) => it.read(7), "TypeError", "ImageData"],
+    [(it) => it.readSquare([[1, 0], [1]]), "NoSuchSide", "not all of them"],
+    [(it) => it.join([one]), "NotJoined", "square 1 has no header"],
+];
+for (const [call, name, part] of REFUSED) {
+    let said = "nothing is refused";
+    try {
+        call(goqlanis);
+    } catch (error) {
+        said = `${error.name}: ${error.message}`;
+    }
+    if (!said.startsWith(`${name}: `) || !said.includes(part) || said.length > 250)
+        note(`${call}`, false, said);
+}
+note(`${REFUSED.length} wrong calls say what would help`, counts[1] === 0);
 
 /* With too little memory a call says so, or makes what it always makes. */
 const found = { right: 0, OutOfMemory: 0 };
