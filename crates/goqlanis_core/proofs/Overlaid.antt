@@ -3,13 +3,15 @@ use Rattle.std.proofs.Common.{◌≡◌, ℕ, List, ◌++◌, Bool, arith, sym, 
 use Rattle.std.specs.Prelude.{codes, None, Some}
 use Rattle.std.proofs.lemmas.List.{append_assoc}
 use Rattle.qrcode_types.specs.declared.types.Color.{Color}
-use Rattle.qrcode_render.specs.Layout.{Layout}
+use Rattle.qrcode_render.specs.Layout.{Layout, modules_across}
+use Rattle.qrcode_render.specs.Paths.{attribute, path_front, xml_head}
+use Rattle.qrcode_render.specs.Picture.{picture}
 use Rattle.qrcode_types.specs.declared.types.Version.{Version}
 use Rattle.qrcode_types.specs.declared.types.EcLevel.{EcLevel}
 use Rattle.qrcode_area.specs.Areas.{MayShowAnything}
 use Rattle.qrcode_area.specs.Rectangles.{Fits, LeavesPatterns}
 use Rattle.goqlanis_core.specs.Areas.{wish_for}
-use Rattle.goqlanis_core.specs.Formats.{Sheet, View, IsDrawnOn, tail}
+use Rattle.goqlanis_core.specs.Formats.{Sheet, View, IsDrawnOn, dark_of, light_of, tail}
 use Rattle.goqlanis_core.specs.Layers.{HasTail}
 use Rattle.goqlanis_core.specs.declared.areas.LogoWish.{LogoWish}
 use Rattle.goqlanis_core.specs.declared.formats.Format.{Format}
@@ -30,7 +32,12 @@ pub svg_end : (t : Sheet) (w : View) (at : Layout) (s : List Color) (bytes : Lis
 svg_end t w at s bytes drawn = tail_behind _ (codes "</svg>") bytes (drawn ∙ sym (append_assoc _ (codes "\"/>") (codes "</svg>")))
 
 pub path_end : (t : Sheet) (w : View) (at : Layout) (s : List Color) (bytes : List ℕ) → IsDrawnOn SvgPath t w at s bytes → HasTail (codes "</svg>") bytes
-path_end t w at s bytes drawn = (_, drawn.written)
+path_end t w at s bytes drawn =
+    let b = picture at s in
+    let dark = attribute (dark_of w w.dark.name w.light.name) in
+    let light = attribute (light_of w w.dark.name w.light.name) in
+    let side = modules_across at in
+    tail_behind (xml_head ++ path_front t.frame b.across b.down side side dark light drawn.runs) (codes "</svg>") bytes drawn.written
 
 pub eps_end : (t : Sheet) (w : View) (at : Layout) (s : List Color) (bytes : List ℕ) → IsDrawnOn Eps t w at s bytes → HasTail (codes "showpage\n%%EOF\n") bytes
 eps_end t w at s bytes drawn = (_, drawn)
