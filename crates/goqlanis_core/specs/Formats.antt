@@ -1,13 +1,13 @@
 -- The output formats: their names, what is known of each, and what it draws for a square of modules.
-use Rattle.std.specs.Prelude.{◌≡◌, ℕ, zero, suc, ◌+◌, ◌*◌, ◌/◌, Bool, true, false, List, [], ◌∷◌, ◌++◌, Option, Some, None, codes, encode_utf8, slice_get, max, unwrap_or, if◌then◌else◌}
+use Rattle.std.specs.Prelude.{◌≡◌, ℕ, ◌+◌, ◌*◌, ◌/◌, Bool, true, false, List, [], ◌∷◌, ◌++◌, Option, Some, None, codes, encode_utf8, slice_get, max, unwrap_or, if◌then◌else◌}
 use Rattle.std.specs.Option.{option_map, option_or}
 use Rattle.std.specs.Str.{str_eq_ignore_ascii_case}
 use Rattle.qrcode_types.specs.declared.types.Color.{Color}
-use Rattle.qrcode_render.specs.Eps.{eps_sized_text, eps_text}
+use Rattle.qrcode_render.specs.Eps.{eps_file}
 use Rattle.qrcode_render.specs.Files.{pgm_file, pbm_file, ppm_file}
 use Rattle.qrcode_render.specs.Layout.{Layout, layout, modules_across}
 use Rattle.qrcode_render.specs.Paths.{Frame, frame_of, plain, xml_head, IsPathIn}
-use Rattle.qrcode_render.specs.Pdf.{IsPdfOf}
+use Rattle.qrcode_render.specs.Pdf.{IsPdfIn}
 use Rattle.qrcode_render.specs.Picture.{picture}
 use Rattle.qrcode_render.specs.Printers.{escpos_file, tspl_file, tspl_file_at, xbm_file}
 use Rattle.qrcode_render.specs.Setting.{Setting}
@@ -186,31 +186,26 @@ eps_ink c = record { red = c.red; green = c.green; blue = c.blue }
 abbrev pub png_ink : Shade → png.Color  -- the colour for PNG
 png_ink c = record { 0 = c.red ∷ c.green ∷ c.blue ∷ c.opacity ∷ [] }
 
--- the text of an EPS file, with a pixel as a point, or with these pixels per inch
-abbrev pub eps_in : Option ℕ → Layout → List Color → eps.Color → eps.Color → List ℕ
-eps_in None at s dark light = eps_text at s dark light
-eps_in (Some zero) at s dark light = eps_text at s dark light
-eps_in (Some (suc n)) at s dark light = eps_sized_text (suc n) at s dark light
-
 abbrev pub rgb : Shade → List ℕ  -- red, green and blue
 rgb c = c.red ∷ c.green ∷ c.blue ∷ []
 
 -- the text of an EPS file in the colours of a view, with these pixels per inch, or else those of the view
 abbrev pub eps_on : Option ℕ → View → Layout → List Color → List ℕ
-eps_on dots v at s = eps_in (option_or dots v.dpi) at s (dark_of v (eps_ink v.dark) (eps_ink v.light)) (light_of v (eps_ink v.dark) (eps_ink v.light))
+eps_on dots v at s = eps_file (option_or dots v.dpi) at s (dark_of v (eps_ink v.dark) (eps_ink v.light)) (light_of v (eps_ink v.dark) (eps_ink v.light)) []
 
 abbrev pub pdf_dots : Option ℕ → ℕ  -- the pixels per inch of a PDF file: the given ones, or 72
 pdf_dots dpi = max (unwrap_or dpi 72) 1
 
--- bytes are a PDF file in the colours of a view, with these pixels per inch, or else those of the view, and with a title and operators over the modules
+-- bytes are a PDF file in the colours of a view, with these pixels per inch, or else those of the view, and with a title and operators over the
+-- modules; a module is the unit of the page
 abbrev pub IsPdfOn : Option ℕ → List ℕ → View → Layout → List Color → List ℕ → List ℕ → Type 0
 IsPdfOn dots title v at s over bytes =
-    IsPdfOf (pdf_dots (option_or dots v.dpi)) (dark_of v (rgb v.dark) (rgb v.light)) (light_of v (rgb v.dark) (rgb v.light)) (picture at s) over title bytes
+    IsPdfIn (modules_across at) (modules_across at) (pdf_dots (option_or dots v.dpi)) (dark_of v (rgb v.dark) (rgb v.light)) (light_of v (rgb v.dark) (rgb v.light)) (picture at s) over title bytes
 
 -- bytes are an SVG file with one path, in the colours of a view and with the size and title of a frame; a module is the unit of its viewBox
 abbrev pub IsFramed : Frame → View → Layout → List Color → List ℕ → Type 0
 IsFramed frame v at s bytes =
-    IsPathIn (modules_across at) (modules_across at) xml_head frame (dark_of v v.dark.name v.light.name) (light_of v v.dark.name v.light.name) (picture at s) bytes
+    IsPathIn (modules_across at) (modules_across at) xml_head frame (dark_of v v.dark.name v.light.name) (light_of v v.dark.name v.light.name) (picture at s) [] bytes
 
 -- bytes are ZPL II that prints black and white pixels at a place on the label
 abbrev pub IsZplAt : ℕ × ℕ → View → Layout → List Color → List ℕ → Type 0

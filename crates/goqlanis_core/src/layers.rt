@@ -1,20 +1,17 @@
 //! Draws symbols whose parts have their own colours, layer upon layer.
 
-ghost use Rattle.std.specs.Prelude.{◌≡◌, ◌==◌, ◌<◌, false, length, string_bytes, IsTrue, IfOk, OnOk, IsOkUnless};
+ghost use Rattle.std.specs.Prelude.{◌≡◌, ◌==◌, ◌<◌, false, length, IsTrue, IfOk, IsOkUnless};
 ghost use Rattle.qrcode_types.specs.Versions.{is_valid, side};
-ghost use Rattle.qrcode_types.specs.declared.types.Color.TheVariants.{Dark};
 ghost use Rattle.qrcode_types.specs.declared.types.QrError.TheVariants.{OutOfMemory};
-ghost use Rattle.qrcode_render.specs.Drawn.{drawn};
-ghost use Rattle.qrcode_render.specs.Eps.{eps_paint, eps_rect};
-ghost use Rattle.goqlanis_core.specs.Formats.{eps_ink, layout_of, shade_of, sheet_of, tail, view_of};
+ghost use Rattle.goqlanis_core.specs.Formats.{layout_of, sheet_of, tail, view_of};
 ghost use Rattle.goqlanis_core.specs.Layers.{is_painted, layer, unit_layout, AreOver, HasTail, IsInserted, IsLayer, IsPaintedIn};
 
 use crate::formats::Format;
 use crate::parts::{Part, part_of};
 use crate::picture::{Ink, Picture, Sheet};
-use crate::render::{draw_on, drawn, pdf_file, rgb};
+use crate::render::{draw_on, drawn, eps_ink, pdf_file, renderer, rgb};
 use crate::shades::png_file;
-use qrcode::render::{pdf, svg};
+use qrcode::render::{eps, pdf, svg};
 use qrcode::types::{Color, QrResult, Version};
 use qrcode_layout::figures::color_of;
 use qrcode_reader::walk::side;
@@ -146,7 +143,7 @@ fn layer_in(
         ends_lines: false,
     };
     match format {
-        Format::Eps => eps_layer(alloc, &over, ink.ink),
+        Format::Eps => eps::layer(alloc, &renderer(&over, eps_ink(ink.ink), eps_ink(ink.ink))),
         Format::Pdf => {
             let color = pdf::Color(rgb(ink.ink));
             pdf::layer(alloc, color, over.modules, over.width, over.zone)
@@ -156,39 +153,6 @@ fn layer_in(
             Ok(drawn(alloc, &over, dark, light)?.into_bytes())
         }
     }
-}
-
-// PostScript that fills the dark modules with a colour.
-fn eps_layer(alloc: Global, shown: &Picture<'_>, ink: Ink<'_>) -> QrResult<Vec<u8>>
-    ensures value { IfOk result (λ text. text.items ≡ drawn eps_rect (layout_of shown.now)
-        shown.now.modules.now (eps_paint (eps_ink (shade_of ink.entry)))) }
-    ensures memory { IsOkUnless result OutOfMemory }
-{
-    let (red, green, blue) = (ink.red, ink.green, ink.blue);
-    let mut text = format!(in alloc; "{red} 255 div {green} 255 div {blue} 255 div setrgbcolor\n")?;
-    push_boxes(&mut text, shown)?;
-    Ok(text.into_bytes())
-}
-
-// Appends a `rectfill` for each dark module.
-fn push_boxes(text: &mut String, shown: &Picture<'_>) -> QrResult<()>
-    ensures appends { OnOk result (string_bytes text.new
-        ≡ drawn eps_rect (layout_of shown.now) shown.now.modules.now (string_bytes text.old)) }
-    ensures memory { IsOkUnless result OutOfMemory }
-{
-    let (width, zone, scale) = (
-        shown.width as usize,
-        shown.zone as usize,
-        shown.scale as usize,
-    );
-    for index in 0..shown.modules.len() {
-        if shown.modules[index] == Color::Dark {
-            let left = (index % width + zone) * scale;
-            let top = (index / width + zone) * scale;
-            write!(text, "{left} {top} {scale} {scale} rectfill\n")?;
-        }
-    }
-    Ok(())
 }
 
 /// Inserts `over` before `tail`, which `text` ends with.

@@ -79,7 +79,7 @@ fn cross_text(
             1 setgray 105 56 42 140 rectfill 56 105 140 42 rectfill grestore\n"
         ),
         Format::Pdf => format!(in alloc;
-            "\nq .000603864734 0 0 .000603864734 0 0 cm {side} 0 0 {side} {left} {left} cm\n\
+            "q .000603864734 0 0 .000603864734 0 0 cm {side} 0 0 {side} {left} {left} cm\n\
             1 g 0 0 252 252 re f 0 g 18 18 216 216 re f\n\
             1 g 105 56 42 140 re 56 105 140 42 re f Q"
         ),

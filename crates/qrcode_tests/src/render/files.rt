@@ -149,14 +149,16 @@ static PATHS: [Row<svg::Path<'static>, Text>; 2] = [
             "version=\"1.1\" width=\"12\" height=\"8\" viewBox=\"0 0 4 4\" ",
             "preserveAspectRatio=\"none\" shape-rendering=\"crispEdges\">",
             "<rect width=\"4\" height=\"4\" fill=\"t&amp;n\"/>",
-            "<path fill=\"a&quot;b&lt;c&amp;d&gt;\" d=\"m1 1h2v1h-2m1 0h1v1h-1\"/></svg>"
+            "<path fill=\"a&quot;b&lt;c&amp;d&gt;\" stroke=\"none\" ",
+            "d=\"m1 1h2v1h-2m1 0h1v1h-1\"/></svg>"
         )),
     ),
     Row(DARK, On(1), Usual, Default, Is(concat!(
         "<?xml version=\"1.0\" standalone=\"yes\"?><svg xmlns=\"http://www.w3.org/2000/svg\" ",
         "version=\"1.1\" width=\"24\" height=\"24\" viewBox=\"0 0 3 3\" ",
         "preserveAspectRatio=\"none\" shape-rendering=\"crispEdges\">",
-        "<rect width=\"3\" height=\"3\" fill=\"#fff\"/><path fill=\"#000\" d=\"m1 1h1v1h-1\"/></svg>"
+        "<rect width=\"3\" height=\"3\" fill=\"#fff\"/><path fill=\"#000\" ",
+        "stroke=\"none\" d=\"m1 1h1v1h-1\"/></svg>"
     ))),
 ];
 
@@ -165,13 +167,15 @@ static ELEMENTS: [Row<svg::PathElement<'static>, Text>; 2] = [
     Row(MICRO_2, On(2), Dark(svg::PathElement("navy")), Default, Starts(concat!(
         "<svg xmlns=\"http://www.w3.org/2000/svg\" version=\"1.1\" width=\"136\" height=\"136\" ",
         "viewBox=\"0 0 17 17\" preserveAspectRatio=\"none\" shape-rendering=\"crispEdges\">",
-        "<rect width=\"17\" height=\"17\" fill=\"#fff\"/><path fill=\"navy\" d=\"m2 2h7v1h-7",
+        "<rect width=\"17\" height=\"17\" fill=\"#fff\"/><path fill=\"navy\" ",
+        "stroke=\"none\" d=\"m2 2h7v1h-7",
         "m8-1h1v1h-1m2-1h1v1h-1m2-1h1v1h-1m-12 0h1v1h-1m6-1h1"
     ))),
     Row(DARK, On(1), Usual, Default, Is(concat!(
         "<svg xmlns=\"http://www.w3.org/2000/svg\" version=\"1.1\" width=\"24\" height=\"24\" ",
         "viewBox=\"0 0 3 3\" preserveAspectRatio=\"none\" shape-rendering=\"crispEdges\">",
-        "<rect width=\"3\" height=\"3\" fill=\"#fff\"/><path fill=\"#000\" d=\"m1 1h1v1h-1\"/></svg>"
+        "<rect width=\"3\" height=\"3\" fill=\"#fff\"/><path fill=\"#000\" ",
+        "stroke=\"none\" d=\"m1 1h1v1h-1\"/></svg>"
     ))),
 ];
 
