@@ -60,11 +60,12 @@ static COLOURED: [Row<ppm::Color, File>; 1] = [
 
 // By the maker's manual: GS v 0, two bytes for the bytes of a row, and two for the number of rows.
 #[rattlefmt::skip]
-static RECEIPTS: [Row<escpos::Dot, File>; 2] = [
+static RECEIPTS: [Row<escpos::Dot, File>; 3] = [
     Row(DIAGONAL, On(0), Usual, Of(2, 3), File(b"\x1dv0\0\x01\0\x06\0", &[
         0b1100_0000, 0b1100_0000, 0b1100_0000, 0b0011_0000, 0b0011_0000, 0b0011_0000,
     ])),
     Row(DARK, On(0), Usual, Of(2064, 1), File(b"\x1dv0\0\x02\x01\x01\0", &[255; 258])),
+    Row(DARK, On(0), Usual, Of(1, 2064), File(b"\x1dv0\0\x01\0\x10\x08", &[0x80; 2064])),
 ];
 
 // By the maker's manual: a 0 prints a dot, so the bits that fill up a row are 1.
