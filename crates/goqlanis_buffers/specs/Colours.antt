@@ -1,7 +1,7 @@
 -- Colours of pictures: transparency, red, green and blue in the four bytes of a number.
 use Rattle.std.specs.Prelude.{ℕ, ◌-◌, ◌/◌, ◌%◌, ◌^◌, ◌==◌, nat_lt, ◌&&◌, Bool, true, false, List, [], ◌∷◌, ◌++◌, codes, if◌then◌else◌}
 use Rattle.std.specs.Fmt.{digit_glyph}
-use Rattle.goqlanis_core.specs.Formats.{Shade}
+use Rattle.goqlanis_core.specs.Shades.{Shade}
 use Rattle.goqlanis_core.specs.declared.formats.Format.{Format}
 use Rattle.goqlanis_core.specs.declared.formats.Format.TheVariants.{Png, Svg, SvgPath, Eps, Pdf, Ppm}
 

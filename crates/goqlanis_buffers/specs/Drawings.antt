@@ -2,7 +2,9 @@
 use Rattle.std.specs.Prelude.{ℕ, ◌==◌, nat_le, ◌&&◌, Bool, false, List, IsTrue, Option, None, Some, if◌then◌else◌}
 use Rattle.qrcode_render.specs.Layout.{layout}
 use Rattle.qrcode_render.specs.Shades.{colors_of}
-use Rattle.goqlanis_core.specs.Formats.{View, greatest_side, IsDrawnIn}
+use Rattle.goqlanis_core.specs.Formats.{greatest_side}
+use Rattle.goqlanis_core.specs.Shades.{View}
+use Rattle.goqlanis_core.specs.Sheets.{bare, IsDrawn as IsSheetIn}
 use Rattle.goqlanis_core.specs.declared.formats.Format.{Format}
 use Rattle.goqlanis_core.specs.declared.formats.Format.TheVariants.{Png}
 use Rattle.goqlanis_buffers.specs.Colours.{colour_shade, has_colours}
@@ -27,7 +29,7 @@ is_sayable f d = has_density f d.dpi && has_colours f d.dark d.light
 
 -- the bytes are the picture of modules of a width, in a format that supports its colours and dots per inch
 abbrev pub IsDrawn : Format → List ℕ → ℕ → Drawing → List ℕ → Type 0
-IsDrawn f modules width d bytes = IsTrue (is_sayable f d) × IsDrawnIn f (view d) (layout width d.zone d.scale d.scale) (colors_of modules) bytes
+IsDrawn f modules width d bytes = IsTrue (is_sayable f d) × IsSheetIn f (bare (view d) (layout width d.zone d.scale d.scale) (colors_of modules)) bytes
 
 -- a picture in the format may have this many pixels a side; a PNG file has at least one
 abbrev pub has_side : Format → ℕ → Bool

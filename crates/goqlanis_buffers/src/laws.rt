@@ -3,7 +3,8 @@
 ghost use Rattle.std.specs.Prelude.{◌≡◌, ◌≢◌, ◌↔◌, ℕ, List, IsTrue};
 ghost use Rattle.qrcode_types.specs.declared.types.Color.{Color};
 ghost use Rattle.qrcode_render.specs.Layout.{Layout};
-ghost use Rattle.goqlanis_core.specs.Formats.{View, IsDrawnIn};
+ghost use Rattle.goqlanis_core.specs.Shades.{View};
+ghost use Rattle.goqlanis_core.specs.Sheets.{bare, IsDrawn};
 ghost use Rattle.goqlanis_core.specs.declared.formats.Format.{Format};
 ghost use Rattle.goqlanis_core.specs.declared.formats.Format.TheVariants.{Pdf, Png, SvgPath, Zpl};
 ghost use Rattle.goqlanis_buffers.specs.declared.answers.Refusal.{Refusal};
@@ -24,6 +25,6 @@ pub fn equality()
 #[tactic(auto, using(crate::proofs::OnePicture::one_picture))]
 pub fn pictures()
     ensures one { (f : Format) (v : View) (at : Layout) (s : List Color) (a b : List ℕ)
-        → f ≢ Png → f ≢ SvgPath → f ≢ Pdf → f ≢ Zpl → IsDrawnIn f v at s a → IsDrawnIn f v at s b
-        → a ≡ b }
+        → f ≢ Png → f ≢ SvgPath → f ≢ Pdf → f ≢ Zpl → IsDrawn f (bare v at s) a
+        → IsDrawn f (bare v at s) b → a ≡ b }
 {}

@@ -8,8 +8,12 @@ use Rattle.qrcode_render.specs.Layout.{Layout, layout}
 use Rattle.qrcode_render.specs.Paths.{Frame, frame_of}
 use Rattle.qrcode_render.specs.declared.svg_path.Size.TheVariants.{Dots}
 use Rattle.qrcode.specs.Pictures.{quiet_zone}
-use Rattle.goqlanis_core.specs.Formats.{Sheet, View, shade_of, units}
-use Rattle.goqlanis_core.specs.Layers.{IsPaintedIn}
+use Rattle.qrcode_area.specs.declared.areas.Rectangle.{Rectangle}
+use Rattle.goqlanis_core.specs.Formats.{units}
+use Rattle.goqlanis_core.specs.Layers.{layers_of}
+use Rattle.goqlanis_core.specs.Shades.{View, shade_of}
+use Rattle.goqlanis_core.specs.Sheets.{Sheet, IsDrawn}
+use Rattle.goqlanis_core.specs.declared.pasting.Inset.{Inset}
 use Rattle.goqlanis_core.specs.Masks.{AreUnder}
 use Rattle.goqlanis_core.specs.declared.drawing.Drawing.{Drawing}
 use Rattle.goqlanis_core.specs.declared.request.Request.{Request}
@@ -42,11 +46,20 @@ abbrev pub sized : Option ℕ → Frame → Frame
 sized None f = f
 sized (Some dots) f = record f { size = Dots dots }
 
--- the sheet: position, size and title
-abbrev pub sheet_for : Request → Version → Sheet
-sheet_for r v = record { dots = dots_for r v; place = r.place; frame = sized (dots_for r v) (frame_of r.frame) }
+-- the sheet for these modules of a symbol, with `over` drawn over them and a picture over those of an area
+abbrev pub sheet_for : Request → Version → List Color → List ℕ → Option (Rectangle × Inset) → Sheet
+sheet_for r v s over inset = record {
+  modules = s;
+  at = layout_for r v;
+  view = view_for r;
+  dots = dots_for r v;
+  place = r.place;
+  frame = sized (dots_for r v) (frame_of r.frame);
+  layers = layers_of v s r.parts.now;
+  over = over;
+  inset = inset;
+}
 
 -- the bytes draw the symbol as requested, under the requested mask
 abbrev pub IsShownIn : Request → Drawing → Type 0
-IsShownIn r d =
-    (s : List Color) × (AreUnder r.mask d.code s × IsPaintedIn r.format (sheet_for r d.code.version) (view_for r) (layout_for r d.code.version) d.code.version r.parts.now [] s d.bytes.items)
+IsShownIn r d = (s : List Color) × (AreUnder r.mask d.code s × IsDrawn r.format (sheet_for r d.code.version s [] None) d.bytes.items)

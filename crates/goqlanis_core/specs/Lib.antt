@@ -12,6 +12,8 @@ pub mod Overlays
 pub mod Parts
 pub mod Scans
 pub mod Segments
+pub mod Shades
+pub mod Sheets
 pub mod Symbols
 pub mod Terminal
 pub mod Pasted

@@ -1,5 +1,5 @@
 -- The area in the middle of a drawing, and what is in it.
-use Rattle.std.specs.Prelude.{◌≡◌, ℕ, ◌+◌, ◌*◌, ◌/◌, ◌%◌, ◌<◌, ◌≤◌, ◌&&◌, not, nat_le, nat_lt, Bool, List, [], ◌++◌, codes, decimal, if◌then◌else◌}
+use Rattle.std.specs.Prelude.{◌≡◌, ℕ, ◌+◌, ◌*◌, ◌/◌, ◌%◌, ◌<◌, ◌≤◌, ◌&&◌, not, nat_le, nat_lt, Bool, List, [], ◌++◌, None, Some, codes, decimal, if◌then◌else◌}
 use Rattle.qrcode_types.specs.Versions.{side}
 use Rattle.qrcode_types.specs.declared.types.Color.{Color}
 use Rattle.qrcode_types.specs.declared.types.Version.{Version}
@@ -9,14 +9,15 @@ use Rattle.qrcode_area.specs.Covered.{IsLightInside}
 use Rattle.qrcode_area.specs.Rectangles.{only}
 use Rattle.qrcode_area.specs.declared.areas.Rectangle.{Rectangle}
 use Rattle.qrcode_png.specs.Image.{Shade, grey_shade}
-use Rattle.goqlanis_core.specs.Drawings.{layout_for, sheet_for, unit_for, view_for, zone_for}
-use Rattle.goqlanis_core.specs.Layers.{IsPaintedIn}
+use Rattle.goqlanis_core.specs.Drawings.{sheet_for, unit_for, zone_for}
 use Rattle.goqlanis_core.specs.Masks.{AreUnder}
 use Rattle.goqlanis_core.specs.declared.formats.Format.{Format}
-use Rattle.goqlanis_core.specs.declared.formats.Format.TheVariants.{Eps, Pdf}
+use Rattle.goqlanis_core.specs.declared.formats.Format.TheVariants.{Eps, Pdf, Png}
 use Rattle.goqlanis_core.specs.declared.overlays.Inside.{Inside}
 use Rattle.goqlanis_core.specs.declared.overlays.Inside.TheVariants.{Nothing, Cross, Element}
 use Rattle.goqlanis_core.specs.Places.{place_in, HasRoom}
+use Rattle.goqlanis_core.specs.Sheets.{IsDrawn}
+use Rattle.goqlanis_core.specs.declared.pasting.Inset.{Inset}
 use Rattle.goqlanis_core.specs.declared.places.Place.{Place}
 use Rattle.goqlanis_core.specs.declared.request.Request.{Request}
 
@@ -72,8 +73,12 @@ LacksRoom v area (Element margin rest) = ¬ HasRoom v area margin
 -- bytes draw the symbol as requested, with the modules of the area light and what is in it on top of everything
 abbrev pub IsShownWith : Request → Code → Rectangle → Inside → List ℕ → Type 0
 IsShownWith r code area inside bytes =
-    (light : List Color) × (AreBeside r code area light
-    × IsPaintedIn r.format (sheet_for r code.version) (view_for r) (layout_for r code.version) code.version r.parts.now (element_for r code.version area inside) light bytes)
+    (light : List Color) × (AreBeside r code area light × IsDrawn r.format (sheet_for r code.version light (element_for r code.version area inside) None) bytes)
+
+-- a PNG file that draws the symbol as requested, with the modules of the area light and a picture over them
+abbrev pub IsPasted : Request → Code → Rectangle → Inset → List ℕ → Type 0
+IsPasted r code area n file =
+    (light : List Color) × (AreBeside r code area light × IsDrawn Png (sheet_for r code.version light [] (Some (area, n))) file)
 
 abbrev pub lies_between : ℕ → ℕ → ℕ → Bool  -- n is at least `from` and below `to`
 lies_between from to n = nat_le from n && nat_lt n to

@@ -1,8 +1,7 @@
 //! The output formats: their names and file extensions, and what is known of each.
 
 ghost use Rattle.std.specs.Prelude.{◌≡◌, ◌≤◌, map};
-ghost use Rattle.std.specs.Option.{option_map};
-ghost use Rattle.goqlanis_core.specs.Formats.{ending_among, format_named, format_numbered, format_of_ending, greatest_side, has_colours, is_known, is_text, named_among, pixels, row_of, tail, units};
+ghost use Rattle.goqlanis_core.specs.Formats.{ending_among, format_named, format_numbered, format_of_ending, greatest_side, has_colours, is_known, is_text, named_among, pixels, row_of, units};
 
 use Format::{
     Ascii, Chars, Eps, EscPos, Grey, HalfBlocks, LightHalfBlocks, Pbm, Pdf, Pgm, Pic, Png, Ppm,
@@ -195,18 +194,6 @@ impl Format {
         match self {
             SvgPath | Pdf => 1,
             _ => pixels,
-        }
-    }
-
-    /// Returns the end of the file, before which overlays can be inserted; `None` if there is no
-    /// such place.
-    pub fn tail(self) -> Option<&'static str>
-        ensures { option_map (λ text. text.now) result ≡ tail self }
-    {
-        match self {
-            Svg | SvgPath => Some("</svg>"),
-            Eps => Some("showpage\n%%EOF\n"),
-            _ => None,
         }
     }
 

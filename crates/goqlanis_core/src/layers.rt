@@ -1,16 +1,16 @@
-//! Draws symbols whose parts have their own colours, layer upon layer.
+//! Colours of some modules over a picture, layer upon layer.
 
-ghost use Rattle.std.specs.Prelude.{◌≡◌, ◌==◌, ◌<◌, false, length, IsTrue, IfOk, IsOkUnless};
+ghost use Rattle.std.specs.Prelude.{◌≡◌, ◌<◌, ◌==◌, length, IsTrue, IfOk, IsOkUnless};
 ghost use Rattle.qrcode_types.specs.Versions.{is_valid, side};
 ghost use Rattle.qrcode_types.specs.declared.types.QrError.TheVariants.{OutOfMemory};
-ghost use Rattle.goqlanis_core.specs.Formats.{layout_of, sheet_of, tail, view_of};
-ghost use Rattle.goqlanis_core.specs.Layers.{is_painted, layer, unit_layout, AreOver, HasTail, IsInserted, IsLayer, IsPaintedIn};
+ghost use Rattle.goqlanis_core.specs.Layers.{is_painted, layer, layers_of, unit_layout, AreOver, IsLayer};
+ghost use Rattle.goqlanis_core.specs.Sheets.{layout_of};
 
 use crate::formats::Format;
 use crate::parts::{Part, part_of};
-use crate::picture::{Ink, Picture, Sheet};
-use crate::render::{draw_on, drawn, eps_ink, pdf_file, renderer, rgb};
-use crate::shades::png_file;
+use crate::render::{drawn, eps_ink, renderer, rgb};
+use crate::sheet::{Ink, Layer, Sheet};
+use qrcode::render::svg::Frame;
 use qrcode::render::{eps, pdf, svg};
 use qrcode::types::{Color, QrResult, Version};
 use qrcode_layout::figures::color_of;
@@ -26,51 +26,29 @@ pub struct PartInk<'a> {
     pub ink: Ink<'a>,
 }
 
-/// Draws a picture of a symbol of `version`. In PNG, SVG, EPS and PDF parts get their own colours;
-/// the last of several for the same modules counts. In SVG, EPS and PDF `sheet.over` is drawn on
-/// top.
-///
-/// Errors: only `OutOfMemory`, if memory runs out or the picture is too large: a PNG or ESC/POS
-/// picture of more than 65,535 pixels a side, or a PNG file with colours of parts of more than
-/// 8,192, or a PNG file without pixels.
-pub(crate) fn painted(
+/// Returns the layers of these colours of parts, in order.
+pub(crate) fn layers_of<'a>(
     alloc: Global,
-    format: Format,
-    version: Version,
-    shown: &Picture<'_>,
-    sheet: &Sheet<'_>,
-) -> QrResult<Vec<u8>>
-    requires valid { IsTrue (is_valid version) }
-    requires width { shown.now.width ≡ side version }
-    ensures drawing { IfOk result (λ drawing. IsPaintedIn format (sheet_of sheet.now)
-        (view_of shown.now) (layout_of shown.now) version sheet.now.parts.now
-        sheet.now.over.now shown.now.modules.now drawing.items) }
-    ensures memory { IsOkUnless result OutOfMemory }
-{
-    if let Some(tail) = format.tail() {
-        let over = over(alloc, format, version, shown, sheet)?;
-        let bytes = draw_on(alloc, format, shown, sheet)?;
-        return Ok(inserted(bytes, tail, &over)?);
-    }
-    match format {
-        Format::Png if !sheet.parts.is_empty() => {
-            png_file(alloc, version, shown, sheet.parts, None)
-        }
-        Format::Pdf => {
-            let over = over(alloc, format, version, shown, sheet)?;
-            pdf_file(alloc, shown, sheet.dots, &over, sheet.frame.title)
-        }
-        _ => draw_on(alloc, format, shown, sheet),
-    }
-}
-
-/// Whether the module at `index`, in row order, gets this colour.
-pub(crate) fn is_painted(
-    ink: &PartInk<'_>,
     version: Version,
     modules: &[Color],
-    index: usize,
-) -> bool
+    inks: &[PartInk<'a>],
+) -> Result<Vec<Layer<'a>>, AllocError>
+    requires { IsTrue (is_valid version) }
+    ensures { IfOk result (λ layers.
+        layers.items ≡ layers_of version modules.now inks.now) }
+{
+    let mut layers = Vec::with_capacity(alloc, inks.len())?;
+    for ink in inks {
+        layers.push(Layer {
+            ink: ink.ink,
+            modules: layer(alloc, version, modules, ink)?,
+        })?;
+    }
+    Ok(layers)
+}
+
+// Whether the module at `index`, in row order, gets this colour.
+fn is_painted(ink: &PartInk<'_>, version: Version, modules: &[Color], index: usize) -> bool
     requires valid { IsTrue (is_valid version) }
     requires inside { index < length modules.now }
     ensures { result ≡ is_painted version modules.now ink.now index }
@@ -96,22 +74,15 @@ fn layer(
     Ok(colors)
 }
 
-// What is drawn on top of the modules: a layer for each colour, then `sheet.over`.
-fn over(
-    alloc: Global,
-    format: Format,
-    version: Version,
-    shown: &Picture<'_>,
-    sheet: &Sheet<'_>,
-) -> QrResult<Vec<u8>>
-    requires { IsTrue (is_valid version) }
-    ensures value { IfOk result (λ text. AreOver format (unit_layout format (layout_of shown.now))
-        version shown.now.modules.now sheet.now.parts.now sheet.now.over.now text.items) }
+/// Returns what a format draws over the modules: a layer for each colour, then `sheet.over`.
+pub(crate) fn over(alloc: Global, format: Format, sheet: &Sheet<'_>) -> QrResult<Vec<u8>>
+    ensures value { IfOk result (λ text. AreOver format (unit_layout format (layout_of sheet.now))
+        sheet.now.layers.now sheet.now.over.now text.items) }
     ensures memory { IsOkUnless result OutOfMemory }
 {
     let mut text = Vec::new(alloc);
-    for ink in sheet.parts {
-        text.extend_from_slice(&layer_in(alloc, format, version, shown, ink)?)?;
+    for layer in sheet.layers {
+        text.extend_from_slice(&layer_in(alloc, format, sheet, layer)?)?;
     }
     text.extend_from_slice(sheet.over)?;
     Ok(text)
@@ -121,48 +92,41 @@ fn over(
 fn layer_in(
     alloc: Global,
     format: Format,
-    version: Version,
-    shown: &Picture<'_>,
-    ink: &PartInk<'_>,
+    sheet: &Sheet<'_>,
+    layer: &Layer<'_>,
 ) -> QrResult<Vec<u8>>
-    requires { IsTrue (is_valid version) }
-    ensures value { IfOk result (λ text. IsLayer format (unit_layout format (layout_of shown.now))
-        version shown.now.modules.now ink.now text.items) }
+    requires { length layer.now.modules ≡ length sheet.now.modules.now }
+    ensures value { IfOk result (λ text. IsLayer format
+        (unit_layout format (layout_of sheet.now)) layer.now text.items) }
     ensures memory { IsOkUnless result OutOfMemory }
 {
-    let modules = layer(alloc, version, shown.modules, ink)?;
-    let over = Picture {
-        modules: &modules,
-        width: shown.width,
-        zone: shown.zone,
-        scale: format.units(shown.scale),
-        dark: shown.dark,
-        light: shown.light,
+    let ink = layer.ink;
+    let shown = Sheet {
+        modules: &layer.modules,
+        width: sheet.width,
+        zone: sheet.zone,
+        scale: format.units(sheet.scale),
+        dark: ink,
+        light: ink,
         is_inverted: false,
         dpi: None,
         ends_lines: false,
+        dots: None,
+        place: (0, 0),
+        frame: Frame::plain(),
+        layers: &[],
+        over: &[],
+        inset: None,
     };
     match format {
-        Format::Eps => eps::layer(alloc, &renderer(&over, eps_ink(ink.ink), eps_ink(ink.ink))),
+        Format::Eps => eps::layer(alloc, &renderer(&shown, eps_ink(ink), eps_ink(ink))),
         Format::Pdf => {
-            let color = pdf::Color(rgb(ink.ink));
-            pdf::layer(alloc, color, over.modules, over.width, over.zone)
+            let color = pdf::Color(rgb(ink));
+            pdf::layer(alloc, color, shown.modules, shown.width, shown.zone)
         }
         _ => {
-            let (dark, light) = (svg::PathElement(ink.ink.name), svg::PathElement("none"));
-            Ok(drawn(alloc, &over, dark, light)?.into_bytes())
+            let (dark, light) = (svg::PathElement(ink.name), svg::PathElement("none"));
+            Ok(drawn(alloc, &shown, dark, light)?.into_bytes())
         }
     }
-}
-
-/// Inserts `over` before `tail`, which `text` ends with.
-pub(crate) fn inserted(text: Vec<u8>, tail: &str, over: &[u8]) -> Result<Vec<u8>, AllocError>
-    requires { HasTail tail.now text.items }
-    ensures { IfOk result (λ new. IsInserted tail.now over.now text.items new.items) }
-{
-    let mut new = text;
-    new.truncate(new.len() - tail.len());
-    new.extend_from_slice(over)?;
-    new.extend_from_slice(tail.as_bytes())?;
-    Ok(new)
 }

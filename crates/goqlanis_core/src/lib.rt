@@ -15,7 +15,6 @@ pub mod masking;
 pub mod overlays;
 pub mod parts;
 pub mod pasting;
-pub mod picture;
 pub mod places;
 mod refusal;
 pub mod render;
@@ -23,6 +22,7 @@ mod request;
 mod scanning;
 mod segments;
 mod shades;
+pub mod sheet;
 mod terminal;
 
 pub use checking::{Checks, check_codes};
@@ -32,7 +32,6 @@ pub use elements::{symbol_for_application, symbol_of_elements};
 pub use formats::Format;
 pub use layers::PartInk;
 pub use parts::Part;
-pub use picture::Ink;
 pub use refusal::{
     Grouped, VersionName, application_refusal_text, elements_refusal_text, refusal_text,
     segments_refusal_text,
@@ -41,3 +40,4 @@ pub use request::{Choice, Length, Request, manner_of};
 pub use scanning::{Scan, Unread};
 pub use segments::{Segment, symbol_of, unwritable};
 pub use shades::GREATEST_PAINTED;
+pub use sheet::Ink;

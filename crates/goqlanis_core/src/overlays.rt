@@ -7,11 +7,12 @@ ghost use Rattle.std.specs.List.{range_with_len};
 ghost use Rattle.qrcode_png.specs.Image.{grey_shade, rgba};
 ghost use Rattle.goqlanis_core.specs.Drawings.{scale_for};
 ghost use Rattle.goqlanis_core.specs.Masks.{LacksMask};
-ghost use Rattle.goqlanis_core.specs.Overlays.{AreBeside, IsCrossSize, IsCrossWidth, IsShownWith, LacksRoom, cross_for, cross_shade, cross_text, element_for, is_black_unit, is_in_bar, lies_between, svg_element};
+ghost use Rattle.goqlanis_core.specs.Overlays.{AreBeside, IsCrossSize, IsCrossWidth, IsPasted, IsShownWith, LacksRoom, cross_for, cross_shade, cross_text, element_for, is_black_unit, is_in_bar, lies_between, svg_element};
 
-use crate::drawing::{modules_drawn, quiet_zone, scale, unit};
+use crate::drawing::{Over, modules_drawn, quiet_zone, scale, unit};
 use crate::formats::Format;
 use crate::masking::modules_under;
+use crate::pasting::Inset;
 use crate::places::{Place, place_in};
 use crate::request::Request;
 use qrcode::QrCode;
@@ -161,7 +162,7 @@ pub enum Inside<'a> {
 /// the symbol.
 ///
 /// Errors: `InvalidVersion` if the version of `code` lacks the requested mask; `OutOfMemory` if
-/// memory runs out, or if the picture is larger than its format allows, as `draw_in` says.
+/// memory runs out, or if the picture is larger than its format allows, as `draw` says.
 pub fn with_logo(
     alloc: Global,
     request: &Request<'_>,
@@ -180,8 +181,41 @@ pub fn with_logo(
         return Ok(None);
     };
     let light = modules_beside(alloc, request, code, area)?;
-    let bytes = modules_drawn(alloc, request, code, &light, element.as_bytes())?;
+    let over = Over {
+        text: element.as_bytes(),
+        inset: None,
+    };
+    let bytes = modules_drawn(alloc, request, code, &light, over)?;
     Ok(Some(bytes))
+}
+
+/// Draws `code` as requested, as a PNG file, with the modules of `area` light and the picture over
+/// them. A pixel of the drawing shows the pixel of the picture that is at its middle.
+///
+/// Errors: `InvalidVersion` if the version of `code` lacks the requested mask; `OutOfMemory` if
+/// memory runs out, or a side has more than `GREATEST_PAINTED` pixels.
+pub fn pasted(
+    alloc: Global,
+    request: &Request<'_>,
+    code: &QrCode,
+    area: Rectangle,
+    inset: &Inset<'_>,
+) -> QrResult<Vec<u8>>
+    ensures shown { IfOk result (λ file.
+        IsPasted request.now code.now area inset.now file.items) }
+    ensures causes { IfErr result (λ e. (e ≡ OutOfMemory)
+        ⊎ ((e ≡ InvalidVersion) × LacksMask request.now.mask code.now.version)) }
+{
+    let light = modules_beside(alloc, request, code, area)?;
+    let over = Over {
+        text: &[],
+        inset: Some((area, *inset)),
+    };
+    let request = Request {
+        format: Format::Png,
+        ..*request
+    };
+    modules_drawn(alloc, &request, code, &light, over)
 }
 
 // The text to draw on top, or `None` if it has no room.
@@ -207,11 +241,8 @@ fn element(
     }
 }
 
-/// Returns the modules of `code` under the requested mask, with those of `area` light.
-///
-/// Errors: `InvalidVersion` if the version of `code` lacks that mask; `OutOfMemory` if memory runs
-/// out.
-pub(crate) fn modules_beside(
+// Returns the modules of `code` under the requested mask, with those of `area` light.
+fn modules_beside(
     alloc: Global,
     request: &Request<'_>,
     code: &QrCode,

@@ -5,7 +5,7 @@ ghost use Rattle.qrcode_bits.specs.declared.bits.manner.Manner.TheVariants.{Byte
 
 use crate::formats::Format;
 use crate::layers::PartInk;
-use crate::picture::Ink;
+use crate::sheet::Ink;
 use qrcode::bits::Manner;
 use qrcode::render::svg::Frame;
 use qrcode::types::{EcLevel, Version};

@@ -6,9 +6,9 @@ ghost use Rattle.goqlanis_core.specs.Places.{HasPixels};
 use crate::logos::{element_of, pixels_of};
 use goqlanis_core::areas::{LogoError, LogoSize, LogoWish, logo_area, roomier};
 use goqlanis_core::overlays::{
-    CROSS_UNITS, Inside, cross_pixels, cross_size, cross_width, with_logo,
+    CROSS_UNITS, Inside, cross_pixels, cross_size, cross_width, pasted, with_logo,
 };
-use goqlanis_core::pasting::{Inset, pasted};
+use goqlanis_core::pasting::Inset;
 use goqlanis_core::places::{Place, place_in};
 use goqlanis_core::{Format, GREATEST_PAINTED, Request, VersionName, quiet_zone, scale};
 use goqlanis_files::failure::Failure;

@@ -20,15 +20,14 @@ escpos_head w h = 29 ∷ 118 ∷ 48 ∷ 0 ∷ bytes_across w % 256 ∷ bytes_acr
 abbrev pub escpos_file : Bool → Bool → Bitmap → List ℕ
 escpos_file = packed_file escpos_head (λ bytes. bytes) []
 
--- TSPL: a label of the picture's size, cleared, and the bitmap on it, which overwrites what is there (mode 0)
-abbrev pub tspl_head : ℕ → ℕ → List ℕ
-tspl_head w h =
-    codes "SIZE " ++ (decimal w ++ (codes " dot," ++ (decimal h ++ (codes " dot\r\nCLS\r\nBITMAP 0,0," ++ (decimal (bytes_across w) ++ (codes "," ++ (decimal h ++ codes ",0,")))))))
-
--- TSPL with the picture at a place, in dots from the left and from the top, on a label that ends with the picture
+-- TSPL: a label that ends with the picture, cleared, and the bitmap at a place on it, in dots from the left and from the top, which overwrites what
+-- is there (mode 0)
 abbrev pub tspl_head_at : ℕ × ℕ → ℕ → ℕ → List ℕ
 tspl_head_at place w h =
     codes "SIZE " ++ (decimal (place.0 + w) ++ (codes " dot," ++ (decimal (place.1 + h) ++ (codes " dot\r\nCLS\r\nBITMAP " ++ (decimal place.0 ++ (codes "," ++ (decimal place.1 ++ (codes "," ++ (decimal (bytes_across w) ++ (codes "," ++ (decimal h ++ codes ",0,")))))))))))
+
+abbrev pub tspl_head : ℕ → ℕ → List ℕ
+tspl_head = tspl_head_at (0, 0)
 
 -- TSPL has 0 for black
 abbrev pub tspl_row : List ℕ → List ℕ
@@ -38,11 +37,11 @@ tspl_row bytes = map (λ b. 255 - b) bytes
 abbrev pub tspl_tail : List ℕ
 tspl_tail = codes "\r\nPRINT 1\r\n"
 
-abbrev pub tspl_file : Bool → Bool → Bitmap → List ℕ
-tspl_file = packed_file tspl_head tspl_row tspl_tail
-
 abbrev pub tspl_file_at : ℕ × ℕ → Bool → Bool → Bitmap → List ℕ
 tspl_file_at place = packed_file (tspl_head_at place) tspl_row tspl_tail
+
+abbrev pub tspl_file : Bool → Bool → Bitmap → List ℕ
+tspl_file = tspl_file_at (0, 0)
 
 -- a hexadecimal digit in ASCII
 abbrev pub hex_digit : ℕ → ℕ

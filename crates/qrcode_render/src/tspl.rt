@@ -25,10 +25,7 @@ impl Packing for Bitmap {
     ghost behind = { tspl_tail };
 
     fn head(alloc: Global, width: u32, height: u32) -> QrResult<Vec<u8>> {
-        let bytes = (width as usize + 7) / 8;
-        Ok(format!(in alloc;
-            "SIZE {width} dot,{height} dot\r\nCLS\r\nBITMAP 0,0,{bytes},{height},0,"
-        )?.into_bytes())
+        head_at(alloc, (0, 0), width, height)
     }
 
     fn row(bytes: Vec<u8>) -> QrResult<Vec<u8>> {
