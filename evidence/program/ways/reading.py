@@ -5,6 +5,7 @@ import random
 import re
 
 import checked
+import crowds
 import png
 from room import FILES, SYMBOLS, figures, file_of, rows_of, run, squares
 
@@ -162,6 +163,65 @@ def crowded_pages_are_read(program):
         if ran.stdout != said or ran.returncode != (not said):
             return False
     return True
+
+
+def _lines_read(program, picture):
+    """Returns the lines that `read` prints, sorted."""
+    return sorted(run(program, ["read"], "/", picture).stdout.decode().splitlines())
+
+
+def large_codes_beside_other_things_are_read(program):
+    """Two pages of each version from 30 to 40, one with a Micro QR code beside it."""
+    for version in range(30, 41):
+        for number in (3, 4):
+            file, texts = crowds.made(program, version, number)
+            if _lines_read(program, file) != sorted(texts):
+                return False
+    return True
+
+
+def _stretched(pixels, modules, *codes):
+    """Returns a PBM file of squares side by side, at so many pixels for so many modules."""
+    high = max(map(len, codes))
+    tall = [it + [[0] * len(it)] * (high - len(it)) for it in codes]
+    rows = [sum([[0] * 4 + row for row in line], []) + [0] * 4 for line in zip(*tall)]
+    blank = [[0] * len(rows[0])] * 4
+    rows = [*blank, *rows, *blank]
+    wide = [[row[x * modules // pixels] for x in range(len(row) * pixels // modules)]
+            for row in rows]
+    ink = [wide[y * modules // pixels] for y in range(len(rows) * pixels // modules)]
+    text = "\n".join("".join(map(str, it)) for it in ink)
+    return f"P1\n{len(ink[0])} {len(ink)}\n{text}".encode()
+
+
+def codes_of_uneven_pixels_beside_another_are_read(program):
+    """At two and a half pixels a module M1, version 40, version 20 with three finder patterns among
+    its data, and with wrong modules in a timing pattern; and at 1.2 pixels version 1."""
+    other = _square(program, "-v", "1", "hi")
+    decoyed, spoilt = (_square(program, "-v", "20", "-l", "H", "decoys") for _ in range(2))
+    for row, line in zip(decoyed, other[:8]):
+        for left in (21, 39, 57):
+            row[left:left + 9] = [0, *line[:7], 0]
+    for place in range(10, 30, 2):
+        spoilt[6][place] ^= 1
+    for code, pixels, modules, said in (
+            (_square(program, "-v", "M1", "12"), 5, 2, "12"), (decoyed, 5, 2, "decoys"),
+            (_square(program, "-v", "40", "large"), 5, 2, "large"), (spoilt, 5, 2, "decoys"),
+            (_square(program, "-v", "1", "small"), 6, 5, "small")):
+        if _lines_read(program, _stretched(pixels, modules, code, other)) != sorted([said, "hi"]):
+            return False
+    return True
+
+
+def no_micro_code_is_read_inside_an_unread_code(program):
+    """A code with a Micro QR code over its data, too large to be corrected, is not read at all."""
+    rows = _square(program, "-v", "5", "-l", "L", "unread")
+    for row in rows[10:27]:
+        row[10:27] = [0] * 17
+    for row, line in zip(rows[12:], _square(program, "-v", "M2", "12")):
+        row[12:25] = line
+    ran = run(program, ["read"], "/", file_of(rows, 4, 3))
+    return (ran.returncode, ran.stdout) == (1, b"") and b"37 by 37 modules" in ran.stderr
 
 
 def wrong_codewords_of_micro_codes_on_a_page(program):
