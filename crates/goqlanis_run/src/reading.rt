@@ -2,11 +2,11 @@
 
 use crate::readings::{other_set, report};
 use clap::ArgMatches;
-use goqlanis_core::{Codes, Scan, Unread, read_codes};
 use goqlanis_files::failure::Failure;
 use goqlanis_files::streams::{MOST_PICTURE, read_file, read_standard_input, write_data};
 use goqlanis_files::{refused, warning};
 use qrcode::types::Version;
+use qrcode_scan::{Codes, Scan, Unread, read_codes};
 use std::process::ExitCode;
 
 /// Decodes the picture that the command line names, and writes the data of its codes.
