@@ -123,7 +123,8 @@ fn codes_found(alloc: Global, pixels: &Pixels, is_inverted: bool) -> Result<Code
     Ok(codes)
 }
 
-// Adds what is in a grid, unless a decoded code overlaps it.
+// Adds what is in a grid, unless a decoded code overlaps it. Nor is a Micro symbol found where a
+// square that does not decode overlaps it: the modules there are those of the square.
 fn add(
     codes: &mut Codes,
     alloc: Global,
@@ -135,7 +136,7 @@ fn add(
     requires codes { AreCodesIn pixels.now is_inverted codes.old }
     ensures { OnOk result (AreCodesIn pixels.now is_inverted codes.new) }
 {
-    if codes.has_read(grid) {
+    if codes.has_read(grid) || (grid.count < 21 && is_among(&codes.missed, grid)) {
         return Ok(());
     }
     match found_at(alloc, pixels, grid, is_inverted)? {
@@ -214,14 +215,17 @@ fn push_missed(all: &mut Vec<Missed>, missed: Missed) -> Result<(), AllocError>
     ensures { OnOk result ((all.new.items ≡ all.old.items)
         ⊎ (all.new.items ≡ all.old.items ++ missed ∷ [])) }
 {
-    let place = place_of(&missed.grid);
-    if !all
-        .iter()
-        .any(|other| overlap(place, place_of(&other.grid)))
-    {
+    if !is_among(all, &missed.grid) {
         all.push(missed)?;
     }
     Ok(())
+}
+
+// Whether one of these squares overlaps the grid.
+fn is_among(all: &[Missed], grid: &Grid) -> bool {
+    let place = place_of(grid);
+    all.iter()
+        .any(|other| overlap(place, place_of(&other.grid)))
 }
 
 impl Codes {

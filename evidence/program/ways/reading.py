@@ -5,6 +5,7 @@ import random
 import re
 
 import checked
+import crowds
 import png
 from room import FILES, SYMBOLS, figures, file_of, rows_of, run, squares
 
@@ -160,6 +161,50 @@ def crowded_pages_are_read(program):
                           (noise, b"")):
         ran = run(program, ["read"], "/", picture)
         if ran.stdout != said or ran.returncode != (not said):
+            return False
+    return True
+
+
+def _lines_read(program, picture):
+    """Returns the lines that `read` prints, sorted."""
+    return sorted(run(program, ["read"], "/", picture).stdout.decode().splitlines())
+
+
+def large_codes_beside_other_things_are_read(program):
+    """Two pages of each version from 30 to 40, one with a Micro QR code beside it."""
+    pages = [crowds.made(program, version, number) for version in range(30, 41) for number in (3, 4)]
+    return all(_lines_read(program, file) == sorted(texts) for file, texts in pages)
+
+
+def _stretched(pixels, modules, *codes):
+    """Returns a PBM file of squares side by side, at so many pixels for so many modules."""
+    high = max(map(len, codes))
+    tall = [it + [[0] * len(it)] * (high - len(it)) for it in codes]
+    rows = [sum([[0] * 4 + row for row in line], []) + [0] * 4 for line in zip(*tall)]
+    blank = [[0] * len(rows[0])] * 4
+    rows = [*blank, *rows, *blank]
+    wide = [[row[x * modules // pixels] for x in range(len(row) * pixels // modules)]
+            for row in rows]
+    ink = [wide[y * modules // pixels] for y in range(len(rows) * pixels // modules)]
+    text = "\n".join("".join(map(str, it)) for it in ink)
+    return f"P1\n{len(ink[0])} {len(ink)}\n{text}".encode()
+
+
+def codes_of_uneven_pixels_beside_another_are_read(program):
+    """At two and a half pixels a module M1, version 40, version 20 with three finder patterns among
+    its data, and with wrong modules in a timing pattern; and at 1.2 pixels version 1."""
+    other = _square(program, "-v", "1", "hi")
+    decoyed, spoilt = (_square(program, "-v", "20", "-l", "H", "decoys") for _ in range(2))
+    for row, line in zip(decoyed, other[:8]):
+        for left in (21, 39, 57):
+            row[left:left + 9] = [0, *line[:7], 0]
+    for place in range(10, 30, 2):
+        spoilt[6][place] ^= 1
+    for code, pixels, modules, said in (
+            (_square(program, "-v", "M1", "12"), 5, 2, "12"), (decoyed, 5, 2, "decoys"),
+            (_square(program, "-v", "40", "large"), 5, 2, "large"), (spoilt, 5, 2, "decoys"),
+            (_square(program, "-v", "1", "small"), 6, 5, "small")):
+        if _lines_read(program, _stretched(pixels, modules, code, other)) != sorted([said, "hi"]):
             return False
     return True
 
