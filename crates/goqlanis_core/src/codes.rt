@@ -1,8 +1,9 @@
 //! Finds and decodes all codes of a picture.
 
-ghost use Rattle.std.specs.Prelude.{◌≡◌, ◌≤◌, ◌⊎◌, ◌++◌, ◌∷◌, [], ℕ, All, insert, length, IsTrue, IfOk, IfErr, OnOk};
+ghost use Rattle.std.specs.Prelude.{◌≡◌, ◌≤◌, ◌⊎◌, ◌++◌, ◌∷◌, ◌+◌, ◌*◌, ◌/◌, [], ℕ, max, Some, All, AllPairs, insert, length, IsTrue, IsFalse, IfOk, IfErr, OnOk};
 ghost use Rattle.qrcode_reader.specs.declared.refusals.Unread.TheVariants.{OutOfMemory};
-ghost use Rattle.goqlanis_core.specs.Codes.{AreCodesIn, IsFoundAs, IsMissedOf};
+ghost use Rattle.goqlanis_core.specs.Codes.{AreApart, AreCodesIn, AreTwo, HasGrid, IsFoundAs, IsMissedOf, bottom_of, left_of, right_of, top_of};
+ghost use Rattle.qrcode_reader.specs.declared.scan.grids.Grid.{Grid};
 ghost use Rattle.goqlanis_core.specs.Scans.{IsNotClean, IsScanOf, IsUnreadPicture, IsUnreadIn};
 
 use crate::scanning::{self, Scan, read_clean, scan_of, seen_in};
@@ -63,6 +64,7 @@ pub struct Codes {
 pub fn read_codes(alloc: Global, bytes: &[u8]) -> Result<Codes, scanning::Unread>
     ensures value { IfOk result (λ codes. All (IsScanOf bytes.now) codes.scans.items) }
     ensures some { IfOk result (λ codes. 1 ≤ length codes.scans.items) }
+    ensures once { IfOk result (λ codes. AllPairs AreTwo codes.scans.items) }
     ensures missed { IfOk result (λ codes. All (IsMissedOf bytes.now) codes.missed.items) }
     ensures causes { IfErr result (IsUnreadPicture bytes.now) }
 {
@@ -155,7 +157,8 @@ fn found_at(
     is_inverted: bool,
 ) -> Result<Found, AllocError>
     requires { IsNotClean pixels.now }
-    ensures { IfOk result (IsFoundAs pixels.now is_inverted) }
+    ensures found { IfOk result (IsFoundAs pixels.now is_inverted) }
+    ensures grid { IfOk result (HasGrid grid.now) }
 {
     let Some(modules) = sampled_at(alloc, pixels, grid)? else {
         return Ok(Found::Nothing);
@@ -197,7 +200,8 @@ fn is_likely(cause: Unread) -> bool
 
 // Inserts a code before the first one that it precedes.
 fn insert_code(scans: &mut Vec<Scan>, scan: Scan, grid: &Grid) -> Result<(), AllocError>
-    ensures { OnOk result ((n : ℕ) × (scans.new.items ≡ insert scans.old.items n scan)) }
+    ensures { OnOk result ((n : ℕ) × (n ≤ length scans.old.items)
+        × (scans.new.items ≡ insert scans.old.items n scan)) }
 {
     let place = place_of(grid);
     let number = scans
@@ -230,16 +234,26 @@ fn is_among(all: &[Missed], grid: &Grid) -> bool {
 
 impl Codes {
     /// Whether a decoded code overlaps the grid.
-    pub fn has_read(&self, grid: &Grid) -> bool {
+    pub fn has_read(&self, grid: &Grid) -> bool
+        ensures { IsFalse result → All (λ scan. (other : Grid) → scan.grid ≡ Some other
+            → AreApart other grid.now) self.now.scans.items }
+    {
         let place = place_of(grid);
-        self.scans.iter().any(|scan| scan
-            .grid
-            .is_some_and(|other| overlap(place, place_of(&other))))
+        for scan in &self.scans {
+            match &scan.grid {
+                Some(other) if overlap(place_of(other), place) => return true,
+                _ => {}
+            }
+        }
+        false
     }
 }
 
 // The pixels that a grid's modules take.
-fn place_of(grid: &Grid) -> Place {
+fn place_of(grid: &Grid) -> Place
+    ensures across { (result.left ≡ left_of grid.now) × (result.right ≡ right_of grid.now) }
+    ensures down { (result.top ≡ top_of grid.now) × (result.bottom ≡ bottom_of grid.now) }
+{
     let parts = grid.parts.max(1);
     Place {
         left: grid.left / parts,
@@ -250,7 +264,10 @@ fn place_of(grid: &Grid) -> Place {
 }
 
 // Whether two squares have pixels in common.
-fn overlap(one: Place, other: Place) -> bool {
+fn overlap(one: Place, other: Place) -> bool
+    ensures { IsFalse result → (one.right ≤ other.left) ⊎ ((other.right ≤ one.left)
+        ⊎ ((one.bottom ≤ other.top) ⊎ (other.bottom ≤ one.top))) }
+{
     one.left < other.right
         && other.left < one.right
         && one.top < other.bottom

@@ -4,7 +4,7 @@ use Rattle.goqlanis_core.proofs.codes.add.Goals as goal
 
 pub returns-in_ok-insert_code-in-Code : goal.returns-in_ok-insert_code-in-Code
 returns-in_ok-insert_code-in-Code c =
-    code_added c.args.pixels.now c.args.is_inverted c.args.codes.now _ c.in-Code.scan c.in_ok-insert_code-in-Code.ensures refl (search rules) c.requires.codes
+    code_added c.args.pixels.now c.args.is_inverted c.args.codes.now _ c.in-Code.scan c.args.grid.now c.in_ok-insert_code-in-Code.ensures refl (search rules) (search rules) (search rules) c.requires.codes
 
 pub returns-in_ok-push_missed-in-Missed : goal.returns-in_ok-push_missed-in-Missed
 returns-in_ok-push_missed-in-Missed c =
