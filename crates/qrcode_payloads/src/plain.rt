@@ -40,10 +40,7 @@ impl Cleaning {
         ensures { result ≡ is_removed self character }
     {
         match (self, character) {
-            (
-                Cleaning::Amount | Cleaning::Degrees | Cleaning::Time | Cleaning::Address,
-                _,
-            ) => false,
+            (Cleaning::Amount | Cleaning::Degrees | Cleaning::Time | Cleaning::Address, _) => false,
             (Cleaning::Key, _) => matches!(character, '-' | '.' | '(' | ')' | '/'),
             (Cleaning::Groups, _) => matches!(character, ' ' | '\''),
             (Cleaning::Digits, _) => matches!(character, '-' | '.' | '(' | ')'),
