@@ -49,8 +49,9 @@ def library():
 
 
 def least_glibc(data):
-    """Returns the n of the oldest glibc 2.n that has all symbols that an ELF file needs from it."""
-    return max(int(it) for it in re.findall(rb"\0GLIBC_2\.(\d+)", data))
+    """Returns the n of the oldest glibc 2.n that has all symbols that an ELF file needs from it; 0
+    for a static one."""
+    return max((int(it) for it in re.findall(rb"\0GLIBC_2\.(\d+)", data)), default=0)
 
 
 def tag_of(data):
