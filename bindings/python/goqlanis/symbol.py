@@ -275,11 +275,12 @@ pbm, pgm, pdf, zpl, tspl, escpos, xbm, ppm: save 'ticket.png', and convert that
         """Returns the picture of `png` as a Pillow image, e.g. `symbol.to_pil(scale=4).rotate(45)`.
 
         Raises ImportError if Pillow is not installed."""
+        picture = io.BytesIO(self.png(**look))
         try:
             from PIL import Image
         except ImportError:
             raise ImportError("to_pil needs Pillow: pip install pillow, or take png()") from None
-        return Image.open(io.BytesIO(self.png(**look)))
+        return Image.open(picture)
 
     def svg_inline(self, **look: Any) -> str:
         """Returns the text of `svg` without the XML declaration, for an HTML page.
