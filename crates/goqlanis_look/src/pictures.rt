@@ -20,7 +20,8 @@ pub(crate) fn pictures_in<'a>(
     let mut rest = file;
     for _ in 0..file.len() {
         let behind = behind_picture(rest).unwrap_or(&[]);
-        let (picture, _) = rest.split_at(rest.len().saturating_sub(behind.len()));
+        let length = rest.len().saturating_sub(behind.len());
+        let picture = rest.get(..length).unwrap_or(rest);
         check_size(rt.alloc(), name, picture)?;
         pictures.push(picture)?;
         rest = after_space(behind);
@@ -99,15 +100,13 @@ fn behind_raster(bytes: &[u8], count: usize) -> Option<&[u8]> {
 // Returns what follows this many characters 0 and 1.
 fn behind_figures(bytes: &[u8], count: usize) -> Option<&[u8]> {
     let mut left = count;
-    let mut rest = bytes;
-    while let [first, more @ ..] = rest {
+    for at in 0..bytes.len() {
         if left == 0 {
-            return Some(rest);
+            return bytes.get(at..);
         }
-        if matches!(*first, b'0' | b'1') {
+        if matches!(bytes[at], b'0' | b'1') {
             left -= 1;
         }
-        rest = more;
     }
     None
 }
@@ -116,24 +115,25 @@ fn behind_figures(bytes: &[u8], count: usize) -> Option<&[u8]> {
 fn number(bytes: &[u8]) -> Option<(usize, &[u8])> {
     let text = after_space(bytes);
     let count = text.iter().position(|byte| !byte.is_ascii_digit());
-    let (digits, rest) = text.split_at(count.unwrap_or(text.len()));
-    let number = str::from_utf8(digits).ok()?.parse::<u16>().ok()?;
-    Some((number as usize, rest))
+    let count = count.unwrap_or(text.len());
+    let number = str::from_utf8(text.get(..count)?)
+        .ok()?
+        .parse::<u16>()
+        .ok()?;
+    Some((number as usize, text.get(count..)?))
 }
 
 // Skips white space and comments.
 fn after_space(bytes: &[u8]) -> &[u8] {
-    let mut rest = bytes;
     let mut is_comment = false;
-    while let [first, more @ ..] = rest {
+    for at in 0..bytes.len() {
         if is_comment {
-            is_comment = *first != b'\n';
-        } else if *first == b'#' {
+            is_comment = bytes[at] != b'\n';
+        } else if bytes[at] == b'#' {
             is_comment = true;
-        } else if !matches!(*first, b' ' | b'\t'..=b'\r') {
-            return rest;
+        } else if !matches!(bytes[at], b' ' | b'\t'..=b'\r') {
+            return bytes.get(at..).unwrap_or(bytes);
         }
-        rest = more;
     }
-    rest
+    &[]
 }
