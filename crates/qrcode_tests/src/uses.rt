@@ -164,5 +164,5 @@ fn symbols_are_made(rt: HostRuntime) {
     assert!(rt; says(alloc, parts, Normal(4), Q, BOTH.as_bytes()));
     assert!(rt; says(alloc, plain::greek(alloc), Normal(1), L, GREEK_TEXT));
     // As many as the printed symbol has.
-    assert!(rt; texts::count_of_dark(&digits(&rt, alloc)) == 210);
+    assert!(rt; texts::count_of_dark(&digits(&rt, alloc)) == 216);
 }

@@ -99,7 +99,7 @@ static MAPS: [Row<xbm::Dot, File>; 1] = [
     )),
 ];
 
-// Written by hand: the objects begin at bytes 9, 54, 105, 209 and 391.
+// Written by hand: the objects begin at bytes 9, 54, 105, 209 and 392.
 #[rattlefmt::skip]
 static PAGES: [Row<pdf::Color, File>; 1] = [
     Row(DIAGONAL, On(0), Both(pdf::Color([0, 0, 136]), pdf::Color([255, 255, 136])), Of(3, 2), File(
@@ -107,12 +107,12 @@ static PAGES: [Row<pdf::Color, File>; 1] = [
         2 0 obj\n<</Type/Pages/Kids[3 0 R]/Count 1>>\nendobj\n\
         3 0 obj\n<</Type/Page/Parent 2 0 R/Resources<<>>/Contents 4 0 R\
         /MediaBox[0 0 6.000000 4.000000]>>\nendobj\n",
-        b"4 0 obj\n<</Length 133>>\nstream\n3.000000 0 0 -2.000000 0 4.000000 cm\n\
+        b"4 0 obj\n<</Length 134>>\nstream\n3.000000 0 0 -2.000000 0 4.000000 cm\n\
         1.000000 1.000000 0.533333 rg\n0 0 2 2 re f\n0.000000 0.000000 0.533333 rg\n\
-        0 0 1 1 re\n1 1 1 1 re\nf\nendstream\nendobj\n5 0 obj\n<<>>\nendobj\n\
+        0 0 1 1 re\n1 1 1 1 re\nf\n\nendstream\nendobj\n5 0 obj\n<<>>\nendobj\n\
         xref\n0 6\n0000000000 65535 f \n0000000009 00000 n \n0000000054 00000 n \n\
-        0000000105 00000 n \n0000000209 00000 n \n0000000391 00000 n \n\
-        trailer\n<</Size 6/Root 1 0 R/Info 5 0 R>>\nstartxref\n411\n%%EOF\n",
+        0000000105 00000 n \n0000000209 00000 n \n0000000392 00000 n \n\
+        trailer\n<</Size 6/Root 1 0 R/Info 5 0 R>>\nstartxref\n412\n%%EOF\n",
     )),
 ];
 
