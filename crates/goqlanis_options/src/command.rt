@@ -84,11 +84,11 @@ fn argument<'a>(alloc: Global, entry: Entry) -> Result<Arg<'a>, AllocError> {
         Some(letter) => arg.short(letter),
         None => arg,
     };
-    with_values(alloc, with_other_names(arg, entry.long)?, entry.takes)
+    with_values(with_other_names(arg, entry.long)?, entry.takes)
 }
 
 // Adds what an option takes.
-fn with_values<'a>(alloc: Global, arg: Arg<'a>, takes: Takes) -> Result<Arg<'a>, AllocError> {
+fn with_values(arg: Arg<'_>, takes: Takes) -> Result<Arg<'_>, AllocError> {
     if matches!(takes, Takes::Nothing) {
         return Ok(arg.action(ArgAction::SetTrue));
     }
@@ -96,10 +96,7 @@ fn with_values<'a>(alloc: Global, arg: Arg<'a>, takes: Takes) -> Result<Arg<'a>,
     Ok(match takes {
         Takes::Wanted(_) => arg.required_unless_present("lines")?,
         Takes::Texts(_) => arg.action(ArgAction::Append),
-        Takes::Word(_, _) | Takes::Format => {
-            let words: &'a [&'static str] = takes.words(alloc)?.leak();
-            arg.value_parser(words).ignore_case(true)
-        }
+        Takes::Word(_, words) => arg.value_parser(words).ignore_case(true),
         Takes::Number(_, least, most) => arg.value_parser(ValueParser::unsigned(least, most)),
         _ => arg,
     })

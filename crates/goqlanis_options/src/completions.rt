@@ -176,7 +176,7 @@ fn value_of(alloc: Global, shell: &Shell, takes: Takes) -> Result<String, AllocE
         Takes::Path => shell.file,
         _ => shell.value,
     };
-    let words = takes.words(alloc)?.join(alloc, " ")?;
+    let words = takes.words().join(alloc, " ")?;
     push_filled(&mut text, template, &[('w', words)])?;
     Ok(text)
 }

@@ -108,7 +108,7 @@ fn push_task(text: &mut String, task: &Task) -> Result<(), AllocError> {
 fn push_option(text: &mut String, entry: &Entry) -> Result<(), AllocError> {
     let alloc = *text.allocator();
     let (long, help, name) = (entry.long, entry.help, entry.takes.name());
-    let words = entry.takes.words(alloc)?;
+    let words = entry.takes.words();
     let is_long = words.len() > FEW;
     let value = if is_long || words.is_empty() {
         String::from_str(alloc, name)?

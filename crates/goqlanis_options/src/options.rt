@@ -2,7 +2,6 @@
 //! completions. (A `clap` command does not expose value names, or which values are paths, so the
 //! last two cannot be made from it.)
 
-use qrcode_formats::FORMATS;
 use qrcode_payloads::kinds::{Kind, fields_of};
 use std::alloc::{AllocError, Global};
 
@@ -55,21 +54,16 @@ pub enum Takes {
     Path,
     /// One of these words; help shows this name for it.
     Word(&'static str, &'static [&'static str]),
-    /// The name of a format.
-    Format,
     /// An integer between two bounds, both included; help shows this name for it.
     Number(&'static str, u64, u64),
 }
 
 impl Takes {
     /// Returns the words of which an option takes one; empty if it takes something else.
-    ///
-    /// Errors: only `AllocError`.
-    pub fn words(self, alloc: Global) -> Result<Vec<&'static str>, AllocError> {
+    pub fn words(self) -> &'static [&'static str] {
         match self {
-            Takes::Word(_, words) => Vec::from_slice(alloc, words),
-            Takes::Format => FORMATS.iter().filter_map(|row| row.name).collect(alloc),
-            _ => Ok(Vec::new(alloc)),
+            Takes::Word(_, words) => words,
+            _ => &[],
         }
     }
 
@@ -80,7 +74,6 @@ impl Takes {
             Takes::Text(name) | Takes::Wanted(name) | Takes::Texts(name) => name,
             Takes::Word(name, _) | Takes::Number(name, _, _) => name,
             Takes::Path => "FILE",
-            Takes::Format => "FORMAT",
         }
     }
 }

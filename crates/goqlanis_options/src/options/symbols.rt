@@ -1,6 +1,6 @@
 //! The options of codes: input, level and version, output.
 
-use super::Takes::{self, Format, Nothing, Number, Path, Text, Texts, Word};
+use super::Takes::{self, Nothing, Number, Path, Text, Texts, Word};
 use super::{Entry, Purpose, Task};
 
 /// The task without a command: a plain code.
@@ -52,6 +52,13 @@ pub static LINES: &[Entry] = &[
 // The value of `--level`.
 const LEVEL: Takes = Word("LEVEL", &["L", "M", "Q", "H"]);
 
+// The value of `--format`: the names in the table of formats, which `bindings/same` compares.
+#[rattlefmt::skip]
+const FORMAT: Takes = Word("FORMAT", &[
+    "half-blocks", "terminal", "text", "png", "svg", "eps", "pic", "pbm", "pgm", "pdf", "zpl", "tspl", "escpos", "xbm",
+    "ppm", "ascii",
+]);
+
 /// Level and version options.
 #[rattlefmt::skip]
 pub static LEVELS: &[Entry] = &[
@@ -99,7 +106,7 @@ pub static LOOKS: &[Entry] = &[
     entry!("output", 'o', Path,
         "Write to FILE, atomically; --lines and split add numbers, e.g. a-000001.png; - is standard \
         output"),
-    entry!("format", 'f', Format,
+    entry!("format", 'f', FORMAT,
         "Output format; terminal: half-blocks in black on white; text: a block per module; ascii: \
         ## per module; zpl, tspl, escpos: printers [default: FILE's extension (.txt: half-blocks); \
         to a terminal: terminal; else half-blocks]"),
