@@ -173,7 +173,7 @@ def the_cross_of_a_bill(program):
     a white frame, and on black a white cross with the bars of the style guide for bills. In SVG,
     EPS and PDF its square is in the right place."""
     words = ["bill", "--iban", "CH5800791123000889012", "--name", "a", "--code", "2501", "--city",
-             "Biel", "--country", "CH"]
+             "Biel", "--country", "CH", "-q", "4", "-s", "8"]
     plain = run(program, [*words, "-f", "pgm"], "/")
     rows = _greys(plain.stdout)
     side = len(rows) - 64
