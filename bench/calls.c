@@ -2,7 +2,6 @@
 
      calls symbol COUNT FILE VERSION LEVEL                  a version of 0 is the least of Normal
      calls picture COUNT FILE VERSION LEVEL FORMAT SCALE    of the symbol; prints its length
-     calls least COUNT FILE VERSION LEVEL                   the least version
      calls read COUNT FILE                                  of modules, 0 and 1 row by row
      calls scan COUNT FILE                                  of a picture */
 #include "goqlanis.h"
@@ -32,8 +31,6 @@ static uint32_t call(const char *kind)
     if (!strcmp(kind, "picture"))
         return goq_draw(modules, side * side, symbol.width, 4, scale, format, out, sizeof out,
             &length);
-    if (!strcmp(kind, "least"))
-        return goq_smallest_version(data, size, level, &symbol.version);
     if (!strcmp(kind, "read"))
         return goq_read(data, size, out, sizeof out, &reading);
     if (!strcmp(kind, "scan"))

@@ -38,7 +38,6 @@ CASES = {
     "bytes-2331": ("symbol", WORDS[:2331], 0, 1),
     "digits-7089": ("symbol", DIGITS[:7089], 0, 0),
     "mixed-1000": ("symbol", MIXED[:1000], 0, 1),
-    "least-mixed-1000": ("least", MIXED[:1000], 0, 1),
 }
 # The symbols that are read: a name, the version, and the number of bytes at level M.
 READ = {"read-1": ("1", 14), "read-10": ("10", 213), "read-40": ("40", 2331)}

@@ -25,7 +25,8 @@ static void fail(const char *what)
 
 static struct job read_job(int argc, char **argv)
 {
-    struct job job = {0};
+    struct job job;
+    memset(&job, 0, sizeof job);
     if (argc != 5)
         fail("usage: PEER FILE LEVEL VERSION COUNT");
     FILE *file = fopen(argv[1], "rb");

@@ -400,6 +400,9 @@ enum { GOQ_MODULES_MAX = 177 * 177 };
 /* The most bytes that a symbol decodes to: a buffer of this size holds any data that is read. */
 enum { GOQ_BYTES_MAX = 7089 };
 
+/* The most bytes that calls look at: longer data fits no symbols. */
+enum { GOQ_DATA_MAX = 1048576 };
+
 /* What a symbol is, besides its modules. */
 typedef struct {
     uint32_t version; /* 1 to 40, or GOQ_MICRO(1 to 4) */
@@ -532,7 +535,7 @@ typedef struct {
     uint32_t version; /* 1 to 40, or GOQ_MICRO(1 to 4) */
     uint32_t level; /* GOQ_L .. GOQ_H */
     uint32_t mask; /* 0 to 7, in Micro 0 to 3 */
-    uint32_t standard; /* 1 if nothing departs, and `lower` is 0 in `masks` or `masks_here` */
+    uint32_t standard; /* 1 if nothing departs: the mask is the best by some reading of the standard */
     uint32_t grade; /* the grade of `unused` by ISO/IEC 15415: 'A' to 'D', or 'F' */
     size_t blocks; /* how many blocks the symbol has */
     size_t allowed; /* how many wrong codewords of each block the standard lets readers correct */
@@ -558,7 +561,7 @@ typedef struct {
     size_t length; /* how many modules */
 } goq_square;
 
-/* A rectangle of modules of a symbol. An area is one or more rectangles. */
+/* A rectangle of modules of a symbol. An area is one or more rectangles, up to GOQ_MODULES_MAX. */
 typedef struct {
     size_t left; /* its left column, counted from 0 */
     size_t top; /* its top row, counted from 0 */
@@ -596,36 +599,13 @@ enum { GOQ_BLOCKS_MAX = 81 };
 
 /* -- Encoding -- */
 
-/* Encodes `data` at the error correction level `level` (GOQ_L .. GOQ_H), in the smallest Normal
-   version that holds it. The modules go to the start of `modules`, row by row from the top left
-   corner without a quiet zone, one byte each: 1 if dark, 0 if light. GOQ_MODULES_MAX bytes hold any
-   symbol; bytes after its modules are unchanged. Version, level and width go to `symbol`. Errors:
-   GOQ_NO_SUCH_LEVEL, GOQ_NO_ROOM, GOQ_SMALL_BUFFER, GOQ_OUT_OF_MEMORY. */
-goq_answer goq_encode(const void *data, size_t data_length, uint32_t level, uint8_t *modules,
-    size_t modules_length, goq_symbol *symbol);
-
-/* Encodes UTF-8 text like goq_encode, but without Kanji segments: readers that take bytes for UTF-8
-   show the text. For readers that guess the character set, goq_encode_marked_text says that it is
-   UTF-8. Errors: GOQ_NO_SUCH_LEVEL, GOQ_NOT_TEXT, GOQ_NO_ROOM, GOQ_SMALL_BUFFER;
-   GOQ_OUT_OF_MEMORY. */
-goq_answer goq_encode_text(const void *text, size_t text_length, uint32_t level, uint8_t *modules,
-    size_t modules_length, goq_symbol *symbol);
-
-/* Encodes UTF-8 text like goq_encode_text, after a header that marks it as UTF-8 (ECI 26, 12 bits).
-   Errors: those of goq_encode_text. */
-goq_answer goq_encode_marked_text(const void *text, size_t text_length, uint32_t level,
-    uint8_t *modules, size_t modules_length, goq_symbol *symbol);
-
-/* Encodes `data` like goq_encode, but in the version `version` (1 to 40, or GOQ_MICRO(1 to 4)).
-   Errors: GOQ_NO_SUCH_LEVEL, GOQ_NO_SUCH_VERSION, GOQ_TOO_LONG, GOQ_NO_MODE,
-   GOQ_LEVEL_NOT_IN_VERSION, GOQ_NO_ROOM, GOQ_SMALL_BUFFER; GOQ_OUT_OF_MEMORY. */
-goq_answer goq_encode_in(const void *data, size_t data_length, uint32_t version, uint32_t level,
-    uint8_t *modules, size_t modules_length, goq_symbol *symbol);
-
-/* Encodes `data` with options; `modules` and `symbol` are written as by goq_encode. Errors:
-   GOQ_NO_SUCH_STRUCT, GOQ_NO_SUCH_LEVEL, GOQ_NO_SUCH_VERSION, GOQ_NO_SUCH_MANNER, GOQ_NOT_TEXT; if
-   `options` names a version, GOQ_NO_MODE and GOQ_LEVEL_NOT_IN_VERSION; GOQ_NO_ROOM (also for more
-   than 1,048,576 bytes), GOQ_NO_SUCH_MASK, GOQ_SMALL_BUFFER; GOQ_OUT_OF_MEMORY. */
+/* Encodes `data` with options: as bytes or as text, in a version or the smallest that holds it. The
+   modules go to the start of `modules`, row by row from the top left corner without a quiet zone,
+   one byte each: 1 if dark, 0 if light. GOQ_MODULES_MAX bytes hold any symbol; bytes after its
+   modules are unchanged. Version, level and width go to `symbol`. Errors: GOQ_NO_SUCH_STRUCT,
+   GOQ_NO_SUCH_LEVEL, GOQ_NO_SUCH_VERSION, GOQ_NO_SUCH_MANNER, GOQ_NOT_TEXT; if `options` names a
+   version, GOQ_NO_MODE and GOQ_LEVEL_NOT_IN_VERSION; GOQ_NO_ROOM (also for more than 1,048,576
+   bytes), GOQ_NO_SUCH_MASK, GOQ_SMALL_BUFFER; GOQ_OUT_OF_MEMORY. */
 goq_answer goq_encode_with(const void *data, size_t data_length, const goq_options *options,
     uint8_t *modules, size_t modules_length, goq_symbol *symbol);
 
@@ -646,11 +626,6 @@ goq_answer goq_encode_several(const void *data, size_t data_length, const goq_se
 goq_answer goq_encode_segments(const goq_segment *segments, size_t segments_length,
     uint32_t version, uint32_t level, uint8_t *modules, size_t modules_length, goq_symbol *symbol);
 
-/* Finds the smallest Normal version that holds `data` at the level `level`, and writes it to
-   `version`. Errors: GOQ_NO_SUCH_LEVEL, GOQ_NO_ROOM, GOQ_OUT_OF_MEMORY. */
-goq_answer goq_smallest_version(const void *data, size_t data_length, uint32_t level,
-    uint32_t *version);
-
 /* Finds the smallest Normal version that holds `segments` at the level `level`, and writes it to
    `version`. Errors: GOQ_NO_SUCH_LEVEL; for the first segment with an error GOQ_NO_SUCH_KIND,
    GOQ_NOT_IN_MODE, GOQ_NO_SUCH_NUMBER, unless no version has room for those before it; GOQ_NO_ROOM;
@@ -669,26 +644,14 @@ bool goq_is_functional(uint32_t version, uint32_t x, uint32_t y);
 
 /* -- Drawing -- */
 
-/* Draws `modules` in black on white, in the format `format` (GOQ_HALF_BLOCKS .. GOQ_ASCII). There
-   are width * width modules, row by row, dark if not zero. `zone` is the width of the quiet zone in
-   modules (usually 4, for Micro 2), and `scale` the pixels per module, 1 to 65,535. The picture
-   goes to the start of `out`, and its length in bytes to `count`; text does not end with a zero.
-   goq_draw_length tells how long `out` must be; GOQ_MODULES_MAX * 80 + 400 bytes are enough for any
-   SVG, PIC or EPS. With the quiet zone, a side has at most 65,535 modules. PNG has 1 to 65,535
-   pixels a side, ESC/POS at most 65,535, and the text formats for terminals and pages (half blocks
-   and GOQ_ASCII) at most 4,096. Errors: GOQ_NO_SUCH_FORMAT, GOQ_NOT_SQUARE, GOQ_NO_SUCH_SIZE,
-   GOQ_SMALL_BUFFER; GOQ_OUT_OF_MEMORY. */
-goq_answer goq_draw(const uint8_t *modules, size_t modules_length, uint32_t width, uint32_t zone,
-    uint32_t scale, uint32_t format, void *out, size_t out_length, size_t *count);
-
-/* Writes the length in bytes of the picture of goq_draw to `count`. Errors: GOQ_NO_SUCH_FORMAT,
-   GOQ_NOT_SQUARE, GOQ_NO_SUCH_SIZE; GOQ_OUT_OF_MEMORY. */
-goq_answer goq_draw_length(const uint8_t *modules, size_t modules_length, uint32_t width,
-    uint32_t zone, uint32_t scale, uint32_t format, size_t *count);
-
-/* Draws like goq_draw, but in the colours and dots per inch of `drawing`. Errors:
-   GOQ_NO_SUCH_STRUCT, GOQ_NO_SUCH_FORMAT, GOQ_NOT_SQUARE, GOQ_NO_SUCH_SIZE, GOQ_NOT_IN_FORMAT,
-   GOQ_SMALL_BUFFER; GOQ_OUT_OF_MEMORY. */
+/* Draws `modules` in the format, colours and dots per inch of `drawing`. There are width * width
+   modules, row by row, dark if not zero. The picture goes to the start of `out`, and its length in
+   bytes to `count`; text does not end with a zero. goq_draw_with_length tells how long `out` must
+   be; GOQ_MODULES_MAX * 80 + 400 bytes are enough for any SVG, PIC or EPS in black on white. The
+   scale is 1 to 65,535; a side has at most 177 modules, with the quiet zone 8,191. PNG has 1 to
+   65,535 pixels a side, ESC/POS at most 65,535, and the text formats for terminals and pages (half
+   blocks and GOQ_ASCII) at most 4,096. Errors: GOQ_NO_SUCH_STRUCT, GOQ_NO_SUCH_FORMAT,
+   GOQ_NOT_SQUARE, GOQ_NO_SUCH_SIZE, GOQ_NOT_IN_FORMAT, GOQ_SMALL_BUFFER; GOQ_OUT_OF_MEMORY. */
 goq_answer goq_draw_with(const uint8_t *modules, size_t modules_length, uint32_t width,
     const goq_drawing *drawing, void *out, size_t out_length, size_t *count);
 
@@ -708,10 +671,6 @@ goq_answer goq_draw_with_length(const uint8_t *modules, size_t modules_length, u
    GOQ_OUT_OF_MEMORY. */
 goq_answer goq_read(const uint8_t *modules, size_t modules_length, void *bytes,
     size_t bytes_length, goq_reading *reading);
-
-/* Writes to `count` how many bytes goq_read would write. Errors: GOQ_NO_SUCH_SIDE, GOQ_NO_FORMAT,
-   GOQ_DAMAGED, GOQ_NOT_SPELLED, GOQ_OUT_OF_MEMORY. */
-goq_answer goq_read_length(const uint8_t *modules, size_t modules_length, size_t *count);
 
 /* Decodes like goq_read, but a square that may be rotated, mirrored or inverted: in the first of
    the sixteen positions in which it decodes. Errors: GOQ_NOT_READ, GOQ_SMALL_BUFFER;
@@ -825,6 +784,111 @@ goq_answer goq_largest_area(uint32_t version, uint32_t level, const goq_wish *wi
    block that loses the most codewords in `place`, GOQ_AREA_FORMAT; GOQ_OUT_OF_MEMORY. */
 goq_answer goq_cover(uint8_t *modules, size_t modules_length, const goq_rectangle *area,
     size_t area_length, size_t *place);
+
+/* -- Calls with defaults --
+
+   These are made of the calls above, here in the header: the library does not export them. */
+
+/* Encodes `data` like goq_encode_with, at the error correction level `level` (GOQ_L .. GOQ_H), in
+   the smallest Normal version that holds it. Errors: GOQ_NO_SUCH_LEVEL, GOQ_NO_ROOM,
+   GOQ_SMALL_BUFFER, GOQ_OUT_OF_MEMORY. */
+static inline goq_answer goq_encode(const void *data, size_t data_length, uint32_t level,
+    uint8_t *modules, size_t modules_length, goq_symbol *symbol)
+{
+    goq_options options = GOQ_OPTIONS;
+    options.level = level;
+    return goq_encode_with(data, data_length, &options, modules, modules_length, symbol);
+}
+
+/* Encodes `data` like goq_encode, but in the version `version` (1 to 40, or GOQ_MICRO(1 to 4)).
+   Errors: GOQ_NO_SUCH_LEVEL, GOQ_NO_SUCH_VERSION, GOQ_TOO_LONG, GOQ_NO_MODE,
+   GOQ_LEVEL_NOT_IN_VERSION, GOQ_NO_ROOM, GOQ_SMALL_BUFFER; GOQ_OUT_OF_MEMORY. */
+static inline goq_answer goq_encode_in(const void *data, size_t data_length, uint32_t version,
+    uint32_t level, uint8_t *modules, size_t modules_length, goq_symbol *symbol)
+{
+    goq_options options = GOQ_OPTIONS;
+    goq_answer answer;
+    options.level = level;
+    options.version = version != 0 ? version : UINT32_MAX; /* 0 would be the smallest */
+    answer = goq_encode_with(data, data_length, &options, modules, modules_length, symbol);
+    return answer == GOQ_NO_ROOM && data_length > GOQ_DATA_MAX ? (goq_answer)GOQ_TOO_LONG : answer;
+}
+
+/* Encodes UTF-8 text like goq_encode, but without Kanji segments: readers that take bytes for UTF-8
+   show the text. For readers that guess the character set, goq_encode_marked_text says that it is
+   UTF-8. Errors: GOQ_NO_SUCH_LEVEL, GOQ_NOT_TEXT, GOQ_NO_ROOM, GOQ_SMALL_BUFFER;
+   GOQ_OUT_OF_MEMORY. */
+static inline goq_answer goq_encode_text(const void *text, size_t text_length, uint32_t level,
+    uint8_t *modules, size_t modules_length, goq_symbol *symbol)
+{
+    goq_options options = GOQ_OPTIONS;
+    options.level = level;
+    options.manner = GOQ_AS_TEXT;
+    return goq_encode_with(text, text_length, &options, modules, modules_length, symbol);
+}
+
+/* Encodes UTF-8 text like goq_encode_text, after a header that marks it as UTF-8 (ECI 26, 12 bits).
+   Errors: those of goq_encode_text. */
+static inline goq_answer goq_encode_marked_text(const void *text, size_t text_length,
+    uint32_t level, uint8_t *modules, size_t modules_length, goq_symbol *symbol)
+{
+    goq_options options = GOQ_OPTIONS;
+    options.level = level;
+    options.manner = GOQ_AS_MARKED_TEXT;
+    return goq_encode_with(text, text_length, &options, modules, modules_length, symbol);
+}
+
+/* Finds the smallest Normal version that holds `data` at the level `level`, and writes it to
+   `version`; it encodes `data`. Errors: GOQ_NO_SUCH_LEVEL, GOQ_NO_ROOM, GOQ_OUT_OF_MEMORY. */
+static inline goq_answer goq_smallest_version(const void *data, size_t data_length,
+    uint32_t level, uint32_t *version)
+{
+    uint8_t modules[GOQ_MODULES_MAX];
+    goq_symbol symbol;
+    goq_answer answer = goq_encode(data, data_length, level, modules, sizeof modules, &symbol);
+    if (answer == GOQ_OK)
+        *version = symbol.version;
+    return answer;
+}
+
+/* Draws `modules` like goq_draw_with, in black on white, in the format `format` (GOQ_HALF_BLOCKS ..
+   GOQ_ASCII). `zone` is the width of the quiet zone in modules (usually 4, for Micro 2), and
+   `scale` the pixels per module. Errors: GOQ_NO_SUCH_FORMAT, GOQ_NOT_SQUARE, GOQ_NO_SUCH_SIZE,
+   GOQ_SMALL_BUFFER; GOQ_OUT_OF_MEMORY. */
+static inline goq_answer goq_draw(const uint8_t *modules, size_t modules_length, uint32_t width,
+    uint32_t zone, uint32_t scale, uint32_t format, void *out, size_t out_length, size_t *count)
+{
+    goq_drawing drawing = GOQ_DRAWING;
+    drawing.zone = zone;
+    drawing.scale = scale;
+    drawing.format = format;
+    return goq_draw_with(modules, modules_length, width, &drawing, out, out_length, count);
+}
+
+/* Writes the length in bytes of the picture of goq_draw to `count`. Errors: GOQ_NO_SUCH_FORMAT,
+   GOQ_NOT_SQUARE, GOQ_NO_SUCH_SIZE; GOQ_OUT_OF_MEMORY. */
+static inline goq_answer goq_draw_length(const uint8_t *modules, size_t modules_length,
+    uint32_t width, uint32_t zone, uint32_t scale, uint32_t format, size_t *count)
+{
+    goq_drawing drawing = GOQ_DRAWING;
+    drawing.zone = zone;
+    drawing.scale = scale;
+    drawing.format = format;
+    return goq_draw_with_length(modules, modules_length, width, &drawing, count);
+}
+
+/* Writes to `count` how many bytes goq_read would write. Errors: GOQ_NO_SUCH_SIDE, GOQ_NO_FORMAT,
+   GOQ_DAMAGED, GOQ_NOT_SPELLED, GOQ_OUT_OF_MEMORY. */
+static inline goq_answer goq_read_length(const uint8_t *modules, size_t modules_length,
+    size_t *count)
+{
+    uint8_t bytes[GOQ_BYTES_MAX];
+    goq_reading reading;
+    goq_answer answer = goq_read(modules, modules_length, bytes, sizeof bytes, &reading);
+    if (answer == GOQ_OK)
+        *count = reading.length;
+    return answer;
+}
 
 #ifdef __cplusplus
 }

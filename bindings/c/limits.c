@@ -95,6 +95,9 @@ static void costs(void)
     const struct rlimit most = {300000000, 300000000};
     const uint8_t dark = 1;
     const goq_square square = {modules, SIZE_MAX};
+    static goq_rectangle many[GOQ_MODULES_MAX + 1];
+    size_t touched[GOQ_BLOCKS_MAX];
+    goq_taken taken;
     goq_any_reading any;
     uint32_t mask;
     setrlimit(RLIMIT_AS, &most);
@@ -111,6 +114,13 @@ static void costs(void)
     }
     expect(!goq_draw_length(&dark, 1, 1, 0, 4096, GOQ_HALF_BLOCKS, &count) && count == 2048 * (4096 * 3 + 1) - 1, "half blocks");
     expect(goq_draw_length(&dark, 1, 1, 0, 4097, GOQ_HALF_BLOCKS, &count) == GOQ_NO_SUCH_SIZE, "more of them");
+    expect(goq_draw_length(data, 178 * 178, 178, 0, 1, GOQ_PDF, &count) == GOQ_NO_SUCH_SIZE, "178 modules a side");
+    expect(goq_draw_length(modules, 177 * 177, 177, 4008, 1, GOQ_SVG_PATH, &count) == GOQ_NO_SUCH_SIZE, "a zone of thousands");
+    for (size_t i = 0; i <= GOQ_MODULES_MAX; i++)
+        many[i] = (goq_rectangle){9, 9, 1, 1};
+    expect(!goq_reserve(1, GOQ_H, many, 100, touched, GOQ_BLOCKS_MAX, &taken), "a hundred rectangles");
+    expect(goq_reserve(1, GOQ_H, many, GOQ_MODULES_MAX + 1, touched, GOQ_BLOCKS_MAX, &taken) == GOQ_NO_SUCH_AREA, "more than modules");
+    expect(goq_cover(modules, 177 * 177, many, GOQ_MODULES_MAX + 1, &place) == GOQ_NO_SUCH_AREA, "to cover");
     expect(goq_read_any(modules, SIZE_MAX, out, 9, &any) == GOQ_NOT_READ, "in any position");
     expect(goq_read_text(modules, SIZE_MAX, out, 9, &any.reading) == GOQ_NO_SUCH_SIDE, "a text");
     expect(goq_mask(modules, SIZE_MAX, &mask) == GOQ_NO_SUCH_SIDE, "a mask");

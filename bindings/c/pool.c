@@ -11,7 +11,7 @@ struct rattle_request {
 };
 
 #ifndef POOL_BYTES
-#define POOL_BYTES (1024 * 1024)
+#define POOL_BYTES (2 * 1024 * 1024)
 #endif
 
 static _Alignas(16) unsigned char pool[POOL_BYTES];

@@ -32,13 +32,21 @@ def blocks(rows):
     return 3 * count
 
 
-def finders(line):
-    """Counts 40 for each finder-like pattern with four light modules before or after it; modules
-    outside the square are light."""
-    wide = "0000" + line + "0000"
-    return sum(40 for found in FINDERS.finditer(wide)
+def finders(line, outside="0", is_long=True):
+    """Counts 40 for each finder-like pattern with four light modules before or after it. Modules
+    outside the square are light, if `outside` is "0"; the outer dark runs of a pattern may be longer
+    than a module, if `is_long`."""
+    wide = outside * 4 + line + outside * 4
+    return sum(40 for found in FINDERS.finditer(wide, 4, len(wide) - 4)
                if "0000" in (wide[found.start() - 4:found.start()],
-                             wide[found.start() + 7:found.start() + 11]))
+                             wide[found.start() + 7:found.start() + 11])
+               and (is_long or f"{line}0"[found.start() + 3] == "0" and (
+                   found.start() == 4 or line[found.start() - 5] == "0")))
+
+
+def read(square, width, outside, is_long):
+    """Returns the penalty of what looks like a finder pattern, by one reading of the standard."""
+    return sum(finders(line, outside, is_long) for each in lines(square, width) for line in each)
 
 
 def normal(square, width):

@@ -193,7 +193,7 @@ def rank(numbers, at):
 
 def ranks(square, bits):
     """Returns the rank of the mask by the standard's balance term, and by that of goqlanis."""
-    terms, stepped = reading.penalties(square, bits), []
+    terms, stepped, others = reading.penalties(square, bits), [], ([], [], [])
     shape = form(bits.version)
     for mask, each in enumerate(terms):
         balance = 0
@@ -201,8 +201,12 @@ def ranks(square, bits):
             other = shape.remasked(square, bits.mask, mask, reading.WORDS[bits.version][bits.level, mask])
             balance = 10 * (abs(20 * other.count(1) - 10 * len(other)) // len(other)) - each["balance"]
         stepped.append(sum(each.values()) + balance)
+        for found, how in zip(others, (("0", False), ("1", True), ("1", False))):
+            more = 0 if shape.is_micro else penalty.read(other, shape.width, *how) - each["finders"]
+            found.append(stepped[-1] + more)
     own = [sum(each.values()) for each in terms]
-    return {"masks": rank(stepped, bits.mask), "masks_here": rank(own, bits.mask)}
+    is_lowest = any(not rank(it, bits.mask)["lower"] for it in (own, stepped, *others))
+    return {"masks": rank(stepped, bits.mask), "masks_here": rank(own, bits.mask)}, is_lowest
 
 
 def checked(square):
@@ -221,9 +225,8 @@ def checked(square):
     said = {"version": version, "level": level, "mask": mask, "wrong_by_block": wrong,
             "allowed_by_block": allowed, "unused_correction": unused / 100,
             "grade": "FDCBA"[sum(unused >= it for it in (25, 37, 50, 62))], "wrong_modules": modules,
-            **content(shape, bits),
-            **ranks(square, reading.Bits(version, level, mask, sum(wrong), bits))}
-    is_data = said["segments"] and not said["wrong_terminator"] and not said["wrong_padding"] \
-        and said.get("bits", 0) <= said.get("fewest_bits", 0)
-    is_mask = not said["masks"]["lower"] or not said["masks_here"]["lower"]
-    return {**said, "standard": bool(is_data and is_mask and not any(wrong) and not any(modules.values()))}
+            **content(shape, bits)}
+    masks, is_lowest = ranks(square, reading.Bits(version, level, mask, sum(wrong), bits))
+    is_data = said["segments"] and not said["wrong_terminator"] and not said["wrong_padding"]
+    is_right = is_data and is_lowest and not any(wrong) and not any(modules.values())
+    return {**said, **masks, "standard": bool(is_right)}

@@ -13,6 +13,7 @@ export const AS_BYTES = 0, AS_TEXT = 1, AS_MARKED_TEXT = 2;
 export const SEVERAL_MAX = 16;
 export const MODULES_MAX = 31329;
 export const BYTES_MAX = 7089;
+export const DATA_MAX = 1048576;
 export const UPRIGHT = 0, TURNED_LEFT = 1, UPSIDE_DOWN = 2, TURNED_RIGHT = 3, MIRRORED = 4,
     FLIPPED = 5, TRANSPOSED = 6, ANTITRANSPOSED = 7, INVERTED = 8;
 export const PARTS_MAX = 5912;
@@ -91,23 +92,15 @@ export const DEFAULTS = {
 };
 export const CALLS = {
     "goq_version": "",
-    "goq_encode": "wwnwww",
-    "goq_encode_text": "wwnwww",
-    "goq_encode_marked_text": "wwnwww",
-    "goq_encode_in": "wwnnwww",
     "goq_encode_with": "wwwwww",
     "goq_encode_several": "wwwwwww",
     "goq_encode_segments": "wwnnwww",
-    "goq_smallest_version": "wwnw",
     "goq_smallest_version_of_segments": "wwnw",
     "goq_width": "n",
     "goq_is_functional": "nnn",
-    "goq_draw": "wwnnnnwww",
-    "goq_draw_length": "wwnnnnw",
     "goq_draw_with": "wwnwwww",
     "goq_draw_with_length": "wwnww",
     "goq_read": "wwwww",
-    "goq_read_length": "www",
     "goq_read_any": "wwwww",
     "goq_read_text": "wwwww",
     "goq_mask": "www",

@@ -11,13 +11,15 @@ Call = TypeVar("Call", bound=Callable[..., Any])
 # The names of arguments in other packages, and what to use here.
 OTHERS = {"error": "level='H'", "error_correction": "level='H'", "boost_error": "boost=True",
           "mask_pattern": "mask=3", "encoding": "data.encode(..)", "symbol_count": "count=3",
-          "mode": "encode_segments", "unit": "size='30mm' (EPS, PDF, PNG) or size=300 (pixels)",
+          "mode": "encode_segments", "unit": "size='30mm' (SVG, EPS, PDF) or size=300 (pixels)",
           "box_size": "scale=8",
           "fill_color": "dark='navy'", "color": "dark='navy'", "foreground": "dark='navy'",
           "back_color": "light='white'", "background": "light='white'",
           "invert": "dark='white', light='black'", "format": "kind='png'",
           "symbol_version": "version=7", "omitsize": "CSS: svg {width: 100%}",
           "xmldecl": "svg_inline"}
+# The options that all methods take that draw.
+LOOK = ("border", "dark", "light", "dpi", "size", "title")
 LEVELS = "LMQH"
 BINARY = (bytes, bytearray, memoryview)
 
@@ -37,7 +39,8 @@ def shown(value: Any, write: Callable[[Any], str] = repr) -> str:
 
 def named(call: Call) -> Call:
     """Wraps a call so that it says what to use instead of an argument that it does not have."""
-    known = inspect.signature(call).parameters
+    known = list(inspect.signature(call).parameters)
+    known = [*known[:-1], *LOOK] if known[-1] == "look" else known
 
     @functools.wraps(call)
     def checked(*given: Any, **more: Any) -> Any:
@@ -53,7 +56,7 @@ def named(call: Call) -> Call:
 def whole(name: str, value: Any, least: int, most: int,
           error: Callable[[str], Exception] = ValueError) -> int:
     """Returns a whole number in a range. Those of numpy are accepted; True and 2.0 are not."""
-    number = _index(value)
+    number = index(value)
     if number is None:
         raise TypeError(f"{name} is a whole number from {least:,} to {most:,}, not {shown(value)}"
                         f"{_whole_of(value)}")
@@ -63,7 +66,7 @@ def whole(name: str, value: Any, least: int, most: int,
     return number
 
 
-def _index(value: Any) -> Optional[int]:
+def index(value: Any) -> Optional[int]:
     """Returns the value as a whole number, or None; numpy has bools of its own."""
     try:
         return None if "bool" in type(value).__name__ else operator.index(value)
@@ -148,7 +151,7 @@ def level(value: Any) -> int:
 
 def version(value: Any) -> int:
     """Returns the library's number of a version, which is a str or, for Normal QR, a number."""
-    name = value if isinstance(value, str) else shown(_index(value), str)
+    name = value if isinstance(value, str) else shown(index(value), str)
     if name == "None":
         raise TypeError(f"a version is '1' to '40' or 'M1' to 'M4', not {shown(value)}")
     is_micro = name[:1] in ("M", "m")

@@ -5,6 +5,7 @@ from typing import Any, Tuple, Union
 
 from . import _checks
 from ._checks import shown
+from .errors import NoSuchColour
 
 Colour = Union[str, Tuple[int, int, int], Tuple[int, int, int, int], None]
 TRANSPARENT = 0xFF000000
@@ -22,7 +23,8 @@ def colour(name: str, value: Any) -> int:
     if value is None or isinstance(value, str) and value.strip().lower() == "transparent":
         return TRANSPARENT
     if isinstance(value, (tuple, list)) and len(value) in (3, 4):
-        parts = bytes(_checks.whole(f"each part of {name}", part, 0, 255) for part in value)
+        parts = bytes(_checks.whole(f"each part of {name}", part, 0, 255, NoSuchColour)
+                      for part in value)
     elif isinstance(value, str):
         parts = _parts(name, value.strip().lower())
     else:
@@ -49,9 +51,9 @@ def _parts(name: str, word: str) -> bytes:
     digits = _NAMES.get(word, word[word.startswith("#"):])
     if len(digits) not in (3, 4, 6, 8) or not _is_hexadecimal(digits):
         near = difflib.get_close_matches(word, _NAMES, 1)
-        raise ValueError(f"{name}: {shown(word)} is not a colour: "
-                         + (f"did you mean {shown(near[0])}?" if near else
-                            "take '#rrggbb', or a CSS name"))
+        raise NoSuchColour(f"{name}: {shown(word)} is not a colour: "
+                           + (f"did you mean {shown(near[0])}?" if near else
+                              "take '#rrggbb', or a CSS name"))
     return bytes.fromhex(digits if len(digits) > 4 else "".join(it * 2 for it in digits))
 
 

@@ -3,6 +3,7 @@ import ctypes
 import os
 import re
 import warnings
+import xml.sax.saxutils as xml
 from fractions import Fraction
 from typing import Any, NamedTuple, Optional, Tuple, Union
 
@@ -12,7 +13,7 @@ from ._checks import shown
 from ._colours import are_close, colour
 from ._formats import FORMATS, SIDES
 from ._library import Drawing, library
-from .errors import NoSuchSize, NotInFormat, OutOfMemory, refuse
+from .errors import NoSuchColour, NoSuchKind, NoSuchSize, NotInFormat, OutOfMemory, refuse
 
 
 class Kind(NamedTuple):
@@ -30,6 +31,9 @@ OTHERS = {"light": Kind(goq.LIGHT_HALF_BLOCKS, True, 1, False),
           "grey": Kind(goq.GREY, False, 8, False)}
 MOST_SIDE = 65535
 Size = Union[int, str, None]
+Length = Tuple[str, str]
+# Each unit in inches.
+INCHES = {"mm": Fraction(10, 254), "cm": Fraction(100, 254), "in": Fraction(1), "pt": Fraction(1, 72)}
 
 
 class Look(NamedTuple):
@@ -41,14 +45,19 @@ class Look(NamedTuple):
     light: Any = "white"
     dpi: Any = None
     size: Any = None
+    title: Any = None
 
 
 def drawn(modules: bytes, width: int, usual_zone: int, name: str, look: Look) -> bytes:
     """Draws modules in a format; the default quiet zone has `usual_zone` modules."""
     kind = KINDS.get(name) or OTHERS[name]
+    if look.scale is not None and look.size is not None:
+        raise TypeError("scale and size: give one of them")
     zone = zone_of(look, usual_zone)
     across = width + 2 * zone
-    scale = _scale(look, kind) if look.size is None else _fitted(look, name, across)
+    length = _length(look.size) if name == "svg" else None
+    scale = _scale(look, kind) if look.size is None else \
+        1 if length else _fitted(look, name, across)
     dark, light, dpi = _ink(look, name, kind.has_colours)
     side = across * scale
     most = SIDES.get(kind.number, side)
@@ -62,7 +71,18 @@ def drawn(modules: bytes, width: int, usual_zone: int, name: str, look: Look) ->
     out = _room(count.value)
     place = (ctypes.c_char * len(out)).from_buffer(out)
     refuse(library.goq_draw_with(*given, place, len(out), ctypes.byref(count)))
-    return bytes(out)
+    return bytes(out) if name != "svg" else _framed(bytes(out), length, look)
+
+
+def _framed(svg: bytes, length: Optional[Length], look: Look) -> bytes:
+    """Returns an SVG file with its sides as a length, if it has one, and with its title."""
+    if length:
+        sides = 'width="{0}{1}" height="{0}{1}"'.format(*length)
+        svg = re.sub(rb'width="[0-9]+" height="[0-9]+"', sides.encode(), svg, count=1)
+    if look.title is None:
+        return svg
+    title = f"<title>{xml.escape(_checks.text('title', look.title))}</title>".encode()
+    return re.sub(rb"<svg [^>]*>", lambda it: it[0] + title, svg, count=1)
 
 
 def _room(count: int) -> bytearray:
@@ -78,7 +98,7 @@ def zone_of(look: Look, usual: int) -> int:
         raise TypeError("border and quiet_zone are the same: give one of them")
     name, value = ("border", look.border) if look.quiet_zone is None else \
         ("quiet_zone", look.quiet_zone)
-    return usual if value is None else _checks.whole(name, value, 0, 32000, NoSuchSize)
+    return usual if value is None else _checks.whole(name, value, 0, 4000, NoSuchSize)
 
 
 def _scale(look: Look, kind: Kind) -> int:
@@ -89,10 +109,14 @@ def _scale(look: Look, kind: Kind) -> int:
         _checks.whole("scale", look.scale, 1, MOST_SIDE, NoSuchSize)
 
 
+def _length(size: Any) -> Optional[Length]:
+    """Returns a size as a number and its unit, or None if it is not written so."""
+    found = isinstance(size, str) and re.fullmatch(r"([0-9]{1,9}(?:[.][0-9]{1,9})?)(mm|cm|in|pt)", size)
+    return (found[1], found[2]) if found and float(found[1]) > 0 else None
+
+
 def _fitted(look: Look, name: str, across: int) -> int:
     """Returns the most pixels per module with which `across` modules fit in a size."""
-    if look.scale is not None:
-        raise TypeError("scale and size: give one of them")
     pixels = _pixels(look, 72 if name in ("eps", "pdf") else look.dpi)
     if pixels < across:
         raise NoSuchSize(f"a side of {pixels} pixels: the symbol and its quiet zone have {across} "
@@ -102,13 +126,13 @@ def _fitted(look: Look, name: str, across: int) -> int:
 
 def _pixels(look: Look, dots: Any) -> int:
     """Returns the pixels of a size, with `dots` pixels per inch."""
-    size = look.size
-    found = isinstance(size, str) and re.fullmatch(r"([0-9]{1,99}([.][0-9]{1,99})?)mm", size)
+    size, found = look.size, _length(look.size)
     if found and dots is None:
-        raise ValueError(f"size={shown(size)}: how many pixels are these? Take PNG and dpi=300, or "
-                         "EPS or PDF, in points")
+        raise NoSuchSize(f"size={shown(size)}: how many pixels are these? Take SVG, EPS or PDF, or "
+                         "PNG with dpi=300")
     if found:
-        size = int(Fraction(found[1]) * _checks.whole("dpi", dots, 1, MOST_SIDE) * 10 / 254)
+        dots = _checks.whole("dpi", dots, 1, MOST_SIDE, NoSuchSize)
+        size = int(Fraction(found[0]) * dots * INCHES[found[1]])
     return _checks.whole("size in pixels, or as '30mm',", size, 1, MOST_SIDE, NoSuchSize)
 
 
@@ -122,14 +146,16 @@ def _ink(look: Look, name: str, has_colours: bool) -> Tuple[int, int, int]:
         raise NotInFormat(f"{name.upper()} has only opaque colours; PNG and SVG have transparent "
                           "ones")
     if dark == light:
-        raise ValueError(f"dark and light are the same colour, {shown(look.dark)}: the symbol "
-                         "would be invisible")
+        raise NoSuchColour(f"dark and light are the same colour, {shown(look.dark)}: the symbol "
+                           "would be invisible")
     if look.dpi is not None and name != "png":
         raise NotInFormat(f"{name.upper()} has no dots per inch: only PNG has dpi")
+    if look.title is not None and name != "svg":
+        raise NotInFormat(f"{name.upper()} has no title: only SVG has one")
     if are_close(dark, light):
         warnings.warn(f"dark modules in {shown(look.dark)}, light ones in {shown(look.light)}: "
                       "many readers need the dark ones to be much darker", stacklevel=6)
-    return dark, light, 0 if look.dpi is None else _checks.whole("dpi", look.dpi, 1, MOST_SIDE)
+    return dark, light, 0 if look.dpi is None else _checks.whole("dpi", look.dpi, 1, MOST_SIDE, NoSuchSize)
 
 
 def kind_of(out: Any, kind: Optional[str]) -> str:
@@ -138,16 +164,16 @@ def kind_of(out: Any, kind: Optional[str]) -> str:
     if kind is not None:
         found = _checks.text("kind", kind).lstrip(".").lower()
         if found not in KINDS:
-            raise ValueError(f"no kind {shown(kind)}: take one of {known}")
+            raise NoSuchKind(f"no kind {shown(kind)}: take one of {known}")
         return found
     name = getattr(out, "name", "") if hasattr(out, "write") else os.fsdecode(out)
     ending = _ending(name)
     if not ending:
-        raise ValueError(f"nothing names the format, one of {known}: add kind='png', or another "
+        raise NoSuchKind(f"nothing names the format, one of {known}: add kind='png', or another "
                          "one")
     if ending not in KINDS:
         file = os.path.basename(os.fsdecode(name))
-        raise ValueError(f"{shown(file)}: its file extension is none of {known}: save "
+        raise NoSuchKind(f"{shown(file)}: its file extension is none of {known}: save "
                          f"{shown(os.path.splitext(file)[0] + '.png')}, and convert that")
     return ending
 

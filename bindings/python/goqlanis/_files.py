@@ -84,8 +84,8 @@ def _found(folder: int, name: str) -> Optional[os.stat_result]:
         return None
     above = os.fstat(folder)
     if above.st_mode & 0o1002 == 0o1002 and found.st_uid not in (above.st_uid, os.geteuid()):
-        raise PermissionError(errno.EACCES, "it is another user's, in a folder for everybody: "
-                              "remove it, or take another name")
+        raise PermissionError(errno.EACCES, "it belongs to another user, in a folder writable by "
+                              "everybody: remove it, or take another name")
     return found
 
 
@@ -121,7 +121,9 @@ def _created(folder: int, name: str, mode: int) -> int:
 def _write_straight(place: str, data: bytes, folder: Optional[int] = None) -> None:
     """Writes to something other than a regular file, by its name in a folder, and leaves a regular
     file alone that took its place in the meantime; or, without a folder, appends to a file that is
-    already open."""
+    already open. The owner's rights of its link say for what it is open."""
+    if folder is None and not os.lstat(place).st_mode & stat.S_IWUSR:
+        raise PermissionError(errno.EACCES, "it is open for reading only: name the file itself")
     flags = os.O_WRONLY | (os.O_APPEND if folder is None else 0)
     descriptor = os.open(place, flags, dir_fd=folder)
     with open(descriptor, "wb") as file:

@@ -2,6 +2,8 @@
 import ctypes
 import datetime
 import decimal
+import numbers
+import warnings
 from typing import Any, Sequence, Tuple, Type, Union
 
 from . import _checks
@@ -197,9 +199,11 @@ def number(name: str, value: Number) -> str:
     """Returns the digits of a number, with a point before decimals; a str is returned unchanged."""
     if isinstance(value, str):
         return value
-    if isinstance(value, bool) or not isinstance(value, (int, float, decimal.Decimal)):
+    whole, is_real = _checks.index(value), isinstance(value, numbers.Real)
+    is_written = is_real and not isinstance(value, (bool, numbers.Rational))
+    if whole is None and not is_written and not isinstance(value, decimal.Decimal):
         raise TypeError(f"{name} is a number, or one in a str, not {shown(value)}")
-    found = decimal.Decimal(value if isinstance(value, int) else str(value))
+    found = decimal.Decimal(str(value) if whole is None else whole)
     if not found.is_finite() or abs(found.adjusted()) > MOST_DIGITS:
         kind = TooManyDecimals if found.adjusted() < 0 else OutOfRange
         raise kind(name, _said(kind, name))
@@ -218,5 +222,11 @@ def time(name: str, value: Time) -> str:
     if value.tzinfo is None:
         raise ValueError(f"{name}: {value} has no time zone: take .astimezone(), or "
                          ".replace(tzinfo=datetime.timezone.utc)")
-    utc = value.astimezone(datetime.timezone.utc)
+    try:
+        utc = value.astimezone(datetime.timezone.utc)
+    except OverflowError:
+        raise OutOfRange(name, f"{name}: {value} is outside the years 1 to 9999 in UTC") from None
+    if utc.microsecond:
+        warnings.warn(f"{name}: calendars have whole seconds: .{utc.microsecond:06} is left out",
+                      stacklevel=4)
     return utc.replace(tzinfo=None, microsecond=0).isoformat() + "Z"

@@ -12,7 +12,7 @@ from . import _numbers as goq
 from ._checks import LEVELS
 from ._library import Rectangle as Given
 from ._library import Taken, Wish, library
-from .errors import Error, refusal, refuse
+from .errors import Error, NoSuchArea, NotPicture, refusal, refuse
 
 HALF = 0xffffffff
 
@@ -73,9 +73,9 @@ def _reserve(version: int, level: int, given: Any, count: int) -> Reserve:
 def largest(version: int, level: int, ratio: Any, kept: Any, keep_alignment: bool) -> Rectangle:
     """Returns the largest rectangle in the middle of a symbol of a version and level."""
     given = _checks.listed("ratio", ratio, "two numbers")
-    sides = [_checks.whole("ratio", it, 1, 10000) for it in given]
+    sides = [_checks.whole("ratio", it, 1, 10000, NoSuchArea) for it in given]
     if len(sides) != 2:
-        raise ValueError("ratio is a width and a height, e.g. (16, 9)")
+        raise NoSuchArea("ratio is a width and a height, e.g. (16, 9)")
     left = HALF if kept is None else _checks.whole("reserve", kept, 0, 10000)
     wish = Wish(ctypes.sizeof(Wish), *sides, left, _checks.flag("keep_alignment", keep_alignment))
     found = Given()
@@ -123,8 +123,8 @@ def rectangle(given: Any) -> Rectangle:
     """Returns the rectangle that a caller gives."""
     sides = _checks.listed("area", given, "left, top, width, height")
     if len(sides) != 4:
-        raise ValueError(f"a rectangle is left, top, width and height, not {_checks.shown(given)}")
-    return Rectangle(*(_checks.whole(name, side, 0, 10000)
+        raise NoSuchArea(f"a rectangle is left, top, width and height, not {_checks.shown(given)}")
+    return Rectangle(*(_checks.whole(name, side, 0, 10000, NoSuchArea)
                        for name, side in zip(Rectangle._fields, sides)))
 
 
@@ -163,7 +163,7 @@ def loaded(logo: Any) -> Tuple[str, Tuple[int, int]]:
     else:
         sides, kind = _sides(data), "svg+xml"
     if min(sides) <= 0:
-        raise ValueError("the logo has no width or no height")
+        raise NotPicture("the logo has no width or no height")
     ratio = min(max(Fraction(sides[0]) / Fraction(sides[1]), Fraction(1, 10000)), Fraction(10000))
     across, down = ratio.limit_denominator(100).as_integer_ratio() if ratio >= 1 else \
         (1 / ratio).limit_denominator(100).as_integer_ratio()[::-1]
@@ -174,16 +174,16 @@ def _sides(data: bytes) -> List[Any]:
     """Returns the width and height of an SVG file, which must be UTF-8 without entities, since
     these may take any time and memory to parse."""
     if b"<!ENTITY" in data or b"\0" in data:
-        raise ValueError("the logo has entities, or is not UTF-8: save it as plain SVG")
+        raise NotPicture("the logo has entities, or is not UTF-8: save it as plain SVG")
     try:
         root = xml.fromstring(data)
     except (xml.ParseError, LookupError, ValueError):
-        raise ValueError("a logo is an SVG or a PNG file") from None
+        raise NotPicture("a logo is an SVG or a PNG file") from None
     box = root.get("viewBox", "").replace(",", " ").split()[2:]
     said = box if len(box) == 2 else [root.get("width", ""), root.get("height", "")]
     found = [re.match(r"[0-9]{0,99}[.]?[0-9]{1,99}", it) for it in said]
     if not root.tag.endswith("svg") or not all(found):
-        raise ValueError("the logo is not an SVG file with a viewBox, or a width and a height")
+        raise NotPicture("the logo is not an SVG file with a viewBox, or a width and a height")
     return [Fraction(it[0]) for it in found if it]
 
 

@@ -49,7 +49,7 @@ class Check(NamedTuple):
     >>> from goqlanis import encode_segments
     >>> found = check(encode_segments([("numeric", b"1"), ("numeric", b"23")]))
     >>> found.is_standard, found.bits, found.fewest_bits
-    (False, 39, 24)
+    (True, 39, 24)
     """
     version: str
     level: str

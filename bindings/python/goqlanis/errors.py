@@ -6,7 +6,8 @@ from . import _numbers as goq
 __all__ = ["Error", "NoSuchLevel", "NoSuchVersion", "LevelNotInVersion", "TooLong", "NoMode",
            "NoRoom", "NoSuchMask", "OutOfMemory", "NoSuchSize", "NotInFormat", "NotInMode",
            "NoSuchNumber", "Unread", "NoSuchSide", "NoFormat", "Damaged", "NotSpelled", "NotShown",
-           "NotJoined", "NoSuchArea", "AreaTooLarge", "NotPicture", "BrokenPicture", "NoSquare"]
+           "NotJoined", "NoSuchArea", "AreaTooLarge", "NotPicture", "BrokenPicture", "NoSquare",
+           "NoSuchColour", "NoSuchKind"]
 
 
 class Error(Exception):
@@ -64,7 +65,15 @@ class NoSuchSize(Error, ValueError):
 
 
 class NotInFormat(Error, ValueError):
-    """The format does not have such colours, or dots per inch."""
+    """The format does not have such colours, dots per inch, a title or logos."""
+
+
+class NoSuchColour(Error, ValueError):
+    """A colour is unknown, or dark and light are the same."""
+
+
+class NoSuchKind(Error, ValueError):
+    """Neither the file extension nor `kind` names a format."""
 
 
 class NotInMode(Error, ValueError):

@@ -4,6 +4,8 @@ import functools
 import io
 import operator
 import os
+import struct
+import zlib
 from typing import (Any, IO, Iterable, Iterator, List, NamedTuple, Optional, Sequence, Tuple, Union,
                     overload)
 
@@ -25,6 +27,8 @@ OTHERS = {goq.NOT_SPELLED: library.goq_read_text, goq.NOT_SHOWN: library.goq_rea
 # The most bytes of a picture that the library reads, and what else `read` takes.
 MOST_PICTURE = 67_108_864
 PICTURES = "rows of modules, a Symbol, or a picture: a path, bytes or an open file"
+# The colour types of PNG, by how many numbers a pixel has.
+COLOUR_TYPES = {(1,): 0, (3,): 2, (4,): 6}
 Modules = Union[Symbol, Sequence[Sequence[bool]]]
 Picture = Union[str, bytes, bytearray, memoryview, "os.PathLike[str]", IO[bytes]]
 # The kinds of parts by their numbers.
@@ -147,7 +151,8 @@ def read(picture: Union[Picture, Modules, Any]) -> Union[List[Code], Reading]:
     """Returns the codes in a picture, or what a single symbol or square says.
 
     A picture is a path, the bytes of a file, an open file or a Pillow image: PNG, PBM, PGM or half
-    blocks. Its codes are listed from top to bottom, and from left to right if they are side by
+    blocks; or an array of pixels, as of numpy: rows, columns and 1, 3 or 4 numbers of uint8. Its
+    codes are listed from top to bottom, and from left to right if they are side by
     side. For a symbol, or for rows of modules without a quiet zone, each True or 1 if it is dark,
     the result is a single `Reading`.
 
@@ -224,7 +229,43 @@ def _file_of(given: Any) -> Optional[bytes]:
         plain = given if given.mode in ("1", "L", "RGB", "RGBA") else given.convert("RGBA")
         plain.save(out, "PNG")
         return out.getvalue()
-    return None
+    return _file_of_array(given)
+
+
+def _array(given: Any) -> Optional[memoryview]:
+    """Returns an array of two or three dimensions, e.g. of numpy, or None for anything else."""
+    try:
+        view = memoryview(given)
+    except TypeError:
+        return None
+    return view if view.ndim > 1 else None
+
+
+def _form(view: memoryview) -> str:
+    """Returns the type of the numbers of an array."""
+    return view.format.lstrip("<>=@")
+
+
+def _file_of_array(given: Any) -> Optional[bytes]:
+    """Returns a PNG file of an array of pixels, or None for anything else. Truth values, and whole
+    numbers that are 0 or 1, are modules."""
+    view = _array(given)
+    if view is None:
+        return None
+    form, data, depth = _form(view), view.tobytes(), view.shape[2:] or (1,)
+    if view.ndim == 2 and (form in "?bhilqHILQ" or form == "B" and max(data, default=0) <= 1):
+        return None
+    if form != "B" or depth not in COLOUR_TYPES:
+        raise TypeError("an array is a picture if it has rows, columns and 1, 3 or 4 numbers of "
+                        "uint8, 0 to 255; or modules, each True or False")
+    down, across = view.shape[:2]
+    size = across * depth[0]
+    rows = b"".join(b"\0" + data[at * size:(at + 1) * size] for at in range(down))
+    head = struct.pack(">IIBBBBB", across, down, 8, COLOUR_TYPES[depth], 0, 0, 0)
+    parts = ((b"IHDR", head), (b"IDAT", zlib.compress(rows, 1)), (b"IEND", b""))
+    return b"\x89PNG\r\n\x1a\n" + b"".join(
+        struct.pack(">I", len(body)) + name + body + struct.pack(">I", zlib.crc32(name + body))
+        for name, body in parts)
 
 
 def read_any(square: Modules) -> AnyReading:
@@ -349,14 +390,22 @@ def _modules_of(square: Modules, of: str = "rows of modules, or a Symbol") -> by
     """Returns the modules of a square, a byte each."""
     if isinstance(square, Symbol):
         return square.modules
-    if isinstance(square, (str, *_checks.BINARY, os.PathLike)) or hasattr(square, "read"):
+    if isinstance(square, (str, *_checks.BINARY, os.PathLike)) or hasattr(square, "read") or \
+            _file_of_array(square) is not None:
         raise TypeError("square is a Symbol, or rows of modules, each True or False, not "
                         f"{_checks.shown(square)}: read reads pictures")
-    given = _checks.listed("square", square, of)
+    view = _array(square)
+    given = _checks.listed("square", square, of) if view is None else _rows_of(view)
     rows = [_row(f"row {at + 1} of the square", it) for at, it in enumerate(given)]
     if any(len(row) != len(rows) for row in rows):
         raise NoSuchSide(f"{len(rows)} rows, and not all of them have {len(rows)} modules")
     return b"".join(rows)
+
+
+def _rows_of(view: memoryview) -> List[List[Any]]:
+    """Returns the rows of an array of modules."""
+    numbers, across = memoryview(view.tobytes()).cast(_form(view)).tolist(), max(view.shape[1], 1)
+    return [numbers[at:at + across] for at in range(0, len(numbers), across)]
 
 
 def _row(name: str, given: Any) -> bytes:

@@ -5,19 +5,21 @@ import io
 import math
 import os
 import sys
+import tempfile
 import urllib.parse
+import webbrowser
 from dataclasses import dataclass, replace
-from typing import IO, Any, Optional, Tuple, Union
+from typing import IO, Any, Dict, Iterator, Optional, Tuple, Union
 
 from . import _checks, _drawing, _files, areas
 from ._checks import named, shown, version_name
-from ._colours import Colour
-from ._drawing import Look, Size
+from ._drawing import Look
 from ._library import library
 from .areas import Area, Logo, Rectangle, Reserve
-from .errors import NoSuchSide, refuse
+from .errors import NoSuchSide, NotInFormat, refuse
 
 Path = Union[str, bytes, "os.PathLike[str]"]
+Whole = Optional[int]
 BLACK_ON_WHITE, USUAL_COLOURS = "\x1b[38;5;16;48;5;231m", "\x1b[0m"
 
 
@@ -29,16 +31,21 @@ class Symbol:
     byte for each module, row by row, 1 for a dark module. Symbols with the same modules, version,
     level and logo are equal, and symbols can be members of sets.
 
-    All methods that draw it take the same arguments, as far as the format has them:
+    All methods that draw it take the same arguments (`look`), as far as the format has them:
 
     - `scale`: pixels per module; the default is 8, for text and PIC 1;
-    - `size`: instead of `scale`, the most pixels that a side may have, or millimetres, e.g. "30mm",
-      for EPS, PDF and, with `dpi`, PNG. Modules are as large as fits;
+    - `size`: instead of `scale`, the most pixels that a side may have, or a length, e.g. "30mm"
+      ("cm", "in", "pt"). A side of SVG is exactly as long; in EPS, PDF and, with `dpi`, PNG,
+      modules are as large as fits;
     - `border`, or `quiet_zone`: light modules on each side; the default is 4, for Micro QR 2;
     - `dark`, `light`: the colours of dark and light modules: a CSS name, "#rgb", "#rrggbb",
       "#rrggbbaa", a tuple (red, green, blue) or (red, green, blue, opacity), each 0 to 255, or None
       for transparent. EPS, PDF and PPM have only opaque colours; PBM and others have none. Colours
-      that many readers cannot tell apart give a UserWarning.
+      that many readers cannot tell apart give a UserWarning;
+    - `dpi`: the dots per inch that a PNG file states;
+    - `title`: the title of an SVG file, which screen readers read aloud.
+
+    With a logo, only SVG can be drawn, and half blocks with a light area in its place.
 
     >>> from goqlanis import encode
     >>> symbol = encode("01234567")
@@ -104,119 +111,119 @@ class Symbol:
         """
         return 2 if self.version.startswith("M") else 4
 
+    def matrix_iter(self, scale: int = 1, border: Whole = None) -> Iterator[Tuple[bool, ...]]:
+        """Yields the rows of the picture, True for a dark pixel, with the quiet zone.
+
+        >>> from goqlanis import encode
+        >>> rows = list(encode("01234567").matrix_iter(scale=2, border=1))
+        >>> len(rows), rows[2][:6]
+        (46, (False, False, True, True, True, True))
+        """
+        pixels = self._plain("grey", Look(scale, border))
+        side = math.isqrt(len(pixels))
+        for at in range(0, len(pixels), side):
+            yield tuple(pixel == 0 for pixel in pixels[at:at + side])
+
     @named
     def save(self, out: Union[Path, IO[Any]], kind: Optional[str] = None, *,
-             scale: Optional[int] = None, border: Optional[int] = None,
-             quiet_zone: Optional[int] = None, dark: Colour = "black", light: Colour = "white",
-             dpi: Optional[int] = None, size: Size = None) -> None:
+             scale: Whole = None, quiet_zone: Whole = None, **look: Any) -> None:
         """Writes the symbol to a file.
 
         `out` is a path, whose file is written completely or not at all, or a file that is open for
         writing. The file extension, or `kind`, selects the format: png, svg, eps, pdf, pbm, pgm,
-        ppm, xbm, pic or txt (half blocks), and for printers zpl, tspl or escpos. `dpi` sets the
-        dots per inch that a PNG file states.
+        ppm, xbm, pic or txt (half blocks), and for printers zpl, tspl or escpos.
 
-        Raises ValueError if neither selects a format, NotInFormat if the format has no such colours
-        or no `dpi`, NoSuchSize if the picture would be too large, and OSError if writing fails.
+        Raises NoSuchKind if neither selects a format, NotInFormat if the format has no such
+        colours, `dpi`, `title` or logo, NoSuchColour, NoSuchSize if the picture would be too large,
+        and OSError if writing fails.
 
         >>> from goqlanis import encode
         >>> encode("01234567").save("ticket.png", scale=8, border=4, dark="#008", light=None)
+        >>> encode("01234567").save("ticket.svg", size="30mm", title="A ticket")
         >>> encode("01234567").save("ticket.jpg")
         Traceback (most recent call last):
             ...
-        ValueError: 'ticket.jpg': its file extension is none of txt, png, svg, eps, pic, pbm, pgm, \
-pdf, zpl, tspl, escpos, xbm, ppm: save 'ticket.png', and convert that
+        goqlanis.NoSuchKind: 'ticket.jpg': its file extension is none of txt, png, svg, eps, pic, \
+pbm, pgm, pdf, zpl, tspl, escpos, xbm, ppm: save 'ticket.png', and convert that
         """
         if not hasattr(out, "write") and not isinstance(out, (str, bytes, os.PathLike)):
             raise TypeError(f"out is a path or a file that is open for writing, not {shown(out)}")
         name = _drawing.kind_of(out, kind)
-        data = self._drawn(name, Look(scale, border, quiet_zone, dark, light, dpi, size))
+        data = self._drawn(name, scale, quiet_zone, look)
         data += b"\n" if name == "txt" else b""
         _files.write(out, data, _drawing.KINDS[name].is_text)
 
     @named
-    def png(self, scale: Optional[int] = None, quiet_zone: Optional[int] = None, *,
-            border: Optional[int] = None, dark: Colour = "black", light: Colour = "white",
-            dpi: Optional[int] = None, size: Size = None) -> bytes:
+    def png(self, scale: Whole = None, quiet_zone: Whole = None, **look: Any) -> bytes:
         """Returns the bytes of a PNG file, with at most 65,535 pixels per side.
 
         >>> from goqlanis import encode
         >>> encode("01234567").png()[:8]
         b'\\x89PNG\\r\\n\\x1a\\n'
         """
-        return self._drawn("png", Look(scale, border, quiet_zone, dark, light, dpi, size))
+        return self._drawn("png", scale, quiet_zone, look)
 
     @named
-    def svg(self, scale: Optional[int] = None, quiet_zone: Optional[int] = None, *,
-            border: Optional[int] = None, dark: Colour = "black",
-            light: Colour = "white", size: Size = None) -> str:
+    def svg(self, scale: Whole = None, quiet_zone: Whole = None, **look: Any) -> str:
         """Returns the text of an SVG file, which has one path.
 
         >>> from goqlanis import encode
         >>> encode("01234567").svg().startswith("<?xml")
         True
         """
-        return self._drawn("svg", Look(scale, border, quiet_zone, dark, light, size=size)).decode()
+        return self._drawn("svg", scale, quiet_zone, look).decode()
 
     @named
-    def eps(self, scale: Optional[int] = None, quiet_zone: Optional[int] = None, *,
-            border: Optional[int] = None, dark: Colour = "black",
-            light: Colour = "white", size: Size = None) -> str:
+    def eps(self, scale: Whole = None, quiet_zone: Whole = None, **look: Any) -> str:
         """Returns Encapsulated PostScript, with one point per pixel.
 
         >>> from goqlanis import encode
         >>> encode("01234567").eps(scale=2).splitlines()[1]
         '%%BoundingBox: 0 0 58 58'
         """
-        return self._drawn("eps", Look(scale, border, quiet_zone, dark, light, size=size)).decode()
+        return self._drawn("eps", scale, quiet_zone, look).decode()
 
     @named
-    def pdf(self, scale: Optional[int] = None, quiet_zone: Optional[int] = None, *,
-            border: Optional[int] = None, dark: Colour = "black", light: Colour = "white",
-            size: Size = None) -> bytes:
+    def pdf(self, scale: Whole = None, quiet_zone: Whole = None, **look: Any) -> bytes:
         """Returns the bytes of a PDF file with one page and one point per pixel.
 
         >>> from goqlanis import encode
         >>> encode("01234567").pdf(size="30mm")[:8]
         b'%PDF-1.4'
         """
-        return self._drawn("pdf", Look(scale, border, quiet_zone, dark, light, size=size))
+        return self._drawn("pdf", scale, quiet_zone, look)
 
     @named
-    def pbm(self, scale: Optional[int] = None, quiet_zone: Optional[int] = None, *,
-            border: Optional[int] = None, size: Size = None) -> bytes:
+    def pbm(self, scale: Whole = None, quiet_zone: Whole = None, **look: Any) -> bytes:
         """Returns the bytes of a PBM file: black and white pixels, eight per byte.
 
         >>> from goqlanis import encode
         >>> encode("01234567").pbm(scale=1, border=0)[:10]
         b'P4\\n21 21\\n\\xfe'
         """
-        return self._drawn("pbm", Look(scale, border, quiet_zone, size=size))
+        return self._drawn("pbm", scale, quiet_zone, look)
 
     @named
-    def grey(self, scale: Optional[int] = None, quiet_zone: Optional[int] = None, *,
-             border: Optional[int] = None, size: Size = None) -> bytes:
+    def grey(self, scale: Whole = None, quiet_zone: Whole = None, **look: Any) -> bytes:
         """Returns the pixels row by row, a byte each: 0 for a dark pixel, 255 for a light one.
 
         >>> from goqlanis import encode
         >>> encode("01234567").grey(scale=1, border=0)[:8]
         b'\\x00\\x00\\x00\\x00\\x00\\x00\\x00\\xff'
         """
-        return self._drawn("grey", Look(scale, border, quiet_zone, size=size))
+        return self._drawn("grey", scale, quiet_zone, look)
 
     @named
-    def pic(self, scale: Optional[int] = None, quiet_zone: Optional[int] = None, *,
-            border: Optional[int] = None, size: Size = None) -> str:
+    def pic(self, scale: Whole = None, quiet_zone: Whole = None, **look: Any) -> str:
         """Returns PIC text, for troff.
 
         >>> from goqlanis import encode
         >>> encode("01234567").pic().splitlines()[0]
         'maxpswid=29;maxpsht=29;movewid=0;moveht=1;boxwid=1;boxht=1'
         """
-        return self._drawn("pic", Look(scale, border, quiet_zone, size=size)).decode()
+        return self._drawn("pic", scale, quiet_zone, look).decode()
 
-    def text(self, light: bool = False, quiet_zone: Optional[int] = None, *,
-             border: Optional[int] = None) -> str:
+    def text(self, light: bool = False, quiet_zone: Whole = None, *, border: Whole = None) -> str:
         """Returns half blocks, two modules per character; `light` is for light text on a dark
         background.
 
@@ -233,9 +240,15 @@ pdf, zpl, tspl, escpos, xbm, ppm: save 'ticket.png', and convert that
             raise TypeError(f"light is True or False, not {shown(light)}: half blocks have no "
                             "colours")
         name = "light" if light else "txt"
-        return self._drawn(name, Look(1, border, quiet_zone)).decode()
+        return self._plain(name, Look(1, border, quiet_zone)).decode()
 
-    def terminal(self, out: Optional[IO[str]] = None, *, border: Optional[int] = None) -> None:
+    def show(self, **look: Any) -> None:
+        """Shows the symbol in the web browser, as a temporary SVG file."""
+        with tempfile.NamedTemporaryFile("w", suffix=".svg", delete=False) as file:
+            file.write(self.svg(**look))
+        webbrowser.open(f"file://{file.name}")
+
+    def terminal(self, out: Optional[IO[str]] = None, *, border: Whole = None) -> None:
         """Prints the symbol, or writes it to `out`, as half blocks.
 
         On a terminal they are black on white, whatever its colours are, unless the environment
@@ -258,42 +271,43 @@ pdf, zpl, tspl, escpos, xbm, ppm: save 'ticket.png', and convert that
             lines = [f"{BLACK_ON_WHITE}{line}{USUAL_COLOURS}" for line in lines]
         out.write("\n".join(lines) + "\n")
 
-    def to_pil(self, **drawing: Any) -> Any:
+    def to_pil(self, **look: Any) -> Any:
         """Returns the picture of `png` as a Pillow image, e.g. `symbol.to_pil(scale=4).rotate(45)`.
 
         Raises ImportError if Pillow is not installed."""
+        picture = io.BytesIO(self.png(**look))
         try:
             from PIL import Image
         except ImportError:
             raise ImportError("to_pil needs Pillow: pip install pillow, or take png()") from None
-        return Image.open(io.BytesIO(self.png(**drawing)))
+        return Image.open(picture)
 
-    def svg_inline(self, **drawing: Any) -> str:
+    def svg_inline(self, **look: Any) -> str:
         """Returns the text of `svg` without the XML declaration, for an HTML page.
 
         >>> from goqlanis import encode
         >>> encode("01234567").svg_inline(scale=4, dark="navy")[:4]
         '<svg'
         """
-        return self.svg(**drawing).partition("?>")[2]
+        return self.svg(**look).partition("?>")[2]
 
-    def svg_data_uri(self, **drawing: Any) -> str:
+    def svg_data_uri(self, **look: Any) -> str:
         """Returns the SVG as a data URI, for `src` and `href` in HTML and `url(..)` in CSS.
 
         >>> from goqlanis import encode
         >>> encode("01234567").svg_data_uri()[:24]
         'data:image/svg+xml,%3Csv'
         """
-        return "data:image/svg+xml," + urllib.parse.quote(self.svg_inline(**drawing), safe="/:=,")
+        return "data:image/svg+xml," + urllib.parse.quote(self.svg_inline(**look), safe="/:=,")
 
-    def png_data_uri(self, **drawing: Any) -> str:
+    def png_data_uri(self, **look: Any) -> str:
         """Returns the bytes of `png` as a data URI.
 
         >>> from goqlanis import encode
         >>> encode("01234567").png_data_uri(scale=4, dpi=300)[:32]
         'data:image/png;base64,iVBORw0KGg'
         """
-        return "data:image/png;base64," + base64.b64encode(self.png(**drawing)).decode()
+        return "data:image/png;base64," + base64.b64encode(self.png(**look)).decode()
 
     @named
     def reserve(self, area: Area) -> Reserve:
@@ -309,7 +323,7 @@ pdf, zpl, tspl, escpos, xbm, ppm: save 'ticket.png', and convert that
         return areas.reserve(*self._pair(), area)
 
     @named
-    def largest_area(self, ratio: Tuple[int, int] = (1, 1), *, reserve: Optional[int] = None,
+    def largest_area(self, ratio: Tuple[int, int] = (1, 1), *, reserve: Whole = None,
                      keep_alignment: bool = False) -> Rectangle:
         """Returns the largest rectangle in the middle that may show anything, e.g. a logo.
 
@@ -348,15 +362,15 @@ take a smaller area
 
     @named
     def with_logo(self, logo: Union[Path, bytes], area: Optional[Rectangle] = None, *,
-                  margin: int = 1, reserve: Optional[int] = None,
-                  keep_alignment: bool = False) -> "Symbol":
+                  margin: int = 1, reserve: Whole = None, keep_alignment: bool = False) -> "Symbol":
         """Returns the symbol with a logo: the path or the bytes of an SVG or PNG file.
 
         `area` is a rectangle, by default the largest one in the ratio of the logo, for which
-        `reserve` and `keep_alignment` are as for `largest_area`. Only SVG shows the logo, with
-        `margin` light modules on each side if there is room; other formats leave the area light.
+        `reserve` and `keep_alignment` are as for `largest_area`. SVG shows the logo, with `margin`
+        light modules on each side if there is room, and half blocks leave the area light. Other
+        formats raise NotInFormat; for these, take `with_area` and draw the logo yourself.
 
-        Raises NoSuchArea or AreaTooLarge as `with_area` does, and ValueError if `logo` is neither.
+        Raises NoSuchArea or AreaTooLarge as `with_area` does, and NotPicture if `logo` is neither.
 
         >>> from goqlanis import encode
         >>> logo = b'<svg xmlns="http://www.w3.org/2000/svg" viewBox="0 0 2 1"/>'
@@ -373,17 +387,23 @@ take a smaller area
         """Returns the library's numbers of the version and level."""
         return _checks.version(self.version), _checks.level(self.level)
 
-    def _drawn(self, name: str, look: Look) -> bytes:
+    def _drawn(self, name: str, scale: Any, quiet_zone: Any, more: Dict[str, Any]) -> bytes:
+        if self.logo is not None and name != "svg":
+            raise NotInFormat(f"{name.upper()}: only SVG shows the logo; with_area leaves its area "
+                              "light in all formats, and `goqlanis --logo` draws PNG too")
+        look = Look(scale, quiet_zone=quiet_zone, **more)
         found = _drawing.drawn(self.modules, self.width, self.quiet_zone, name, look)
-        if self.logo is None or name != "svg":
-            return found
-        return self.logo.over(found, _drawing.zone_of(look, self.quiet_zone))
+        return self.logo.over(found, _drawing.zone_of(look, self.quiet_zone)) if self.logo else found
+
+    def _plain(self, name: str, look: Look) -> bytes:
+        """Draws the symbol without its logo."""
+        return _drawing.drawn(self.modules, self.width, self.quiet_zone, name, look)
 
     def _repr_svg_(self) -> str:
         return self.svg()
 
-    def _repr_png_(self) -> bytes:
-        return self.png()
+    def _repr_png_(self) -> Optional[bytes]:
+        return self.png() if self.logo is None else None
 
     def __str__(self) -> str:
         return self.text()

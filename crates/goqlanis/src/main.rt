@@ -1,9 +1,10 @@
 //! The program `goqlanis`: makes and reads QR and Micro QR codes. `goqlanis --help` says how.
 #![tactic(auto)]
 
-use goqlanis_run::run;
+mod tasks;
+
 use std::process::ExitCode;
 
 fn main(rt: HostRuntime) -> ExitCode {
-    run(&rt)
+    tasks::run(&rt)
 }

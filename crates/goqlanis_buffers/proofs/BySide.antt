@@ -6,8 +6,8 @@ use Rattle.std.proofs.lemmas.List.{length-map, length-take-le, length-drop}
 use Rattle.std.proofs.lemmas.List.FromFn.{length-map-range_with_len}
 use Rattle.std.proofs.lemmas.Nat.{row_fits_turned}
 use Rattle.qrcode_types.specs.declared.types.Color.{Color}
-use Rattle.goqlanis_core.specs.declared.formats.Format.{Format}
-use Rattle.goqlanis_core.specs.declared.formats.Format.TheVariants.{EscPos, Grey, Pbm, Pgm, Ppm, Tspl, Xbm}
+use Rattle.qrcode_formats.specs.declared.Format.{Format}
+use Rattle.qrcode_formats.specs.declared.Format.TheVariants.{EscPos, Grey, Pbm, Pgm, Ppm, Tspl, Xbm}
 use Rattle.goqlanis_core.specs.Formats.{rgb, IsDrawnIn}
 use Rattle.goqlanis_buffers.specs.Asking.{escpos_length, pbm_length, pgm_length, ppm_length, side_of, tspl_length, xbm_length, HasLength, IsDrawable}
 use Rattle.goqlanis_buffers.specs.Colours.{colour_shade}

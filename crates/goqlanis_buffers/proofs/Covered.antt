@@ -70,7 +70,7 @@ lost_block v l k rectangles modules r square format inside h over = (
     l,
     (
       record { named = record { square = square; mask = k; format = format }; inside = inside },
-      record { inside = h.inside; value = refl; bound = refl; over = omega (arith, over, h.most, h.allowed); worst = h.worst },
+      record { inside = h.inside; value = refl; bound = refl; over = omega (arith, over, h.most, h.allowed); worst = h.worst; earlier = h.earlier },
     ),
   ),
 )

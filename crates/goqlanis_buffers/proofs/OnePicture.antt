@@ -3,8 +3,8 @@ use Rattle.std.proofs.Common.{◌≡◌, ◌≢◌, ℕ, List, refl, sym, ◌∙
 use Rattle.qrcode_types.specs.declared.types.Color.{Color}
 use Rattle.qrcode_render.specs.Layout.{Layout}
 use Rattle.goqlanis_core.specs.Formats.{View, IsDrawnIn}
-use Rattle.goqlanis_core.specs.declared.formats.Format.{Format}
-use Rattle.goqlanis_core.specs.declared.formats.Format.TheVariants.{HalfBlocks, LightHalfBlocks, Terminal, Chars, Png, Svg, SvgPath, Eps, Pic, Pbm, Pgm, Grey, Pdf, Zpl, Tspl, EscPos, Xbm, Ppm, Ascii}
+use Rattle.qrcode_formats.specs.declared.Format.{Format}
+use Rattle.qrcode_formats.specs.declared.Format.TheVariants.{HalfBlocks, LightHalfBlocks, Terminal, Chars, Png, Svg, SvgPath, Eps, Pic, Pbm, Pgm, Grey, Pdf, Zpl, Tspl, EscPos, Xbm, Ppm, Ascii}
 
 pub one_picture : (f : Format) (v : View) (at : Layout) (s : List Color) (a b : List ℕ) → f ≢ Png → f ≢ SvgPath → f ≢ Pdf → f ≢ Zpl → IsDrawnIn f v at s a → IsDrawnIn f v at s b → a ≡ b
 one_picture HalfBlocks v at s a b no_png no_path no_pdf no_zpl x y = x ∙ sym y

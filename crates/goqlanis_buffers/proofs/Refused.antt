@@ -1,13 +1,7 @@
 -- Errors of the library as causes of the calls for C.
-use Rattle.std.proofs.Common.{◌≡◌, ◌≤◌, ℕ, List, length, Some, IsTrue, refl, sym, subst, inl, inr}
+use Rattle.std.proofs.Common.{◌≡◌, ℕ, List, IsTrue, refl, sym, subst, inl, inr}
 use Rattle.std.specs.Prelude.{IsUtf8}
-use Rattle.qrcode_types.specs.declared.types.EcLevel.{EcLevel}
-use Rattle.qrcode_types.specs.declared.types.Version.{Version}
 use Rattle.qrcode_bits.specs.Manners.{is_text}
-use Rattle.qrcode_bits.specs.Refusals.{data_limit}
-use Rattle.qrcode.specs.Acceptance.{IsRefusedAt}
-use Rattle.goqlanis_buffers.specs.Answers.{HasNoSymbolIn, IsCauseIn}
-use Rattle.goqlanis_buffers.specs.Names.{level_named, version_named}
 use Rattle.qrcode_types.specs.declared.types.QrError.{QrError}
 use Rattle.qrcode_types.specs.declared.types.QrError.TheVariants.{DataTooLong, InvalidVersion, UnsupportedCharacterSet, InvalidEciDesignator, InvalidCharacter, OutOfMemory}
 use Rattle.qrcode.specs.Code.{Code}
@@ -35,26 +29,6 @@ refused_as o a bytes e refusal is named text cause room =
       asked = a;
       named = named;
       text = text;
-      error = e;
-      reported = refl;
-      cause = cause;
-    }))
-
--- the same for the call with a version and level
-no_symbol_in : (version level : ℕ) (bytes : List ℕ) (room : ℕ) (e : QrError) → HasNoSymbolIn version level bytes (refusal_in e) → IsCauseIn version level bytes room (refusal_in e)
-no_symbol_in version level bytes room DataTooLong h = h
-no_symbol_in version level bytes room InvalidVersion h = h
-no_symbol_in version level bytes room UnsupportedCharacterSet h = h
-no_symbol_in version level bytes room InvalidEciDesignator h = h
-no_symbol_in version level bytes room InvalidCharacter h = h
-no_symbol_in version level bytes room OutOfMemory h = h
-
-pub refused_in : (version level : ℕ) (v : Version) (l : EcLevel) (bytes : List ℕ) (e : QrError) (refusal : Refusal) → refusal ≡ refusal_in e
-    → version_named version ≡ Some v → level_named level ≡ Some l → length bytes ≤ data_limit → IsRefusedAt v l bytes e → (room : ℕ) → IsCauseIn version level bytes room refusal
-refused_in version level v l bytes e refusal is named levelled short cause room =
-    subst (IsCauseIn version level bytes room) (sym is) (no_symbol_in version level bytes room e (record {
-      named = record { named = v; at = l; named_version = named; named_level = levelled };
-      short = short;
       error = e;
       reported = refl;
       cause = cause;

@@ -1,27 +1,21 @@
 -- What the calls for C return: 0, or the number of an error; and the cause of each error.
-use Rattle.std.specs.Prelude.{◌≡◌, ◌≢◌, ◌⊎◌, ◌+◌, ◌*◌, ◌^◌, ◌<◌, ◌≤◌, ◌-◌, ◌==◌, nat_le, ⊤, ℕ, pos, List, [], ◌∷◌, length, chars, false, IsTrue, IsUtf8, Option, Some, None, slice_get, if◌then◌else◌}
+use Rattle.std.specs.Prelude.{◌≡◌, ◌≢◌, ◌⊎◌, ◌+◌, ◌*◌, ◌^◌, ◌<◌, ◌≤◌, ◌-◌, ◌==◌, nat_le, ⊤, ℕ, pos, List, [], ◌∷◌, length, chars, false, IsTrue, Option, Some, None, slice_get, if◌then◌else◌}
 use Rattle.qrcode_types.specs.Versions.{has_level}
 use Rattle.qrcode_types.specs.declared.types.EcLevel.{EcLevel}
-use Rattle.qrcode_types.specs.declared.types.QrError.{QrError}
 use Rattle.qrcode_types.specs.declared.types.Version.{Version}
 use Rattle.qrcode_types.specs.declared.types.Version.TheVariants.{Normal}
-use Rattle.qrcode_bits.specs.Choice.{Holds}
-use Rattle.qrcode_bits.specs.Manners.{rank, HoldsAs}
-use Rattle.qrcode_bits.specs.Refusals.{data_limit}
-use Rattle.qrcode_bits.specs.declared.bits.manner.Manner.{Manner}
-use Rattle.qrcode.specs.Acceptance.{IsRefusedAt}
 use Rattle.qrcode.specs.Reading.{ReadsOnly}
 use Rattle.qrcode.specs.Texts.{ShowsTextOnly}
 use Rattle.qrcode_reader.specs.Readings.{HasNoVersion, HasNoFormat, HasDamagedBlock, ShowsNothing, SpellsNothing}
 use Rattle.qrcode_render.specs.Shades.{colors_of}
-use Rattle.goqlanis_core.specs.Formats.{format_numbered}
+use Rattle.qrcode_formats.specs.Formats.{format_numbered}
 use Rattle.goqlanis_buffers.specs.Drawings.{has_side, is_sayable, IsDrawn}
 use Rattle.goqlanis_buffers.specs.declared.pictures.Drawing.{Drawing}
-use Rattle.goqlanis_core.specs.declared.formats.Format.{Format}
+use Rattle.qrcode_formats.specs.declared.Format.{Format}
 use Rattle.goqlanis_buffers.specs.Names.{level_named, version_named}
 use Rattle.goqlanis_buffers.specs.Readings.{Anywhere, IsReadAnywhere, IsReadNowhere}
-use Rattle.goqlanis_buffers.specs.Segments.{HasNoRoom, HaveNoRoom, IsFirstRefused, refusal_in}
-use Rattle.goqlanis_buffers.specs.Symbols.{ExceedsRoom, IsAutomaticSymbol, IsSymbolIn, IsSegmentsSymbol, IsTextSymbol}
+use Rattle.goqlanis_buffers.specs.Segments.{HasNoRoom, HaveNoRoom, IsFirstRefused}
+use Rattle.goqlanis_buffers.specs.Symbols.{ExceedsRoom, IsSegmentsSymbol}
 use Rattle.goqlanis_buffers.specs.declared.segments.Segment as by_hand
 use Rattle.goqlanis_buffers.specs.declared.answers.Refusal.{Refusal}
 use Rattle.goqlanis_buffers.specs.declared.answers.Refusal.TheVariants.{NoSuchLevel, NoSuchVersion, LevelNotInVersion, TooLong, NoMode, NoRoom, SmallBuffer, OutOfMemory, NoSuchFormat, NotSquare, NoSuchSize, NotText, NoSuchKind, NotInMode, NoSuchNumber, NoSuchSide, NoFormat, Damaged, NotSpelled, NoSuchStruct, NoSuchManner, NoSuchMask, NotInFormat, NotShown, NotSeveral, Stranger, Missing, Twice, Parity, NotRead, NoSuchArea, NoArea, AreaBlock, AreaFormat, NotPicture, BrokenPicture, NoSquare, LargePicture}
@@ -38,38 +32,6 @@ more_refusals = NoArea ∷ AreaBlock ∷ AreaFormat ∷ NotPicture ∷ BrokenPic
 
 abbrev pub refusal_of : ℕ → Option Refusal  -- the error with a number, if there is one
 refusal_of n = if n == 0 then None else (if nat_le 46 n then slice_get more_refusals (n - 46) else slice_get refusals (n - 1))
-
--- why bytes are not encoded at a level, in the smallest Normal version that holds them, into a buffer of `room` items
-abbrev pub IsAutomaticCause : ℕ → List ℕ → ℕ → Refusal → Type 0
-IsAutomaticCause level bytes room NoSuchLevel = level_named level ≡ None
-IsAutomaticCause level bytes room NoRoom = (l : EcLevel) × ((level_named level ≡ Some l) × ((n : ℕ) → ¬ Holds (Normal (pos n)) l bytes))
-IsAutomaticCause level bytes room SmallBuffer = ExceedsRoom (IsAutomaticSymbol level bytes) room
-IsAutomaticCause level bytes room OutOfMemory = ⊤
-IsAutomaticCause level bytes room refusal = ⊥
-
--- there are a version and a level with these numbers
-pub record AreNamed (version level : ℕ) : Type 0 where
-  pub named : Version
-  pub at : EcLevel
-  pub named_version : version_named version ≡ Some named
-  pub named_level : level_named level ≡ Some at
-
--- there are such a version and level, the bytes are within the limit, and the constructor with this version and level fails
-pub record HasNoSymbolIn (version level : ℕ) (bytes : List ℕ) (refusal : Refusal) : Type 0 where
-  pub named : AreNamed version level
-  pub short : length bytes ≤ data_limit
-  pub error : QrError
-  pub reported : refusal ≡ refusal_in error
-  pub cause : IsRefusedAt named.named named.at bytes error
-
--- Why bytes are not encoded in a version and at a level, into a buffer of `room` items: the first of these causes that applies. Those of the constructor are
--- `NoMode`, `LevelNotInVersion` and `NoRoom`, in this order; memory may run out once the first of these is ruled out.
-abbrev pub IsCauseIn : ℕ → ℕ → List ℕ → ℕ → Refusal → Type 0
-IsCauseIn version level bytes room NoSuchLevel = level_named level ≡ None
-IsCauseIn version level bytes room NoSuchVersion = (level_named level ≢ None) × (version_named version ≡ None)
-IsCauseIn version level bytes room TooLong = AreNamed version level × (data_limit < length bytes)
-IsCauseIn version level bytes room SmallBuffer = ExceedsRoom (IsSymbolIn version level bytes) room
-IsCauseIn version level bytes room refusal = HasNoSymbolIn version level bytes refusal
 
 -- the first segment with an error, in a version that has the level, has this one
 abbrev pub IsSegmentCause : ℕ → ℕ → List by_hand.Segment → Refusal → Type 0
@@ -109,25 +71,16 @@ IsLeastCause level segments refusal =
     ⊎ ((l : EcLevel) × ((level_named level ≡ Some l) × (((refusal ≢ NoRoom) × IsLasting l segments refusal)
     ⊎ ((refusal ≡ NoRoom) × ((n : ℕ) → 1 ≤ n → n ≤ 40 → HasNoRoom (Normal (pos n)) l segments))))))
 
--- why a text is not encoded at a level, in the smallest Normal version that holds it, into a buffer of `room` items
-abbrev pub IsTextCause : Manner → ℕ → List ℕ → ℕ → Refusal → Type 0
-IsTextCause m level bytes room NoSuchLevel = level_named level ≡ None
-IsTextCause m level bytes room NotText = (level_named level ≢ None) × (¬ IsUtf8 bytes)
-IsTextCause m level bytes room NoRoom =
-    (l : EcLevel) × ((level_named level ≡ Some l) × (IsUtf8 bytes × ((v : Version) → rank (Normal (pos 1)) ≤ rank v → ¬ HoldsAs m v l bytes)))
-IsTextCause m level bytes room SmallBuffer = ExceedsRoom (IsTextSymbol m level bytes) room
-IsTextCause m level bytes room OutOfMemory = ⊤
-IsTextCause m level bytes room refusal = ⊥
-
 -- the struct has the right size, the format exists, and the modules are a square of this width
 pub record IsOfSquare (modules : List ℕ) (width : ℕ) (d : Drawing) (f : Format) : Type 0 where
   pub size : d.size ≡ 28
   pub format : format_numbered d.format ≡ Some f
   pub square : length modules ≡ width * width
 
--- the scale, the side in modules and the side in pixels are within their limits
+-- the sides in modules, without and with the quiet zone, the scale and the side in pixels are within their limits
 pub record HasSize (width : ℕ) (d : Drawing) (f : Format) : Type 0 where
-  pub side : width + 2 * d.zone < 2 ^ 16
+  pub across : width ≤ 177
+  pub side : width + 2 * d.zone < 2 ^ 13
   pub scale_least : 1 ≤ d.scale
   pub scale_most : d.scale < 2 ^ 16
   pub pixels : IsTrue (has_side f ((width + 2 * d.zone) * d.scale))

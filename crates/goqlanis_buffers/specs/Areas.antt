@@ -1,5 +1,5 @@
 -- What the calls for C report of areas.
-use Rattle.std.specs.Prelude.{◌≡◌, ◌≢◌, ◌*◌, ◌/◌, ◌%◌, ◌<◌, ◌≤◌, ◌==◌, ⊤, ℕ, Bool, false, List, length, map, Option, Some, None, Result, slice_index, if◌then◌else◌, IsTrue}
+use Rattle.std.specs.Prelude.{◌≡◌, ◌≢◌, ◌⊎◌, ◌*◌, ◌/◌, ◌%◌, ◌<◌, ◌≤◌, ◌==◌, ⊤, ℕ, Bool, false, List, length, map, Option, Some, None, Result, slice_index, if◌then◌else◌, IsTrue}
 use Rattle.std.specs.List.{range_with_len}
 use Rattle.qrcode_types.specs.Versions.{block_lengths, ec_length, has_level, side}
 use Rattle.qrcode_types.specs.declared.types.Color.{Color}
@@ -67,10 +67,14 @@ pub record IsTakenInto (version level : ℕ) (rectangles : List Rectangle) (old 
   pub taken : IsTaken v l (covers rectangles) counts t
   pub filled : IsFilled old new counts
 
+-- rectangles are not inside a symbol of the version, or there are more of them than modules in the largest symbol
+abbrev pub IsNoArea : Version → List Rectangle → Type 0
+IsNoArea v rectangles = (is_inside (side v) rectangles ≡ false) ⊎ (31329 < length rectangles)
+
 -- why that is not reported, into a buffer of `room` items: the first of these causes that applies
 abbrev pub IsReserveCause : ℕ → ℕ → List Rectangle → ℕ → Refusal → Type 0
 IsReserveCause version level rectangles room NoSuchArea =
-    (v : Version) × ((l : EcLevel) × (IsLevelNamed version level v l × (is_inside (side v) rectangles ≡ false)))
+    (v : Version) × ((l : EcLevel) × (IsLevelNamed version level v l × IsNoArea v rectangles))
 IsReserveCause version level rectangles room SmallBuffer =
     (v : Version) × ((l : EcLevel) × (IsLevelNamed version level v l × (IsTrue (is_inside (side v) rectangles) × (room < length (block_lengths v l)))))
 IsReserveCause version level rectangles room OutOfMemory = ⊤
@@ -138,7 +142,7 @@ pub record IsAreaIn (rectangles : List Rectangle) (modules : List ℕ) (v : Vers
 -- why an area is not covered, other than a block that would lose too much: the first of these causes that applies
 abbrev pub IsUncoveredCause : List Rectangle → List ℕ → Refusal → Type 0
 IsUncoveredCause rectangles modules NoSuchArea =
-    (v : Version) × ((l : EcLevel) × (IsOfLevel (colors_of modules) v l × (is_inside (side v) rectangles ≡ false)))
+    (v : Version) × ((l : EcLevel) × (IsOfLevel (colors_of modules) v l × IsNoArea v rectangles))
 IsUncoveredCause rectangles modules AreaFormat =
     (v : Version) × ((l : EcLevel) × (IsAreaIn rectangles modules v l × (LeavesReserve v l (covers rectangles) 0 × ¬ KeepsFormat v (covers rectangles))))
 IsUncoveredCause rectangles modules refusal = IsMaskCause modules refusal

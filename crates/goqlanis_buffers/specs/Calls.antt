@@ -1,16 +1,12 @@
 -- What each call does, and what C gets of it.
 use Rattle.std.specs.Prelude.{◌≡◌, ◌≢◌, ℕ, List, length, Some, IsSomeAnd, Result, Ok, Err, IfOk, IfErr, OnErr}
-use Rattle.qrcode_bits.specs.Choice.{IsLeastHolding}
-use Rattle.qrcode_bits.specs.declared.bits.manner.Manner.{Manner}
-use Rattle.qrcode.specs.Reading.{ReadsOnly}
-use Rattle.goqlanis_buffers.specs.Answers.{refusal_of, IsAutomaticCause, IsCauseIn, IsDrawingCause, IsLeastCause, IsPicture, IsSegmentsCause, IsTextCause}
+use Rattle.goqlanis_buffers.specs.Answers.{refusal_of, IsDrawingCause, IsLeastCause, IsPicture, IsSegmentsCause}
 use Rattle.goqlanis_buffers.specs.Answers.{IsAnyReadingCause, IsMaskCause, IsReadingCause, IsTextReadingCause}
-use Rattle.qrcode_render.specs.Shades.{colors_of}
 use Rattle.goqlanis_buffers.specs.Options.{IsOptionsCause, IsSymbolWith}
 use Rattle.goqlanis_buffers.specs.Outputs.{IsFilled, IsVersionAt, IsWrittenAs}
 use Rattle.goqlanis_buffers.specs.Readings.{IsAnyReadInto, IsMaskNumber, IsReadInto, IsTextReadInto}
 use Rattle.goqlanis_buffers.specs.Segments.{IsLeastHeld}
-use Rattle.goqlanis_buffers.specs.Symbols.{IsAutomaticSymbol, IsSegmentsSymbol, IsSymbolIn, IsTextSymbol}
+use Rattle.goqlanis_buffers.specs.Symbols.{IsSegmentsSymbol}
 use Rattle.goqlanis_buffers.specs.declared.answers.Refusal.{Refusal}
 use Rattle.goqlanis_buffers.specs.declared.options.Options.{Options}
 use Rattle.goqlanis_buffers.specs.declared.pictures.Drawing.{Drawing}
@@ -40,21 +36,6 @@ pub record Writes {T : Type 0} (Made : List ℕ → T → Type 0) (Cause : Refus
   pub made : IfOk result (Made new)
   pub unchanged : OnErr result (new ≡ old)
   pub causes : IfErr result Cause
-
--- writes the symbol of bytes at the level of a number, in the smallest Normal version that holds them
-abbrev pub WritesAutomatic : ℕ → List ℕ → List ℕ → List ℕ → Result Symbol Refusal → Type 0
-WritesAutomatic level bytes old new result =
-    Writes (IsWrittenAs (IsAutomaticSymbol level bytes) old) (IsAutomaticCause level bytes (length old)) old new result
-
--- writes the symbol of bytes in the version and at the level with these numbers
-abbrev pub WritesIn : ℕ → ℕ → List ℕ → List ℕ → List ℕ → Result Symbol Refusal → Type 0
-WritesIn version level bytes old new result =
-    Writes (IsWrittenAs (IsSymbolIn version level bytes) old) (IsCauseIn version level bytes (length old)) old new result
-
--- writes the symbol of a text at the level of a number, in the smallest Normal version that holds it
-abbrev pub WritesText : Manner → ℕ → List ℕ → List ℕ → List ℕ → Result Symbol Refusal → Type 0
-WritesText m level text old new result =
-    Writes (IsWrittenAs (IsTextSymbol m level text) old) (IsTextCause m level text (length old)) old new result
 
 -- writes the symbol of data that options ask for
 abbrev pub WritesWith : Options → List ℕ → List ℕ → List ℕ → Result Symbol Refusal → Type 0
@@ -90,17 +71,6 @@ TellsMask modules result = Tells (IsMaskNumber modules) (IsMaskCause modules) re
 abbrev pub TellsLength : List ℕ → ℕ → Drawing → Result ℕ Refusal → Type 0
 TellsLength modules width d result =
     Tells (λ count. (bytes : List ℕ) × (IsPicture modules width d bytes × (count ≡ length bytes))) (λ refusal. (room : ℕ) → IsDrawingCause modules width d room refusal) result
-
--- returns how many bytes a square of modules decodes to; its errors do not depend on a buffer
-abbrev pub TellsReadLength : List ℕ → Result ℕ Refusal → Type 0
-TellsReadLength modules result =
-    Tells (λ count. (bytes : List ℕ) × (ReadsOnly (colors_of modules) bytes × (count ≡ length bytes)))
-    (λ refusal. (room : ℕ) → IsReadingCause modules room refusal) result
-
--- returns the number of the smallest Normal version that holds bytes at the level of a number; its errors do not depend on a buffer
-abbrev pub TellsLeast : ℕ → List ℕ → Result ℕ Refusal → Type 0
-TellsLeast level bytes result =
-    Tells (IsVersionAt (λ l v. IsLeastHolding l bytes v) level) (λ refusal. (room : ℕ) → IsAutomaticCause level bytes room refusal) result
 
 -- returns the number of the smallest Normal version that holds segments at the level of a number
 abbrev pub TellsLeastOfSegments : ℕ → List Segment → Result ℕ Refusal → Type 0

@@ -2,8 +2,10 @@
 use Rattle.std.specs.Prelude.{ℕ, ◌-◌, ◌/◌, ◌%◌, ◌^◌, ◌==◌, nat_lt, ◌&&◌, Bool, true, false, List, [], ◌∷◌, ◌++◌, codes, if◌then◌else◌}
 use Rattle.std.specs.Fmt.{digit_glyph}
 use Rattle.goqlanis_core.specs.Formats.{Shade}
-use Rattle.goqlanis_core.specs.declared.formats.Format.{Format}
-use Rattle.goqlanis_core.specs.declared.formats.Format.TheVariants.{Png, Svg, SvgPath, Eps, Pdf, Ppm}
+use Rattle.qrcode_formats.specs.Formats.{row}
+use Rattle.qrcode_formats.specs.declared.Colours.{Colours}
+use Rattle.qrcode_formats.specs.declared.Colours.TheVariants.{Any, Opaque, Fixed}
+use Rattle.qrcode_formats.specs.declared.Format.{Format}
 
 abbrev pub red_of : ℕ → ℕ
 red_of colour = colour / 65536 % 256
@@ -40,11 +42,10 @@ colour_shade colour = record {
   opacity = opacity_of colour;
 }
 
+abbrev pub is_among : Colours → ℕ → ℕ → Bool  -- these colours of dark and light modules are among those that a format may have
+is_among Any dark light = true
+is_among Opaque dark light = nat_lt dark (2 ^ 24) && nat_lt light (2 ^ 24)
+is_among Fixed dark light = (dark == 0) && (light == 0xffffff)
+
 abbrev pub has_colours : Format → ℕ → ℕ → Bool  -- the format supports these colours of dark and light modules
-has_colours Png dark light = true
-has_colours Svg dark light = true
-has_colours SvgPath dark light = true
-has_colours Eps dark light = nat_lt dark (2 ^ 24) && nat_lt light (2 ^ 24)
-has_colours Pdf dark light = nat_lt dark (2 ^ 24) && nat_lt light (2 ^ 24)
-has_colours Ppm dark light = nat_lt dark (2 ^ 24) && nat_lt light (2 ^ 24)
-has_colours f dark light = (dark == 0) && (light == 0xffffff)
+has_colours f dark light = is_among (row f).colours dark light

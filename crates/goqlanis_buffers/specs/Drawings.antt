@@ -2,15 +2,13 @@
 use Rattle.std.specs.Prelude.{ℕ, ◌==◌, nat_le, ◌&&◌, Bool, false, List, IsTrue, Option, None, Some, if◌then◌else◌}
 use Rattle.qrcode_render.specs.Layout.{layout}
 use Rattle.qrcode_render.specs.Shades.{colors_of}
-use Rattle.goqlanis_core.specs.Formats.{View, greatest_side, IsDrawnIn}
-use Rattle.goqlanis_core.specs.declared.formats.Format.{Format}
-use Rattle.goqlanis_core.specs.declared.formats.Format.TheVariants.{Png}
+use Rattle.goqlanis_core.specs.Formats.{View, IsDrawnIn}
+use Rattle.qrcode_formats.specs.Formats.{row}
+use Rattle.qrcode_formats.specs.declared.Density.{Density}
+use Rattle.qrcode_formats.specs.declared.Density.TheVariants.{Stored}
+use Rattle.qrcode_formats.specs.declared.Format.{Format}
 use Rattle.goqlanis_buffers.specs.Colours.{colour_shade, has_colours}
 use Rattle.goqlanis_buffers.specs.declared.pictures.Drawing.{Drawing}
-
-abbrev pub plain : ℕ → ℕ → ℕ → Drawing  -- a drawing in black on white
-plain zone scale format =
-    record { size = 28; format = format; zone = zone; scale = scale; dark = 0; light = 0xffffff; dpi = 0 }
 
 abbrev pub density : ℕ → Option ℕ  -- the dots per inch; none for 0
 density dpi = if dpi == 0 then None else Some dpi
@@ -18,9 +16,12 @@ density dpi = if dpi == 0 then None else Some dpi
 abbrev pub view : Drawing → View  -- how a drawing looks
 view d = record { dark = colour_shade d.dark; light = colour_shade d.light; is_inverted = false; dpi = density d.dpi; ends_lines = false }
 
+abbrev pub most_dpi : Density → ℕ  -- the most dots per inch that a format stores
+most_dpi Stored = 65535
+most_dpi d = 0
+
 abbrev pub has_density : Format → ℕ → Bool  -- the format stores these dots per inch, or they are 0
-has_density Png dpi = nat_le dpi 65535
-has_density f dpi = nat_le dpi 0
+has_density f dpi = nat_le dpi (most_dpi (row f).density)
 
 abbrev pub is_sayable : Format → Drawing → Bool  -- the format supports the colours and dots per inch
 is_sayable f d = has_density f d.dpi && has_colours f d.dark d.light
@@ -29,7 +30,5 @@ is_sayable f d = has_density f d.dpi && has_colours f d.dark d.light
 abbrev pub IsDrawn : Format → List ℕ → ℕ → Drawing → List ℕ → Type 0
 IsDrawn f modules width d bytes = IsTrue (is_sayable f d) × IsDrawnIn f (view d) (layout width d.zone d.scale d.scale) (colors_of modules) bytes
 
--- a picture in the format may have this many pixels a side; a PNG file has at least one
-abbrev pub has_side : Format → ℕ → Bool
-has_side Png side = nat_le 1 side && nat_le side (greatest_side Png)
-has_side f side = nat_le side (greatest_side f)
+abbrev pub has_side : Format → ℕ → Bool  -- a picture in the format may have this many pixels a side
+has_side f side = nat_le (row f).least side && nat_le side (row f).most

@@ -18,8 +18,8 @@ use qrcode::types::{EcLevel, Version};
 use qrcode_area::areas::{Area, Rectangle};
 use qrcode_area::rectangles::{Kept, Wish as Wanted, largest_rectangle};
 use qrcode_area::reserve::{Reserve, reserve_in};
-use qrcode_reader::walk::side;
 use qrcode_types::tables::Blocks;
+use qrcode_types::versions::side;
 use std::alloc::Global;
 
 /// What an area takes of a symbol, and how much error correction it leaves.
@@ -61,6 +61,9 @@ pub struct Wish {
 
 // The size of a `Wish` in bytes.
 const SIZE: u32 = 20;
+
+// The most rectangles of an area: as many as the largest symbol has modules.
+const MOST: usize = 31_329;
 
 // A reserve of half of the codewords that may be lost.
 const HALF: u32 = 0xffff_ffff;
@@ -116,6 +119,9 @@ pub fn reserve_into(
         Ok(pair) => pair,
         Err(refusal) => return Err(refusal),
     };
+    if rectangles.len() > MOST {
+        return Err(Refusal::NoSuchArea);
+    }
     let Some(area) = Area::new(version, rectangles) else {
         return Err(Refusal::NoSuchArea);
     };
@@ -232,6 +238,9 @@ pub fn cover(alloc: Global, modules: &mut [u8], rectangles: &[Rectangle]) -> Res
         Ok(format) => format,
         Err(refusal) => return Err(Uncovered::Other(refusal)),
     };
+    if rectangles.len() > MOST {
+        return Err(Uncovered::Other(Refusal::NoSuchArea));
+    }
     let Some(area) = Area::new(format.version, rectangles) else {
         return Err(Uncovered::Other(Refusal::NoSuchArea));
     };

@@ -6,9 +6,9 @@ ghost use Rattle.qrcode_types.specs.declared.types.QrError.TheVariants.{OutOfMem
 ghost use Rattle.goqlanis_core.specs.Formats.{shade_of};
 ghost use Rattle.goqlanis_buffers.specs.Colours.{blue_of, colour_name, colour_shade, green_of, has_colours, hex_text, opacity_of, red_of};
 
-use goqlanis_core::formats::Format;
 use goqlanis_core::picture::Ink;
 use qrcode::types::QrResult;
+use qrcode_formats::{Colours, Format};
 use std::alloc::Global;
 use std::fmt::Write;
 
@@ -23,10 +23,10 @@ const CLEAR: u32 = 1 << 24;
 pub(crate) fn has_colours(format: Format, dark: u32, light: u32) -> bool
     ensures value { result ≡ has_colours format dark light }
 {
-    match format {
-        Format::Png | Format::Svg | Format::SvgPath => true,
-        Format::Eps | Format::Pdf | Format::Ppm => dark < CLEAR && light < CLEAR,
-        _ => dark == BLACK && light == WHITE,
+    match format.row().colours {
+        Colours::Any => true,
+        Colours::Opaque => dark < CLEAR && light < CLEAR,
+        Colours::Fixed => dark == BLACK && light == WHITE,
     }
 }
 

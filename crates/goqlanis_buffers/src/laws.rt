@@ -4,8 +4,8 @@ ghost use Rattle.std.specs.Prelude.{◌≡◌, ◌≢◌, ◌↔◌, ℕ, List, 
 ghost use Rattle.qrcode_types.specs.declared.types.Color.{Color};
 ghost use Rattle.qrcode_render.specs.Layout.{Layout};
 ghost use Rattle.goqlanis_core.specs.Formats.{View, IsDrawnIn};
-ghost use Rattle.goqlanis_core.specs.declared.formats.Format.{Format};
-ghost use Rattle.goqlanis_core.specs.declared.formats.Format.TheVariants.{Pdf, Png, SvgPath, Zpl};
+ghost use Rattle.qrcode_formats.specs.declared.Format.{Format};
+ghost use Rattle.qrcode_formats.specs.declared.Format.TheVariants.{Pdf, Png, SvgPath, Zpl};
 ghost use Rattle.goqlanis_buffers.specs.declared.answers.Refusal.{Refusal};
 ghost use Rattle.goqlanis_buffers.specs.declared.contents.answers.Refusal as of_contents;
 

@@ -5,8 +5,8 @@ ghost use Rattle.qrcode_types.specs.declared.types.QrError.TheVariants.{OutOfMem
 ghost use Rattle.goqlanis_buffers.specs.Asking.{escpos_length, pbm_length, pgm_length, ppm_length, side_of, tspl_length, xbm_length, HasLength, IsDrawable};
 
 use crate::pictures::Asked;
-use goqlanis_core::formats::Format;
 use qrcode::types::{QrError, QrResult};
+use qrcode_formats::Format;
 use std::alloc::Global;
 
 /// Returns the length of a picture in a format that stores each pixel or each eight. `None` for

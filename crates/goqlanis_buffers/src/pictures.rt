@@ -1,6 +1,6 @@
 //! Draws pictures into buffers.
 
-ghost use Rattle.std.specs.Prelude.{◌≡◌, ◌<◌, ◌≤◌, ◌↔◌, ◌^◌, ℕ, length, IfOk, IfErr, IsOkUnless, IsTrue};
+ghost use Rattle.std.specs.Prelude.{◌≡◌, ◌<◌, ◌↔◌, ◌^◌, ℕ, length, IfOk, IfErr, IsOkUnless, IsTrue};
 ghost use Rattle.std.specs.Bool.{OnTrue};
 ghost use Rattle.qrcode_types.specs.declared.types.QrError.TheVariants.{OutOfMemory};
 ghost use Rattle.qrcode_render.specs.Shades.{colors_of};
@@ -8,16 +8,16 @@ ghost use Rattle.goqlanis_buffers.specs.Colours.{colour_name};
 ghost use Rattle.goqlanis_buffers.specs.Calls.{TellsLength, WritesPicture};
 ghost use Rattle.goqlanis_buffers.specs.Answers.{HasSize};
 ghost use Rattle.goqlanis_buffers.specs.Asking.{IsCauseFor, IsDrawable, IsPictureFor};
-ghost use Rattle.goqlanis_buffers.specs.Drawings.{density, has_side, is_sayable, plain, IsDrawn};
+ghost use Rattle.goqlanis_buffers.specs.Drawings.{density, has_side, is_sayable, IsDrawn};
 
 use crate::answers::Refusal;
-use crate::colours::{BLACK, WHITE, has_colours, ink_of, name_of};
+use crate::colours::{has_colours, ink_of, name_of};
 use crate::lengths::known_length;
 use crate::symbols::{colors_of, fill};
-use goqlanis_core::formats::{Format, format_numbered};
 use goqlanis_core::picture::Picture;
 use goqlanis_core::render::draw_in;
 use qrcode::types::{Color, QrResult};
+use qrcode_formats::{Density, Format, format_numbered};
 use std::alloc::Global;
 
 /// How C wants modules drawn. A colour is transparency, red, green and blue in its four bytes, from
@@ -43,21 +43,6 @@ pub struct Drawing {
 
 // The size of a `Drawing` in bytes.
 const SIZE: u32 = 28;
-
-/// Returns a drawing in black on white.
-pub fn plain(zone: u32, scale: u32, format: u32) -> Drawing
-    ensures value { result ≡ plain zone scale format }
-{
-    Drawing {
-        size: SIZE,
-        format,
-        zone,
-        scale,
-        dark: BLACK,
-        light: WHITE,
-        dpi: 0,
-    }
-}
 
 /// What is to be drawn, as C gives it.
 #[derive(Clone, Copy)]
@@ -143,12 +128,15 @@ fn format_of(asked: &Asked<'_>) -> Result<Format, Refusal>
     Ok(format)
 }
 
-// Whether the scale, the side in modules and the side in pixels are within their limits.
+// Whether the sides in modules and in pixels, and the scale, are within their limits.
 fn has_size(format: Format, width: u32, drawing: &Drawing) -> bool
     ensures size { IsTrue result ↔ HasSize width drawing.now format }
 {
     let side = u64::from(width) + 2 * u64::from(drawing.zone);
-    if drawing.scale == 0 || drawing.scale > 65_535 || side > 65_535 {
+    if width > 177 || side > 8_191 {
+        return false;
+    }
+    if drawing.scale == 0 || drawing.scale > 65_535 {
         return false;
     }
     has_side(format, side * u64::from(drawing.scale))
@@ -158,8 +146,8 @@ fn has_size(format: Format, width: u32, drawing: &Drawing) -> bool
 fn has_side(format: Format, pixels: u64) -> bool
     ensures value { result ≡ has_side format pixels }
 {
-    let is_png = matches!(format, Format::Png);
-    !(is_png && pixels == 0) && pixels <= u64::from(format.greatest_side())
+    let row = format.row();
+    u64::from(row.least) <= pixels && pixels <= u64::from(row.most)
 }
 
 // Whether a format supports the colours, and the dots per inch if any.
@@ -167,10 +155,9 @@ fn is_sayable(format: Format, drawing: &Drawing) -> bool
     ensures value { result ≡ is_sayable format drawing.now }
     ensures dpi_at_most { OnTrue result (drawing.now.dpi < 2 ^ 16) }
 {
-    let most = if matches!(format, Format::Png) {
-        65_535
-    } else {
-        0
+    let most = match format.row().density {
+        Density::Stored => 65_535,
+        _ => 0,
     };
     drawing.dpi <= most && has_colours(format, drawing.dark, drawing.light)
 }

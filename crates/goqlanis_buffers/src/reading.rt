@@ -6,7 +6,7 @@ ghost use Rattle.qrcode.specs.Reading.{ReadsOnly};
 ghost use Rattle.qrcode_reader.specs.Formats.{HasFormat};
 ghost use Rattle.qrcode_reader.specs.Readings.{IsReading};
 ghost use Rattle.goqlanis_buffers.specs.Answers.{IsMaskCause, IsReadingCause};
-ghost use Rattle.goqlanis_buffers.specs.Calls.{TellsMask, TellsReadLength, WritesAnyReading, WritesReading, WritesTextReading};
+ghost use Rattle.goqlanis_buffers.specs.Calls.{TellsMask, WritesAnyReading, WritesReading, WritesTextReading};
 ghost use Rattle.qrcode_render.specs.Shades.{colors_of};
 ghost use Rattle.goqlanis_buffers.specs.Readings.{mask_number_in, position_number, IsReported};
 
@@ -148,18 +148,6 @@ pub fn mask_of(alloc: Global, modules: &[u8]) -> Result<u32, Refusal>
 {
     let format = format_of(alloc, modules)?;
     Ok(mask_number(format.version, format.mask))
-}
-
-/// Returns how many bytes a square of modules decodes to.
-///
-/// Errors: `NoSuchSide`, `NoFormat`, `Damaged`, `NotSpelled` or `OutOfMemory`.
-pub fn read_length(alloc: Global, modules: &[u8]) -> Result<usize, Refusal>
-    ensures { TellsReadLength modules.now result }
-{
-    match read_square(alloc, modules) {
-        Ok(found) => Ok(found.data.len()),
-        Err(refusal) => Err(refusal),
-    }
 }
 
 // Decodes a square.

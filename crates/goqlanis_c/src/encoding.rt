@@ -1,56 +1,14 @@
-//! Calls that encode bytes.
+//! The call that encodes bytes or text.
 
-ghost use Rattle.goqlanis_buffers.specs.Calls.{IsReported, WritesAutomatic, WritesIn, WritesWith};
+ghost use Rattle.goqlanis_buffers.specs.Calls.{IsReported, WritesWith};
 
 use goqlanis_buffers::answers::answer;
-use goqlanis_buffers::encoding::{encode, encode_in};
 use goqlanis_buffers::options::{Options, encode_with};
 use goqlanis_buffers::symbols::Symbol;
 use std::alloc::Global;
 
-/// Encodes `bytes` at the level numbered `level`, in the smallest Normal version that holds them.
-/// Writes the modules row by row, 1 for a dark one, to the start of `modules` (31,329 bytes are
-/// always enough), and version, level and width to `symbol`.
-///
-/// Returns 0, or the number of a `Refusal`: `NoSuchLevel`, `NoRoom`, `SmallBuffer` or
-/// `OutOfMemory`. After an error the outputs are unchanged.
-#[unsafe(no_mangle)]
-pub extern "C" fn goq_encode(
-    alloc: Global,
-    bytes: &[u8],
-    level: u32,
-    modules: &mut [u8],
-    symbol: &mut Symbol,
-) -> u32
-    ensures { IsReported (WritesAutomatic level bytes.now modules.old modules.new)
-        result symbol.old symbol.new }
-{
-    answer(encode(alloc, bytes, level, modules), symbol)
-}
-
-/// Encodes `bytes` in the version and at the level of these numbers. Writes the modules row by row,
-/// 1 for a dark one, to the start of `modules`, and version, level and width to `symbol`.
-///
-/// Returns 0, or the number of the first `Refusal` that applies: `NoSuchLevel`, `NoSuchVersion`,
-/// `TooLong`, `NoMode`, `LevelNotInVersion`, `NoRoom`, `SmallBuffer`; or of `OutOfMemory`. After an
-/// error the outputs are unchanged.
-#[unsafe(no_mangle)]
-pub extern "C" fn goq_encode_in(
-    alloc: Global,
-    bytes: &[u8],
-    version: u32,
-    level: u32,
-    modules: &mut [u8],
-    symbol: &mut Symbol,
-) -> u32
-    ensures { IsReported (WritesIn version level bytes.now modules.old modules.new)
-        result symbol.old symbol.new }
-{
-    answer(encode_in(alloc, bytes, version, level, modules), symbol)
-}
-
 /// Encodes `bytes` as `options` ask. Writes the modules row by row, 1 for a dark one, to the start
-/// of `modules`, and version, level and width to `symbol`.
+/// of `modules` (31,329 bytes are always enough), and version, level and width to `symbol`.
 ///
 /// Returns 0, or the number of the first `Refusal` that applies: `NoSuchStruct`, `NoSuchLevel`,
 /// `NoSuchVersion`, `NoSuchManner`, `NotText`, `NoMode`, `LevelNotInVersion`, `NoRoom`,

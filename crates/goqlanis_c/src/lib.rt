@@ -13,4 +13,3 @@ mod release;
 mod segments;
 mod several;
 mod shape;
-mod texts;

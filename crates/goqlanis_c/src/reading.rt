@@ -3,11 +3,11 @@
 ghost use Rattle.std.specs.Prelude.{◌≡◌, ◌≢◌, length, IsSomeAnd};
 ghost use Rattle.goqlanis_buffers.specs.Answers.{refusal_of};
 ghost use Rattle.goqlanis_buffers.specs.Scanning.{IsScanCause, IsScanned};
-ghost use Rattle.goqlanis_buffers.specs.Calls.{IsReported, TellsMask, TellsReadLength, WritesAnyReading, WritesReading, WritesTextReading};
+ghost use Rattle.goqlanis_buffers.specs.Calls.{IsReported, TellsMask, WritesAnyReading, WritesReading, WritesTextReading};
 
 use goqlanis_buffers::answers::{Refusal, answer};
 use goqlanis_buffers::reading::{
-    AnyReading, Reading, mask_of, read_any_into, read_into, read_length, read_text_into,
+    AnyReading, Reading, mask_of, read_any_into, read_into, read_text_into,
 };
 use goqlanis_buffers::scanning::{Code, Part, Scan, codes_of};
 use std::alloc::Global;
@@ -30,17 +30,6 @@ pub extern "C" fn goq_read(
         result reading.old reading.new }
 {
     answer(read_into(alloc, modules, bytes), reading)
-}
-
-/// Writes how many bytes `goq_read` would write to `count`.
-///
-/// Returns 0, or the number of a `Refusal`: `NoSuchSide`, `NoFormat`, `Damaged`, `NotSpelled` or
-/// `OutOfMemory`. After an error `count` is unchanged.
-#[unsafe(no_mangle)]
-pub extern "C" fn goq_read_length(alloc: Global, modules: &[u8], count: &mut usize) -> u32
-    ensures { IsReported (TellsReadLength modules.now) result count.old count.new }
-{
-    answer(read_length(alloc, modules), count)
 }
 
 /// Decodes like `goq_read`, but a square in any position: in the first of the sixteen in which it

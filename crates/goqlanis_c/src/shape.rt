@@ -1,16 +1,12 @@
-//! Calls that tell the sizes and patterns of versions, and the version that holds bytes.
+//! Calls that tell the sizes and patterns of versions.
 
 ghost use Rattle.std.specs.Prelude.{◌≡◌, ◌&&◌, nat_lt, false, None, IfSome};
 ghost use Rattle.qrcode_types.specs.Versions.{side};
 ghost use Rattle.qrcode_layout.specs.Patterns.{is_functional_place};
-ghost use Rattle.goqlanis_buffers.specs.Calls.{IsReported, TellsLeast};
 ghost use Rattle.goqlanis_buffers.specs.Names.{version_named};
 
-use goqlanis_buffers::answers::answer;
-use goqlanis_buffers::encoding::smallest_version;
 use goqlanis_buffers::names::version_named;
 use qrcode::canvas;
-use std::alloc::Global;
 
 /// Returns how many modules a side of the version of this number has: 1 to 40 are Normal, 41 to 44
 /// Micro. 0 if there is no such version.
@@ -42,20 +38,4 @@ pub extern "C" fn goq_is_functional(version: u32, x: u32, y: u32) -> bool
         }
         None => false,
     }
-}
-
-/// Writes the number of the smallest Normal version that holds `bytes` at this level to `version`.
-///
-/// Returns 0, or the number of a `Refusal`: `NoSuchLevel`, `NoRoom` or `OutOfMemory`. After an
-/// error `version` is unchanged.
-#[unsafe(no_mangle)]
-pub extern "C" fn goq_smallest_version(
-    alloc: Global,
-    bytes: &[u8],
-    level: u32,
-    version: &mut u32,
-) -> u32
-    ensures { IsReported (TellsLeast level bytes.now) result version.old version.new }
-{
-    answer(smallest_version(alloc, bytes, level), version)
 }

@@ -12,7 +12,7 @@ use Rattle.qrcode_png.specs.Image.{Shade as Pixel, rgba}
 use Rattle.qrcode_render.specs.Layout.{Layout, pixels_across}
 use Rattle.goqlanis_core.specs.Formats.{View, light_of}
 use Rattle.goqlanis_core.specs.Layers.{is_painted, layer, module_bytes, module_shade, pixel_in, pixel_shade, pixel_shades, shade_bytes, AreLayers, IsLayer}
-use Rattle.goqlanis_core.specs.declared.formats.Format.{Format}
+use Rattle.qrcode_formats.specs.declared.Format.{Format}
 use Rattle.goqlanis_core.specs.declared.layers.PartInk.{PartInk}
 
 -- one more value

@@ -1,23 +1,21 @@
 -- Logo areas, and the tails of files before which overlays are inserted.
-use Rattle.std.proofs.Common.{◌≡◌, ℕ, zero, suc, refl, List, ◌++◌, Bool, arith, sym, subst, ap, ◌∙◌}
-use Rattle.std.specs.Prelude.{codes, Option, None, Some}
-use Rattle.std.specs.Option.{option_or}
+use Rattle.std.proofs.Common.{◌≡◌, ℕ, List, ◌++◌, Bool, arith, sym, subst, ◌∙◌}
+use Rattle.std.specs.Prelude.{codes, None, Some}
 use Rattle.std.proofs.lemmas.List.{append_assoc}
 use Rattle.qrcode_types.specs.declared.types.Color.{Color}
 use Rattle.qrcode_render.specs.Layout.{Layout, modules_across}
-use Rattle.qrcode_render.specs.Paths.{Frame, Run, attribute, frame_text, path_element, path_ground, path_text, xml_head}
+use Rattle.qrcode_render.specs.Paths.{attribute, path_front, xml_head}
 use Rattle.qrcode_render.specs.Picture.{picture}
-use Rattle.qrcode_render.specs.declared.eps.Color as eps
 use Rattle.qrcode_types.specs.declared.types.Version.{Version}
 use Rattle.qrcode_types.specs.declared.types.EcLevel.{EcLevel}
 use Rattle.qrcode_area.specs.Areas.{MayShowAnything}
 use Rattle.qrcode_area.specs.Rectangles.{Fits, LeavesPatterns}
 use Rattle.goqlanis_core.specs.Areas.{wish_for}
-use Rattle.goqlanis_core.specs.Formats.{Sheet, View, IsDrawnOn, dark_of, eps_in, light_of, tail}
+use Rattle.goqlanis_core.specs.Formats.{Sheet, View, IsDrawnOn, dark_of, light_of, tail}
 use Rattle.goqlanis_core.specs.Layers.{HasTail}
 use Rattle.goqlanis_core.specs.declared.areas.LogoWish.{LogoWish}
-use Rattle.goqlanis_core.specs.declared.formats.Format.{Format}
-use Rattle.goqlanis_core.specs.declared.formats.Format.TheVariants.{Svg, SvgPath, Eps, HalfBlocks, LightHalfBlocks, Terminal, Chars, Png, Pic, Pbm, Pgm, Grey, Pdf, Zpl, Tspl, EscPos, Xbm, Ppm, Ascii}
+use Rattle.qrcode_formats.specs.declared.Format.{Format}
+use Rattle.qrcode_formats.specs.declared.Format.TheVariants.{Svg, SvgPath, Eps, HalfBlocks, LightHalfBlocks, Terminal, Chars, Png, Pic, Pbm, Pgm, Grey, Pdf, Zpl, Tspl, EscPos, Xbm, Ppm, Ascii}
 
 -- an area whose content can be corrected and which leaves the patterns alone fits the wish without a reserve
 pub fits_plainly : (v : Version) (l : EcLevel) (w : LogoWish) (area : ℕ → ℕ → Bool) → MayShowAnything v l area → LeavesPatterns w.kept v area → Fits v l (wish_for w 0) area
@@ -33,43 +31,16 @@ tail_behind front tail bytes e = (front, e)
 pub svg_end : (t : Sheet) (w : View) (at : Layout) (s : List Color) (bytes : List ℕ) → IsDrawnOn Svg t w at s bytes → HasTail (codes "</svg>") bytes
 svg_end t w at s bytes drawn = tail_behind _ (codes "</svg>") bytes (drawn ∙ sym (append_assoc _ (codes "\"/>") (codes "</svg>")))
 
--- a text in front keeps the tail
-behind : (tail front text : List ℕ) → HasTail tail text → HasTail tail (front ++ text)
-behind tail front text h = (front ++ h.0, ap (λ t. front ++ t) h.1 ∙ sym (append_assoc front h.0 tail))
-
-path_ends : (f : Frame) (w h columns rows : ℕ) (dark light : List ℕ) (runs : List Run) → HasTail (codes "</svg>") (path_element f w h columns rows dark light runs)
-path_ends f w h columns rows dark light runs =
-    let tail = codes "</svg>" in
-    let path = path_text runs ++ codes "\"/></svg>" in
-    let dashed = codes "\" d=\"" ++ path in
-    let inked = dark ++ dashed in
-    let drawn = codes "\"/><path fill=\"" ++ inked in
-    let lit = light ++ drawn in
-    behind tail (frame_text f w h columns rows) (path_ground columns rows ++ lit)
-    (behind tail (path_ground columns rows) lit
-    (behind tail light drawn
-    (behind tail (codes "\"/><path fill=\"") inked
-    (behind tail dark dashed
-    (behind tail (codes "\" d=\"") path
-    (behind tail (path_text runs) (codes "\"/></svg>") (codes "\"/>", refl)))))))
-
 pub path_end : (t : Sheet) (w : View) (at : Layout) (s : List Color) (bytes : List ℕ) → IsDrawnOn SvgPath t w at s bytes → HasTail (codes "</svg>") bytes
 path_end t w at s bytes drawn =
-    let tail = codes "</svg>" in
     let b = picture at s in
     let dark = attribute (dark_of w w.dark.name w.light.name) in
     let light = attribute (light_of w w.dark.name w.light.name) in
     let side = modules_across at in
-    subst (HasTail tail) (sym drawn.written) (behind tail xml_head _ (path_ends t.frame b.across b.down side side dark light drawn.runs))
-
--- EPS ends with its page, with and without pixels per inch
-eps_ends : (dpi : Option ℕ) (at : Layout) (s : List Color) (dark light : eps.Color) → HasTail (codes "showpage\n%%EOF\n") (eps_in dpi at s dark light)
-eps_ends None at s dark light = (_, refl)
-eps_ends (Some zero) at s dark light = (_, refl)
-eps_ends (Some (suc n)) at s dark light = (_, refl)
+    tail_behind (xml_head ++ path_front t.frame b.across b.down side side dark light drawn.runs) (codes "</svg>") bytes drawn.written
 
 pub eps_end : (t : Sheet) (w : View) (at : Layout) (s : List Color) (bytes : List ℕ) → IsDrawnOn Eps t w at s bytes → HasTail (codes "showpage\n%%EOF\n") bytes
-eps_end t w at s bytes drawn = subst (HasTail (codes "showpage\n%%EOF\n")) (sym drawn) (eps_ends (option_or t.dots w.dpi) at s _ _)
+eps_end t w at s bytes drawn = (_, drawn)
 
 untailed : (end bytes : List ℕ) → None ≡ Some end → HasTail end bytes
 untailed end bytes is = absurd (cc)

@@ -1,13 +1,12 @@
--- The output formats: their names, what is known of each, and what it draws for a square of modules.
-use Rattle.std.specs.Prelude.{◌≡◌, ℕ, zero, suc, ◌+◌, ◌*◌, ◌/◌, Bool, true, false, List, [], ◌∷◌, ◌++◌, Option, Some, None, codes, encode_utf8, slice_get, max, unwrap_or, if◌then◌else◌}
+-- What each output format draws for a square of modules.
+use Rattle.std.specs.Prelude.{◌≡◌, ℕ, ◌+◌, ◌*◌, ◌/◌, Bool, true, false, List, [], ◌∷◌, ◌++◌, Option, Some, None, codes, encode_utf8, max, unwrap_or, if◌then◌else◌}
 use Rattle.std.specs.Option.{option_map, option_or}
-use Rattle.std.specs.Str.{str_eq_ignore_ascii_case}
 use Rattle.qrcode_types.specs.declared.types.Color.{Color}
-use Rattle.qrcode_render.specs.Eps.{eps_sized_text, eps_text}
+use Rattle.qrcode_render.specs.Eps.{eps_file}
 use Rattle.qrcode_render.specs.Files.{pgm_file, pbm_file, ppm_file}
 use Rattle.qrcode_render.specs.Layout.{Layout, layout, modules_across}
 use Rattle.qrcode_render.specs.Paths.{Frame, frame_of, plain, xml_head, IsPathIn}
-use Rattle.qrcode_render.specs.Pdf.{IsPdfOf}
+use Rattle.qrcode_render.specs.Pdf.{IsPdfIn}
 use Rattle.qrcode_render.specs.Picture.{picture}
 use Rattle.qrcode_render.specs.Printers.{escpos_file, tspl_file, tspl_file_at, xbm_file}
 use Rattle.qrcode_render.specs.Setting.{Setting}
@@ -19,86 +18,11 @@ use Rattle.qrcode_render.specs.declared.eps.Color as eps
 use Rattle.qrcode_png.specs.Shown.{IsFileOf}
 use Rattle.qrcode_png.specs.declared.picture.Color as png
 use Rattle.goqlanis_core.specs.Terminal.{coloured_text}
-use Rattle.goqlanis_core.specs.declared.formats.Format.{Format}
-use Rattle.goqlanis_core.specs.declared.formats.Format.TheVariants.{HalfBlocks, LightHalfBlocks, Terminal, Chars, Png, Svg, SvgPath, Eps, Pic, Pbm, Pgm, Grey, Pdf, Zpl, Tspl, EscPos, Xbm, Ppm, Ascii}
-use Rattle.goqlanis_core.specs.declared.formats.Row as code
+use Rattle.qrcode_formats.specs.declared.Format.{Format}
+use Rattle.qrcode_formats.specs.declared.Format.TheVariants.{HalfBlocks, LightHalfBlocks, Terminal, Chars, Png, Svg, SvgPath, Eps, Pic, Pbm, Pgm, Grey, Pdf, Zpl, Tspl, EscPos, Xbm, Ppm, Ascii}
 use Rattle.goqlanis_core.specs.declared.picture.Ink.{Ink}
 use Rattle.goqlanis_core.specs.declared.picture.Picture.{Picture}
 use Rattle.goqlanis_core.specs.declared.picture.Sheet as lent
-
--- a format, its name and its file extension
-abbrev pub Row : Type 0
-Row = Format × List ℕ × Option (List ℕ)
-
--- the formats of the program
-unfoldable pub formats : List Row
-formats =
-    (HalfBlocks, codes "half-blocks", Some (codes "txt")) ∷
-    (Terminal, codes "terminal", None) ∷
-    (Chars, codes "text", None) ∷
-    (Png, codes "png", Some (codes "png")) ∷
-    (SvgPath, codes "svg", Some (codes "svg")) ∷
-    (Eps, codes "eps", Some (codes "eps")) ∷
-    (Pic, codes "pic", Some (codes "pic")) ∷
-    (Pbm, codes "pbm", Some (codes "pbm")) ∷
-    (Pgm, codes "pgm", Some (codes "pgm")) ∷
-    (Pdf, codes "pdf", Some (codes "pdf")) ∷
-    (Zpl, codes "zpl", Some (codes "zpl")) ∷
-    (Tspl, codes "tspl", Some (codes "tspl")) ∷
-    (EscPos, codes "escpos", Some (codes "escpos")) ∷
-    (Xbm, codes "xbm", Some (codes "xbm")) ∷
-    (Ppm, codes "ppm", Some (codes "ppm")) ∷
-    (Ascii, codes "ascii", None) ∷ []
-
-abbrev pub row_of : code.Row → Row  -- a row of the code's table
-row_of row = (row.format, row.name.now, option_map (λ text. text.now) row.ending)
-
-abbrev pub is_known : Option (List ℕ) → List ℕ → Bool  -- name is the known one, ignoring case
-is_known None name = false
-is_known (Some known) name = str_eq_ignore_ascii_case known name
-
-abbrev pub named_among : List Row → List ℕ → Option Format  -- the first format with this name
-named_among [] name = None
-named_among (row ∷ rows) name = if is_known (Some row.1) name then Some row.0 else named_among rows name
-
-abbrev pub ending_among : List Row → List ℕ → Option Format  -- the first format with this file extension
-ending_among [] ending = None
-ending_among (row ∷ rows) ending = if is_known row.2 ending then Some row.0 else ending_among rows ending
-
-abbrev pub format_named : List ℕ → Option Format  -- the format with this name
-format_named name = named_among formats name
-
-abbrev pub format_of_ending : List ℕ → Option Format  -- the format with this file extension
-format_of_ending ending = ending_among formats ending
-
-abbrev pub is_text : Format → Bool  -- it is text, not a binary file
-is_text Png = false
-is_text Pbm = false
-is_text Pgm = false
-is_text Grey = false
-is_text Pdf = false
-is_text Tspl = false
-is_text EscPos = false
-is_text Ppm = false
-is_text f = true
-
-abbrev pub has_colours : Format → Bool  -- one can choose the colours of dark and light modules
-has_colours Png = true
-has_colours Svg = true
-has_colours SvgPath = true
-has_colours Eps = true
-has_colours Pdf = true
-has_colours Ppm = true
-has_colours f = false
-
-abbrev pub pixels : Format → ℕ  -- the default for the pixels of a module: 1 in formats that are read as text
-pixels HalfBlocks = 1
-pixels LightHalfBlocks = 1
-pixels Terminal = 1
-pixels Chars = 1
-pixels Pic = 1
-pixels Ascii = 1
-pixels f = 8
 
 abbrev pub units : Format → ℕ → ℕ  -- the size of a module of n pixels, in the units that overlays are placed in: in SvgPath and Pdf a module is the unit
 units SvgPath n = 1
@@ -110,20 +34,6 @@ tail Svg = Some (codes "</svg>")
 tail SvgPath = Some (codes "</svg>")
 tail Eps = Some (codes "showpage\n%%EOF\n")
 tail f = None
-
-abbrev pub format_numbered : ℕ → Option Format  -- the format with this number in the C library, counted from 0
-format_numbered n = slice_get (HalfBlocks ∷ LightHalfBlocks ∷ Svg ∷ Pic ∷ Grey ∷ Png ∷ Eps ∷ Pbm ∷ SvgPath ∷ Pgm ∷ Pdf ∷ Zpl ∷ Tspl ∷ EscPos ∷ Xbm ∷ Ppm ∷ Ascii ∷ []) n
-
--- the maximum pixels along a side: what the numbers in PNG and ESC/POS hold; for text, more than a terminal or a page shows
-abbrev pub greatest_side : Format → ℕ
-greatest_side Png = 65535
-greatest_side EscPos = 65535
-greatest_side HalfBlocks = 4096
-greatest_side LightHalfBlocks = 4096
-greatest_side Terminal = 4096
-greatest_side Chars = 4096
-greatest_side Ascii = 4096
-greatest_side f = 0xffffffff
 
 -- a colour: its name in SVG; red, green and blue; and its opacity in PNG
 pub record Shade : Type 0 where
@@ -186,31 +96,26 @@ eps_ink c = record { red = c.red; green = c.green; blue = c.blue }
 abbrev pub png_ink : Shade → png.Color  -- the colour for PNG
 png_ink c = record { 0 = c.red ∷ c.green ∷ c.blue ∷ c.opacity ∷ [] }
 
--- the text of an EPS file, with a pixel as a point, or with these pixels per inch
-abbrev pub eps_in : Option ℕ → Layout → List Color → eps.Color → eps.Color → List ℕ
-eps_in None at s dark light = eps_text at s dark light
-eps_in (Some zero) at s dark light = eps_text at s dark light
-eps_in (Some (suc n)) at s dark light = eps_sized_text (suc n) at s dark light
-
 abbrev pub rgb : Shade → List ℕ  -- red, green and blue
 rgb c = c.red ∷ c.green ∷ c.blue ∷ []
 
 -- the text of an EPS file in the colours of a view, with these pixels per inch, or else those of the view
 abbrev pub eps_on : Option ℕ → View → Layout → List Color → List ℕ
-eps_on dots v at s = eps_in (option_or dots v.dpi) at s (dark_of v (eps_ink v.dark) (eps_ink v.light)) (light_of v (eps_ink v.dark) (eps_ink v.light))
+eps_on dots v at s = eps_file (option_or dots v.dpi) at s (dark_of v (eps_ink v.dark) (eps_ink v.light)) (light_of v (eps_ink v.dark) (eps_ink v.light)) []
 
 abbrev pub pdf_dots : Option ℕ → ℕ  -- the pixels per inch of a PDF file: the given ones, or 72
 pdf_dots dpi = max (unwrap_or dpi 72) 1
 
--- bytes are a PDF file in the colours of a view, with these pixels per inch, or else those of the view, and with a title and operators over the modules
+-- bytes are a PDF file in the colours of a view, with these pixels per inch, or else those of the view, and with a title and operators over the
+-- modules; a module is the unit of the page
 abbrev pub IsPdfOn : Option ℕ → List ℕ → View → Layout → List Color → List ℕ → List ℕ → Type 0
 IsPdfOn dots title v at s over bytes =
-    IsPdfOf (pdf_dots (option_or dots v.dpi)) (dark_of v (rgb v.dark) (rgb v.light)) (light_of v (rgb v.dark) (rgb v.light)) (picture at s) over title bytes
+    IsPdfIn (modules_across at) (modules_across at) (pdf_dots (option_or dots v.dpi)) (dark_of v (rgb v.dark) (rgb v.light)) (light_of v (rgb v.dark) (rgb v.light)) (picture at s) over title bytes
 
 -- bytes are an SVG file with one path, in the colours of a view and with the size and title of a frame; a module is the unit of its viewBox
 abbrev pub IsFramed : Frame → View → Layout → List Color → List ℕ → Type 0
 IsFramed frame v at s bytes =
-    IsPathIn (modules_across at) (modules_across at) xml_head frame (dark_of v v.dark.name v.light.name) (light_of v v.dark.name v.light.name) (picture at s) bytes
+    IsPathIn (modules_across at) (modules_across at) xml_head frame (dark_of v v.dark.name v.light.name) (light_of v v.dark.name v.light.name) (picture at s) [] bytes
 
 -- bytes are ZPL II that prints black and white pixels at a place on the label
 abbrev pub IsZplAt : ℕ × ℕ → View → Layout → List Color → List ℕ → Type 0

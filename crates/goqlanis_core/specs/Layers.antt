@@ -1,5 +1,5 @@
 -- Symbols whose parts have their own colours, drawn layer upon layer.
-use Rattle.std.specs.Prelude.{◌≡◌, ℕ, ◌+◌, ◌-◌, ◌*◌, ◌/◌, ◌%◌, ◌==◌, nat_le, nat_lt, ◌&&◌, Bool, not, List, [], ◌∷◌, ◌++◌, Option, None, Some, option_map, codes, fold, length, map, slice_index_or, if◌then◌else◌}
+use Rattle.std.specs.Prelude.{◌≡◌, ℕ, ◌+◌, ◌-◌, ◌*◌, ◌/◌, ◌%◌, ◌==◌, nat_le, nat_lt, ◌&&◌, Bool, false, not, List, [], ◌∷◌, ◌++◌, Option, None, Some, option_map, codes, fold, length, map, slice_index_or, if◌then◌else◌}
 use Rattle.std.specs.List.{range_with_len}
 use Rattle.qrcode_types.specs.Colors.{color_of, is_dark, select_of}
 use Rattle.qrcode_types.specs.Versions.{side}
@@ -15,8 +15,8 @@ use Rattle.qrcode_render.specs.Picture.{picture}
 use Rattle.qrcode_png.specs.Image.{Shade as Pixel, image_of, rgba}
 use Rattle.goqlanis_core.specs.Formats.{Sheet, View, Shade, dark_of, light_of, eps_ink, per_metre, rgb, shade_of, tail, units, IsDrawnOn, IsPdfOn}
 use Rattle.goqlanis_core.specs.Parts.{part_of}
-use Rattle.goqlanis_core.specs.declared.formats.Format.{Format}
-use Rattle.goqlanis_core.specs.declared.formats.Format.TheVariants.{Png, Pdf, Eps}
+use Rattle.qrcode_formats.specs.declared.Format.{Format}
+use Rattle.qrcode_formats.specs.declared.Format.TheVariants.{Png, Pdf, Eps}
 use Rattle.goqlanis_core.specs.declared.layers.PartInk.{PartInk}
 use Rattle.goqlanis_core.specs.declared.parts.Part.{Part}
 use Rattle.goqlanis_core.specs.declared.parts.Part.TheVariants.{Finder, Alignment, Timing, FormatWord, VersionWord, Data}
@@ -99,6 +99,7 @@ pub record IsPaintedFile (w : View) (at : Layout) (v : Version) (inks : List Par
     down = pixels_down at;
     pixels = pixel_shades w at v inks over s (pixels_down at * pixels_across at);
     density = option_map (λ n. (n, n)) (option_map per_metre w.dpi);
+    has_more = false;
   })
 
 abbrev pub HasTail : List ℕ → List ℕ → Type 0

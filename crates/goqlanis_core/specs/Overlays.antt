@@ -12,8 +12,8 @@ use Rattle.qrcode_png.specs.Image.{Shade, grey_shade}
 use Rattle.goqlanis_core.specs.Drawings.{layout_for, sheet_for, unit_for, view_for, zone_for}
 use Rattle.goqlanis_core.specs.Layers.{IsPaintedIn}
 use Rattle.goqlanis_core.specs.Masks.{AreUnder}
-use Rattle.goqlanis_core.specs.declared.formats.Format.{Format}
-use Rattle.goqlanis_core.specs.declared.formats.Format.TheVariants.{Eps, Pdf}
+use Rattle.qrcode_formats.specs.declared.Format.{Format}
+use Rattle.qrcode_formats.specs.declared.Format.TheVariants.{Eps, Pdf}
 use Rattle.goqlanis_core.specs.declared.overlays.Inside.{Inside}
 use Rattle.goqlanis_core.specs.declared.overlays.Inside.TheVariants.{Nothing, Cross, Element}
 use Rattle.goqlanis_core.specs.Places.{place_in, HasRoom}
@@ -48,7 +48,7 @@ cross_text Eps unit side left =
     codes "gsave " ++ (decimal unit ++ (codes " 1656 div dup scale " ++ (decimal left ++ (codes " dup translate " ++ (decimal side
     ++ codes " dup scale\n1 setgray 0 0 252 252 rectfill 0 setgray 18 18 216 216 rectfill\n1 setgray 105 56 42 140 rectfill 56 105 140 42 rectfill grestore\n")))))
 cross_text Pdf unit side left =
-    codes "\nq .000603864734 0 0 .000603864734 0 0 cm " ++ (decimal side ++ (codes " 0 0 " ++ (decimal side ++ (codes " " ++ (decimal left ++ (codes " " ++ (decimal left
+    codes "q .000603864734 0 0 .000603864734 0 0 cm " ++ (decimal side ++ (codes " 0 0 " ++ (decimal side ++ (codes " " ++ (decimal left ++ (codes " " ++ (decimal left
     ++ codes " cm\n1 g 0 0 252 252 re f 0 g 18 18 216 216 re f\n1 g 105 56 42 140 re 56 105 140 42 re f Q")))))))
 cross_text f unit side left =
     codes "<g transform=\"scale(" ++ (decimal unit ++ (codes ") scale(.000603864734) translate(" ++ (decimal left ++ (codes " " ++ (decimal left ++ (codes ") scale(" ++ (decimal side

@@ -1,6 +1,7 @@
 -- How a picture decodes, and why it does not.
-use Rattle.std.specs.Prelude.{◌≡◌, ◌⊎◌, ◌==◌, ◌/◌, ◌<◌, ◌≤◌, ℕ, List, [], ◌∷◌, Bool, true, false, Some, None, length, map, flat_map, if◌then◌else◌}
+use Rattle.std.specs.Prelude.{◌≡◌, ◌⊎◌, ◌==◌, ◌/◌, ◌<◌, ◌≤◌, ℕ, List, [], ◌∷◌, Bool, true, false, Some, None, length, map, flat_map, unwrap_or, if◌then◌else◌}
 use Rattle.std.specs.List.{starts_with}
+use Rattle.std.specs.Option.{option_map}
 use Rattle.qrcode_types.specs.declared.types.Color.{Color}
 use Rattle.qrcode_render.specs.Bitmap.{Bitmap}
 use Rattle.qrcode_gs1.specs.declared.symbol.Position as gs1
@@ -102,6 +103,10 @@ pub record IsShownBy (bytes : List ℕ) (b : Bitmap) : Type 0 where
   pub image : Image
   pub shown : image_of bytes ≡ Some image
   pub same : b ≡ record { across = image.across; down = image.down; marks = dark_of_shades (map shade_lightness image.pixels) }
+
+-- a PNG file has more than the image, which is ignored
+abbrev pub has_more : List ℕ → Bool
+has_more bytes = if is_png bytes then unwrap_or (option_map (λ (i : Image). i.has_more) (image_of bytes)) false else false
 
 -- b shows the pixels of a picture: of a PNG file, or of another format
 pub record IsPictureOf (bytes : List ℕ) (b : Bitmap) : Type 0 where

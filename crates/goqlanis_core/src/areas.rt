@@ -13,8 +13,8 @@ use qrcode_area::rectangles::{
     Kept, Wish, centred, in_proportion, largest_rectangle, leaves_patterns,
 };
 use qrcode_area::reserve::reserve_in;
-use qrcode_reader::walk::side;
 use qrcode_types::tables::Blocks;
+use qrcode_types::versions::side;
 use std::alloc::{AllocError, Global};
 
 /// How large the area of a logo is.

@@ -53,6 +53,7 @@ fn only(alloc: Global, check: Check) -> Result<Checks, AllocError>
         codes: Codes {
             scans: Vec::new(alloc),
             missed: Vec::new(alloc),
+            has_more: false,
         },
     })
 }
@@ -88,10 +89,10 @@ fn check_scan(alloc: Global, scan: &Scan) -> Result<Check, AllocError>
 fn unspelled(alloc: Global, bytes: &[u8]) -> Result<Check, AllocError>
     ensures { IfOk result (IsSquareCheckOf bytes.now) }
 {
-    let Ok((pixels, _)) = seen_in(alloc, bytes) else {
+    let Ok(seen) = seen_in(alloc, bytes) else {
         return Err(AllocError);
     };
-    let Some(square) = square_of(alloc, &pixels)? else {
+    let Some(square) = square_of(alloc, &seen.pixels)? else {
         return Err(AllocError);
     };
     match check_square(alloc, &square.modules) {

@@ -3,7 +3,7 @@
 ghost use Rattle.std.specs.Prelude.{◌≡◌, ◌≤◌, ◌⊎◌, ◌++◌, ◌∷◌, [], ℕ, All, insert, length, IsTrue, IfOk, IfErr, OnOk};
 ghost use Rattle.qrcode_reader.specs.declared.refusals.Unread.TheVariants.{OutOfMemory};
 ghost use Rattle.goqlanis_core.specs.Codes.{AreCodesIn, IsFoundAs, IsMissedOf};
-ghost use Rattle.goqlanis_core.specs.Scans.{IsNotClean, IsScanOf, IsUnreadPicture, IsUnreadIn};
+ghost use Rattle.goqlanis_core.specs.Scans.{IsNotClean, IsScanOf, IsUnreadPicture, IsUnreadIn, has_more};
 
 use crate::scanning::{self, Scan, read_clean, scan_of, seen_in};
 use qrcode_ec::max_allowed_errors;
@@ -52,6 +52,8 @@ pub struct Codes {
     pub scans: Vec<Scan>,
     /// Squares that look like codes but do not decode.
     pub missed: Vec<Missed>,
+    /// Whether a PNG file has more than the picture, which is ignored.
+    pub has_more: bool,
 }
 
 /// Decodes the codes of a picture: the square in a plain margin, or else the squares that are found
@@ -64,10 +66,19 @@ pub fn read_codes(alloc: Global, bytes: &[u8]) -> Result<Codes, scanning::Unread
     ensures value { IfOk result (λ codes. All (IsScanOf bytes.now) codes.scans.items) }
     ensures some { IfOk result (λ codes. 1 ≤ length codes.scans.items) }
     ensures missed { IfOk result (λ codes. All (IsMissedOf bytes.now) codes.missed.items) }
+    ensures more { IfOk result (λ codes. codes.has_more ≡ has_more bytes.now) }
     ensures causes { IfErr result (IsUnreadPicture bytes.now) }
 {
-    match seen_in(alloc, bytes) {
-        Ok((pixels, is_inverted)) => codes_in(alloc, &pixels, is_inverted),
+    let seen = match seen_in(alloc, bytes) {
+        Ok(seen) => seen,
+        Err(cause) => return Err(cause),
+    };
+    match codes_in(alloc, &seen.pixels, seen.is_inverted) {
+        Ok(codes) => {
+            let mut codes = codes;
+            codes.has_more = seen.has_more;
+            Ok(codes)
+        }
         Err(cause) => Err(cause),
     }
 }
@@ -104,6 +115,7 @@ fn only(alloc: Global, scan: Scan) -> Result<Codes, AllocError>
     Ok(Codes {
         scans: vec![in alloc; scan]?,
         missed: Vec::new(alloc),
+        has_more: false,
     })
 }
 
@@ -116,6 +128,7 @@ fn codes_found(alloc: Global, pixels: &Pixels, is_inverted: bool) -> Result<Code
     let mut codes = Codes {
         scans: Vec::new(alloc),
         missed: Vec::new(alloc),
+        has_more: false,
     };
     for grid in &grids_of(alloc, pixels)? {
         add(&mut codes, alloc, pixels, grid, is_inverted)?;
@@ -123,7 +136,8 @@ fn codes_found(alloc: Global, pixels: &Pixels, is_inverted: bool) -> Result<Code
     Ok(codes)
 }
 
-// Adds what is in a grid, unless a decoded code overlaps it.
+// Adds what is in a grid, unless a decoded code overlaps it. Nor is a Micro symbol found where a
+// square that does not decode overlaps it: the modules there are those of the square.
 fn add(
     codes: &mut Codes,
     alloc: Global,
@@ -135,7 +149,7 @@ fn add(
     requires codes { AreCodesIn pixels.now is_inverted codes.old }
     ensures { OnOk result (AreCodesIn pixels.now is_inverted codes.new) }
 {
-    if codes.has_read(grid) {
+    if codes.has_read(grid) || (grid.count < 21 && is_among(&codes.missed, grid)) {
         return Ok(());
     }
     match found_at(alloc, pixels, grid, is_inverted)? {
@@ -214,14 +228,17 @@ fn push_missed(all: &mut Vec<Missed>, missed: Missed) -> Result<(), AllocError>
     ensures { OnOk result ((all.new.items ≡ all.old.items)
         ⊎ (all.new.items ≡ all.old.items ++ missed ∷ [])) }
 {
-    let place = place_of(&missed.grid);
-    if !all
-        .iter()
-        .any(|other| overlap(place, place_of(&other.grid)))
-    {
+    if !is_among(all, &missed.grid) {
         all.push(missed)?;
     }
     Ok(())
+}
+
+// Whether one of these squares overlaps the grid.
+fn is_among(all: &[Missed], grid: &Grid) -> bool {
+    let place = place_of(grid);
+    all.iter()
+        .any(|other| overlap(place, place_of(&other.grid)))
 }
 
 impl Codes {

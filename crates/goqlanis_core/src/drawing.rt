@@ -10,6 +10,7 @@ ghost use Rattle.goqlanis_core.specs.Layers.{IsPaintedIn};
 ghost use Rattle.goqlanis_core.specs.Masks.{LacksMask};
 ghost use Rattle.goqlanis_core.specs.Symbols.{IsSymbolIn, IsRefusedFor};
 
+use crate::formats::units;
 use crate::layers::painted;
 use crate::masking::modules_under;
 use crate::picture::{Picture, Sheet};
@@ -165,7 +166,7 @@ pub(crate) fn unit(request: &Request<'_>, code: &QrCode) -> u32
     ensures at_least { 1 ≤ result }
     ensures at_most { result ≤ 65535 }
 {
-    request.format.units(scale(request, code).max(1))
+    units(request.format, scale(request, code).max(1))
 }
 
 /// Returns the pixels of a module: those requested, or as many as fit in the requested side. 0 if a

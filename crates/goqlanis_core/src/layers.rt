@@ -1,23 +1,23 @@
 //! Draws symbols whose parts have their own colours, layer upon layer.
 
-ghost use Rattle.std.specs.Prelude.{◌≡◌, ◌==◌, ◌<◌, false, length, string_bytes, IsTrue, IfOk, OnOk, IsOkUnless};
+ghost use Rattle.std.specs.Prelude.{◌≡◌, ◌==◌, ◌<◌, false, length, IsTrue, IfOk, IsOkUnless};
 ghost use Rattle.qrcode_types.specs.Versions.{is_valid, side};
-ghost use Rattle.qrcode_types.specs.declared.types.Color.TheVariants.{Dark};
 ghost use Rattle.qrcode_types.specs.declared.types.QrError.TheVariants.{OutOfMemory};
 ghost use Rattle.qrcode_render.specs.Drawn.{drawn};
 ghost use Rattle.qrcode_render.specs.Eps.{eps_paint, eps_rect};
 ghost use Rattle.goqlanis_core.specs.Formats.{eps_ink, layout_of, shade_of, sheet_of, tail, view_of};
 ghost use Rattle.goqlanis_core.specs.Layers.{is_painted, layer, unit_layout, AreOver, HasTail, IsInserted, IsLayer, IsPaintedIn};
 
-use crate::formats::Format;
+use crate::formats::{tail, units};
 use crate::parts::{Part, part_of};
 use crate::picture::{Ink, Picture, Sheet};
-use crate::render::{draw_on, drawn, pdf_file, rgb};
+use crate::render::{draw_on, drawn, eps_ink, pdf_file, renderer, rgb};
 use crate::shades::png_file;
-use qrcode::render::{pdf, svg};
+use qrcode::render::{eps, pdf, svg};
 use qrcode::types::{Color, QrResult, Version};
+use qrcode_formats::Format;
 use qrcode_layout::figures::color_of;
-use qrcode_reader::walk::side;
+use qrcode_types::versions::side;
 use std::alloc::{AllocError, Global};
 
 /// A colour for the dark or the light modules of one part, in PNG, SVG, EPS and PDF.
@@ -50,7 +50,7 @@ pub(crate) fn painted(
         sheet.now.over.now shown.now.modules.now drawing.items) }
     ensures memory { IsOkUnless result OutOfMemory }
 {
-    if let Some(tail) = format.tail() {
+    if let Some(tail) = tail(format) {
         let over = over(alloc, format, version, shown, sheet)?;
         let bytes = draw_on(alloc, format, shown, sheet)?;
         return Ok(inserted(bytes, tail, &over)?);
@@ -138,7 +138,7 @@ fn layer_in(
         modules: &modules,
         width: shown.width,
         zone: shown.zone,
-        scale: format.units(shown.scale),
+        scale: units(format, shown.scale),
         dark: shown.dark,
         light: shown.light,
         is_inverted: false,
@@ -160,35 +160,13 @@ fn layer_in(
 
 // PostScript that fills the dark modules with a colour.
 fn eps_layer(alloc: Global, shown: &Picture<'_>, ink: Ink<'_>) -> QrResult<Vec<u8>>
+    requires { shown.now.is_inverted ≡ false }
     ensures value { IfOk result (λ text. text.items ≡ drawn eps_rect (layout_of shown.now)
         shown.now.modules.now (eps_paint (eps_ink (shade_of ink.entry)))) }
     ensures memory { IsOkUnless result OutOfMemory }
 {
-    let (red, green, blue) = (ink.red, ink.green, ink.blue);
-    let mut text = format!(in alloc; "{red} 255 div {green} 255 div {blue} 255 div setrgbcolor\n")?;
-    push_boxes(&mut text, shown)?;
-    Ok(text.into_bytes())
-}
-
-// Appends a `rectfill` for each dark module.
-fn push_boxes(text: &mut String, shown: &Picture<'_>) -> QrResult<()>
-    ensures appends { OnOk result (string_bytes text.new
-        ≡ drawn eps_rect (layout_of shown.now) shown.now.modules.now (string_bytes text.old)) }
-    ensures memory { IsOkUnless result OutOfMemory }
-{
-    let (width, zone, scale) = (
-        shown.width as usize,
-        shown.zone as usize,
-        shown.scale as usize,
-    );
-    for index in 0..shown.modules.len() {
-        if shown.modules[index] == Color::Dark {
-            let left = (index % width + zone) * scale;
-            let top = (index / width + zone) * scale;
-            write!(text, "{left} {top} {scale} {scale} rectfill\n")?;
-        }
-    }
-    Ok(())
+    let renderer = renderer(shown, eps_ink(ink), eps_ink(ink));
+    eps::layer(alloc, &renderer)
 }
 
 /// Inserts `over` before `tail`, which `text` ends with.

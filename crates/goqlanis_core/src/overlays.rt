@@ -10,7 +10,6 @@ ghost use Rattle.goqlanis_core.specs.Masks.{LacksMask};
 ghost use Rattle.goqlanis_core.specs.Overlays.{AreBeside, IsCrossSize, IsCrossWidth, IsShownWith, LacksRoom, cross_for, cross_shade, cross_text, element_for, is_black_unit, is_in_bar, lies_between, svg_element};
 
 use crate::drawing::{modules_drawn, quiet_zone, scale, unit};
-use crate::formats::Format;
 use crate::masking::modules_under;
 use crate::places::{Place, place_in};
 use crate::request::Request;
@@ -18,6 +17,7 @@ use qrcode::QrCode;
 use qrcode::types::{Color, QrResult};
 use qrcode_area::areas::{Area, Rectangle};
 use qrcode_area::covered::lightened;
+use qrcode_formats::Format;
 use std::alloc::{AllocError, Global};
 
 /// Returns the modules along the side of the area that the Swiss cross of a bill covers, in a
@@ -79,7 +79,7 @@ fn cross_text(
             1 setgray 105 56 42 140 rectfill 56 105 140 42 rectfill grestore\n"
         ),
         Format::Pdf => format!(in alloc;
-            "\nq .000603864734 0 0 .000603864734 0 0 cm {side} 0 0 {side} {left} {left} cm\n\
+            "q .000603864734 0 0 .000603864734 0 0 cm {side} 0 0 {side} {left} {left} cm\n\
             1 g 0 0 252 252 re f 0 g 18 18 216 216 re f\n\
             1 g 105 56 42 140 re 56 105 140 42 re f Q"
         ),

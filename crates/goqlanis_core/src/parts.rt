@@ -12,8 +12,8 @@ use qrcode_layout::figures::{
     Coloring, Figure, alignment, is_corner_centre, micro_figures, normal_figures, word_figures,
 };
 use qrcode_layout::patterns::format_index;
-use qrcode_reader::walk::side;
 use qrcode_types::types::Version;
+use qrcode_types::versions::side;
 
 /// A part of a symbol.
 #[derive(Clone, Copy, PartialEq, Eq)]

@@ -1,6 +1,6 @@
 //! Draws a picture in each format.
 
-ghost use Rattle.std.specs.Prelude.{◌≡◌, ◌^◌, ◌<◌, ◌≤◌, Some, true, false, string_bytes, IsTrue, IfOk, IsOkUnless};
+ghost use Rattle.std.specs.Prelude.{◌≡◌, ◌^◌, ◌<◌, true, false, string_bytes, IsTrue, IfOk, IsOkUnless};
 ghost use Rattle.std.specs.Option.{option_or};
 ghost use Rattle.qrcode_types.specs.declared.types.QrError.TheVariants.{OutOfMemory};
 ghost use Rattle.qrcode_render.specs.Paths.{frame_of};
@@ -8,9 +8,8 @@ ghost use Rattle.qrcode_render.specs.Picture.{picture};
 ghost use Rattle.qrcode_render.specs.Printers.{packed_file};
 ghost use Rattle.qrcode_render.specs.Setting.{fits};
 ghost use Rattle.goqlanis_core.specs.Formats.{IsDrawnIn, IsDrawnOn, IsFramed, IsPdfOn, IsZplAt, dark_of, ended, eps_ink, eps_on, half_block_text, layout_of, light_of, per_metre, png_ink, rgb, setting_of, shade_of, sheet_of, view_of};
-ghost use Rattle.goqlanis_core.specs.declared.formats.Format.TheVariants.{Png, Tspl};
+ghost use Rattle.qrcode_formats.specs.declared.Format.TheVariants.{Png, Tspl};
 
-use crate::formats::Format;
 use crate::picture::{Ink, Picture, Sheet};
 use crate::terminal::coloured;
 use qrcode::render::image::Luma;
@@ -21,6 +20,7 @@ use qrcode::render::string::Str;
 use qrcode::render::unicode::Dense1x2;
 use qrcode::render::{Pixel, Renderer, eps, escpos, pdf, pgm, pic, ppm, svg, tspl, xbm, zpl};
 use qrcode::types::QrResult;
+use qrcode_formats::Format;
 use qrcode_png::with_density;
 use std::alloc::Global;
 
@@ -119,8 +119,8 @@ pub(crate) fn drawn<P: Pixel>(
     renderer(picture, dark, light).build(alloc)
 }
 
-// The renderer of a picture, with these values for dark and light modules.
-fn renderer<'a, P: Pixel>(picture: &Picture<'a>, dark: P, light: P) -> Renderer<'a, P>
+/// Returns the renderer of a picture, with these values for dark and light modules.
+pub(crate) fn renderer<'a, P: Pixel>(picture: &Picture<'a>, dark: P, light: P) -> Renderer<'a, P>
     ensures value { result ≡ setting_of picture.now dark light }
     ensures fits { IsTrue (fits result) }
 {
@@ -173,7 +173,7 @@ fn path(alloc: Global, picture: &Picture<'_>, frame: &svg::Frame<'_>) -> QrResul
 {
     let (dark, light) = (picture.dark, picture.light);
     let renderer = renderer(picture, svg::Path(dark.name), svg::Path(light.name));
-    Ok(svg::framed(alloc, &renderer, frame)?.into_bytes())
+    svg::framed(alloc, &renderer, frame, &[])
 }
 
 // ZPL II, with the picture at a place on the label.
@@ -202,29 +202,8 @@ fn eps(alloc: Global, picture: &Picture<'_>, given: Option<u32>) -> QrResult<Vec
         (layout_of picture.now) picture.now.modules.now) }
     ensures memory { IsOkUnless result OutOfMemory }
 {
-    match dots_of(picture, given) {
-        Some(dots) if dots > 0 => sized_eps(alloc, picture, dots),
-        _ => {
-            let text = drawn(
-                alloc,
-                picture,
-                eps_ink(picture.dark),
-                eps_ink(picture.light),
-            )?;
-            Ok(text.into_bytes())
-        }
-    }
-}
-
-// An EPS file with `dots` pixels per inch.
-fn sized_eps(alloc: Global, picture: &Picture<'_>, dots: u32) -> QrResult<Vec<u8>>
-    requires { 1 ≤ dots }
-    ensures text { IfOk result (λ text. text.items ≡ eps_on (Some dots) (view_of picture.now)
-        (layout_of picture.now) picture.now.modules.now) }
-    ensures memory { IsOkUnless result OutOfMemory }
-{
     let renderer = renderer(picture, eps_ink(picture.dark), eps_ink(picture.light));
-    Ok(eps::with_density(alloc, &renderer, dots)?.into_bytes())
+    eps::with_extras(alloc, &renderer, dots_of(picture, given), &[])
 }
 
 /// Draws a PDF file with operators over the modules, and a title unless it is empty. The pixels per
@@ -276,8 +255,8 @@ fn lines(picture: &Picture<'_>, mut text: String) -> QrResult<Vec<u8>>
     Ok(text.into_bytes())
 }
 
-// The colour for EPS.
-fn eps_ink(ink: Ink<'_>) -> eps::Color
+/// Returns the colour for EPS.
+pub(crate) fn eps_ink(ink: Ink<'_>) -> eps::Color
     ensures value { result ≡ eps_ink (shade_of ink.entry) }
 {
     eps::Color {

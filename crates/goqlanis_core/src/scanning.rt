@@ -6,7 +6,7 @@ ghost use Rattle.qrcode_reader.specs.scan.Squares.{inverted};
 ghost use Rattle.qrcode_reader.specs.Positions.{IsFirstPartsReading};
 ghost use Rattle.goqlanis_core.specs.declared.scanning.Unread.TheVariants.{OutOfMemory};
 ghost use Rattle.goqlanis_core.specs.HandedOn.{byte_count, is_fnc1, part_on, handed_on};
-ghost use Rattle.goqlanis_core.specs.Scans.{IsPictureOf, IsReadAs, IsSeenAs, IsShownBy, IsSquareOf, IsUnreadIn, IsUnseen, is_png, is_jpeg, unread_as};
+ghost use Rattle.goqlanis_core.specs.Scans.{IsPictureOf, IsReadAs, IsSeenAs, IsShownBy, IsSquareOf, IsUnreadIn, IsUnseen, has_more, is_png, is_jpeg, unread_as};
 
 use qrcode::types::Mode;
 use qrcode_reader::scan::{
@@ -67,27 +67,34 @@ impl fmt::Display for Unread {
             Unread::Unscanned(cause) => f.write_str(cause_text(*cause)),
             Unread::Png(cause) => write!(f, "{cause}"),
             Unread::Jpeg => f.write_str("it is a JPEG file; convert it to PNG"),
-            Unread::NoSquare => f.write_str(
-                "it shows no code, neither in an even margin nor by its finder patterns",
+            Unread::NoSquare => write!(
+                f,
+                "no code found, neither in a plain margin nor by finder patterns; {STRAIGHT}"
+            ),
+            Unread::NoSymbol(count, qrcode_reader::Unread::NoSuchSide) => write!(
+                f,
+                "no code found: {count} by {count} modules are the size of none; {STRAIGHT}"
             ),
             Unread::NoSymbol(count, error) => {
-                write!(f, "{count} by {count} modules are no symbol: {error}")
+                write!(f, "{count} by {count} modules do not decode: {error}")
             }
             Unread::OutOfMemory => f.write_str("out of memory"),
         }
     }
 }
 
+// What helps if no code is found.
+const STRAIGHT: &str = "codes must be straight, but zbarimg reads photographs";
+
 // Says why there are no pixels.
 fn cause_text(cause: Unscanned) -> &'static str {
     match cause {
         Unscanned::NotPicture =>
             "it is neither a PNG, PBM or PGM file nor half blocks; convert it to PNG",
-        Unscanned::NoSide => {
-            "it has no pixels, or more than 65,535 along a side, of half blocks 4,096"
-        }
-        Unscanned::NoGrey => "its greatest grey is not one of 1 to 255; convert it to PNG",
-        Unscanned::NotPixel => "something that is no pixel stands before its last pixel",
+        Unscanned::NoSide =>
+            "it has no pixels, or too many: at most 65,535 a side, 4,096 in half blocks",
+        Unscanned::NoGrey => "its maximum grey must be 1 to 255; convert it to PNG",
+        Unscanned::NotPixel => "it contains something that is not a pixel",
         Unscanned::TooShort => "it ends before its last pixel",
         Unscanned::OutOfMemory => "out of memory",
     }
@@ -107,27 +114,44 @@ fn is_jpeg(bytes: &[u8]) -> bool
     bytes.starts_with(&[0xff, 0xd8, 0xff])
 }
 
-// Reads the pixels of a picture. If its first row is dark, exchanges dark and light and returns
-// `true`.
-pub(crate) fn seen_in(alloc: Global, bytes: &[u8]) -> Result<(Pixels, bool), Unread>
-    ensures value { IfOk result (λ seen. IsSeenAs bytes.now seen.0 seen.1) }
-    ensures causes { IfErr result (IsUnseen bytes.now) }
-{
-    let pixels = match pixels_in(alloc, bytes) {
-        Ok(pixels) => pixels,
-        Err(cause) => return Err(cause),
-    };
-    if pixels.has_dark_edge() {
-        Ok((pixels.inverted(alloc)?, true))
-    } else {
-        Ok((pixels, false))
-    }
+/// What a picture shows.
+#[derive(Drop)]
+pub(crate) struct Seen {
+    /// Its pixels. If its first row is dark, dark and light are exchanged.
+    pub(crate) pixels: Pixels,
+    pub(crate) is_inverted: bool,
+    /// Whether its file has more, which is ignored.
+    pub(crate) has_more: bool,
 }
 
-// Reads the pixels of a picture in any format.
+// Reads the pixels of a picture.
+pub(crate) fn seen_in(alloc: Global, bytes: &[u8]) -> Result<Seen, Unread>
+    ensures value { IfOk result (λ seen. IsSeenAs bytes.now seen.pixels seen.is_inverted) }
+    ensures more { IfOk result (λ seen. seen.has_more ≡ has_more bytes.now) }
+    ensures causes { IfErr result (IsUnseen bytes.now) }
+{
+    let (pixels, has_more) = match pixels_in(alloc, bytes) {
+        Ok(found) => found,
+        Err(cause) => return Err(cause),
+    };
+    let is_inverted = pixels.has_dark_edge();
+    let pixels = if is_inverted {
+        pixels.inverted(alloc)?
+    } else {
+        pixels
+    };
+    Ok(Seen {
+        pixels,
+        is_inverted,
+        has_more,
+    })
+}
+
+// Reads the pixels of a picture in any format; also says whether a PNG file has more.
 #[tactic(auto, using(crate::proofs::Seen::png_picture, crate::proofs::Seen::other_picture))]
-fn pixels_in(alloc: Global, bytes: &[u8]) -> Result<Pixels, Unread>
-    ensures value { IfOk result (IsPictureOf bytes.now) }
+fn pixels_in(alloc: Global, bytes: &[u8]) -> Result<(Pixels, bool), Unread>
+    ensures value { IfOk result (λ found. IsPictureOf bytes.now found.0) }
+    ensures more { IfOk result (λ found. found.1 ≡ has_more bytes.now) }
     ensures causes { IfErr result (IsUnseen bytes.now) }
 {
     if is_png(bytes) {
@@ -137,16 +161,17 @@ fn pixels_in(alloc: Global, bytes: &[u8]) -> Result<Pixels, Unread>
         return Err(Unread::Jpeg);
     }
     match pixels_of(alloc, bytes) {
-        Ok(pixels) => Ok(pixels),
+        Ok(pixels) => Ok((pixels, false)),
         Err(cause) => Err(Unread::Unscanned(cause)),
     }
 }
 
-// Reads the pixels of a PNG file.
+// Reads the pixels of a PNG file; also says whether it has more.
 #[tactic(auto, using(crate::proofs::Seen::shown_by, crate::proofs::Seen::large_image))]
-fn png_pixels(alloc: Global, bytes: &[u8]) -> Result<Pixels, Unread>
+fn png_pixels(alloc: Global, bytes: &[u8]) -> Result<(Pixels, bool), Unread>
     requires png { is_png bytes.now ≡ true }
-    ensures value { IfOk result (IsShownBy bytes.now) }
+    ensures value { IfOk result (λ found. IsShownBy bytes.now found.0) }
+    ensures more { IfOk result (λ found. found.1 ≡ has_more bytes.now) }
     ensures causes { IfErr result (IsUnseen bytes.now) }
 {
     let picture = match qrcode_png::read(alloc, bytes) {
@@ -157,7 +182,7 @@ fn png_pixels(alloc: Global, bytes: &[u8]) -> Result<Pixels, Unread>
     let (across, down) = picture.sides();
     let colours = picture.pixels(alloc)?;
     match pixels_of_colours(alloc, across as usize, down as usize, &colours) {
-        Ok(pixels) => Ok(pixels),
+        Ok(pixels) => Ok((pixels, picture.has_more())),
         Err(cause) => Err(Unread::Unscanned(cause)),
     }
 }

@@ -15,7 +15,7 @@ pub enum Unwritten {
     #[error("{0}")]
     File(#[from] io::Error),
     /// No file can be created in this folder.
-    #[error("no file can be made in its folder {0}: {1}")]
+    #[error("cannot create a file in {0}: {1}")]
     Folder(String, io::Error),
     /// The user may not read this folder, in which the file would be created.
     #[error("its folder {0} cannot be read by this user: name another one, or allow it with chmod +r")]
@@ -24,14 +24,17 @@ pub enum Unwritten {
     #[error("it is a folder; name a file in it")]
     IsFolder,
     /// The new file was written under a temporary name, and cannot be renamed to its path.
-    #[error("another file cannot take its place: {0}")]
+    #[error("cannot replace it: {0}")]
     Place(io::Error),
     /// The path names a file of another user, who could not read the new one.
     #[error("it belongs to another user, who could not read the new one: remove it first")]
     Owner,
     /// The path names another user's file, link or pipe in a folder that everybody may write to.
-    #[error("it is another user's, in a folder for everybody: remove it, or take another name")]
+    #[error("it belongs to another user, in a folder writable by everybody: remove it, or take another name")]
     Strange,
+    /// The path names a file that is open, but not for writing.
+    #[error("it is open for reading only; name the file itself")]
+    ReadOnly,
     /// All temporary names are taken in this folder.
     #[error("its folder {0} has goqlanis-0.new to goqlanis-9999.new: remove those of ended runs")]
     Taken(String),
@@ -100,7 +103,7 @@ pub fn write_whole(rt: &HostRuntime, path: &str, bytes: &[u8]) -> Result<(), Unw
             Err(error) => return Err(Unwritten::File(error)),
         };
         if is_open_file(rt, name, &found) {
-            return write_straight(rt, inside.as_str(), true, bytes);
+            return append(rt, inside.as_str(), &found, bytes);
         }
         if is_strange(rt, folder.way.as_str(), &found)? {
             return Err(Unwritten::Strange);
@@ -178,6 +181,15 @@ fn is_strange(rt: &HostRuntime, folder: &str, found: &Metadata) -> io::Result<bo
 // Splits a path into its folder, without the slash at its end, and the name in it.
 fn parts_of(path: &str) -> (&str, &str) {
     path.rsplit_once('/').unwrap_or((".", path))
+}
+
+// Appends to a file that is already open, to which the link `found` leads. The owner's rights of
+// such a link say for what the file is open.
+fn append(rt: &HostRuntime, place: &str, found: &Metadata, bytes: &[u8]) -> Result<(), Unwritten> {
+    if found.mode() & 0o200 == 0 {
+        return Err(Unwritten::ReadOnly);
+    }
+    write_straight(rt, place, true, bytes)
 }
 
 // Writes to a pipe or device, or appends to a file that is already open. A regular file that took

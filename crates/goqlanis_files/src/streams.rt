@@ -117,13 +117,13 @@ fn read_all<R: Read + Drop>(
     {
         Ok(_) if bytes.len() > most => {
             let help = if most == MOST_DATA {
-                "; goqlanis split takes more"
+                "; one code holds at most 7,089 characters; goqlanis split takes more"
             } else {
                 ""
             };
             let most = Grouped(most);
             refused!(alloc;
-                "cannot read {name}: it has more than {most} bytes, the most that are taken{help}"
+                "cannot read {name}: it has more than {most} bytes{help}"
             )
         }
         Ok(_) => Ok(bytes),

@@ -1,7 +1,7 @@
 //! Advice on command lines that `clap` rejects, and help wrapped at 80 columns.
 
 use crate::nearest::nearest;
-use crate::options::{ADVICE, Takes, Task, task_named, task_words};
+use crate::options::{ADVICE, OTHER_NAMES, Takes, Task, task_named, task_words};
 use clap::error::Error;
 use goqlanis_core::Grouped;
 use std::alloc::{AllocError, Global};
@@ -18,6 +18,9 @@ pub fn advice(
 ) -> Result<Option<String>, AllocError> {
     let text = format!(in alloc; "{error}")?;
     let text = text.as_str();
+    if let Some(help) = twice_help(alloc, task, text)? {
+        return Ok(Some(help));
+    }
     if let Some(value) = between(text, "invalid value '", "' for") {
         return value_help(alloc, task, text, value);
     }
@@ -30,10 +33,22 @@ pub fn advice(
     if let Some(help) = command_help(alloc, task, words)? {
         return Ok(Some(help));
     }
-    if text.contains("a similar argument exists") {
-        return Ok(None);
+    if let Some(name) = between(text, "a similar argument exists: '--", "'") {
+        if !OTHER_NAMES.iter().any(|(hidden, _)| *hidden == name) {
+            return Ok(None);
+        }
     }
     Ok(Some(other_help(alloc, task, words, word)?))
+}
+
+// Advice on a telephone number that is given twice.
+fn twice_help(alloc: Global, task: &Task, text: &str) -> Result<Option<String>, AllocError> {
+    let is_phone = text.contains("'--phone <NUMBER>' cannot be used multiple times");
+    if !is_phone || task.word != "vcard" {
+        return Ok(None);
+    }
+    let help = "--phone: only one; others are --mobile, --work-phone and --home-phone";
+    Ok(Some(String::from_str(alloc, help)?))
 }
 
 // Advice on an invalid value of an option, found in the text of `clap`'s error.
@@ -50,8 +65,13 @@ fn value_help(
     for (_, entry) in &task.all_options(alloc)? {
         if let (true, Takes::Number(_, least, most)) = (Some(entry.long) == name, entry.takes) {
             let (long, most) = (entry.long, Grouped(most as usize));
+            let tip = if (task.word, long) == ("wifi", "scale") {
+                "; the name of the network is --ssid"
+            } else {
+                ""
+            };
             return Ok(Some(format!(in alloc;
-                "--{long} {value}: use a whole number, {least} to {most}"
+                "--{long} {value}: use a whole number, {least} to {most}{tip}"
             )?));
         }
     }
@@ -66,7 +86,8 @@ fn between<'a>(text: &'a str, start: &str, end: &str) -> Option<&'a str> {
 }
 
 // Options that do not apply to payloads whose format fixes level, version and encoding.
-const CODE_OPTIONS: &str = "-l --level -v --symbol-version --min-version --micro --boost --eci";
+const CODE_OPTIONS: &str =
+    "-l --level -v --symbol-version --min-version --micro --boost --eci --segment --bytes";
 
 // Advice on a word that other programs accept.
 fn known_help(alloc: Global, task: &Task, word: &str) -> Result<Option<String>, AllocError> {
@@ -123,11 +144,15 @@ fn other_help(
     let name = task.word;
     let space = if name.is_empty() { "" } else { " " };
     match task.operand() {
+        _ if is_negative(word) => format!(in alloc; "{word}: no value is negative here"),
         _ if word.starts_with('-') => {
             format!(in alloc; "{word}: no such option; goqlanis{space}{name} --help lists them")
         }
         _ if words.iter().any(|word| word.as_str() == "--version") => format!(in alloc;
             "{word}: --version is the program's; for the code's version, use -v"
+        ),
+        _ if has_number(words, "--eci") => format!(in alloc;
+            "{word}: --eci takes no number: it marks UTF-8, ECI 26; for another, --segment eci:3"
         ),
         Some(("TEXT", _)) => format!(in alloc;
             "{word}: only one TEXT; put quotes around one with spaces, e.g. \"hello world\""
@@ -135,6 +160,18 @@ fn other_help(
         Some((name, _)) => format!(in alloc; "{word}: only one {name} at a time"),
         None => format!(in alloc; "{word}: goqlanis {name} takes only options; --help lists them"),
     }
+}
+
+// Whether a word is a negative number, maybe with a unit.
+fn is_negative(word: &str) -> bool {
+    let rest = word.strip_prefix('-').unwrap_or("");
+    rest.starts_with(|character: char| character.is_ascii_digit())
+}
+
+// Whether a whole number follows `option`.
+fn has_number(words: &[String], option: &str) -> bool {
+    let mut pairs = words.iter().zip(words.iter().skip(1));
+    pairs.any(|(word, next)| word.as_str() == option && next.as_str().parse::<u32>().is_ok())
 }
 
 // The width of help, in columns.

@@ -1,21 +1,22 @@
 //! Turns the command line into a request.
 
 use crate::colours::{check_colours, ink_of, part_colour, part_inks};
+use crate::fields::Fields;
 use crate::frames::{frame_of, place_of};
 use crate::logos::{AskedLogo, logo_of};
-use crate::options::Task;
+use crate::options::{Task, task_named};
 use crate::sizes::{Sizes, sizes_of};
 use crate::warnings::warn;
 use clap::ArgMatches;
 use clap::parser::ValueSource;
-use goqlanis_core::formats::{FORMATS, format_named, format_of_ending};
-use goqlanis_core::{Choice, Format, Request};
+use goqlanis_core::{Choice, Request};
 use goqlanis_files::failure::Failure;
 use goqlanis_files::streams::has_colours;
 use goqlanis_files::usage;
 use qrcode::bits::Manner;
 use qrcode::types::{EcLevel, Version};
 use qrcode_append::Versions;
+use qrcode_formats::{Colours, Density, FORMATS, Format, Middle, format_named, format_of_ending};
 use std::alloc::Global;
 use std::fs;
 
@@ -37,13 +38,66 @@ pub enum Target<'a> {
     File(&'a str),
 }
 
+/// The lines of an input, each of which becomes a code (`--lines`).
+#[derive(Clone, Copy)]
+pub struct Lines<'a> {
+    /// The separator of the fields in a line.
+    pub delimiter: &'a str,
+    /// The number or the name of the only field that is encoded, if there is one.
+    pub field: Option<&'a str>,
+    /// The names of the columns, separated like fields, if the command line gives them.
+    pub columns: Option<&'a str>,
+    /// Whether the first line has the names of the columns.
+    pub has_header: bool,
+}
+
+/// The data, and how it is taken.
+#[derive(Clone, Copy)]
+pub struct Input<'a, 'w> {
+    pub source: Source<'a>,
+    /// The segments that the user chose, instead of a source.
+    pub segments: Option<&'a [&'w str]>,
+    pub lines: Option<Lines<'a>>,
+    /// Whether one newline at the end is dropped.
+    pub is_trimmed: bool,
+    pub allows_empty: bool,
+    /// Whether it is bytes, not text.
+    pub is_bytes: bool,
+    /// Whether it is marked as UTF-8.
+    pub is_eci: bool,
+    /// The indicator of an industry's own format instead of GS1.
+    pub application: Option<&'a str>,
+}
+
+/// What is reported of a code.
+#[derive(Clone, Copy, PartialEq, Eq)]
+pub enum Report {
+    /// Only warnings.
+    Nothing,
+    /// Lines of text.
+    Text,
+    /// A line of JSON.
+    Json,
+}
+
+/// How data is split over several codes.
+#[derive(Clone, Copy)]
+pub struct Split {
+    /// The number of codes, if given.
+    pub count: Option<u8>,
+    /// The largest version.
+    pub most: Version,
+}
+
 /// What the command line asks for.
 #[derive(Clone, Copy)]
 pub struct Asked<'a, 'w> {
     /// The request; its `manner` is a placeholder until the data is known.
     pub request: Request<'a>,
-    /// The parsed command line.
-    pub given: &'a ArgMatches<'w>,
+    pub input: Input<'a, 'w>,
+    /// The options that give the fields of a payload.
+    pub fields: Fields<'a, 'w>,
+    pub split: Split,
     pub target: Target<'a>,
     /// The side of the picture in hundredths of a millimetre, if `--size` is a length in pixels.
     pub hundredths: Option<u64>,
@@ -51,24 +105,19 @@ pub struct Asked<'a, 'w> {
     pub dots: Option<u16>,
     /// The logo or empty area in the middle of the code, if any.
     pub logo: Option<AskedLogo<'a>>,
-}
-
-impl<'w> Asked<'_, 'w> {
-    /// Whether each input line becomes a code of its own (`--lines`).
-    pub fn is_by_line(&self) -> bool {
-        self.given.get_flag("lines")
-    }
-
-    /// Returns the separator of the fields in a line.
-    pub fn delimiter(&self) -> &'w str {
-        self.given.get_str("delimiter").unwrap_or(",")
-    }
+    /// The file of the logo.
+    pub logo_file: Option<&'a str>,
+    pub report: Report,
+    /// Whether the code is only reported, and not drawn.
+    pub is_dry: bool,
+    /// Whether warnings are errors.
+    pub is_strict: bool,
 }
 
 /// Turns the options in `given` into a request, and warns on standard error of doubtful ones.
 ///
 /// Errors: options that contradict each other, an unknown format, version, size, colour or place,
-/// or an option that the format does not support; `OutOfMemory`.
+/// or an option that the format does not support; a warning if warnings are errors; `OutOfMemory`.
 pub fn asked_for<'a, 'w>(
     rt: &HostRuntime,
     task: &Task,
@@ -79,37 +128,92 @@ pub fn asked_for<'a, 'w>(
     let target = target_of(alloc, given)?;
     let format = format(rt, given.get_str("format"), target)?;
     check_format(alloc, given, format)?;
-    let sizes = sizes_of(alloc, given, format)?;
+    let sizes = sizes_of(alloc, task, given, format)?;
     let asked = Asked {
         request: request_of(alloc, task, given, format, &sizes)?,
-        given,
+        input: input_of(alloc, given)?,
+        fields: Fields::of(given),
+        split: Split {
+            count: given.get_one::<u8>("count"),
+            most: version_of(alloc, given, "max-version")?.unwrap_or(Version::Normal(40)),
+        },
         target,
         hundredths: sizes.hundredths,
         dots: sizes.dots,
         logo: logo_of(alloc, given)?,
+        logo_file: given.get_str("logo"),
+        report: report_of(given),
+        is_dry: given.get_flag("dry-run"),
+        is_strict: given.get_flag("werror"),
     };
-    if asked.delimiter().is_empty() {
-        return usage!(alloc; "--delimiter: give it a text, e.g. \";\"");
-    }
-    if asked.is_by_line() {
+    if asked.input.lines.is_some() {
         check_one_behind_another(alloc, &asked)?;
-    } else if given.contains_id("field") {
-        return usage!(alloc; "--field needs --lines");
     }
-    warn(rt, &asked);
+    warn(rt, &asked)?;
     Ok(asked)
+}
+
+/// Returns what is reported.
+pub(crate) fn report_of(given: &ArgMatches<'_>) -> Report {
+    if given.get_flag("json") {
+        Report::Json
+    } else if given.get_flag("verbose") {
+        Report::Text
+    } else {
+        Report::Nothing
+    }
+}
+
+// Returns where the data comes from, and how it is taken.
+fn input_of<'a, 'w>(alloc: Global, given: &'a ArgMatches<'w>) -> Result<Input<'a, 'w>, Failure> {
+    Ok(Input {
+        source: source_of(given),
+        segments: given.get_strs("segment"),
+        lines: lines_of(alloc, given)?,
+        is_trimmed: given.get_flag("trim"),
+        allows_empty: given.get_flag("allow-empty"),
+        is_bytes: given.get_flag("bytes"),
+        is_eci: given.get_flag("eci"),
+        application: given.get_str("application"),
+    })
+}
+
+// Returns how lines are taken, with `--lines`.
+fn lines_of<'a>(alloc: Global, given: &ArgMatches<'a>) -> Result<Option<Lines<'a>>, Failure> {
+    if !given.get_flag("lines") {
+        for option in ["field", "columns", "header"] {
+            if is_given(given, option) {
+                return usage!(alloc; "--{option} needs --lines");
+            }
+        }
+        return Ok(None);
+    }
+    let lines = Lines {
+        delimiter: given.get_str("delimiter").unwrap_or(","),
+        field: given.get_str("field"),
+        columns: given.get_str("columns"),
+        has_header: given.get_flag("header"),
+    };
+    if lines.delimiter.is_empty() {
+        return usage!(alloc; "--delimiter: it must not be empty, e.g. \";\"");
+    }
+    if lines.has_header && lines.columns.is_some() {
+        return usage!(alloc;
+            "--header and --columns do not go together: one of them names the columns"
+        );
+    }
+    Ok(Some(lines))
 }
 
 /// Checks that several drawings go to files, or are text that can be printed one after another.
 pub fn check_one_behind_another(alloc: Global, asked: &Asked<'_, '_>) -> Result<(), Failure> {
-    match (asked.target, asked.request.format) {
-        (Target::File(_), _)
-        | (_, Format::HalfBlocks | Format::Terminal | Format::Chars | Format::Ascii) => Ok(()),
-        _ => usage!(alloc;
-            "only text formats go to standard output one after another: \
-            add --output, e.g. -o a.png, and files are numbered"
-        ),
+    if matches!(asked.target, Target::File(_)) || asked.request.format.row().is_series {
+        return Ok(());
     }
+    usage!(alloc;
+        "pictures of this format cannot follow one another on standard output: add --output, e.g. \
+        -o a.png, and files are numbered; text, zpl, tspl and escpos can"
+    )
 }
 
 // Options that exclude each other, with the advice for each.
@@ -118,6 +222,9 @@ static CONFLICTS: &[(&str, &[&str], &str)] = &[
     ("--segment", &["TEXT", "--input"], "--segment gives the data"),
     ("--segment", &["--trim", "--lines", "--bytes", "--eci", "--boost"], "use one of them"),
     ("TEXT", &["--input"], "use one of them"),
+    ("ELEMENTS", &["--input"], "use one of them"),
+    ("--application", &["--lines"], "--lines is for element strings of GS1"),
+    ("--dry-run", &["--lines"], "try one line, without --lines"),
     ("--bytes", &["--eci"], "use one of them"),
     ("--symbol-version", &["--min-version", "--max-version"], "use one of them"),
     ("--symbol-version", &["--micro"], "M1 to M4 are Micro QR"),
@@ -133,6 +240,12 @@ fn check_conflicts(alloc: Global, given: &ArgMatches<'_>) -> Result<(), Failure>
     for (one, others, help) in CONFLICTS {
         let other = others.iter().find(|other| is_given(given, other));
         if let Some(other) = other.filter(|_| is_given(given, one)) {
+            if let Some(task) = given.get_str("TEXT").and_then(task_named) {
+                let word = task.word;
+                return usage!(alloc;
+                    "{word}: the command comes first, before options: goqlanis {word} .."
+                );
+            }
             return usage!(alloc; "{one} and {other} do not go together: {help}");
         }
     }
@@ -145,9 +258,10 @@ fn is_given(given: &ArgMatches<'_>, name: &str) -> bool {
     given.value_source(name.trim_start_matches('-')) == Some(ValueSource::CommandLine)
 }
 
-/// Returns the source of the data.
-pub fn source_of<'a>(given: &ArgMatches<'a>) -> Source<'a> {
-    match (given.get_str("TEXT"), given.get_str("input")) {
+// Returns the source of the data.
+fn source_of<'a>(given: &ArgMatches<'a>) -> Source<'a> {
+    let text = given.get_str("TEXT").or(given.get_str("ELEMENTS"));
+    match (text, given.get_str("input")) {
         (Some(text), _) => Source::Text(text),
         (None, None | Some("-")) => Source::StandardInput,
         (None, Some(path)) => Source::File(path),
@@ -182,15 +296,12 @@ fn choice_of(alloc: Global, given: &ArgMatches<'_>) -> Result<Choice, Failure> {
 }
 
 /// Returns the range of versions for structured append.
-pub fn versions_of(
-    alloc: Global,
-    given: &ArgMatches<'_>,
-    choice: Choice,
-) -> Result<Versions, Failure> {
-    let most = version_of(alloc, given, "max-version")?.unwrap_or(Version::Normal(40));
-    let (least, greatest) = match choice {
+///
+/// Errors: `Usage` if there is none; `OutOfMemory`.
+pub fn versions_of(alloc: Global, asked: &Asked<'_, '_>) -> Result<Versions, Failure> {
+    let (least, greatest) = match asked.request.choice {
         Choice::At(version) => (version, version),
-        Choice::From(version) | Choice::Boosted(version) => (version, most),
+        Choice::From(version) | Choice::Boosted(version) => (version, asked.split.most),
     };
     match (least, greatest) {
         (Version::Normal(least), Version::Normal(greatest)) if least <= greatest => Ok(Versions {
@@ -232,7 +343,7 @@ fn request_of<'a>(
         level: level_of(task, given, choice),
         mask: given.get_one::<u8>("mask").map(usize::from),
         format,
-        zone: given.get_one::<u8>("quiet-zone"),
+        zone: given.get_one::<u8>("quiet-zone").or(task.own_zone()),
         scale: sizes.scale,
         size: sizes.side,
         dpi: given.get_one::<u16>("dpi"),
@@ -254,18 +365,19 @@ fn check_format(alloc: Global, given: &ArgMatches<'_>, format: Format) -> Result
     // (No option is called "".)
     let part = part_colour(given).unwrap_or("");
     let is_svg = format == Format::SvgPath;
+    let row = format.row();
     let rows: [(&[&str], bool, &str); 8] = [
-        (&["dark", "light"], format.has_colours(),
+        (&["dark", "light"], row.colours != Colours::Fixed,
             "only PNG, SVG, EPS, PDF and PPM have colours; add --format png, svg or eps"),
-        (&[part], format.has_colours() && format != Format::Ppm,
+        (&[part], row.parts != Colours::Fixed,
             "only PNG, SVG, EPS and PDF have colours of parts; add --format png, svg, eps or pdf"),
-        (&["dpi"], format.pixels() > 1 && !is_svg,
+        (&["dpi"], row.density != Density::Nothing,
             "text, SVG and PIC have no resolution; use another --format, e.g. png"),
         (&["invert"], format != Format::Pic,
             "PIC draws no light modules; use another --format"),
-        (&["at"], matches!(format, Format::Zpl | Format::Tspl),
+        (&["at"], row.has_place,
             "only labels have a place for the code; add --format zpl or tspl"),
-        (&["logo"], is_svg || format == Format::Png,
+        (&["logo"], matches!(row.middle, Middle::Element | Middle::Pixels),
             "only SVG and PNG take a logo; add --format svg, or use --logo-area instead and put \
             the logo there yourself"),
         (&["svg-title", "svg-desc", "svg-id", "svg-class", "no-size"], is_svg,

@@ -4,9 +4,10 @@ use crate::nearest::nearest;
 use crate::options::PART_COLOURS;
 use clap::ArgMatches;
 use goqlanis_core::colours::{Colour, NAMES, colour_named};
-use goqlanis_core::{Format, Ink, PartInk, Request};
+use goqlanis_core::{Ink, PartInk, Request};
 use goqlanis_files::failure::Failure;
 use goqlanis_files::usage;
+use qrcode_formats::Colours;
 use std::alloc::{AllocError, Global};
 
 /// Returns the colours of parts that the command line gives; `--invert` swaps dark and light.
@@ -76,10 +77,11 @@ fn unknown_colour(alloc: Global, option: &str, text: &str) -> Result<String, All
 /// Errors: `Usage`, with what would help; `OutOfMemory`.
 pub fn check_colours(alloc: Global, request: &Request<'_>) -> Result<(), Failure> {
     let is_opaque = request.dark.opacity == 255 && request.light.opacity == 255;
-    if matches!(request.format, Format::Eps | Format::Pdf | Format::Ppm) && !is_opaque {
+    let row = request.format.row();
+    if row.colours == Colours::Opaque && !is_opaque {
         return usage!(alloc; "EPS, PDF and PPM have no transparency: use --format png or svg");
     }
-    if request.format != Format::Png && !request.parts.iter().all(|part| part.ink.opacity == 255) {
+    if row.parts != Colours::Any && !request.parts.iter().all(|part| part.ink.opacity == 255) {
         return usage!(alloc;
             "colours of parts are drawn over --dark and --light in SVG, EPS and PDF: for \
             transparent ones use --format png"

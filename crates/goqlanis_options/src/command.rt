@@ -21,7 +21,8 @@ pub fn command_of<'a>(alloc: Global, task: &Task, end: &'a str) -> Result<Comman
     Ok(command)
 }
 
-/// Returns the end of a task's help: for plain codes the list of commands, and examples.
+/// Returns the end of a task's help: for plain codes the list of commands, and examples; for other
+/// codes where the options are that all have.
 ///
 /// Errors: only `AllocError`.
 pub fn end_of_help(alloc: Global, task: &Task) -> Result<String, AllocError> {
@@ -33,6 +34,10 @@ pub fn end_of_help(alloc: Global, task: &Task) -> Result<String, AllocError> {
             write!(text, "  {word:9}  {about}\n")?;
         }
         write!(text, "\n{EXAMPLES}")?;
+    } else if task.draws() {
+        text.push_str(
+            "Options for sizes, colours, logos and reports are those of goqlanis --help.\n",
+        )?;
     }
     Ok(text)
 }
@@ -42,14 +47,19 @@ fn arguments<'a>(alloc: Global, task: &Task) -> Result<Vec<Arg<'a>>, AllocError>
     let mut arguments = Vec::new(alloc);
     if let Some((name, help)) = task.operand() {
         let arg = Arg::new(alloc, name).help(help);
-        arguments.push(if matches!(task.purpose, Purpose::Join) {
-            arg.num_args(1..).action(ArgAction::Append).required(true)
-        } else {
-            arg
+        arguments.push(match task.purpose {
+            Purpose::Join => arg.num_args(1..).action(ArgAction::Append).required(true),
+            Purpose::Read | Purpose::Check => arg.num_args(1..).action(ArgAction::Append),
+            _ => arg,
         })?;
     }
     for (heading, entry) in task.all_options(alloc)? {
-        arguments.push(argument(alloc, entry)?.help_heading(heading))?;
+        let is_hidden = !task.word.is_empty() && task.draws() && is_common(heading, &entry);
+        arguments.push(
+            argument(alloc, entry)?
+                .help_heading(heading)
+                .hide(is_hidden),
+        )?;
     }
     let help = Arg::new(alloc, "help")
         .short('h')
@@ -57,6 +67,11 @@ fn arguments<'a>(alloc: Global, task: &Task) -> Result<Vec<Arg<'a>>, AllocError>
         .help("Print help");
     arguments.push(help.action(ArgAction::Help).help_heading("Other"))?;
     Ok(arguments)
+}
+
+// Whether an option is the same for all codes, so that the help of a command need not repeat it.
+fn is_common(heading: &str, entry: &Entry) -> bool {
+    heading != "Input" && heading != "Code" && !matches!(entry.long, "output" | "format")
 }
 
 // Builds an option. A negative number after it is its value.
@@ -69,22 +84,22 @@ fn argument<'a>(alloc: Global, entry: Entry) -> Result<Arg<'a>, AllocError> {
         Some(letter) => arg.short(letter),
         None => arg,
     };
-    Ok(with_values(with_other_names(arg, entry.long)?, entry.takes))
+    with_values(with_other_names(arg, entry.long)?, entry.takes)
 }
 
 // Adds what an option takes.
-fn with_values<'a>(arg: Arg<'a>, takes: Takes) -> Arg<'a> {
-    match takes {
-        Takes::Nothing => arg.action(ArgAction::SetTrue),
-        Takes::Text(name) => arg.value_name(name),
-        Takes::Wanted(name) => arg.value_name(name).required(true),
-        Takes::Texts(name) => arg.value_name(name).action(ArgAction::Append),
-        Takes::Path => arg.value_name("FILE"),
-        Takes::Word(name, words) => arg.value_name(name).value_parser(words).ignore_case(true),
-        Takes::Number(name, least, most) => arg
-            .value_name(name)
-            .value_parser(ValueParser::unsigned(least, most)),
+fn with_values(arg: Arg<'_>, takes: Takes) -> Result<Arg<'_>, AllocError> {
+    if matches!(takes, Takes::Nothing) {
+        return Ok(arg.action(ArgAction::SetTrue));
     }
+    let arg = arg.value_name(takes.name());
+    Ok(match takes {
+        Takes::Wanted(_) => arg.required_unless_present("lines")?,
+        Takes::Texts(_) => arg.action(ArgAction::Append),
+        Takes::Word(_, words) => arg.value_parser(words).ignore_case(true),
+        Takes::Number(_, least, most) => arg.value_parser(ValueParser::unsigned(least, most)),
+        _ => arg,
+    })
 }
 
 // Adds the hidden aliases of the option called `name`.

@@ -3,85 +3,118 @@
 use crate::options::{DRAWING, Entry, TASKS, Takes, Task, task_words};
 use std::alloc::{AllocError, Global};
 
-/// A shell.
-#[derive(Clone, Copy)]
-pub enum Shell {
-    Bash,
-    Zsh,
-    Fish,
+/// A shell, and the templates of its script. In a template, `@` and a letter stand for a value.
+pub struct Shell {
+    name: &'static str,
+    // The script before and after the list of commands, and its end.
+    start: &'static str,
+    middle: &'static str,
+    end: &'static str,
+    // The start and the end of a task: @p its pattern, @f its files.
+    task: &'static str,
+    task_end: &'static str,
+    // An option with and without a letter: @s the letter, @l the long name, @v its value, @h its
+    // help, @n the condition of the task, @m `*` if it may be repeated.
+    short: &'static str,
+    long: &'static str,
+    // The value of an option: a file, and one of the words @w.
+    file: &'static str,
+    value: &'static str,
+    // Characters that help texts need escaped inside single quotes.
+    escapes: &'static [(char, &'static str)],
 }
 
-static SHELLS: &[(&str, Shell)] = &[
-    ("bash", Shell::Bash),
-    ("zsh", Shell::Zsh),
-    ("fish", Shell::Fish),
+static SHELLS: &[Shell] = &[
+    Shell {
+        name: "bash",
+        start: BASH,
+        middle: "'
+  case ${COMP_WORDS[1]} in
+",
+        end: BASH_END,
+        task: "    @p)\n",
+        task_end: "      ;;\n",
+        short: "      _goqlanis_option -@s --@l@v\n",
+        long: "      _goqlanis_option '' --@l@v\n",
+        file: " ''",
+        value: " '@w'",
+        escapes: &[QUOTE],
+    },
+    Shell {
+        name: "zsh",
+        start: "#compdef goqlanis\nlocal tasks=(",
+        middle: ")\ncase $words[2] in\n",
+        end: "esac\n",
+        task: "  @p)\n    _arguments '1:text or command:($tasks)'@f",
+        task_end: " '--help[Print help]' ;;\n",
+        short: " \\\n      {-@s,--@l}'[@h]@v'",
+        long: " \\\n      '@m--@l[@h]@v'",
+        file: ":file:_files",
+        value: ":value:(@w)",
+        escapes: &[QUOTE, ('[', "\\["), (']', "\\]"), (':', "\\:")],
+    },
+    Shell {
+        name: "fish",
+        start: "complete -c goqlanis -f
+complete -c goqlanis -n '__fish_seen_subcommand_from read check join' -F
+complete -c goqlanis -n __fish_use_subcommand -a '",
+        middle: "'\n",
+        end: "",
+        task: "",
+        task_end: "",
+        short: "complete -c goqlanis -n '@n' -l @l -s @s@v -d '@h'\n",
+        long: "complete -c goqlanis -n '@n' -l @l@v -d '@h'\n",
+        file: " -r -F",
+        value: " -x -a '@w'",
+        escapes: &[QUOTE],
+    },
 ];
 
-/// Returns the shell called `name`, ignoring case.
-pub fn shell_named(name: &str) -> Option<Shell> {
-    let mut shells = SHELLS.iter();
-    let (_, shell) = shells.find(|(known, _)| known.eq_ignore_ascii_case(name))?;
-    Some(*shell)
-}
+// To write a quote inside single quotes, close them, escape it, and open them again.
+const QUOTE: (char, &str) = ('\'', "'\\''");
 
-// The script before and after the list of commands.
-static BASH: (&str, &str) = (
-    "_goqlanis_option() {
+const BASH: &str = "_goqlanis_option() {
   names+=\" $2\"
   if [[ $# -gt 2 && ($before == \"$1\" || $before == \"$2\") ]]; then values=$3; fi
 }
 _goqlanis() {
   local word=${COMP_WORDS[COMP_CWORD]} before=${COMP_WORDS[COMP_CWORD-1]} names=--help values
   unset values
-  [[ $COMP_CWORD -gt 1 ]] || names+=' ",
-    "'
-  case ${COMP_WORDS[1]} in
-",
-);
+  [[ $COMP_CWORD -gt 1 ]] || names+=' ";
 
-static BASH_END: &str = "  esac
+const BASH_END: &str = "  esac
   COMPREPLY=($(compgen -W \"${values-$names}\" -- \"$word\"))
 }
 complete -o default -F _goqlanis goqlanis
 ";
 
-static ZSH: (&str, &str) = (
-    "#compdef goqlanis
-local tasks=(",
-    ")
-case $words[2] in
-",
-);
-
-static FISH: (&str, &str) = (
-    "complete -c goqlanis -f
-complete -c goqlanis -n '__fish_seen_subcommand_from read check join' -F
-complete -c goqlanis -n __fish_use_subcommand -a '",
-    "'\n",
-);
+/// Returns the shell called `name`, ignoring case.
+pub fn shell_named(name: &str) -> Option<&'static Shell> {
+    SHELLS
+        .iter()
+        .find(|shell| shell.name.eq_ignore_ascii_case(name))
+}
 
 /// Returns the completion script for `shell`.
 ///
 /// Errors: only `AllocError`.
-pub fn completions_of(alloc: Global, shell: Shell) -> Result<String, AllocError> {
-    let ((start, middle), end) = match shell {
-        Shell::Bash => (BASH, BASH_END),
-        Shell::Zsh => (ZSH, "esac\n"),
-        Shell::Fish => (FISH, ""),
-    };
+pub fn completions_of(alloc: Global, shell: &Shell) -> Result<String, AllocError> {
     let words = task_words(alloc)?.join(alloc, " ")?;
-    let mut text = format!(in alloc; "{start}{words}{middle}")?;
+    let mut text = String::from_str(alloc, shell.start)?;
+    text.push_str(words.as_str())?;
+    text.push_str(shell.middle)?;
     for task in TASKS {
         push_task(&mut text, shell, task, task.word)?;
     }
     push_task(&mut text, shell, &DRAWING, words.as_str())?;
-    text.push_str(end)?;
+    text.push_str(shell.end)?;
     Ok(text)
 }
 
 // Appends the options of a task, to be completed after `words`. Plain codes come last: they match
 // all other words.
-fn push_task(text: &mut String, shell: Shell, task: &Task, words: &str) -> Result<(), AllocError> {
+fn push_task(text: &mut String, shell: &Shell, task: &Task, words: &str) -> Result<(), AllocError> {
+    let alloc = *text.allocator();
     let (pattern, not) = if task.word.is_empty() {
         ("*", "not ")
     } else {
@@ -92,85 +125,80 @@ fn push_task(text: &mut String, shell: Shell, task: &Task, words: &str) -> Resul
     } else {
         " '*:picture:_files'"
     };
-    match shell {
-        Shell::Bash => write!(text, "    {pattern})\n")?,
-        Shell::Zsh => write!(
-            text,
-            "  {pattern})\n    _arguments '1:text or command:($tasks)'{files}"
-        )?,
-        Shell::Fish => {}
-    }
-    let seen = format!(in *text.allocator(); "{not}__fish_seen_subcommand_from {words}")?;
-    for (_, entry) in &task.all_options(*text.allocator())? {
+    let values = [
+        ('p', String::from_str(alloc, pattern)?),
+        ('f', String::from_str(alloc, files)?),
+    ];
+    push_filled(text, shell.task, &values)?;
+    let seen = format!(in alloc; "{not}__fish_seen_subcommand_from {words}")?;
+    for (_, entry) in &task.all_options(alloc)? {
         push_option(text, shell, seen.as_str(), entry)?;
     }
-    match shell {
-        Shell::Bash => text.push_str("      ;;\n"),
-        Shell::Zsh => text.push_str(" '--help[Print help]' ;;\n"),
-        Shell::Fish => Ok(()),
-    }
+    text.push_str(shell.task_end)
 }
 
 // Appends an option and its values; `seen` is fish's condition.
 fn push_option(
     text: &mut String,
-    shell: Shell,
+    shell: &Shell,
     seen: &str,
     entry: &Entry,
 ) -> Result<(), AllocError> {
-    let long = entry.long;
-    let escapes = match shell {
-        Shell::Zsh => ZSH_ESCAPES,
-        _ => ESCAPES,
-    };
-    let mut help = String::new(*text.allocator());
-    push_escaped(&mut help, entry.help, escapes)?;
-    let value = value_of(*text.allocator(), shell, entry.takes)?;
+    let alloc = *text.allocator();
+    let mut help = String::new(alloc);
+    push_escaped(&mut help, entry.help, shell.escapes)?;
+    let value = value_of(alloc, shell, entry.takes)?;
     let many = if matches!(entry.takes, Takes::Texts(_)) {
         "*"
     } else {
         ""
     };
-    match (shell, entry.short) {
-        (Shell::Bash, Some(letter)) => {
-            write!(text, "      _goqlanis_option -{letter} --{long}{value}\n")
-        }
-        (Shell::Bash, None) => write!(text, "      _goqlanis_option '' --{long}{value}\n"),
-        (Shell::Zsh, Some(letter)) => {
-            write!(text, " \\\n      {{-{letter},--{long}}}'[{help}]{value}'")
-        }
-        (Shell::Zsh, None) => write!(text, " \\\n      '{many}--{long}[{help}]{value}'"),
-        (Shell::Fish, Some(letter)) => write!(
-            text,
-            "complete -c goqlanis -n '{seen}' -l {long} -s {letter}{value} -d '{help}'\n"
-        ),
-        (Shell::Fish, None) => write!(
-            text,
-            "complete -c goqlanis -n '{seen}' -l {long}{value} -d '{help}'\n"
-        ),
-    }
+    let (template, letter) = match entry.short {
+        Some(letter) => (shell.short, format!(in alloc; "{letter}")?),
+        None => (shell.long, String::new(alloc)),
+    };
+    let values = [
+        ('s', letter),
+        ('l', String::from_str(alloc, entry.long)?),
+        ('v', value),
+        ('h', help),
+        ('n', String::from_str(alloc, seen)?),
+        ('m', String::from_str(alloc, many)?),
+    ];
+    push_filled(text, template, &values)
 }
 
 // Returns the possible values of an option, in the shell's syntax.
-fn value_of(alloc: Global, shell: Shell, takes: Takes) -> Result<String, AllocError> {
-    let words = match takes {
-        Takes::Word(_, words) => words.join(alloc, " ")?,
-        _ => String::new(alloc),
+fn value_of(alloc: Global, shell: &Shell, takes: Takes) -> Result<String, AllocError> {
+    let mut text = String::new(alloc);
+    let template = match takes {
+        Takes::Nothing => "",
+        Takes::Path => shell.file,
+        _ => shell.value,
     };
-    match (shell, takes) {
-        (_, Takes::Nothing) => Ok(words),
-        (Shell::Bash, _) => format!(in alloc; " '{words}'"),
-        (Shell::Zsh, Takes::Path) => String::from_str(alloc, ":file:_files"),
-        (Shell::Zsh, _) => format!(in alloc; ":value:({words})"),
-        (Shell::Fish, Takes::Path) => String::from_str(alloc, " -r -F"),
-        (Shell::Fish, _) => format!(in alloc; " -x -a '{words}'"),
-    }
+    let words = takes.words().join(alloc, " ")?;
+    push_filled(&mut text, template, &[('w', words)])?;
+    Ok(text)
 }
 
-// Escapes inside single quotes: to write a quote, close them, escape it, and open them again.
-const ESCAPES: &[(char, &str)] = &[('\'', "'\\''")];
-
-const ZSH_ESCAPES: &[(char, &str)] = &[('\'', "'\\''"), ('[', "\\["), (']', "\\]"), (':', "\\:")];
+// Appends a template, with its values filled in.
+fn push_filled(
+    text: &mut String,
+    template: &str,
+    values: &[(char, String)],
+) -> Result<(), AllocError> {
+    let mut pieces = template.split('@');
+    text.push_str(pieces.next().unwrap_or(""))?;
+    for piece in pieces {
+        let mut rest = piece.chars();
+        let letter = rest.next().unwrap_or(' ');
+        if let Some((_, value)) = values.iter().find(|(known, _)| *known == letter) {
+            text.push_str(value.as_str())?;
+        }
+        text.push_str(rest.as_str())?;
+    }
+    Ok(())
+}
 
 /// Appends `plain`, with the characters of `escapes` replaced.
 pub(crate) fn push_escaped(

@@ -49,7 +49,7 @@ fn text_of<'a>(alloc: Global, given: &ArgMatches<'a>, option: &str) -> Result<&'
         return Ok("");
     };
     if text.is_empty() || text.contains('\n') {
-        return usage!(alloc; "--{option}: give it a text of one line");
+        return usage!(alloc; "--{option}: it must be one line, and not empty");
     }
     if option == "svg-id" && text.contains(' ') {
         return usage!(alloc; "--svg-id: an ID has no spaces");
@@ -57,7 +57,7 @@ fn text_of<'a>(alloc: Global, given: &ArgMatches<'a>, option: &str) -> Result<&'
     if let Some(character) = text.chars().find(is_foreign) {
         let code = character as u32;
         return usage!(alloc;
-            "--{option}: it has U+{code:04X}, which cannot stand there; leave it out"
+            "--{option}: it contains U+{code:04X}, which is not allowed; remove it"
         );
     }
     Ok(text)

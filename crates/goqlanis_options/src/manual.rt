@@ -1,10 +1,10 @@
 //! The manual page.
 
 use crate::completions::push_escaped;
-use crate::options::{DRAWING, EXAMPLES, Entry, TASKS, Takes, Task};
+use crate::options::{DRAWING, EXAMPLES, Entry, TASKS, Task};
 use std::alloc::{AllocError, Global};
 
-static START: &str = ".TH GOQLANIS 1
+const START: &str = ".TH GOQLANIS 1
 .SH NAME
 goqlanis \\- Make QR and Micro QR codes, and read them back
 .SH SYNOPSIS
@@ -19,33 +19,75 @@ to a file. Input is encoded unchanged.
 .SH OPTIONS
 ";
 
-static WORDS: &str = ".SH COMMANDS
+const WORDS: &str = ".SH COMMANDS
 Commands that make codes take most options above; those from wifi to event also fields.
 ";
 
-static END: &str = ".SH EXIT STATUS
+const END: &str = ".SH EXIT STATUS
 0: success. 1: something was refused, or check found a code that departs from the standard. 2: the
 command line is wrong.
 .SH EXAMPLES
 .nf
 ";
 
+// A part of the page.
+#[derive(Clone, Copy)]
+enum Piece {
+    /// Roff, as it stands.
+    Roff(&'static str),
+    /// The options of plain codes.
+    Options,
+    /// The commands, each with its own options.
+    Commands,
+    /// The examples.
+    Examples,
+}
+
+// The page, from the top.
+static PAGE: &[Piece] = &[
+    Piece::Roff(START),
+    Piece::Options,
+    Piece::Roff(WORDS),
+    Piece::Commands,
+    Piece::Roff(END),
+    Piece::Examples,
+    Piece::Roff(".fi\n"),
+];
+
 /// Returns the manual page, as roff.
 ///
 /// Errors: only `AllocError`.
 pub fn manual_page(alloc: Global) -> Result<String, AllocError> {
-    let mut text = String::from_str(alloc, START)?;
-    for (_, entry) in &DRAWING.all_options(alloc)? {
-        push_option(&mut text, entry)?;
+    let mut text = String::new(alloc);
+    for piece in PAGE {
+        push_piece(&mut text, *piece)?;
     }
-    text.push_str(WORDS)?;
-    for task in TASKS {
-        push_task(&mut text, task)?;
-    }
-    text.push_str(END)?;
-    push_plain(&mut text, EXAMPLES.trim_start_matches("Examples:\n"))?;
-    text.push_str(".fi\n")?;
     Ok(text)
+}
+
+fn push_piece(text: &mut String, piece: Piece) -> Result<(), AllocError> {
+    match piece {
+        Piece::Roff(roff) => text.push_str(roff),
+        Piece::Options => push_options(text, &DRAWING),
+        Piece::Commands => push_commands(text),
+        Piece::Examples => push_plain(text, EXAMPLES.trim_start_matches("Examples:\n")),
+    }
+}
+
+// Appends all options of a task.
+fn push_options(text: &mut String, task: &Task) -> Result<(), AllocError> {
+    for (_, entry) in &task.all_options(*text.allocator())? {
+        push_option(text, entry)?;
+    }
+    Ok(())
+}
+
+// Appends the commands.
+fn push_commands(text: &mut String) -> Result<(), AllocError> {
+    for task in TASKS {
+        push_task(text, task)?;
+    }
+    Ok(())
 }
 
 // Appends a command and its own options.
@@ -65,41 +107,36 @@ fn push_task(text: &mut String, task: &Task) -> Result<(), AllocError> {
 // Appends an option and its help text.
 fn push_option(text: &mut String, entry: &Entry) -> Result<(), AllocError> {
     let alloc = *text.allocator();
-    let (long, help) = (entry.long, entry.help);
+    let (long, help, name) = (entry.long, entry.help, entry.takes.name());
+    let words = entry.takes.words();
+    let is_long = words.len() > FEW;
+    let value = if is_long || words.is_empty() {
+        String::from_str(alloc, name)?
+    } else {
+        words.join(alloc, "|")?
+    };
     let mut plain = String::new(alloc);
-    if let Some(letter) = entry.short {
-        write!(plain, "-{letter}, ")?;
-    }
-    write!(plain, "--{long}")?;
-    push_value(&mut plain, entry.takes)?;
-    write!(plain, "\n{help}\n")?;
-    if let Takes::Word(name, words) = entry.takes {
-        if words.len() > FEW {
-            let words = words.join(alloc, ", ")?;
-            write!(plain, "{name}: {words}\n")?;
-        }
+    push_letter(&mut plain, entry.short)?;
+    let space = if name.is_empty() { "" } else { " " };
+    write!(plain, "--{long}{space}{value}\n{help}\n")?;
+    if is_long {
+        let words = words.join(alloc, ", ")?;
+        write!(plain, "{name}: {words}\n")?;
     }
     text.push_str(".TP\n.B ")?;
     push_plain(text, plain.as_str())
 }
 
-// Up to this many values are listed right after an option's name.
-const FEW: usize = 6;
-
-// Appends what an option takes.
-fn push_value(text: &mut String, takes: Takes) -> Result<(), AllocError> {
-    match takes {
-        Takes::Nothing => Ok(()),
-        Takes::Text(name) | Takes::Wanted(name) | Takes::Texts(name) | Takes::Number(name, _, _) =>
-            write!(text, " {name}"),
-        Takes::Path => text.push_str(" FILE"),
-        Takes::Word(name, words) if words.len() > FEW => write!(text, " {name}"),
-        Takes::Word(_, words) => {
-            let words = words.join(*text.allocator(), "|")?;
-            write!(text, " {words}")
-        }
+// Appends the short name of an option, if it has one.
+fn push_letter(text: &mut String, letter: Option<char>) -> Result<(), AllocError> {
+    match letter {
+        Some(letter) => write!(text, "-{letter}, "),
+        None => Ok(()),
     }
 }
+
+// Up to this many values are listed right after an option's name.
+const FEW: usize = 6;
 
 // Appends text with roff's special characters escaped.
 fn push_plain(text: &mut String, plain: &str) -> Result<(), AllocError> {

@@ -33,7 +33,9 @@ mod tasks;
 
 pub use habits::{ADVICE, OTHER_NAMES, OTHER_WORDS};
 pub use parts::{PART_COLOURS, PartColour};
-use symbols::{ABOUT, DATA, LEVELS, LOOKS, MARKS, MASKS, NORMAL_LEVELS, ONE_CODE, TEXTS};
+use symbols::{
+    ABOUT, DATA, FILES, LEVELS, LINES, LOOKS, MARKS, MASKS, NORMAL_LEVELS, SEGMENTS, TEXTS,
+};
 pub use symbols::{DRAWING, EXAMPLES};
 pub use tasks::{TASKS, entry_of};
 
@@ -54,6 +56,26 @@ pub enum Takes {
     Word(&'static str, &'static [&'static str]),
     /// An integer between two bounds, both included; help shows this name for it.
     Number(&'static str, u64, u64),
+}
+
+impl Takes {
+    /// Returns the words of which an option takes one; empty if it takes something else.
+    pub fn words(self) -> &'static [&'static str] {
+        match self {
+            Takes::Word(_, words) => words,
+            _ => &[],
+        }
+    }
+
+    /// Returns the name that help shows for the value; empty without one.
+    pub fn name(self) -> &'static str {
+        match self {
+            Takes::Nothing => "",
+            Takes::Text(name) | Takes::Wanted(name) | Takes::Texts(name) => name,
+            Takes::Word(name, _) | Takes::Number(name, _, _) => name,
+            Takes::Path => "FILE",
+        }
+    }
 }
 
 /// An option.
@@ -134,8 +156,7 @@ impl Task {
             ),
             Purpose::Read | Purpose::Check => (
                 "PICTURE",
-                "A PNG, PBM or PGM file, or a text file of half blocks; standard input if none is \
-                given",
+                "PNG, PBM or PGM files, or text files of half blocks; standard input if none is given",
             ),
             Purpose::Join => (
                 "PICTURE",
@@ -145,8 +166,8 @@ impl Task {
             Purpose::Elements => (
                 "ELEMENTS",
                 "Application identifiers (AI) in round brackets, each with its value, e.g. \
-                (01)09521234543213(10)AB; write ( in a value as \\(. With --application: plain data. Not read \
-                from standard input",
+                (01)09521234543213(10)AB; write ( in a value as \\(; standard input if neither ELEMENTS \
+                nor --input is given. With --application: plain data",
             ),
             Purpose::Content(_) => return None,
         })
@@ -188,13 +209,13 @@ impl Task {
     }
 
     // Returns the task's own options and the drawing options, in groups with their headings.
-    fn groups<'a>(&self, own: &'a [Entry]) -> [(&'static str, &'a [Entry]); 8] {
+    fn groups<'a>(&self, own: &'a [Entry]) -> [(&'static str, &'a [Entry]); 9] {
         let (place, data, mark, level, text, one) = match self.purpose {
-            Purpose::Draw => ("Code", DATA, MARKS, LEVELS, TEXTS, ONE_CODE),
+            Purpose::Draw => ("Code", DATA, MARKS, LEVELS, TEXTS, SEGMENTS),
             Purpose::Several => ("Code", DATA, NONE, NORMAL_LEVELS, NONE, NONE),
-            Purpose::Content(_) if self.has_its_level() => ("Input", NONE, NONE, NONE, NONE, NONE),
-            Purpose::Content(_) => ("Input", NONE, MARKS, LEVELS, TEXTS, NONE),
-            Purpose::Elements => ("Input", NONE, NONE, NORMAL_LEVELS, NONE, NONE),
+            Purpose::Content(_) if self.has_its_level() => ("Input", FILES, NONE, NONE, NONE, NONE),
+            Purpose::Content(_) => ("Input", FILES, MARKS, LEVELS, TEXTS, NONE),
+            Purpose::Elements => ("Input", FILES, NONE, NORMAL_LEVELS, NONE, NONE),
             Purpose::Read | Purpose::Check | Purpose::Join => {
                 ("Output", NONE, NONE, NONE, NONE, NONE)
             }
@@ -204,16 +225,36 @@ impl Task {
         } else {
             (NONE, NONE)
         };
+        let lines = match self.purpose {
+            Purpose::Draw | Purpose::Content(_) | Purpose::Elements => LINES,
+            _ => NONE,
+        };
         [
             ("Input", data),
             (place, own),
             ("Input", mark),
             ("Input", one),
+            ("Input", lines),
             ("Code", level),
             ("Code", text),
             ("Code", code),
             ("Output", output),
         ]
+    }
+
+    /// Returns the quiet zone in modules that replaces the standard's: none around a bill's code,
+    /// which is printed on white.
+    pub fn own_zone(&self) -> Option<u8> {
+        self.is_bill().then_some(0)
+    }
+
+    /// Returns the size that the payload's format prescribes.
+    pub fn own_size(&self) -> Option<&'static str> {
+        self.is_bill().then_some("46mm")
+    }
+
+    fn is_bill(&self) -> bool {
+        matches!(self.purpose, Purpose::Content(Kind::Bill))
     }
 
     /// Whether the payload's format fixes the error correction level.

@@ -1,8 +1,10 @@
-//! The report on standard error: `--verbose` and `--json`.
+//! The report on a code: `--verbose`, `--json` and `--dry-run`.
 
-use crate::asked::Asked;
+use crate::asked::{Asked, Report as Wanted, Target};
 use crate::warnings::{Decimal, hundredths_of, warn_of_sizes};
-use goqlanis_core::{Drawing, VersionName, dots, quiet_zone, scale};
+use goqlanis_core::{VersionName, dots, quiet_zone, scale};
+use goqlanis_files::failure::Failure;
+use goqlanis_files::streams::print;
 use qrcode::QrCode;
 use qrcode::types::EcLevel;
 use qrcode_area::areas::Rectangle;
@@ -26,53 +28,77 @@ struct Report {
     version: VersionName,
     level: EcLevel,
     mask: usize,
-    // Modules per side, width of the quiet zone in modules, and pixels per module.
+    // Modules per side, width of the quiet zone in modules.
     modules: u32,
     zone: u32,
+    // Modules per side, with the quiet zone.
+    all: u32,
     scale: u32,
     // Pixels per side, and pixels per inch if known.
     side: u32,
     dots: Option<u32>,
+    // The fewest pixels per module that many readers need, if it is to be told.
+    least: Option<u32>,
     // Whether the size is an exact length, so that pixels mean nothing.
     is_length: bool,
     // The area reserved in the middle.
     area: Option<Rectangle>,
 }
 
-/// Reports what was drawn on standard error, with the area in its middle, if `--verbose` or
-/// `--json` asks for it; and warns of sizes in any case.
+/// Reports on a code, with the area in its middle, if `--verbose`, `--json` or `--dry-run` asks for
+/// it; and warns of sizes in any case. Reports go to standard error; with `--dry-run` to standard
+/// output, and with `--json` too if the drawing goes to a file.
 ///
-/// Errors: only `AllocError`.
+/// Errors: those of `print` and `warn_of_sizes`; `OutOfMemory`.
 pub fn show_report(
     rt: &HostRuntime,
     asked: &Asked<'_, '_>,
-    drawing: &Drawing,
+    code: &QrCode,
     area: Option<Rectangle>,
-) -> Result<(), AllocError> {
-    let (request, code) = (&asked.request, &drawing.code);
-    let (modules, zone) = (code.width() as u32, quiet_zone(request, code));
-    let all = modules.saturating_add(zone.saturating_mul(2));
-    let scale = scale(request, code).max(1);
-    let dots = dots(request, code).or(asked.dots.map(u32::from));
-    warn_of_sizes(rt, asked, all, scale, dots);
-    let is_json = asked.given.get_flag("json");
-    if is_json || asked.given.get_flag("verbose") {
-        let report = Report {
-            version: VersionName(code.version()),
-            level: code.error_correction_level(),
-            mask: request.mask.unwrap_or(own_mask(code)),
-            modules,
-            zone,
-            scale,
-            side: all.saturating_mul(scale),
-            dots,
-            is_length: request.length.is_some(),
-            area,
-        };
-        let text = text_of(rt.alloc(), &report, is_json)?;
+) -> Result<(), Failure> {
+    let report = report_of(asked, code, area);
+    warn_of_sizes(rt, asked, report.all, report.scale, report.dots)?;
+    if asked.report == Wanted::Nothing && !asked.is_dry {
+        return Ok(());
+    }
+    let is_json = asked.report == Wanted::Json;
+    let text = text_of(rt.alloc(), &report, is_json)?;
+    if asked.is_dry || is_json && matches!(asked.target, Target::File(_)) {
+        print(rt, text.as_bytes())?;
+    } else {
         let _ = eprint!(rt; "{text}");
     }
     Ok(())
+}
+
+// Returns the facts about a code.
+fn report_of(asked: &Asked<'_, '_>, code: &QrCode, area: Option<Rectangle>) -> Report {
+    let request = &asked.request;
+    let zone = quiet_zone(request, code);
+    let all = (code.width() as u32).saturating_add(zone.saturating_mul(2));
+    let scale = scale(request, code).max(1);
+    Report {
+        version: VersionName(code.version()),
+        level: code.error_correction_level(),
+        mask: request.mask.unwrap_or(own_mask(code)),
+        modules: code.width() as u32,
+        zone,
+        all,
+        scale,
+        side: all.saturating_mul(scale),
+        dots: dots(request, code).or(asked.dots.map(u32::from)),
+        least: asked
+            .dots
+            .filter(|_| asked.is_dry)
+            .map(|dots| least_scale(dots as u32)),
+        is_length: request.length.is_some(),
+        area,
+    }
+}
+
+// The fewest whole pixels per module with which it has the 0.25 mm that many readers need.
+fn least_scale(dots: u32) -> u32 {
+    dots.saturating_mul(25).div_ceil(2_540).max(1)
 }
 
 // Returns the number of the code's own mask, the one with the lowest penalty.
@@ -95,6 +121,7 @@ fn text_of(alloc: Global, report: &Report, is_json: bool) -> Result<String, Allo
         "version {version}, level {level:?}, mask {mask}\nmodules: {modules} by {modules}; "
     )?;
     push_sizes(&mut text, report, is_json)?;
+    push_least(&mut text, report, is_json)?;
     if let Some(area) = report.area {
         let (width, height, left, top) = (area.width, area.height, area.left, area.top);
         push_either!(text, is_json;
@@ -124,4 +151,16 @@ fn push_sizes(text: &mut String, report: &Report, is_json: bool) -> Result<(), A
         Some(dots) if !report.is_length => write!(text, ", {length} mm at {dots} per inch"),
         _ => Ok(()),
     }
+}
+
+// Appends the smallest size that many readers need.
+fn push_least(text: &mut String, report: &Report, is_json: bool) -> Result<(), AllocError> {
+    let (Some(least), Some(dots)) = (report.least, report.dots) else {
+        return Ok(());
+    };
+    let length = Decimal(hundredths_of(report.all.saturating_mul(least), dots));
+    push_either!(text, is_json;
+        ", \"least_scale\": {least}, \"least_millimetres\": {length}",
+        "\nsmallest for most readers: {length} mm, {least} pixels per module"
+    )
 }

@@ -1,9 +1,11 @@
 //! The size options: `--scale`, `--size`, `--module` and `--dpi`.
 
+use crate::options::Task;
 use clap::ArgMatches;
-use goqlanis_core::{Format, Length};
+use goqlanis_core::Length;
 use goqlanis_files::failure::Failure;
 use goqlanis_files::usage;
+use qrcode_formats::{Density, Format};
 use qrcode_payloads::numbers::decimal;
 use std::alloc::Global;
 
@@ -26,23 +28,34 @@ pub struct Sizes {
 ///
 /// Errors: `Usage` for a size that is malformed, out of range, or that needs `--dpi`;
 /// `OutOfMemory`.
-pub fn sizes_of(alloc: Global, given: &ArgMatches<'_>, format: Format) -> Result<Sizes, Failure> {
+pub fn sizes_of(
+    alloc: Global,
+    task: &Task,
+    given: &ArgMatches<'_>,
+    format: Format,
+) -> Result<Sizes, Failure> {
     let dpi = given.get_one::<u16>("dpi");
-    let is_paper = matches!(format, Format::Eps | Format::Pdf);
-    let is_exact = dpi.is_none() && (is_paper || format == Format::SvgPath);
+    let row = format.row();
+    let is_exact = dpi.is_none() && row.is_exact;
     let mut sizes = Sizes {
-        scale: given.get_one::<u16>("scale").unwrap_or(format.pixels()),
+        scale: given.get_one::<u16>("scale").unwrap_or(row.pixels),
         side: None,
         hundredths: None,
-        dots: if is_paper {
+        dots: if row.density == Density::Unit {
             Some(dpi.unwrap_or(72))
         } else {
             dpi
         },
         length: None,
     };
+    // A size of the payload's format stands where no option says otherwise.
+    let has_own = (row.is_exact || dpi.is_some())
+        && !given.get_flag("no-size")
+        && !given.contains_id("scale")
+        && !given.contains_id("module");
     for (option, is_side) in [("size", true), ("module", false)] {
-        let Some(text) = given.get_str(option) else {
+        let own = task.own_size().filter(|_| is_side && has_own);
+        let Some(text) = given.get_str(option).or(own) else {
             continue;
         };
         if let Err(why) = take_size(&mut sizes, text, is_exact, is_side) {
@@ -64,7 +77,7 @@ fn take_size(
         (Some(parts), _) if is_exact => return take_length(sizes, parts, is_side),
         (Some(parts), Some(dots)) => pixels_of(parts, dots, is_side)?,
         (Some(_), None) => return Err(
-            "lengths need --dpi, e.g. --dpi 300 for PNG, or --format svg, eps or pdf",
+            "lengths need --dpi, e.g. 300 for PNG or 203 for labels, or --format svg, eps or pdf",
         ),
         (None, _) => match text.parse::<u16>() {
             Ok(pixels) if is_side && pixels > 0 => pixels,
@@ -80,21 +93,40 @@ fn take_size(
     Ok(())
 }
 
-// Takes an exact length of the side or of a module: in micrometres, or if it is long in units of 10
-// or 100 micrometres.
+// The units of exact lengths, as numbers in an inch: micrometres and tens and hundreds of them;
+// points, with up to two decimals; and parts of an inch, with up to four.
+static EXACT: &[u16] = &[25_400, 2_540, 254, 72, 720, 7_200, 100, 1_000, 10_000];
+
+// Takes an exact length of the side or of a module, in the first unit of which it is a multiple.
 fn take_length(sizes: &mut Sizes, parts: u64, is_side: bool) -> Result<(), &'static str> {
-    for (unit, dots) in [(1_800, 25_400), (18_000, 2_540), (180_000, 254)] {
-        match u16::try_from(parts.saturating_add(unit / 2) / unit) {
-            Ok(scale) if scale > 0 => {
-                sizes.scale = scale;
-                sizes.dots = None;
-                sizes.length = Some(Length { dots, is_side });
-                return Ok(());
-            }
-            _ => {}
+    for dots in EXACT {
+        if let Some(scale) = multiple_of(parts, *dots) {
+            sizes.scale = scale;
+            sizes.dots = None;
+            sizes.length = Some(Length {
+                dots: *dots,
+                is_side,
+            });
+            return Ok(());
         }
     }
+    if parts > INCH && parts <= MOST_EXACT {
+        return Err("this long it takes fewer decimals; leave out the last");
+    }
     Err(size_help(true, is_side))
+}
+
+// The longest exact length: 65,535 tenths of a millimetre.
+const MOST_EXACT: u64 = 65_535 * 180_000;
+
+// Returns how many units a length has, of which an inch has `dots`, if that is a whole number.
+fn multiple_of(parts: u64, dots: u16) -> Option<u16> {
+    let unit = INCH.checked_div(dots as u64)?;
+    let count = parts.checked_div(unit)?;
+    match u16::try_from(count) {
+        Ok(scale) if scale > 0 && count.saturating_mul(unit) == parts => Some(scale),
+        _ => None,
+    }
 }
 
 // Explains which sizes are valid.

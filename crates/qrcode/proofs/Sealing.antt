@@ -11,7 +11,7 @@ use Rattle.qrcode_bits.specs.Encoded.{IsChosenList}
 use Rattle.qrcode_bits.specs.Optimal.{PushesLeast}
 use Rattle.qrcode_bits.specs.Segments.{total_cost}
 use Rattle.qrcode_bits.specs.Spelling.{IsReadBack, Spells, SpellsOnly}
-use Rattle.qrcode_bits.specs.Written.{Piece, written, terminator_length, ending, terminated, pieces_of}
+use Rattle.qrcode_bits.specs.Written.{Piece, written, ending, terminated, pieces_of}
 use Rattle.qrcode_bits.specs.declared.optimize.Segment.{Segment}
 use Rattle.qrcode.specs.Acceptance.{IsLeastSymbol, IsChosenSymbol}
 use Rattle.qrcode.specs.Reading.{EncodesBits, EncodesBytes}

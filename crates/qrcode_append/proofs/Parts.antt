@@ -5,7 +5,7 @@ use Rattle.std.proofs.lemmas.Bool.{cases_lt}
 use Rattle.std.proofs.lemmas.List.{append_cancel_left}
 use Rattle.std.proofs.lemmas.List.Sums.{count_by-le-length}
 use Rattle.qrcode_types.specs.Characters.{is_digit}
-use Rattle.qrcode_types.specs.Versions.{is_valid, is_micro, has_level, capacity}
+use Rattle.qrcode_types.specs.Versions.{is_valid, is_micro, has_level, capacity, terminator_length}
 use Rattle.qrcode_types.specs.declared.types.Version.{Version}
 use Rattle.qrcode_types.specs.declared.types.EcLevel.{EcLevel}
 use Rattle.qrcode_types.specs.declared.types.QrError.{QrError}
@@ -19,7 +19,7 @@ use Rattle.qrcode_bits.specs.Segments.{total_cost}
 use Rattle.qrcode_bits.specs.StructuredAppend.{parity, append_header, append_front, SpellsPart}
 use Rattle.qrcode_bits.specs.Shown.{Shows, ShowsOnly}
 use Rattle.qrcode_bits.specs.Spelling.{IsReadAs}
-use Rattle.qrcode_bits.specs.Written.{Piece, written, pieces_of, terminated, terminator_length, ending}
+use Rattle.qrcode_bits.specs.Written.{Piece, written, pieces_of, terminated, ending}
 use Rattle.qrcode_bits.specs.declared.bits.manner.Manner.{Manner}
 use Rattle.qrcode_bits.specs.declared.optimize.Segment.{Segment}
 use Rattle.qrcode_bits.proofs.Changed.{append_fits}

@@ -19,7 +19,7 @@ use Rattle.qrcode_reader.proofs.Interleaved.{count_is}
 use Rattle.qrcode_area.specs.Areas.{marks, touched, KeepsFormat, MayShowAnything, AgreesOutside}
 use Rattle.qrcode_area.specs.Counting.{touched_places}
 use Rattle.qrcode_area.proofs.Exact.{area_is_exact}
-use Rattle.qrcode_area.specs.Refusals.{IsExcess, IsLostBlock}
+use Rattle.qrcode_area.specs.Refusals.{IsExcess, IsLostBlock, LosesNoBlock}
 use Rattle.qrcode_area.specs.Reserves.{IsReserve, Leaves, IsLeast, IsItsExcess, StaysWithin}
 use Rattle.qrcode_area.specs.declared.excess.Excess.{Excess}
 use Rattle.qrcode_area.specs.declared.excess.Excess.TheVariants.{Block, FirstFormat, LastFormat, OutOfMemory}
@@ -75,8 +75,9 @@ some_block v l b are = omega (arith, count_is v l b are, b.some_blocks)
 pub is_reserve : (v : Version) (l : EcLevel) (area : ℕ → ℕ → Bool) (r : Reserve) (counts : List ℕ) → counts ≡ r.touched.items
     → r.touched.items ≡ map (touched v l area) (range_with_len 0 (length (block_lengths v l)))
     → r.worst < length counts → r.most ≡ get_or counts r.worst 0 → ((i : ℕ) → i < length counts → get_or counts i 0 ≤ r.most)
+    → ((i : ℕ) → i < r.worst → get_or counts i 0 < r.most)
     → r.allowed ≡ ec_length v l / 2 → r.first ≡ touched_places v area First → r.last ≡ touched_places v area Last → IsReserve v l area r
-is_reserve v l area r counts d e inside most at_least allowed first last =
+is_reserve v l area r counts d e inside most at_least earlier allowed first last =
     let long = length_counts v l area counts (d ∙ e) in
     let below : r.worst < length (block_lengths v l) = omega (arith, inside, long) in
     let same = count_at v l area counts (d ∙ e) r.worst below in
@@ -84,6 +85,7 @@ is_reserve v l area r counts d e inside most at_least allowed first last =
       counts = e;
       inside = below;
       worst = λ b small. omega (arith, count_at v l area counts (d ∙ e) b small, same, most, at_least b (omega (arith, small, long)));
+      earlier = λ b before. omega (arith, count_at v l area counts (d ∙ e) b (omega (arith, before, below)), same, most, earlier b before);
       most = most ∙ same;
       allowed = allowed;
       first = first;
@@ -91,9 +93,12 @@ is_reserve v l area r counts d e inside most at_least allowed first last =
     }
 
 -- if the worst block is within the bound, all blocks are
+pub no_block_lost : (v : Version) (l : EcLevel) (area : ℕ → ℕ → Bool) (r : Reserve) → IsReserve v l area r → r.most ≤ r.allowed → LosesNoBlock v l area
+no_block_lost v l area r h most = λ b below. omega (arith, h.worst b below, h.most, h.allowed, most)
+
 pub all_within : (v : Version) (l : EcLevel) (area : ℕ → ℕ → Bool) (r : Reserve) → IsReserve v l area r → r.most ≤ r.allowed → r.first ≤ 3 → r.last ≤ 3 → MayShowAnything v l area
 all_within v l area r h most first last = record {
-  blocks = λ b below. omega (arith, h.worst b below, h.most, h.allowed, most);
+  blocks = no_block_lost v l area r h most;
   format = both_kept v area (subst (λ n. n ≤ 3) h.first first) (subst (λ n. n ≤ 3) h.last last);
 }
 
@@ -104,13 +109,14 @@ lost_block v l area r h over = record {
   bound = h.allowed;
   over = over;
   worst = λ b below. omega (arith, h.worst b below, h.most);
+  earlier = λ b before. omega (arith, h.earlier b before, h.most);
 }
 
 -- an area that passes a bound may not show anything
 pub excess_is_not : (v : Version) (l : EcLevel) (area : ℕ → ℕ → Bool) (e : Excess) → IsExcess v l area e → ¬ MayShowAnything v l area
 excess_is_not v l area (Block block count allowed) x may = absurd (omega (arith, may.blocks block x.inside, x.value, x.bound, x.over))
-excess_is_not v l area (FirstFormat n) x may = absurd (omega (arith, x.0, x.1, first_kept v area may.format))
-excess_is_not v l area (LastFormat n) x may = absurd (omega (arith, x.0, x.1, last_kept v area may.format))
+excess_is_not v l area (FirstFormat n) x may = absurd (omega (arith, x.0, x.1.0, first_kept v area may.format))
+excess_is_not v l area (LastFormat n) x may = absurd (omega (arith, x.0, x.1.0, last_kept v area may.format))
 excess_is_not v l area OutOfMemory x may = x
 
 -- the worst block determines what is left

@@ -20,9 +20,10 @@ use Rattle.qrcode_layout.specs.Stream.{color_at, zigzag_place, zigzag, free_plac
 use Rattle.qrcode_layout.specs.declared.masks.MaskPattern.{MaskPattern}
 use Rattle.qrcode_layout.proofs.Zigzag.{walk_is_inside}
 use Rattle.qrcode_layout.proofs.FormatPlaces.{format_copies_are_indexed}
-use Rattle.qrcode_symbol.specs.Symbol.{bits_at}
+use Rattle.qrcode_symbol.specs.Symbol.{bits_at, IsDamaged}
+use Rattle.qrcode.specs.Reading.{EncodesBits}
 use Rattle.qrcode_area.specs.Areas.{marks, touched, marked_block, block_in, wrong_beside, is_lost, MayShowAnything, AgreesOutside, IsWithinReserve}
-use Rattle.qrcode_area.specs.Laws.{AreaIsDamage, ReserveIsDamage, AreaIsRead, ReserveIsRead}
+use Rattle.qrcode_area.specs.Laws.{AreaIsDamage, ReserveIsDamage, AreaIsRead, AreaKeepsBits, ReserveIsRead}
 use Rattle.qrcode_area.proofs.Beside.{distance_at_most, bits_at_most, count_same, zip_range, all_with, all_mapped}
 use Rattle.qrcode_area.proofs.Marked.{AreRelated, SameUnmarked, SameWord, unmarked_words, maps_related, codewords_related, none_in_block}
 
@@ -144,8 +145,16 @@ area_is_damage v l k area s other valid may a = reserve_is_damage v l k area s o
 pub reserve_is_read : ReserveIsRead
 reserve_is_read v l bits bytes area s other encodes h = encodes.read other (reserve_is_damage v l encodes.encodes.mask area s other h)
 
+-- the symbol of bits within its promised damage
+symbol_damaged : (v : Version) (l : EcLevel) (bits : List Bool) (area : ℕ → ℕ → Bool) (s other : List Color) → (encodes : EncodesBits v l bits s)
+    → MayShowAnything v l area → AgreesOutside v area s other → IsDamaged v l encodes.mask s other
+symbol_damaged v l bits area s other encodes may a =
+    let k = encodes.mask in
+    let valid = (and_parts (is_valid v) (not (is_micro v) || nat_lt (micro_mask_number k) 4) encodes.mask_exists).0 in
+    area_is_damage v l k area s other valid may a
+
 pub area_is_read : AreaIsRead
-area_is_read v l bits bytes area s other encodes may a =
-    let k = encodes.encodes.mask in
-    let valid = (and_parts (is_valid v) (not (is_micro v) || nat_lt (micro_mask_number k) 4) encodes.encodes.mask_exists).0 in
-    encodes.read other (area_is_damage v l k area s other valid may a)
+area_is_read v l bits bytes area s other encodes may a = encodes.read other (symbol_damaged v l bits area s other encodes.encodes may a)
+
+pub area_keeps_bits : AreaKeepsBits
+area_keeps_bits v l bits area s other encodes may a = encodes.read other (symbol_damaged v l bits area s other encodes may a)

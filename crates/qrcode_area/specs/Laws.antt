@@ -6,7 +6,8 @@ use Rattle.qrcode_types.specs.declared.types.EcLevel.{EcLevel}
 use Rattle.qrcode_types.specs.declared.types.Color.{Color}
 use Rattle.qrcode_layout.specs.declared.masks.MaskPattern.{MaskPattern}
 use Rattle.qrcode_symbol.specs.Symbol.{IsDamaged}
-use Rattle.qrcode.specs.Reading.{EncodesBytes, ReadsOnly}
+use Rattle.qrcode_symbol.specs.Reading.{ReadsBitsOnly}
+use Rattle.qrcode.specs.Reading.{EncodesBits, EncodesBytes, ReadsOnly}
 use Rattle.qrcode_area.specs.Areas.{MayShowAnything, AgreesOutside, IsWithinReserve}
 
 abbrev pub ReserveIsDamage : Type 0  -- a square within the reserve is within the promised damage
@@ -31,6 +32,12 @@ abbrev pub AreaIsRead : Type 0
 AreaIsRead =
     (v : Version) (l : EcLevel) (bits : List Bool) (bytes : List ℕ) (area : ℕ → ℕ → Bool) (s other : List Color)
     → EncodesBytes v l bits bytes s → MayShowAnything v l area → AgreesOutside v area s other → ReadsOnly other bytes
+
+-- and reads as its bits and no others, which may hold headers too
+abbrev pub AreaKeepsBits : Type 0
+AreaKeepsBits =
+    (v : Version) (l : EcLevel) (bits : List Bool) (area : ℕ → ℕ → Bool) (s other : List Color)
+    → EncodesBits v l bits s → MayShowAnything v l area → AgreesOutside v area s other → ReadsBitsOnly other v l bits
 
 -- and so does a square with as many other wrong codewords as the reserve allows
 abbrev pub ReserveIsRead : Type 0

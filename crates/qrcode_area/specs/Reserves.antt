@@ -14,12 +14,13 @@ use Rattle.qrcode_area.specs.Refusals.{IsExcess}
 use Rattle.qrcode_area.specs.declared.excess.Excess.{Excess}
 use Rattle.qrcode_area.specs.declared.reserve.Reserve.{Reserve}
 
--- how many codewords of each block the area touches, and in which block the most; how many may be lost; and how many places of
+-- how many codewords of each block the area touches, and in which block the most, the first of several; how many may be lost; and how many places of
 -- each copy of the format word lie in the area
 pub record IsReserve (v : Version) (l : EcLevel) (area : ℕ → ℕ → Bool) (r : Reserve) : Type 0 where
   pub counts : r.touched.items ≡ map (touched v l area) (range_with_len 0 (length (block_lengths v l)))
   pub inside : r.worst < length (block_lengths v l)
   pub worst : (b : ℕ) → b < length (block_lengths v l) → touched v l area b ≤ touched v l area r.worst
+  pub earlier : (b : ℕ) → b < r.worst → touched v l area b < touched v l area r.worst
   pub most : r.most ≡ touched v l area r.worst
   pub allowed : r.allowed ≡ ec_length v l / 2
   pub first : r.first ≡ touched_places v area First
@@ -35,7 +36,7 @@ abbrev pub IsLeast : Version → EcLevel → (ℕ → ℕ → Bool) → Option �
 IsLeast v l area None = ¬ MayShowAnything v l area
 IsLeast v l area (Some n) = Leaves v l area n × ((more : ℕ) → LeavesReserve v l area more → more ≤ n)
 
--- the bound that the area exceeds; none if it may show anything
+-- the first bound that the area exceeds; none if it may show anything
 abbrev pub IsItsExcess : Version → EcLevel → (ℕ → ℕ → Bool) → Option Excess → Type 0
 IsItsExcess v l area None = MayShowAnything v l area
 IsItsExcess v l area (Some e) = IsExcess v l area e

@@ -11,7 +11,7 @@ use std::fmt;
 #[derive(Debug, PartialEq, Eq, Copy, Clone)]
 pub enum Excess {
     /// The area touches `touched` codewords of this block, counted from 0, of which only `allowed`
-    /// may be lost. It touches no more in any other block.
+    /// may be lost. It touches no more in any other block, and fewer in each before it.
     Block {
         block: usize,
         touched: usize,

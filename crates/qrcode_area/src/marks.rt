@@ -9,9 +9,9 @@ ghost use Rattle.qrcode_area.specs.Counting.{mark_at};
 
 use crate::areas::Area;
 use qrcode_layout::walk::right_column;
-use qrcode_reader::walk::side;
 use qrcode_symbol::canvas;
 use qrcode_types::types::Version;
+use qrcode_types::versions::side;
 use std::alloc::{AllocError, Global};
 
 // Returns the place at step `t` of the zigzag: column and row.

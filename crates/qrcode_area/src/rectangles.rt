@@ -11,8 +11,8 @@ use crate::areas::{Area, Rectangle};
 use crate::marks::is_functional;
 use crate::reserve::reserve_in;
 use qrcode_layout::figures::{Figure, micro_figures, normal_figures, word_figures};
-use qrcode_reader::walk::side;
 use qrcode_types::types::{EcLevel, Version};
+use qrcode_types::versions::side;
 use std::alloc::{AllocError, Global};
 
 /// Which function patterns a rectangle leaves alone, besides format and version information.

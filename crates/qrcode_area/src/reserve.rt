@@ -33,7 +33,7 @@ const FORMAT_ERRORS: usize = 3;
 pub struct Reserve {
     /// The number of codewords in each block that have a module in the area.
     pub touched: Vec<usize>,
-    /// A block with the most of them.
+    /// The first block with the most of them.
     pub worst: usize,
     /// Their number in that block.
     pub most: usize,
@@ -137,12 +137,13 @@ fn touched_places(version: Version, area: &Area<'_>, copy: FormatCopy) -> usize
     count
 }
 
-// Returns the index of the largest number, and that number.
+// Returns the index of the largest number, the first of several, and that number.
 fn greatest(counts: &[usize]) -> (usize, usize)
     requires { 0 < length counts.now }
     ensures inside { result.0 < length counts.now }
     ensures value { result.1 ≡ slice_index counts.now result.0 }
     ensures at_least { (i : ℕ) → i < length counts.now → slice_index counts.now i ≤ result.1 }
+    ensures earlier { (i : ℕ) → i < result.0 → slice_index counts.now i < result.1 }
 {
     let mut most = (0, counts[0]);
     for (i, count) in counts.iter().enumerate() {

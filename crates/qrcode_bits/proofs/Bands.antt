@@ -140,6 +140,3 @@ byte_cut_as m n (b ∷ bytes) are =
     ) where
       wide : (n : ℕ) → by_band n 8 16 16 ≤ 16
       wide n = grind (arith, nat_tests)
-
-pub byte_cut : (n : ℕ) (bytes : List ℕ) → AreBytes bytes → (ss : List Segment) × (IsCut (Normal (pos n)) bytes ss × (total_cost (Normal (pos n)) ss ≤ 8 * length bytes + 20))
-byte_cut n bytes are = let r = byte_cut_as Bytes n bytes are in (r.0, (r.1.0.cut, r.1.1))

@@ -5,7 +5,7 @@ use Rattle.std.specs.List.{list_all, AllByRecursion}
 use Rattle.std.proofs.lemmas.Bool.{and_parts, leb-true, cases_lt}
 use Rattle.std.proofs.lemmas.List.{length-replicate, get_or_append_left, get_or-append-add}
 use Rattle.qrcode_types.specs.Bits.{number_bits}
-use Rattle.qrcode_types.specs.Versions.{is_valid, capacity}
+use Rattle.qrcode_types.specs.Versions.{is_valid, capacity, terminator_length}
 use Rattle.qrcode_types.specs.Modes.{mode_number, indicator, length_bits_count}
 use Rattle.qrcode_types.specs.declared.types.Version.{Version}
 use Rattle.qrcode_types.specs.declared.types.Version.TheVariants.{Normal, Micro}
@@ -13,7 +13,7 @@ use Rattle.qrcode_types.specs.declared.types.EcLevel.{EcLevel}
 use Rattle.qrcode_types.specs.declared.types.Mode.{Mode}
 use Rattle.qrcode_types.specs.declared.types.Mode.TheVariants.{Numeric, Alphanumeric, Byte, Kanji}
 use Rattle.qrcode_types.specs.Characters.{character_count}
-use Rattle.qrcode_bits.specs.Written.{Piece, written_piece, written, data_bits_in, terminator_length, terminated, ending, padding}
+use Rattle.qrcode_bits.specs.Written.{Piece, written_piece, written, data_bits_in, terminated, ending, padding}
 use Rattle.qrcode_bits.specs.Spelling.{is_end, IsReadable, IsReadBack, IsReadAs, Spells, SpellsOnly}
 use Rattle.qrcode_bits.proofs.Paddings.{length-padding, padding-nil}
 use Rattle.qrcode_bits.proofs.Numbers.{has_one, length-number_bits}

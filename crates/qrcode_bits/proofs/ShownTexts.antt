@@ -7,7 +7,7 @@ use Rattle.std.proofs.lemmas.Bool.Decides.{nat_tests}
 use Rattle.std.proofs.lemmas.List.{get_or-drop, get_or-take}
 use Rattle.std.proofs.lemmas.List.Sums.{sum_by-cons}
 use Rattle.std.proofs.lemmas.Str.{IsUtf8-between, IsCharBoundary-start, IsCharBoundary-end, IsCharBoundary-before_ascii, IsCharBoundary-after_ascii}
-use Rattle.qrcode_types.specs.Versions.{is_valid, capacity}
+use Rattle.qrcode_types.specs.Versions.{is_valid, capacity, terminator_length}
 use Rattle.qrcode_types.specs.Modes.{has_mode, length_bits_count}
 use Rattle.qrcode_types.specs.Characters.{is_digit, is_alphanumeric, can_write, character_count}
 use Rattle.qrcode_types.specs.declared.types.Version.{Version}
@@ -20,7 +20,7 @@ use Rattle.qrcode_bits.specs.Cuts.{IsCutIn, IsLeastCutIn}
 use Rattle.qrcode_bits.specs.ModeSets.{is_among, text_modes}
 use Rattle.qrcode_bits.specs.Manners.{is_text, modes_of, front, has_front}
 use Rattle.qrcode_bits.specs.Shown.{ArePiecesShown, IsFront, Shows, ShowsOnly}
-use Rattle.qrcode_bits.specs.Written.{pieces_of, written, terminated, terminator_length, ending}
+use Rattle.qrcode_bits.specs.Written.{pieces_of, written, terminated, ending}
 use Rattle.qrcode_bits.specs.declared.bits.manner.Manner.{Manner}
 use Rattle.qrcode_bits.specs.declared.bits.manner.Manner.TheVariants.{Bytes, Text, MarkedText}
 use Rattle.qrcode_bits.specs.declared.optimize.Segment.{Segment}

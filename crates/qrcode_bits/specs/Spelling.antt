@@ -2,11 +2,11 @@
 use Rattle.std.specs.Prelude.{◌≡◌, ℕ, ◌^◌, ◌<◌, not, Bool, List, [], ◌∷◌, ◌++◌, length, take, flat_map, IsTrue, IsFalse}
 use Rattle.std.specs.List.{list_all}
 use Rattle.qrcode_types.specs.Modes.{has_mode, length_bits_count}
-use Rattle.qrcode_types.specs.Versions.{capacity}
+use Rattle.qrcode_types.specs.Versions.{capacity, terminator_length}
 use Rattle.qrcode_types.specs.declared.types.Version.{Version}
 use Rattle.qrcode_types.specs.declared.types.EcLevel.{EcLevel}
 use Rattle.qrcode_types.specs.Characters.{can_write, character_count}
-use Rattle.qrcode_bits.specs.Written.{Piece, written_piece, terminator_length}
+use Rattle.qrcode_bits.specs.Written.{Piece, written_piece}
 
 -- The pieces end here: the bits begin with the terminator, or with as much of it as is left. In Micro, the terminator looks like
 -- an empty Numeric segment, so such a segment is an end. Other empty segments, and all those of Normal, are not.

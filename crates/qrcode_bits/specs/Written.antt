@@ -1,11 +1,10 @@
 -- The bits that segments, terminator and padding are written as.
-use Rattle.std.specs.Prelude.{ℕ, ◌+◌, ◌-◌, ◌*◌, ◌/◌, ◌%◌, ◌==◌, nat_le, min, nat_abs, Bool, false, List, [], ◌∷◌, ◌++◌, length, map, flat_map, replicate, slice_range, if◌then◌else◌}
+use Rattle.std.specs.Prelude.{ℕ, ◌+◌, ◌-◌, ◌*◌, ◌/◌, ◌%◌, nat_le, min, Bool, false, List, [], ◌∷◌, ◌++◌, length, map, flat_map, replicate, slice_range, if◌then◌else◌}
 use Rattle.std.specs.List.{range_with_len}
 use Rattle.qrcode_types.specs.Bits.{number_bits, bits_of}
-use Rattle.qrcode_types.specs.Versions.{capacity}
+use Rattle.qrcode_types.specs.Versions.{capacity, terminator_length, padding_byte}
 use Rattle.qrcode_types.specs.Modes.{mode_bits_count, length_bits_count, indicator}
 use Rattle.qrcode_types.specs.declared.types.Version.{Version}
-use Rattle.qrcode_types.specs.declared.types.Version.TheVariants.{Normal, Micro}
 use Rattle.qrcode_types.specs.declared.types.EcLevel.{EcLevel}
 use Rattle.qrcode_types.specs.declared.types.Mode.{Mode}
 use Rattle.qrcode_types.specs.declared.types.Mode.TheVariants.{Numeric, Alphanumeric, Byte, Kanji}
@@ -48,12 +47,8 @@ written v pieces = flat_map (written_piece v) pieces
 abbrev pub pieces_of : List ℕ → List Segment → List Piece  -- the ranges of the segments, with their modes
 pieces_of bytes segments = map (λ s. record { mode = s.mode; chunk = slice_range bytes s.begin s.end }) segments
 
-abbrev pub terminator_length : Version → ℕ  -- how many zeros end the pieces, if there is room
-terminator_length (Normal v) = 4
-terminator_length (Micro v) = 2 * nat_abs v + 1
-
 unfoldable pub padding : ℕ → List Bool  -- the bytes 0xEC and 0x11 in turn, and zeros if less than a byte is left
-padding n = flat_map (λ i. number_bits 8 (if i % 2 == 0 then 0xEC else 0x11)) (range_with_len 0 (n / 8)) ++ replicate (n % 8) false
+padding n = flat_map (λ i. number_bits 8 (padding_byte i)) (range_with_len 0 (n / 8)) ++ replicate (n % 8) false
 
 -- what follows `used` bits: the zeros of the terminator, more zeros up to a whole byte, all within the room, and padding up to the room
 unfoldable pub ending : ℕ → ℕ → ℕ → List Bool

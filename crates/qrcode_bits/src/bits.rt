@@ -22,6 +22,7 @@ use qrcode_types::characters::character_count;
 use qrcode_types::modes::{has_mode, indicator};
 use qrcode_types::tables::{self, Blocks};
 use qrcode_types::types::{EcLevel, Mode, QrError, QrResult, Version};
+use qrcode_types::versions::terminator_length;
 use std::alloc::Global;
 use std::marker::Model;
 
@@ -37,7 +38,7 @@ mod text;
 mod written;
 
 pub use automatic::{encode_auto, encode_boosted, encode_from, encode_in};
-use ending::{push_ending, terminator_length};
+use ending::push_ending;
 pub use manner::Manner;
 pub use optimal::DATA_LIMIT;
 use stream::Stream;

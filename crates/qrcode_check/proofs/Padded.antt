@@ -1,8 +1,9 @@
 -- In how many bits a list differs from the padding, byte by byte.
-use Rattle.std.proofs.Common.{◌≡◌, ℕ, ◌+◌, ◌*◌, ◌/◌, ◌%◌, ◌≤◌, ◌==◌, ◌++◌, Bool, List, length, take, drop, false, replicate, sym, ap, ap₂, ◌∙◌, arith, length-drop, if◌then◌else◌}
+use Rattle.std.proofs.Common.{◌≡◌, ℕ, ◌+◌, ◌*◌, ◌/◌, ◌%◌, ◌≤◌, ◌++◌, Bool, List, length, take, drop, false, replicate, sym, ap, ap₂, ◌∙◌, arith, length-drop}
 use Rattle.std.proofs.Math.Seq.{take-add}
 use Rattle.std.proofs.lemmas.List.{take-append-drop, length-take-le}
 use Rattle.qrcode_types.specs.Bits.{number_bits, bit_distance}
+use Rattle.qrcode_types.specs.Versions.{padding_byte}
 use Rattle.qrcode_bits.specs.Written.{padding}
 use Rattle.qrcode_bits.proofs.Packing.{number_bits-zero}
 use Rattle.qrcode_bits.proofs.Paddings.{padding_bytes, padding_bytes-more}
@@ -10,9 +11,9 @@ use Rattle.qrcode_check.proofs.Distances.{distance_append}
 
 -- one byte more
 pub byte_more : (bits : List Bool) (i count d : ℕ) → 8 * i + 8 ≤ length bits → length (padding_bytes i) ≡ 8 * i → count ≡ bit_distance (take (8 * i) bits) (padding_bytes i)
-    → d ≡ bit_distance (take 8 (drop (8 * i) bits)) (number_bits 8 (if i % 2 == 0 then 0xEC else 0x11)) → count + d ≡ bit_distance (take (8 * (i + 1)) bits) (padding_bytes (i + 1))
+    → d ≡ bit_distance (take 8 (drop (8 * i) bits)) (number_bits 8 (padding_byte i)) → count + d ≡ bit_distance (take (8 * (i + 1)) bits) (padding_bytes (i + 1))
 byte_more bits i count d inside long c e =
-    let byte = number_bits 8 (if i % 2 == 0 then 0xEC else 0x11) in
+    let byte = number_bits 8 (padding_byte i) in
     let next : 8 * (i + 1) ≡ 8 * i + 8 = omega arith in
     ap₂ (λ (x y : ℕ). x + y) c e
     ∙ sym (distance_append (take (8 * i) bits) (padding_bytes i) (take 8 (drop (8 * i) bits)) byte (length-take-le (8 * i) bits (omega arith) ∙ sym long))

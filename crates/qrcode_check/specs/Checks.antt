@@ -1,5 +1,5 @@
 -- What a check reports of a square.
-use Rattle.std.specs.Prelude.{◌≡◌, ◌==◌, ◌&&◌, ◌||◌, nat_le, ℕ, Bool, true, false, List, drop, Option, Some, None, IfSome, IfNone}
+use Rattle.std.specs.Prelude.{◌≡◌, ◌==◌, ◌&&◌, ◌||◌, ℕ, Bool, false, List, drop, Option, Some, None, IfSome, IfNone}
 use Rattle.std.specs.List.{list_all}
 use Rattle.qrcode_types.specs.declared.types.Color.{Color}
 use Rattle.qrcode_types.specs.declared.types.Version.{Version}
@@ -12,11 +12,11 @@ use Rattle.qrcode_check.specs.Correction.{wrong_codewords, allowed_in_block, unu
 use Rattle.qrcode_check.specs.Modules.{AreWrongModules, are_right}
 use Rattle.qrcode_check.specs.Masks.{stepped_penalty, penalties, place_of, IsRank}
 use Rattle.qrcode_check.specs.Segments.{AreTaken, NotComparable}
+use Rattle.qrcode_check.specs.Forms.{IsReadRank, inside, narrow, narrow_inside}
 use Rattle.qrcode_check.specs.Ending.{IsEnding}
 use Rattle.qrcode_check.specs.Guesses.{AreGuesses}
 use Rattle.qrcode_check.specs.declared.checking.Check.{Check}
 use Rattle.qrcode_check.specs.declared.checking.Content.{Content}
-use Rattle.qrcode_check.specs.declared.segments.Taken.{Taken}
 
 -- what is reported of data bits of a version that are headers, segments and an end
 pub record IsContent (v : Version) (bits : List Bool) (c : Content) : Type 0 where
@@ -44,18 +44,21 @@ pub record IsCheck (s : List Color) (c : Check) : Type 0 where  -- the square is
   pub modules : AreWrongModules c.version c.ec_level c.mask s c.modules
   pub own : IsRank (penalties penalty c.version c.ec_level c.mask s) (place_of c.version c.mask) c.own
   pub stepped : IsRank (penalties stepped_penalty c.version c.ec_level c.mask s) (place_of c.version c.mask) c.stepped
+  pub narrow : IsReadRank narrow c.version c.ec_level c.mask s c.narrow
+  pub inside : IsReadRank inside c.version c.ec_level c.mask s c.inside
+  pub narrow_inside : IsReadRank narrow_inside c.version c.ec_level c.mask s c.narrow_inside
   pub content : IsContentOf c.version bits c.content
-
-abbrev pub is_least : Option Taken → Bool  -- the segments take the fewest bits, or that is not known
-is_least None = true
-is_least (Some t) = nat_le t.bits t.least
 
 abbrev pub is_content_standard : Option Content → Bool  -- nothing in the data departs from the standard
 is_content_standard None = false
-is_content_standard (Some c) = is_least c.taken && (c.ending.terminator == 0 && c.ending.padding == 0)
+is_content_standard (Some c) = c.ending.terminator == 0 && c.ending.padding == 0
 
--- nothing departs from the standard, headers aside; the mask has the lowest penalty by one balance or the other
+-- the mask has the lowest penalty by some reading of the standard
+abbrev pub has_lowest : Check → Bool
+has_lowest c = c.own.lower == 0 || c.stepped.lower == 0 || c.narrow.lower == 0 || c.inside.lower == 0 || c.narrow_inside.lower == 0
+
+-- nothing departs from the standard, which leaves headers and the division into segments to the encoder
 abbrev pub is_standard : Check → Bool
 is_standard c =
     (list_all (λ n. n == 0) c.wrong.items && are_right c.modules)
-    && ((c.own.lower == 0 || c.stepped.lower == 0) && is_content_standard c.content)
+    && (has_lowest c && is_content_standard c.content)

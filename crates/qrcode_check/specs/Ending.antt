@@ -2,7 +2,8 @@
 use Rattle.std.specs.Prelude.{◌≡◌, ℕ, ◌+◌, ◌-◌, ◌*◌, ◌/◌, min, Bool, List, length, count_by, take, drop}
 use Rattle.qrcode_types.specs.Bits.{bit_distance}
 use Rattle.qrcode_types.specs.declared.types.Version.{Version}
-use Rattle.qrcode_bits.specs.Written.{terminator_length, padding}
+use Rattle.qrcode_types.specs.Versions.{terminator_length}
+use Rattle.qrcode_bits.specs.Written.{padding}
 use Rattle.qrcode_check.specs.declared.ending.Ending.{Ending}
 
 -- how many zeros follow the used bits: the terminator, and more up to a whole byte, as far as there is room

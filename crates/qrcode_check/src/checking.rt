@@ -1,24 +1,25 @@
 //! Checks a whole square of modules.
 
-ghost use Rattle.std.specs.Prelude.{◌≡◌, ◌==◌, ◌≤◌, ◌*◌, ℕ, length, IfOk, IfErr, IsTrue};
+ghost use Rattle.std.specs.Prelude.{◌≡◌, ◌≢◌, ◌==◌, ◌≤◌, ◌*◌, ℕ, Err, length, IfOk, IfErr, IsTrue};
 ghost use Rattle.std.specs.List.{list_all};
 ghost use Rattle.qrcode_types.specs.Versions.{is_valid};
 ghost use Rattle.qrcode_reader.specs.Positions.{seen};
 ghost use Rattle.qrcode_reader.specs.Readings.{IsBitCause};
-ghost use Rattle.qrcode_check.specs.Checks.{IsCheck, IsContentOf, is_least, is_content_standard, is_standard};
+ghost use Rattle.qrcode_reader.specs.declared.refusals.Unread.TheVariants.{NoSuchSide};
+ghost use Rattle.qrcode_check.specs.Checks.{IsCheck, IsContentOf, has_lowest, is_content_standard, is_standard};
 ghost use Rattle.qrcode_check.specs.Masks.{place_of};
 
 use crate::correction::{allowed_in_block, unused_correction, wrong_codewords};
 use crate::ending::{Ending, ending_behind};
 use crate::guesses::{Guesses, guesses_in};
-use crate::masks::{Rank, place_of, ranks};
+use crate::masks::{Rank, place_of, ranks, read_ranks};
 use crate::modules::{WrongModules, wrong_modules};
 use crate::segments::{Taken, bits_taken};
 use qrcode_layout::masks::MaskPattern;
 use qrcode_reader::spell::{Unspelled, pieces};
-use qrcode_reader::walk::side;
 use qrcode_reader::{Position, Unread, read_bits, seen, version_of};
 use qrcode_types::types::{Color, EcLevel, Version};
+use qrcode_types::versions::side;
 use std::alloc::{AllocError, Global};
 
 /// What a check reports of headers and segments.
@@ -55,6 +56,13 @@ pub struct Check {
     pub own: Rank,
     /// The rank of the mask by the standard's penalty, whose balance goes in steps of 5 %.
     pub stepped: Rank,
+    /// The same, if only forms whose first and last dark run have one module look like finder
+    /// patterns.
+    pub narrow: Rank,
+    /// The same as `stepped`, if the light places next to forms lie inside the symbol.
+    pub inside: Rank,
+    /// The same, if both hold.
+    pub narrow_inside: Rank,
     /// What is reported of the data; `None` if the data bits are not just headers, segments and an
     /// end.
     pub content: Option<Content>,
@@ -68,14 +76,25 @@ impl Check {
         place_of(self.version, self.mask)
     }
 
+    /// Returns whether the mask has the lowest penalty by some reading of the standard.
+    pub fn has_lowest(&self) -> bool
+        ensures { result ≡ has_lowest self.now }
+    {
+        self.own.lower == 0
+            || self.stepped.lower == 0
+            || self.narrow.lower == 0
+            || self.inside.lower == 0
+            || self.narrow_inside.lower == 0
+    }
+
     /// Returns whether nothing departs from the standard. The mask may have the lowest penalty by
-    /// either balance. Guesses, and which headers come where, do not count.
+    /// any reading of it. Segments that take more bits than needed do not count, nor do guesses, nor
+    /// which headers come where: the standard leaves these to the encoder.
     pub fn is_standard(&self) -> bool
         ensures { result ≡ is_standard self.now }
     {
         let is_whole = are_zero(&self.wrong) && self.modules.are_right();
-        let is_least = self.own.lower == 0 || self.stepped.lower == 0;
-        is_whole && is_least && is_content_standard(&self.content)
+        is_whole && self.has_lowest() && is_content_standard(&self.content)
     }
 }
 
@@ -85,24 +104,12 @@ fn are_zero(numbers: &[usize]) -> bool
     numbers.iter().all(|number| *number == 0)
 }
 
-// Returns whether the segments take the fewest bits, or that is not known.
-fn is_least(taken: Option<Taken>) -> bool
-    ensures { result ≡ is_least taken }
-{
-    match taken {
-        Some(taken) => taken.bits <= taken.least,
-        None => true,
-    }
-}
-
 // Returns whether nothing in the data departs from the standard.
 fn is_content_standard(content: &Option<Content>) -> bool
     ensures { result ≡ is_content_standard content.now }
 {
     match content {
-        Some(content) => {
-            is_least(content.taken) && content.ending.terminator == 0 && content.ending.padding == 0
-        }
+        Some(content) => content.ending.terminator == 0 && content.ending.padding == 0,
         None => false,
     }
 }
@@ -140,6 +147,7 @@ pub fn check_square(alloc: Global, modules: &[Color]) -> Result<Check, Unread>
     let allowed = allowed_in_block(version, ec_level);
     let unused = unused_correction(allowed, &wrong);
     let (own, stepped) = ranks(alloc, version, ec_level, mask, modules)?;
+    let (narrow, inside, narrow_inside) = read_ranks(alloc, version, ec_level, mask, modules)?;
     Ok(Check {
         version,
         ec_level,
@@ -150,6 +158,9 @@ pub fn check_square(alloc: Global, modules: &[Color]) -> Result<Check, Unread>
         modules: wrong_modules(alloc, version, ec_level, mask, modules)?,
         own,
         stepped,
+        narrow,
+        inside,
+        narrow_inside,
         content: content_of(alloc, version, &read.bits)?,
     })
 }
@@ -157,7 +168,7 @@ pub fn check_square(alloc: Global, modules: &[Color]) -> Result<Check, Unread>
 /// Checks the symbol that a square shows in this `position`, and with dark and light swapped if
 /// `is_inverted` (see `check_square`).
 ///
-/// Errors: those of `check_square`.
+/// Errors: `NoSuchSide` for any number of modules that is no square, else those of `check_square`.
 pub fn check_seen(
     alloc: Global,
     position: Position,
@@ -168,6 +179,7 @@ pub fn check_seen(
         → IsCheck (seen side position is_inverted modules.now) check) }
     ensures causes { IfErr result (λ error. (side : ℕ) → side * side ≡ length modules.now
         → IsBitCause (seen side position is_inverted modules.now) error) }
+    ensures no_side { ((side : ℕ) → side * side ≢ length modules.now) → result ≡ Err NoSuchSide }
 {
     let Some(version) = version_of(modules.len()) else {
         return Err(Unread::NoSuchSide);

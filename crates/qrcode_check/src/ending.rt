@@ -1,14 +1,15 @@
 //! Checks the terminator and padding after the segments.
 
-ghost use Rattle.std.specs.Prelude.{◌≡◌, ◌≤◌, ◌+◌, ◌%◌, ◌==◌, length, IsTrue, if◌then◌else◌};
+ghost use Rattle.std.specs.Prelude.{◌≡◌, ◌≤◌, ◌+◌, length, IsTrue};
 ghost use Rattle.qrcode_types.specs.Bits.{bit_distance};
 ghost use Rattle.qrcode_types.specs.Versions.{is_valid};
-ghost use Rattle.qrcode_bits.specs.Written.{terminator_length, padding};
+ghost use Rattle.qrcode_bits.specs.Written.{padding};
 ghost use Rattle.qrcode_check.specs.Ending.{zeros, IsEnding};
 
 use crate::modules::ones;
 use qrcode_reader::formats::distance;
 use qrcode_types::types::Version;
+use qrcode_types::versions::{padding_byte, terminator_length};
 
 /// How many bits after the segments are wrong.
 #[derive(Debug, PartialEq, Eq, Copy, Clone)]
@@ -17,18 +18,6 @@ pub struct Ending {
     pub terminator: usize,
     /// Wrong bits of the padding after these.
     pub padding: usize,
-}
-
-// Returns how many zeros the terminator has, if there is room.
-fn terminator_length(version: Version) -> usize
-    requires { IsTrue (is_valid version) }
-    ensures value { result ≡ terminator_length version }
-    ensures at_most { result ≤ 9 }
-{
-    match version {
-        Version::Normal(_) => 4,
-        Version::Micro(v) => 2 * (v as usize) + 1,
-    }
 }
 
 // Returns how many zeros should follow the first `used` of `room` bits: the terminator, and more up
@@ -44,13 +33,6 @@ fn zeros(version: Version, used: usize, room: usize) -> usize
     whole.min(room) - used
 }
 
-// Returns the padding byte at `place`.
-fn padding_byte(place: usize) -> u16
-    ensures { result ≡ (if place % 2 == 0 then 0xEC else 0x11) }
-{
-    if place % 2 == 0 { 0xEC } else { 0x11 }
-}
-
 // Counts the wrong bits of the padding.
 fn wrong_padding(bits: &[bool]) -> usize
     requires { length bits.now ≤ 30000 }
@@ -60,7 +42,7 @@ fn wrong_padding(bits: &[bool]) -> usize
     let mut count = 0;
     for i in 0..bits.len() / 8 {
         let (byte, behind) = rest.split_at(8);
-        count += distance(byte, padding_byte(i));
+        count += distance(byte, padding_byte(i) as u16);
         rest = behind;
     }
     count + distance(rest, 0)

@@ -4,6 +4,7 @@
 mod checking;
 pub mod correction;
 pub mod ending;
+pub mod forms;
 pub mod guesses;
 pub mod masks;
 pub mod modules;

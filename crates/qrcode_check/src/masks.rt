@@ -5,13 +5,15 @@ ghost use Rattle.qrcode_types.specs.Versions.{is_valid, has_level, side};
 ghost use Rattle.qrcode_layout.specs.Masks.{mask_count, exists_in};
 ghost use Rattle.qrcode_penalty.specs.Penalty.{dark_count, dark_count_in};
 ghost use Rattle.qrcode_symbol.specs.Penalties.{penalty, is_dark_at, remasked};
+ghost use Rattle.qrcode_check.specs.Forms.{IsReadRank, inside, narrow, narrow_inside, read_penalty};
 ghost use Rattle.qrcode_check.specs.Masks.{stepped_balance, stepped_penalty, penalties, place_of, IsRank};
 
+use crate::forms::{FormReading, read_penalty, reading};
 use qrcode_layout::masks::{MaskPattern, mask_count, nth_mask};
-use qrcode_reader::walk::side;
 pub use qrcode_symbol::canvas::penalty;
 use qrcode_symbol::canvas::remask;
 use qrcode_types::types::{Color, EcLevel, Version};
+use qrcode_types::versions::side;
 use std::alloc::{AllocError, Global};
 
 /// The rank of a mask among all masks of its version, by the penalty.
@@ -66,7 +68,8 @@ fn stepped_penalty(version: Version, modules: &[Color], own: u32) -> usize
     requires square { length modules.now ≡ side version * side version }
     requires own { own ≡ penalty version modules.now }
     requires at_most { own < 2 ^ 24 }
-    ensures { result ≡ stepped_penalty version modules.now }
+    ensures value { result ≡ stepped_penalty version modules.now }
+    ensures at_most { result ≤ 1000000000 }
 {
     if version.is_micro() {
         return own as usize;
@@ -154,4 +157,83 @@ pub fn ranks(
     }
     let place = place_of(version, mask);
     Ok((rank_at(&own, place), rank_at(&stepped, place)))
+}
+
+// Returns the standard's penalty of a square under the mask `other`, by this `reading`.
+fn read_penalty_under(
+    alloc: Global,
+    reading: FormReading,
+    version: Version,
+    ec_level: EcLevel,
+    mask: MaskPattern,
+    modules: &[Color],
+    other: MaskPattern,
+) -> Result<usize, AllocError>
+    requires exists { IsTrue (has_level version ec_level) }
+    requires mask_exists { IsTrue (exists_in version other) }
+    requires square { length modules.now ≡ side version * side version }
+    ensures { IfOk result (λ found.
+        found ≡ read_penalty reading version (remasked version ec_level mask other modules.now)) }
+{
+    let mut turned = Vec::from_slice(alloc, modules)?;
+    remask(version, ec_level, mask, other, &mut turned);
+    let own = penalty(alloc, version, &turned)?;
+    let stepped = stepped_penalty(version, &turned, own);
+    read_penalty(alloc, reading, version, &turned, stepped)
+}
+
+/// Ranks the mask of a square by the standard's penalty in this `reading`.
+///
+/// Errors: only `AllocError`, if memory runs out.
+pub fn rank_read(
+    alloc: Global,
+    reading: FormReading,
+    version: Version,
+    ec_level: EcLevel,
+    mask: MaskPattern,
+    modules: &[Color],
+) -> Result<Rank, AllocError>
+    requires exists { IsTrue (has_level version ec_level) }
+    requires mask_exists { IsTrue (exists_in version mask) }
+    requires square { length modules.now ≡ side version * side version }
+    ensures { IfOk result (IsReadRank reading version ec_level mask modules.now) }
+{
+    let mut numbers = Vec::new(alloc);
+    for number in 0..mask_count(version) {
+        let other = nth_mask(version, number);
+        let read = read_penalty_under(alloc, reading, version, ec_level, mask, modules, other)?;
+        numbers.push(read)?;
+    }
+    Ok(rank_at(&numbers, place_of(version, mask)))
+}
+
+/// Ranks the mask of a square by the standard's penalty in the other readings: forms with short
+/// ends alone, light places inside the symbol alone, and both.
+///
+/// Errors: only `AllocError`, if memory runs out.
+pub fn read_ranks(
+    alloc: Global,
+    version: Version,
+    ec_level: EcLevel,
+    mask: MaskPattern,
+    modules: &[Color],
+) -> Result<(Rank, Rank, Rank), AllocError>
+    requires exists { IsTrue (has_level version ec_level) }
+    requires mask_exists { IsTrue (exists_in version mask) }
+    requires square { length modules.now ≡ side version * side version }
+    ensures narrow { IfOk result (λ ranks. IsReadRank
+        narrow version ec_level mask modules.now ranks.0) }
+    ensures inside { IfOk result (λ ranks. IsReadRank
+        inside version ec_level mask modules.now ranks.1) }
+    ensures narrow_inside { IfOk result (λ ranks. IsReadRank
+        narrow_inside version ec_level mask modules.now ranks.2) }
+{
+    let narrow = reading(true, false);
+    let inside = reading(false, true);
+    let both = reading(false, false);
+    Ok((
+        rank_read(alloc, narrow, version, ec_level, mask, modules)?,
+        rank_read(alloc, inside, version, ec_level, mask, modules)?,
+        rank_read(alloc, both, version, ec_level, mask, modules)?,
+    ))
 }

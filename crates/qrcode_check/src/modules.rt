@@ -14,10 +14,11 @@ use qrcode_layout::masks::MaskPattern;
 use qrcode_layout::words::format_word;
 use qrcode_reader::figures::{wrong_figures, wrong_in, wrong_of};
 use qrcode_reader::formats::{FormatCopy, copy_bits, distance};
-use qrcode_reader::walk::{side, stream};
+use qrcode_reader::walk::stream;
 use qrcode_reader::words::behind;
 use qrcode_types::tables::{Blocks, capacity};
 use qrcode_types::types::{Color, EcLevel, Version};
+use qrcode_types::versions::side;
 use std::alloc::{AllocError, Global};
 
 /// How many modules of each kind of pattern are wrong. A module where two kinds meet counts for

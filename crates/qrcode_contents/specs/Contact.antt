@@ -13,7 +13,7 @@ use Rattle.qrcode_contents.specs.Phone.{is_no_number}
 use Rattle.qrcode_contents.specs.declared.times.Day.{Day}
 use Rattle.qrcode_contents.specs.Times.{wrong_day, day_text, said_or_none, read_day}
 
-pub record Person : Type 0 where  -- the fields of a contact, with texts as bytes
+pub record ContactFields : Type 0 where  -- the fields of a contact, with texts as bytes
   pub family : List ℕ
   pub given : List ℕ
   pub phone : List ℕ
@@ -27,8 +27,8 @@ pub record Person : Type 0 where  -- the fields of a contact, with texts as byte
   pub code : List ℕ
   pub country : List ℕ
 
-abbrev pub person_of : Contact → Person  -- the fields of a `Contact`
-person_of c = record {
+abbrev pub contact_of : Contact → ContactFields  -- the fields of a `Contact`
+contact_of c = record {
   family = c.family.now;
   given = c.given.now;
   phone = c.phone.now;
@@ -43,32 +43,32 @@ person_of c = record {
   country = c.country.now;
 }
 
-unfoldable pub person_controls : Person → Option ContentError  -- the error of the first text with a line break or another control character
-person_controls p = control_refusal (
+unfoldable pub contact_controls : ContactFields → Option ContentError  -- the error of the first text with a line break or another control character
+contact_controls p = control_refusal (
     (Family, p.family) ∷ (Given, p.given) ∷ (Email, p.email) ∷ (Url, p.url) ∷ (Note, p.note)
     ∷ (Street, p.street) ∷ (City, p.city) ∷ (Region, p.region) ∷ (PostalCode, p.code) ∷ (Country, p.country) ∷ [])
 
 -- the first error of these: an empty family name, a birthday that does not exist, a wrong telephone number
-unfoldable pub person_checks : Person → Option ContentError
-person_checks p = first_refusal (
+unfoldable pub contact_checks : ContactFields → Option ContentError
+contact_checks p = first_refusal (
     refused_if (is_empty p.family) Family Empty ∷ refused_if (wrong_day p.birthday) Birthday Range
     ∷ refused_if (is_no_number p.phone) Phone Character ∷ [])
 
-abbrev pub contact_refusal : Person → Option ContentError  -- the error of the first wrong field
-contact_refusal p = first_refusal (person_controls p ∷ person_checks p ∷ [])
+abbrev pub contact_refusal : ContactFields → Option ContentError  -- the error of the first wrong field
+contact_refusal p = first_refusal (contact_controls p ∷ contact_checks p ∷ [])
 
 -- the entries of the text; an address has two empty parts before the street, for a post office box and a room
-abbrev pub mecard_entries : Person → List Entry
+abbrev pub mecard_entries : ContactFields → List Entry
 mecard_entries p =
     (codes "N", p.family ∷ p.given ∷ []) ∷ single (codes "TEL") p.phone ∷ single (codes "EMAIL") p.email
     ∷ single (codes "URL") p.url ∷ single (codes "BDAY") (said_or_none day_text p.birthday) ∷ single (codes "NOTE") p.note
     ∷ (codes "ADR", [] ∷ [] ∷ p.street ∷ p.city ∷ p.region ∷ p.code ∷ p.country ∷ []) ∷ []
 
-unfoldable pub mecard_text : Person → List ℕ  -- the text of a contact
+unfoldable pub mecard_text : ContactFields → List ℕ  -- the text of a contact
 mecard_text p = codes "MECARD:" ++ (flat_map marked_text (mecard_entries p) ++ 59 ∷ [])
 
-abbrev pub person_with : List Entry → Option Day → Person  -- the contact of these entries, with this birthday
-person_with entries birthday = record {
+abbrev pub contact_with : List Entry → Option Day → ContactFields  -- the contact of these entries, with this birthday
+contact_with entries birthday = record {
   family = part_of (codes "N") 0 entries;
   given = part_of (codes "N") 1 entries;
   phone = value_of (codes "TEL") entries;
@@ -83,15 +83,15 @@ person_with entries birthday = record {
   country = part_of (codes "ADR") 6 entries;
 }
 
-abbrev pub person_from : List Entry → Option Person  -- the contact of these entries; None if the birthday cannot be read
-person_from entries = option_map (person_with entries) (read_or_none read_day (value_of (codes "BDAY") entries))
+abbrev pub contact_from : List Entry → Option ContactFields  -- the contact of these entries; None if the birthday cannot be read
+contact_from entries = option_map (contact_with entries) (read_or_none read_day (value_of (codes "BDAY") entries))
 
-unfoldable pub read_mecard : List ℕ → Option Person  -- the contact of a text; None if it cannot be read
-read_mecard text = option_and_then person_from (read_entries (codes "MECARD:") text)
+unfoldable pub read_mecard : List ℕ → Option ContactFields  -- the contact of a text; None if it cannot be read
+read_mecard text = option_and_then contact_from (read_entries (codes "MECARD:") text)
 
 -- the printed example of the page "Barcode Contents" of the ZXing project; its address has four parts, which are read in MECARD's order
 printed_row : read_mecard (codes "MECARD:N:Owen,Sean;ADR:76 9th Avenue, 4th Floor, New York, NY 10011;TEL:12125551212;EMAIL:srowen@example.com;;")
-    ≡ Some (let p : Person = record {
+    ≡ Some (let p : ContactFields = record {
       family = codes "Owen";
       given = codes "Sean";
       phone = codes "12125551212";

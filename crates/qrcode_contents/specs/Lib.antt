@@ -9,6 +9,7 @@ pub mod Merchant
 pub mod OneTime
 pub mod Payment
 pub mod Phone
+pub mod PixKeys
 pub mod Times
 pub mod Upi
 pub mod Wifi

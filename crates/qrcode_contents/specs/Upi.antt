@@ -15,7 +15,7 @@ use Rattle.qrcode_contents.specs.fields.Links.{Parameter, query_text, read_param
 use Rattle.qrcode_contents.specs.fields.Percents.{decoded}
 use Rattle.qrcode_contents.specs.fields.Refusals.{refused_if, first_refusal}
 
-pub record Request : Type 0 where  -- the fields of a payment, with texts as bytes; the amount may be left open
+pub record UpiFields : Type 0 where  -- the fields of a payment, with texts as bytes; the amount may be left open
   pub payee : List ℕ
   pub name : List ℕ
   pub category : List ℕ
@@ -23,8 +23,8 @@ pub record Request : Type 0 where  -- the fields of a payment, with texts as byt
   pub note : List ℕ
   pub cents : Option ℕ
 
-abbrev pub request_of : Upi → Request  -- the fields of a `Upi`
-request_of u = record {
+abbrev pub upi_of : Upi → UpiFields  -- the fields of a `Upi`
+upi_of u = record {
   payee = u.payee.now;
   name = u.name.now;
   category = u.category.now;
@@ -47,7 +47,7 @@ is_address text =
 abbrev pub is_category : List ℕ → Bool  -- four digits (ISO 18245)
 is_category text = length text == 4 && list_all is_digit text
 
-abbrev pub upi_checks : Request → List (Option ContentError)  -- the checks of the fields, in order
+abbrev pub upi_checks : UpiFields → List (Option ContentError)  -- the checks of the fields, in order
 upi_checks r =
     refused_if (is_empty r.payee) Payee Empty
     ∷ refused_if (not (list_all is_address_byte r.payee)) Payee Character
@@ -59,20 +59,20 @@ upi_checks r =
     ∷ refused_if (is_out_of_range r.cents) Amount Range
     ∷ []
 
-unfoldable pub upi_refusal : Request → Option ContentError  -- the error of the first check that fails
+unfoldable pub upi_refusal : UpiFields → Option ContentError  -- the error of the first check that fails
 upi_refusal r = first_refusal (upi_checks r)
 
-abbrev pub upi_parameters : Request → List Parameter  -- the parameters after the address, in the order of the specification
+abbrev pub upi_parameters : UpiFields → List Parameter  -- the parameters after the address, in the order of the specification
 upi_parameters r =
     (codes "pn", r.name) ∷ (codes "mc", r.category) ∷ (codes "tr", r.reference) ∷ (codes "tn", r.note)
     ∷ (codes "am", amount_line r.cents) ∷ (codes "cu", codes "INR") ∷ []
 
 -- the link of a request: the address as it is, with its `@`, and the other values percent-encoded
-abbrev pub upi_text : Request → List ℕ
+abbrev pub upi_text : UpiFields → List ℕ
 upi_text r = codes "upi://pay?pa=" ++ (r.payee ++ query_text (codes "&") (upi_parameters r))
 
-abbrev pub request_with : List ℕ → Option ℕ → Request  -- the request of a link without its scheme, with this amount
-request_with link cents = record {
+abbrev pub upi_with : List ℕ → Option ℕ → UpiFields  -- the request of a link without its scheme, with this amount
+upi_with link cents = record {
   payee = value_in (codes "pa") link;
   name = value_in (codes "pn") link;
   category = value_in (codes "mc") link;
@@ -82,17 +82,17 @@ request_with link cents = record {
 }
 
 -- the request of a link without its scheme; None if its currency is not INR, or its amount cannot be read
-abbrev pub request_in : List ℕ → Option Request
-request_in link =
+abbrev pub upi_in : List ℕ → Option UpiFields
+upi_in link =
     if bytes_eq (value_in (codes "cu") link) (codes "INR")
-    then option_map (request_with link) (read_cents (value_in (codes "am") link))
+    then option_map (upi_with link) (read_cents (value_in (codes "am") link))
     else None
 
-abbrev pub read_upi : List ℕ → Option Request  -- the request of a link; None if it cannot be read
-read_upi text = option_and_then request_in (behind (codes "upi://pay") text)
+abbrev pub read_upi : List ℕ → Option UpiFields  -- the request of a link; None if it cannot be read
+read_upi text = option_and_then upi_in (behind (codes "upi://pay") text)
 
 -- the printed example of the linking specification
 printed_row : read_upi (codes "upi://pay?pa=nadeem@npci&pn=nadeem%20chinna&mc=0000&tid=cxnkjcnkjdfdvjndkjfvn&tr=4894398cndhcd23&tn=Pay%20to%20mystar%20store&am=10&cu=INR&refUrl=https://mystar.com/orderid=9298yw89e8973e87389e78923ue892")
-    ≡ Some (let r : Request = record { payee = codes "nadeem@npci"; name = codes "nadeem chinna"; category = codes "0000"; reference = codes "4894398cndhcd23"; note = codes "Pay to mystar store"; cents = Some 1000 } in r)
+    ≡ Some (let r : UpiFields = record { payee = codes "nadeem@npci"; name = codes "nadeem chinna"; category = codes "0000"; reference = codes "4894398cndhcd23"; note = codes "Pay to mystar store"; cents = Some 1000 } in r)
 unfolding read_parameter decoded read_decimal
 printed_row = refl

@@ -2,7 +2,7 @@
 
 ghost use Rattle.std.specs.Prelude.{◌≡◌, ◌++◌, Some, IfOk, OnOk, IsOkUnless, string_bytes};
 ghost use Rattle.qrcode_contents.specs.declared.fields.errors.ContentError.TheVariants.{OutOfMemory};
-ghost use Rattle.qrcode_contents.specs.Card.{contact_of, first_refused, numbers_refused, last_refused, card_refusal, name_lines, card_text, read_card};
+ghost use Rattle.qrcode_contents.specs.Card.{card_of, first_refused, numbers_refused, last_refused, card_refusal, name_lines, card_text, read_card};
 ghost use Rattle.qrcode_contents.specs.fields.ContentLines.{content_text};
 ghost use Rattle.qrcode_contents.specs.fields.Refusals.{Answers, checked};
 
@@ -38,7 +38,7 @@ impl Card<'_> {
     // Rejects missing names, and control characters in the first texts.
     #[tactic(auto, unfolding(crate::specs::Card::first_refused))]
     fn check_first(&self) -> ContentResult<()>
-        ensures { result ≡ checked (first_refused (contact_of self.now)) }
+        ensures { result ≡ checked (first_refused (card_of self.now)) }
     {
         refuse_first(&[
             (self.name.is_empty(), Field::Name, Cause::Empty),
@@ -54,7 +54,7 @@ impl Card<'_> {
     // Rejects a wrong telephone number.
     #[tactic(auto, unfolding(crate::specs::Card::numbers_refused))]
     fn check_numbers(&self) -> ContentResult<()>
-        ensures { result ≡ checked (numbers_refused (contact_of self.now)) }
+        ensures { result ≡ checked (numbers_refused (card_of self.now)) }
     {
         refuse_first(&[
             no_number(Field::Phone, self.contact.phone),
@@ -67,7 +67,7 @@ impl Card<'_> {
     // Rejects control characters in the other texts, and a birthday that does not exist.
     #[tactic(auto, unfolding(crate::specs::Card::last_refused))]
     fn check_last(&self) -> ContentResult<()>
-        ensures { result ≡ checked (last_refused (contact_of self.now)) }
+        ensures { result ≡ checked (last_refused (card_of self.now)) }
     {
         refuse_first(&[
             controls(Field::Url, self.contact.url),
@@ -88,7 +88,7 @@ impl Card<'_> {
 
     // Fails on the first wrong field.
     fn check(&self) -> ContentResult<()>
-        ensures { result ≡ checked (card_refusal (contact_of self.now)) }
+        ensures { result ≡ checked (card_refusal (card_of self.now)) }
     {
         self.check_first()?;
         self.check_numbers()?;
@@ -98,7 +98,7 @@ impl Card<'_> {
     // Appends the lines from `N` to `EMAIL`.
     fn push_names(&self, alloc: Global, text: &mut String) -> ContentResult<()>
         ensures appends { OnOk result (string_bytes text.new
-            ≡ string_bytes text.old ++ content_text (name_lines (contact_of self.now))) }
+            ≡ string_bytes text.old ++ content_text (name_lines (card_of self.now))) }
         ensures memory { IsOkUnless result OutOfMemory }
     {
         let name = [self.contact.family, self.contact.given, "", "", ""];
@@ -118,7 +118,7 @@ impl Card<'_> {
 
     // Writes the text without checking the fields.
     fn written(&self, alloc: Global) -> ContentResult<String>
-        ensures value { IfOk result (λ text. string_bytes text ≡ card_text (contact_of self.now)) }
+        ensures value { IfOk result (λ text. string_bytes text ≡ card_text (card_of self.now)) }
         ensures memory { IsOkUnless result OutOfMemory }
     {
         let birthday = date_or_none(alloc, self.contact.birthday)?;
@@ -145,9 +145,9 @@ impl Card<'_> {
     ///
     /// Errors: `Refused` names the first wrong field and why; `OutOfMemory` if memory runs out.
     pub fn text(&self, alloc: Global) -> ContentResult<String>
-        ensures reads { Answers (card_refusal (contact_of self.now)) result
-            (λ text. read_card text ≡ Some (contact_of self.now)) }
-        ensures value { IfOk result (λ text. string_bytes text ≡ card_text (contact_of self.now)) }
+        ensures reads { Answers (card_refusal (card_of self.now)) result
+            (λ text. read_card text ≡ Some (card_of self.now)) }
+        ensures value { IfOk result (λ text. string_bytes text ≡ card_text (card_of self.now)) }
     {
         self.check()?;
         self.written(alloc)

@@ -2,7 +2,7 @@
 
 ghost use Rattle.std.specs.Prelude.{◌≡◌, Some, IfOk, IsOkUnless, string_bytes};
 ghost use Rattle.qrcode_contents.specs.declared.fields.errors.ContentError.TheVariants.{OutOfMemory};
-ghost use Rattle.qrcode_contents.specs.Contact.{person_of, person_controls, person_checks, contact_refusal, mecard_text, read_mecard};
+ghost use Rattle.qrcode_contents.specs.Contact.{contact_of, contact_controls, contact_checks, contact_refusal, mecard_text, read_mecard};
 ghost use Rattle.qrcode_contents.specs.fields.Refusals.{Answers, checked};
 
 use crate::fields::entries::{push_entry, push_texts};
@@ -43,9 +43,9 @@ pub struct Contact<'a> {
 
 impl Contact<'_> {
     // Rejects line breaks and other control characters.
-    #[tactic(auto, unfolding(crate::specs::Contact::person_controls))]
+    #[tactic(auto, unfolding(crate::specs::Contact::contact_controls))]
     fn check_controls(&self) -> ContentResult<()>
-        ensures { result ≡ checked (person_controls (person_of self.now)) }
+        ensures { result ≡ checked (contact_controls (contact_of self.now)) }
     {
         refuse_first(&[
             controls(Field::Family, self.family),
@@ -62,9 +62,9 @@ impl Contact<'_> {
     }
 
     // Rejects an empty family name, a birthday that does not exist, and a wrong telephone number.
-    #[tactic(auto, unfolding(crate::specs::Contact::person_checks))]
+    #[tactic(auto, unfolding(crate::specs::Contact::contact_checks))]
     fn check_forms(&self) -> ContentResult<()>
-        ensures { result ≡ checked (person_checks (person_of self.now)) }
+        ensures { result ≡ checked (contact_checks (contact_of self.now)) }
     {
         refuse_first(&[
             (self.family.is_empty(), Field::Family, Cause::Empty),
@@ -75,7 +75,7 @@ impl Contact<'_> {
 
     // Fails on the first wrong field.
     fn check(&self) -> ContentResult<()>
-        ensures { result ≡ checked (contact_refusal (person_of self.now)) }
+        ensures { result ≡ checked (contact_refusal (contact_of self.now)) }
     {
         self.check_controls()?;
         self.check_forms()
@@ -83,7 +83,7 @@ impl Contact<'_> {
 
     // Writes the text without checking the fields.
     fn written(&self, alloc: Global) -> ContentResult<String>
-        ensures value { IfOk result (λ text. string_bytes text ≡ mecard_text (person_of self.now)) }
+        ensures value { IfOk result (λ text. string_bytes text ≡ mecard_text (contact_of self.now)) }
         ensures memory { IsOkUnless result OutOfMemory }
     {
         let birthday = day_or_none(alloc, self.birthday)?;
@@ -116,9 +116,9 @@ impl Contact<'_> {
     ///
     /// Errors: `Refused` names the first wrong field and why; `OutOfMemory` if memory runs out.
     pub fn mecard(&self, alloc: Global) -> ContentResult<String>
-        ensures reads { Answers (contact_refusal (person_of self.now)) result
-            (λ text. read_mecard text ≡ Some (person_of self.now)) }
-        ensures value { IfOk result (λ text. string_bytes text ≡ mecard_text (person_of self.now)) }
+        ensures reads { Answers (contact_refusal (contact_of self.now)) result
+            (λ text. read_mecard text ≡ Some (contact_of self.now)) }
+        ensures value { IfOk result (λ text. string_bytes text ≡ mecard_text (contact_of self.now)) }
     {
         self.check()?;
         self.written(alloc)

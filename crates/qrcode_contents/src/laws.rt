@@ -2,13 +2,13 @@
 
 ghost use Rattle.std.specs.Prelude.{◌≡◌, ◌↔◌, IsTrue};
 ghost use Rattle.qrcode_contents.specs.Bill.{addressee_of, invoice_of};
-ghost use Rattle.qrcode_contents.specs.Card.{contact_of};
-ghost use Rattle.qrcode_contents.specs.Contact.{person_of};
+ghost use Rattle.qrcode_contents.specs.Card.{card_of};
+ghost use Rattle.qrcode_contents.specs.Contact.{contact_of};
 ghost use Rattle.qrcode_contents.specs.Mail.{mail_fields};
 ghost use Rattle.qrcode_contents.specs.OneTime.{key_of};
 ghost use Rattle.qrcode_contents.specs.Payment.{payment_fields};
-ghost use Rattle.qrcode_contents.specs.Merchant.{charge_of, claim_of};
-ghost use Rattle.qrcode_contents.specs.Upi.{request_of};
+ghost use Rattle.qrcode_contents.specs.Merchant.{pix_of, promptpay_of};
+ghost use Rattle.qrcode_contents.specs.Upi.{upi_of};
 ghost use Rattle.qrcode_contents.specs.Wifi.{wifi_fields};
 ghost use Rattle.qrcode_contents.specs.declared.bill.Bill.{Bill};
 ghost use Rattle.qrcode_contents.specs.declared.bill.Currency.{Currency};
@@ -79,7 +79,7 @@ pub fn equality<'a>()
 /// Theorem: two cards are equal by `==` exactly if their fields are.
 pub fn card_equality<'a>()
     ensures { (a b : Card)
-        → IsTrue (⟦<Card<'a> as PartialEq>⟧.eq a b) ↔ (contact_of a ≡ contact_of b) }
+        → IsTrue (⟦<Card<'a> as PartialEq>⟧.eq a b) ↔ (card_of a ≡ card_of b) }
 {
     contact_equality();
 }
@@ -87,7 +87,7 @@ pub fn card_equality<'a>()
 /// Theorem: two contacts are equal by `==` exactly if their fields are.
 pub fn contact_equality<'a>()
     ensures { (a b : Contact)
-        → IsTrue (⟦<Contact<'a> as PartialEq>⟧.eq a b) ↔ (person_of a ≡ person_of b) }
+        → IsTrue (⟦<Contact<'a> as PartialEq>⟧.eq a b) ↔ (contact_of a ≡ contact_of b) }
 {
     equality();
 }
@@ -121,9 +121,9 @@ pub fn event_equality<'a>()
 #[tactic(auto, using(crate::proofs::OpenAmounts::amounts_equal))]
 pub fn request_equality<'a>()
     ensures requests { (a b : Upi)
-        → IsTrue (⟦<Upi<'a> as PartialEq>⟧.eq a b) ↔ (request_of a ≡ request_of b) }
+        → IsTrue (⟦<Upi<'a> as PartialEq>⟧.eq a b) ↔ (upi_of a ≡ upi_of b) }
     ensures charges { (a b : Pix)
-        → IsTrue (⟦<Pix<'a> as PartialEq>⟧.eq a b) ↔ (charge_of a ≡ charge_of b) }
+        → IsTrue (⟦<Pix<'a> as PartialEq>⟧.eq a b) ↔ (pix_of a ≡ pix_of b) }
     ensures claims { (a b : PromptPay)
-        → IsTrue (⟦<PromptPay<'a> as PartialEq>⟧.eq a b) ↔ (claim_of a ≡ claim_of b) }
+        → IsTrue (⟦<PromptPay<'a> as PartialEq>⟧.eq a b) ↔ (promptpay_of a ≡ promptpay_of b) }
 {}

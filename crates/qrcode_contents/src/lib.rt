@@ -15,6 +15,7 @@ pub mod merchant;
 pub mod one_time;
 pub mod payment;
 pub mod phone;
+mod pix_keys;
 pub mod times;
 pub mod upi;
 pub mod wifi;

@@ -3,7 +3,7 @@
 ghost use Rattle.std.specs.Prelude.{◌≡◌, Some, IfOk, IsOkUnless, string_bytes};
 ghost use Rattle.std.specs.List.{list_all};
 ghost use Rattle.qrcode_contents.specs.declared.fields.errors.ContentError.TheVariants.{OutOfMemory};
-ghost use Rattle.qrcode_contents.specs.Merchant.{key_objects, account_refusal, charge_of, is_key_byte, is_printed, is_reference_byte, pix_refusal, pix_text, read_pix, receiver_refusal, reference_text, payee_objects, claim_of, initiation, payee_tag, payee_text, promptpay_refusal, promptpay_text, read_promptpay};
+ghost use Rattle.qrcode_contents.specs.Merchant.{key_objects, account_refusal, pix_of, is_key_byte, is_printed, is_reference_byte, pix_refusal, pix_text, read_pix, receiver_refusal, reference_text, payee_objects, promptpay_of, initiation, payee_tag, payee_text, promptpay_refusal, promptpay_text, read_promptpay};
 ghost use Rattle.qrcode_contents.specs.fields.Objects.{objects_text};
 ghost use Rattle.qrcode_contents.specs.fields.Refusals.{Answers, checked};
 
@@ -13,13 +13,14 @@ use crate::fields::characters::{are_digits, parts};
 use crate::fields::errors::{Cause, ContentResult, Field};
 use crate::fields::objects::{push_check, push_object};
 use crate::fields::refusals::refuse_first;
+use crate::pix_keys::{has_wrong_digits, is_key};
 use std::alloc::Global;
 
 /// A payment by Pix, in ASCII. `reference` and `description` may be empty.
 #[derive(Copy, Clone, PartialEq, Eq, Debug)]
 pub struct Pix<'a> {
-    /// The payee's key, up to 77 characters without spaces: a CPF or CNPJ number, a telephone
-    /// number such as +5561912345678, an e-mail address, or a random key.
+    /// The payee's key, up to 77 characters: a CPF or CNPJ with its check digits, a telephone number
+    /// with its country code such as +5561912345678, an e-mail address, or a random key.
     pub key: &'a str,
     /// The payee's name, up to 25 characters.
     pub name: &'a str,
@@ -72,16 +73,20 @@ impl Pix<'_> {
     // Rejects a wrong key or description.
     #[tactic(auto, unfolding(crate::specs::Merchant::account_refusal))]
     fn check_account(&self) -> ContentResult<()>
-        ensures { result ≡ checked (account_refusal (charge_of self.now)) }
+        ensures { result ≡ checked (account_refusal (pix_of self.now)) }
     {
         let described = !self.description.is_empty();
         let long = self.description.len() > 73usize.saturating_sub(self.key.len());
         let wrong_key = !are_of_key(self.key);
+        let wrong_digits = has_wrong_digits(self.key);
+        let other = !is_key(self.key);
         let wrong_description = !are_printed(self.description);
         refuse_first(&[
             (self.key.is_empty(), Field::Payee, Cause::Empty),
             (wrong_key, Field::Payee, Cause::Character),
             (self.key.len() > 77, Field::Payee, Cause::TooLong),
+            (wrong_digits, Field::Payee, Cause::CheckDigits),
+            (other, Field::Payee, Cause::Character),
             (wrong_description, Field::Description, Cause::Character),
             (described & long, Field::Description, Cause::TooLong),
         ])
@@ -90,7 +95,7 @@ impl Pix<'_> {
     // Rejects other wrong fields.
     #[tactic(auto, unfolding(crate::specs::Merchant::receiver_refusal))]
     fn check_receiver(&self) -> ContentResult<()>
-        ensures { result ≡ checked (receiver_refusal (charge_of self.now)) }
+        ensures { result ≡ checked (receiver_refusal (pix_of self.now)) }
     {
         let wrong_name = !are_printed(self.name);
         let wrong_city = !are_printed(self.city);
@@ -112,7 +117,7 @@ impl Pix<'_> {
     // Fails on the first wrong field.
     #[tactic(auto, unfolding(crate::specs::Merchant::pix_refusal))]
     fn check(&self) -> ContentResult<()>
-        ensures { result ≡ checked (pix_refusal (charge_of self.now)) }
+        ensures { result ≡ checked (pix_refusal (pix_of self.now)) }
     {
         self.check_account()?;
         self.check_receiver()
@@ -122,7 +127,7 @@ impl Pix<'_> {
     #[tactic(auto, unfolding(crate::specs::fields::Objects::objects_text))]
     fn key_objects(&self, alloc: Global) -> ContentResult<String>
         ensures value { IfOk result (λ text. string_bytes text
-            ≡ objects_text (key_objects (charge_of self.now))) }
+            ≡ objects_text (key_objects (pix_of self.now))) }
         ensures memory { IsOkUnless result OutOfMemory }
     {
         let mut text = String::new(alloc);
@@ -135,7 +140,7 @@ impl Pix<'_> {
     // Writes the text without checking the fields.
     #[tactic(auto, unfolding(crate::specs::fields::Objects::objects_text))]
     fn written(&self, alloc: Global) -> ContentResult<String>
-        ensures value { IfOk result (λ text. string_bytes text ≡ pix_text (charge_of self.now)) }
+        ensures value { IfOk result (λ text. string_bytes text ≡ pix_text (pix_of self.now)) }
         ensures memory { IsOkUnless result OutOfMemory }
     {
         let account = self.key_objects(alloc)?;
@@ -160,9 +165,9 @@ impl Pix<'_> {
     ///
     /// Errors: `Refused` names the first wrong field and why; `OutOfMemory` if memory runs out.
     pub fn text(&self, alloc: Global) -> ContentResult<String>
-        ensures reads { Answers (pix_refusal (charge_of self.now)) result
-            (λ text. read_pix text ≡ Some (charge_of self.now)) }
-        ensures value { IfOk result (λ text. string_bytes text ≡ pix_text (charge_of self.now)) }
+        ensures reads { Answers (pix_refusal (pix_of self.now)) result
+            (λ text. read_pix text ≡ Some (pix_of self.now)) }
+        ensures value { IfOk result (λ text. string_bytes text ≡ pix_text (pix_of self.now)) }
     {
         self.check()?;
         self.written(alloc)
@@ -231,7 +236,7 @@ impl PromptPay<'_> {
     // Fails on the first wrong field.
     #[tactic(auto, unfolding(crate::specs::Merchant::promptpay_refusal))]
     fn check(&self) -> ContentResult<()>
-        ensures { result ≡ checked (promptpay_refusal (claim_of self.now)) }
+        ensures { result ≡ checked (promptpay_refusal (promptpay_of self.now)) }
     {
         let payee = self.payee;
         let phone = payee.len() == 10;
@@ -258,7 +263,7 @@ impl PromptPay<'_> {
     #[tactic(auto, unfolding(crate::specs::fields::Objects::objects_text))]
     fn written(&self, alloc: Global) -> ContentResult<String>
         ensures value { IfOk result (λ text. string_bytes text
-            ≡ promptpay_text (claim_of self.now)) }
+            ≡ promptpay_text (promptpay_of self.now)) }
         ensures memory { IsOkUnless result OutOfMemory }
     {
         let account = payee_objects(alloc, self.payee)?;
@@ -278,10 +283,10 @@ impl PromptPay<'_> {
     ///
     /// Errors: `Refused` names the first wrong field and why; `OutOfMemory` if memory runs out.
     pub fn text(&self, alloc: Global) -> ContentResult<String>
-        ensures reads { Answers (promptpay_refusal (claim_of self.now)) result
-            (λ text. read_promptpay text ≡ Some (claim_of self.now)) }
+        ensures reads { Answers (promptpay_refusal (promptpay_of self.now)) result
+            (λ text. read_promptpay text ≡ Some (promptpay_of self.now)) }
         ensures value { IfOk result (λ text. string_bytes text
-            ≡ promptpay_text (claim_of self.now)) }
+            ≡ promptpay_text (promptpay_of self.now)) }
     {
         self.check()?;
         self.written(alloc)

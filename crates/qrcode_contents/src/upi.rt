@@ -4,7 +4,7 @@ ghost use Rattle.std.specs.Prelude.{◌≡◌, ◌++◌, ◌∷◌, [], Some, If
 ghost use Rattle.std.specs.List.{list_all};
 ghost use Rattle.qrcode_contents.specs.Bill.{amount_line};
 ghost use Rattle.qrcode_contents.specs.declared.fields.errors.ContentError.TheVariants.{OutOfMemory};
-ghost use Rattle.qrcode_contents.specs.Upi.{is_address, is_address_byte, is_category, read_upi, request_of, upi_parameters, upi_refusal, upi_text};
+ghost use Rattle.qrcode_contents.specs.Upi.{is_address, is_address_byte, is_category, read_upi, upi_of, upi_parameters, upi_refusal, upi_text};
 ghost use Rattle.qrcode_contents.specs.fields.Links.{query_text};
 ghost use Rattle.qrcode_contents.specs.fields.Refusals.{Answers, checked};
 
@@ -34,7 +34,7 @@ pub struct Upi<'a> {
 }
 
 // Whether a text has exactly one `@`, with something before and after it.
-fn is_address(text: &str) -> bool
+pub(crate) fn is_address(text: &str) -> bool
     ensures { result ≡ is_address text.now }
 {
     let (name, bank) = parts(text, '@');
@@ -71,7 +71,7 @@ impl Upi<'_> {
     // Fails on the first wrong field.
     #[tactic(auto, unfolding(crate::specs::Upi::upi_refusal))]
     fn check(&self) -> ContentResult<()>
-        ensures { result ≡ checked (upi_refusal (request_of self.now)) }
+        ensures { result ≡ checked (upi_refusal (upi_of self.now)) }
     {
         let wrong_byte = !are_of_address(self.payee);
         let wrong_form = !is_address(self.payee);
@@ -92,7 +92,7 @@ impl Upi<'_> {
 
     // Writes the link without checking the fields.
     fn written(&self, alloc: Global) -> ContentResult<String>
-        ensures value { IfOk result (λ text. string_bytes text ≡ upi_text (request_of self.now)) }
+        ensures value { IfOk result (λ text. string_bytes text ≡ upi_text (upi_of self.now)) }
         ensures memory { IsOkUnless result OutOfMemory }
     {
         let amount = open_amount(alloc, self.cents)?;
@@ -113,9 +113,9 @@ impl Upi<'_> {
     ///
     /// Errors: `Refused` names the first wrong field and why; `OutOfMemory` if memory runs out.
     pub fn text(&self, alloc: Global) -> ContentResult<String>
-        ensures reads { Answers (upi_refusal (request_of self.now)) result
-            (λ text. read_upi text ≡ Some (request_of self.now)) }
-        ensures value { IfOk result (λ text. string_bytes text ≡ upi_text (request_of self.now)) }
+        ensures reads { Answers (upi_refusal (upi_of self.now)) result
+            (λ text. read_upi text ≡ Some (upi_of self.now)) }
+        ensures value { IfOk result (λ text. string_bytes text ≡ upi_text (upi_of self.now)) }
     {
         self.check()?;
         self.written(alloc)

@@ -1,5 +1,5 @@
 -- PNG files of one symbol by other programs, and the picture that they show.
-use Rattle.std.specs.Prelude.{ℕ, ◌*◌, ◌==◌, List, [], ◌∷◌, Option, None, flat_map, replicate, codes, if◌then◌else◌}
+use Rattle.std.specs.Prelude.{ℕ, ◌*◌, ◌==◌, List, [], ◌∷◌, Option, None, false, flat_map, replicate, codes, if◌then◌else◌}
 use Rattle.std.specs.List.{range_with_len}
 use Rattle.qrcode_png.specs.Image.{Image, grey_shade}
 
@@ -17,6 +17,7 @@ symbol scale density = record {
   pixels = flat_map (λ row. flat_map (λ _. flat_map (λ c. replicate scale (grey_shade (if c == 35 then 0 else 1))) row)
       (range_with_len 0 scale)) drawn;
   density = density;
+  has_more = false;
 }
 
 abbrev pub zint_file : List ℕ  -- zint 2.11.1: a block of dynamic codes, and a palette of white and black

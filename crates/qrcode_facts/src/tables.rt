@@ -6,12 +6,12 @@ ghost use Rattle.std.specs.List.{range_with_len};
 ghost use Rattle.qrcode_types.specs.Bits.{number_bits};
 ghost use Rattle.qrcode_types.specs.Characters.{is_digit, is_alphanumeric, alphanumeric_number, is_kanji, kanji_number};
 ghost use Rattle.qrcode_types.specs.Modes.{mode_bits_count, indicator, has_mode, length_bits_count, mode_max};
-ghost use Rattle.qrcode_types.specs.Versions.{is_valid, side, remainder_bits, ec_length};
+ghost use Rattle.qrcode_types.specs.Versions.{is_valid, side, remainder_bits, ec_length, terminator_length};
 ghost use Rattle.qrcode_types.specs.declared.types.Version.TheVariants.{Normal, Micro};
 ghost use Rattle.qrcode_types.specs.declared.types.EcLevel.TheVariants.{L, M, Q, H};
 ghost use Rattle.qrcode_types.specs.declared.types.Mode.TheVariants.{Numeric, Alphanumeric, Byte, Kanji};
 ghost use Rattle.qrcode_ec.specs.Allowed.{misdecode_protection};
-ghost use Rattle.qrcode_bits.specs.Written.{eci_bits, terminator_length};
+ghost use Rattle.qrcode_bits.specs.Written.{eci_bits};
 ghost use Rattle.qrcode_facts.specs.Printed.{modes, band_ends, micro_versions, ends_of_pairs, beside_pairs};
 
 /// Table 5: the numbers of the characters after the letters, and of the first and last digit and

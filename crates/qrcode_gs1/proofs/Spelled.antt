@@ -3,14 +3,14 @@ use Rattle.std.proofs.Common.{◌≡◌, ℕ, ◌+◌, ◌≤◌, ◌++◌, Bool
 use Rattle.std.specs.Prelude.{flat_map, pos}
 use Rattle.std.specs.List.{AllByRecursion}
 use Rattle.std.proofs.lemmas.List.{append_cancel_left}
-use Rattle.qrcode_types.specs.Versions.{has_level, capacity}
+use Rattle.qrcode_types.specs.Versions.{has_level, capacity, terminator_length}
 use Rattle.qrcode_types.specs.declared.types.EcLevel.{EcLevel}
 use Rattle.qrcode_types.specs.declared.types.Version.{Version}
 use Rattle.qrcode_types.specs.declared.types.Version.TheVariants.{Normal}
 use Rattle.qrcode_types.specs.declared.types.QrError.{QrError}
 use Rattle.qrcode_bits.specs.BitList.{BitList}
 use Rattle.qrcode_bits.specs.Spelling.{IsReadAs, IsReadBack}
-use Rattle.qrcode_bits.specs.Written.{Piece, written, pieces_of, terminated, terminator_length, ending}
+use Rattle.qrcode_bits.specs.Written.{Piece, written, pieces_of, terminated, ending}
 use Rattle.qrcode_bits.specs.declared.optimize.Segment.{Segment}
 use Rattle.qrcode_bits.proofs.CutPieces.{cut_pieces}
 use Rattle.qrcode_bits.proofs.Endings.{read_as, ending-is_end, terminated-ending}

@@ -22,14 +22,14 @@ use Rattle.qrcode_contents.specs.fields.Refusals.{Answers, first_refusal, refuse
 use Rattle.qrcode_payloads.specs.Kinds.{fields_of}
 use Rattle.qrcode_contents.specs.fields.Entries.{behind, is_empty}
 use Rattle.qrcode_payloads.specs.Given.{refusal_of, text_of, IsRead}
-use Rattle.qrcode_payloads.specs.Values.{network_in, person_in, contact_in, transfer_in, invoice_in, letter_in, place_in, phone_in, key_in, happening_in, request_in, charge_in, claim_in}
+use Rattle.qrcode_payloads.specs.Values.{network_in, contact_in, card_in, transfer_in, invoice_in, letter_in, place_in, phone_in, key_in, happening_in, upi_in, pix_in, promptpay_in}
 use Rattle.qrcode_payloads.specs.declared.kinds.Kind.{Kind}
 use Rattle.qrcode_payloads.specs.declared.kinds.Kind.TheVariants.{Wifi, Mecard, Vcard, Payment, Bill, Mail, Geo, Tel, Sms, Otp, Event, Upi, Pix, Promptpay}
 
 abbrev pub payload_refusal : Kind → (Field → List ℕ) → Option ContentError  -- why the format of this kind rejects the fields, or why a field cannot be read
 payload_refusal Wifi g = refusal_of wifi_refusal (network_in g)
-payload_refusal Mecard g = refusal_of contact_refusal (person_in g)
-payload_refusal Vcard g = refusal_of card_refusal (contact_in g)
+payload_refusal Mecard g = refusal_of contact_refusal (contact_in g)
+payload_refusal Vcard g = refusal_of card_refusal (card_in g)
 payload_refusal Payment g = refusal_of payment_refusal (transfer_in g)
 payload_refusal Bill g = refusal_of bill_refusal (invoice_in g)
 payload_refusal Mail g = mail_refusal (letter_in g)
@@ -38,9 +38,9 @@ payload_refusal Tel g = phone_refusal (phone_in g)
 payload_refusal Sms g = phone_refusal (phone_in g)
 payload_refusal Otp g = refusal_of key_refusal (key_in g)
 payload_refusal Event g = refusal_of event_refusal (happening_in g)
-payload_refusal Upi g = refusal_of upi_refusal (request_in g)
-payload_refusal Pix g = refusal_of pix_refusal (charge_in g)
-payload_refusal Promptpay g = refusal_of promptpay_refusal (claim_in g)
+payload_refusal Upi g = refusal_of upi_refusal (upi_in g)
+payload_refusal Pix g = refusal_of pix_refusal (pix_in g)
+payload_refusal Promptpay g = refusal_of promptpay_refusal (promptpay_in g)
 
 abbrev pub is_long : List ℕ → Bool  -- more bytes than 16 symbols, the most of a split, hold digits
 is_long text = nat_lt 113424 (length text)
@@ -58,8 +58,8 @@ sms_text number body = if is_empty body then codes "sms:" ++ number else message
 
 abbrev pub payload_text : Kind → (Field → List ℕ) → List ℕ  -- the text of a payload of this kind, of these fields
 payload_text Wifi g = text_of wifi_text (network_in g)
-payload_text Mecard g = text_of mecard_text (person_in g)
-payload_text Vcard g = text_of card_text (contact_in g)
+payload_text Mecard g = text_of mecard_text (contact_in g)
+payload_text Vcard g = text_of card_text (card_in g)
 payload_text Payment g = text_of payment_text (transfer_in g)
 payload_text Bill g = text_of bill_text (invoice_in g)
 payload_text Mail g = mail_text (letter_in g)
@@ -68,9 +68,9 @@ payload_text Tel g = codes "tel:" ++ phone_in g
 payload_text Sms g = sms_text (phone_in g) (g Message)
 payload_text Otp g = text_of key_text (key_in g)
 payload_text Event g = text_of event_text (happening_in g)
-payload_text Upi g = text_of upi_text (request_in g)
-payload_text Pix g = text_of pix_text (charge_in g)
-payload_text Promptpay g = text_of promptpay_text (claim_in g)
+payload_text Upi g = text_of upi_text (upi_in g)
+payload_text Pix g = text_of pix_text (pix_in g)
+payload_text Promptpay g = text_of promptpay_text (promptpay_in g)
 
 -- reading the text gives the number, and the body if it is not empty
 pub record IsReadAsSms (number body text : List ℕ) : Type 0 where
@@ -79,8 +79,8 @@ pub record IsReadAsSms (number body text : List ℕ) : Type 0 where
 
 abbrev pub IsReadAs : Kind → (Field → List ℕ) → List ℕ → Type 0  -- reading the text gives exactly these fields
 IsReadAs Wifi g text = IsRead read_wifi (network_in g) text
-IsReadAs Mecard g text = IsRead read_mecard (person_in g) text
-IsReadAs Vcard g text = IsRead read_card (contact_in g) text
+IsReadAs Mecard g text = IsRead read_mecard (contact_in g) text
+IsReadAs Vcard g text = IsRead read_card (card_in g) text
 IsReadAs Payment g text = IsRead read_payment (transfer_in g) text
 IsReadAs Bill g text = IsRead read_bill (invoice_in g) text
 IsReadAs Mail g text = read_mail text ≡ Some (letter_in g)
@@ -89,9 +89,9 @@ IsReadAs Tel g text = behind (codes "tel:") text ≡ Some (phone_in g)
 IsReadAs Sms g text = IsReadAsSms (phone_in g) (g Message) text
 IsReadAs Otp g text = IsRead read_key (key_in g) text
 IsReadAs Event g text = IsRead read_event (happening_in g) text
-IsReadAs Upi g text = IsRead read_upi (request_in g) text
-IsReadAs Pix g text = IsRead read_pix (charge_in g) text
-IsReadAs Promptpay g text = IsRead read_promptpay (claim_in g) text
+IsReadAs Upi g text = IsRead read_upi (upi_in g) text
+IsReadAs Pix g text = IsRead read_pix (pix_in g) text
+IsReadAs Promptpay g text = IsRead read_promptpay (promptpay_in g) text
 
 -- the result is the text of the fields, and reading it gives exactly them; or it is the error of `payload_refusal`, or OutOfMemory
 pub record HasText (kind : Kind) (g : Field → List ℕ) (result : Result (String Global) ContentError) : Type 0 where

@@ -1,13 +1,13 @@
 -- The values of the formats, from the texts of fields.
 use Rattle.std.specs.Prelude.{ℕ, ℤ, nat_lt, ◌==◌, ◌-◌, ◌^◌, Bool, false, List, length, slice_index, is_some, Option, Some, None, Result, Ok, Err, if◌then◌else◌}
 use Rattle.qrcode_contents.specs.Bill.{Addressee, Invoice}
-use Rattle.qrcode_contents.specs.Card.{Contact}
-use Rattle.qrcode_contents.specs.Contact.{Person}
+use Rattle.qrcode_contents.specs.Card.{CardFields}
+use Rattle.qrcode_contents.specs.Contact.{ContactFields}
 use Rattle.qrcode_contents.specs.Mail.{Letter}
-use Rattle.qrcode_contents.specs.Merchant.{Charge, Claim}
+use Rattle.qrcode_contents.specs.Merchant.{PixFields, PromptPayFields}
 use Rattle.qrcode_contents.specs.OneTime.{Key}
 use Rattle.qrcode_contents.specs.Payment.{Transfer, version_for}
-use Rattle.qrcode_contents.specs.Upi.{Request}
+use Rattle.qrcode_contents.specs.Upi.{UpiFields}
 use Rattle.qrcode_contents.specs.Wifi.{Network}
 use Rattle.qrcode_contents.specs.declared.bill.Currency.TheVariants.{Franc}
 use Rattle.qrcode_contents.specs.declared.bill.Currency as currencies
@@ -38,7 +38,7 @@ use Rattle.qrcode_contents.specs.fields.Entries.{is_empty}
 use Rattle.qrcode_payloads.specs.Amounts.{plain_amount}
 use Rattle.qrcode_payloads.specs.Given.{said, with_value}
 use Rattle.qrcode_payloads.specs.Numbers.{scaled_value, degrees_of, unsigned}
-use Rattle.qrcode_payloads.specs.Plain.{plain, phone_number, phone_digits, without_padding}
+use Rattle.qrcode_payloads.specs.Plain.{plain, phone_number, phone_digits, pix_key, without_padding}
 use Rattle.qrcode_payloads.specs.Times.{day_said, is_local, moment_said, plain_day, plain_time}
 use Rattle.qrcode_payloads.specs.Words.{named, security_words, currency_words, algorithm_words, digits_words, flag_words}
 use Rattle.qrcode_payloads.specs.declared.plain.Cleaning.TheVariants as cleaning
@@ -98,8 +98,8 @@ day_cause text = if list_all is_digit text then (if nat_lt (length text) 8 then 
 abbrev pub birthday_in : List ℕ → Result (Option Day) ContentError  -- a birthday; None if the text is empty
 birthday_in text = if is_empty text then Ok None else with_value (said (day_said text) Birthday (day_cause text)) (λ day. Ok (Some day))
 
-abbrev pub person_said : (Field → List ℕ) → List ℕ → Option Day → Person  -- the contact of the fields, with this telephone number and birthday
-person_said g phone birthday = record {
+abbrev pub contact_said : (Field → List ℕ) → List ℕ → Option Day → ContactFields  -- the contact of the fields, with this telephone number and birthday
+contact_said g phone birthday = record {
   family = g Family;
   given = g Given;
   phone = phone;
@@ -114,12 +114,12 @@ person_said g phone birthday = record {
   country = g Country;
 }
 
-abbrev pub person_in : (Field → List ℕ) → Result Person ContentError  -- a contact for a MECARD
-person_in g = with_value (birthday_in (plain_day (g Birthday))) (λ birthday. Ok (person_said g (phone_digits (g Phone)) birthday))
+abbrev pub contact_in : (Field → List ℕ) → Result ContactFields ContentError  -- a contact for a MECARD
+contact_in g = with_value (birthday_in (plain_day (g Birthday))) (λ birthday. Ok (contact_said g (phone_digits (g Phone)) birthday))
 
-abbrev pub contact_in : (Field → List ℕ) → Result Contact ContentError  -- a contact for a vCard
-contact_in g = with_value (birthday_in (plain_day (g Birthday))) (λ birthday. Ok (record {
-  person = person_said g (phone_number (g Phone)) birthday;
+abbrev pub card_in : (Field → List ℕ) → Result CardFields ContentError  -- a contact for a vCard
+card_in g = with_value (birthday_in (plain_day (g Birthday))) (λ birthday. Ok (record {
+  contact = contact_said g (phone_number (g Phone)) birthday;
   name = g Name;
   organisation = g Organisation;
   title = g Title;
@@ -236,8 +236,8 @@ happening_in g = with_value (span_in (plain_time (g Begin)) (plain_time (g End))
   description = g Description;
 })))
 
-abbrev pub request_in : (Field → List ℕ) → Result Request ContentError  -- a payment by UPI
-request_in g = with_value (open_amount_in (plain_amount (g Amount))) (λ cents. Ok (record {
+abbrev pub upi_in : (Field → List ℕ) → Result UpiFields ContentError  -- a payment by UPI
+upi_in g = with_value (open_amount_in (plain_amount (g Amount))) (λ cents. Ok (record {
   payee = g Payee;
   name = g Name;
   category = g Category;
@@ -246,9 +246,9 @@ request_in g = with_value (open_amount_in (plain_amount (g Amount))) (λ cents. 
   cents = cents;
 }))
 
-abbrev pub charge_in : (Field → List ℕ) → Result Charge ContentError  -- a payment by Pix
-charge_in g = with_value (open_amount_in (plain_amount (g Amount))) (λ cents. Ok (record {
-  key = g Payee;
+abbrev pub pix_in : (Field → List ℕ) → Result PixFields ContentError  -- a payment by Pix
+pix_in g = with_value (open_amount_in (plain_amount (g Amount))) (λ cents. Ok (record {
+  key = pix_key (g Payee);
   name = g Name;
   city = g City;
   cents = cents;
@@ -256,8 +256,8 @@ charge_in g = with_value (open_amount_in (plain_amount (g Amount))) (λ cents. O
   description = g Description;
 }))
 
-abbrev pub claim_in : (Field → List ℕ) → Result Claim ContentError  -- a payment by PromptPay
-claim_in g = with_value (open_amount_in (plain_amount (g Amount))) (λ cents. Ok (record {
+abbrev pub promptpay_in : (Field → List ℕ) → Result PromptPayFields ContentError  -- a payment by PromptPay
+promptpay_in g = with_value (open_amount_in (plain_amount (g Amount))) (λ cents. Ok (record {
   payee = plain cleaning.Person (g Payee);
   cents = cents;
 }))

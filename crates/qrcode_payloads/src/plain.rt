@@ -2,9 +2,9 @@
 
 ghost use Rattle.std.specs.Prelude.{◌≡◌, IfOk, string_bytes};
 ghost use Rattle.std.specs.List.{list_all};
-ghost use Rattle.qrcode_payloads.specs.Plain.{is_removed, as_written, kept, plain, is_placed, has_form, is_code, is_country, without_zero, phone_number, phone_digits, is_byte, without_padding};
+ghost use Rattle.qrcode_payloads.specs.Plain.{is_removed, as_written, kept, plain, is_placed, has_form, is_code, is_country, dials_zero, with_zero, without_zero, phone_number, phone_digits, is_key_number, pix_key, is_byte, without_padding};
 
-use qrcode_contents::fields::characters::parts;
+use qrcode_contents::fields::characters::{are_capitals_or_digits, are_digits, parts};
 use qrcode_contents::phone::is_number;
 use std::alloc::{AllocError, Global};
 
@@ -28,6 +28,10 @@ pub(crate) enum Cleaning {
     Time,
     /// Colons, in times of day.
     Clock,
+    /// Hyphens, points, brackets and slashes, in Pix keys that are numbers.
+    Key,
+    /// Nothing, in other Pix keys.
+    Address,
 }
 
 impl Cleaning {
@@ -36,7 +40,8 @@ impl Cleaning {
         ensures { result ≡ is_removed self character }
     {
         match (self, character) {
-            (Cleaning::Amount | Cleaning::Degrees | Cleaning::Time, _) => false,
+            (Cleaning::Amount | Cleaning::Degrees | Cleaning::Time | Cleaning::Address, _) => false,
+            (Cleaning::Key, _) => matches!(character, '-' | '.' | '(' | ')' | '/'),
             (Cleaning::Groups, _) => matches!(character, ' ' | '\''),
             (Cleaning::Digits, _) => matches!(character, '-' | '.' | '(' | ')'),
             (Cleaning::Clock, _) => character == ':',
@@ -47,7 +52,7 @@ impl Cleaning {
     }
 
     // A character as formats write it: a capital; in numbers a point for a comma; in amounts a
-    // plain space or apostrophe; between day and time a T for a space.
+    // plain space or apostrophe; between day and time a T for a space; in addresses a small letter.
     fn as_written(self, character: char) -> char
         ensures { result ≡ as_written self character }
     {
@@ -56,6 +61,7 @@ impl Cleaning {
             (Cleaning::Amount, '\u{a0}' | '\u{202f}') => ' ',
             (Cleaning::Amount, '\u{2019}') => '\'',
             (Cleaning::Time, ' ') => 'T',
+            (Cleaning::Address, _) => character.to_ascii_lowercase(),
             _ => character.to_ascii_uppercase(),
         }
     }
@@ -135,7 +141,33 @@ fn is_country(text: &str) -> bool
     is_code(code.as_bytes()) && rest.is_empty()
 }
 
-// Removes a `(0)` right after the country code.
+// Whether bytes are the country code of Italy, San Marino or the Vatican, where a 0 at the start of
+// a number is dialled from abroad too.
+#[tactic(auto, unfolding(crate::specs::Plain::dials_zero))]
+fn dials_zero(bytes: &[u8]) -> bool
+    ensures { result ≡ dials_zero bytes.now }
+{
+    has_form(b"+39", bytes)
+        || has_form(b"+378", bytes)
+        || has_form(b"+379", bytes)
+        || has_form(b"0039", bytes)
+        || has_form(b"00378", bytes)
+        || has_form(b"00379", bytes)
+}
+
+// The country code, and the 0 of a `(0)` after it if that is dialled.
+#[tactic(auto, unfolding(crate::specs::Plain::with_zero))]
+fn with_zero(alloc: Global, country: &str) -> Result<String, AllocError>
+    ensures { IfOk result (λ value. string_bytes value ≡ with_zero country.now) }
+{
+    let mut dialled = String::from_str(alloc, country)?;
+    if dials_zero(parts(country, '-').0.as_bytes()) {
+        dialled.push_str("0")?;
+    }
+    Ok(dialled)
+}
+
+// Removes a `(0)` right after the country code, or only its brackets where the 0 is dialled.
 #[tactic(auto, unfolding(crate::specs::Plain::without_zero))]
 fn without_zero(alloc: Global, number: String) -> Result<String, AllocError>
     ensures { IfOk result (λ value. string_bytes value ≡ without_zero (string_bytes number)) }
@@ -144,13 +176,13 @@ fn without_zero(alloc: Global, number: String) -> Result<String, AllocError>
     if !is_country(country) || !inside.as_bytes().starts_with(b"0)") {
         return Ok(number);
     }
-    let mut dialled = String::from_str(alloc, country)?;
+    let mut dialled = with_zero(alloc, country)?;
     dialled.push_str(parts(inside, ')').1)?;
     Ok(dialled)
 }
 
-/// Returns a telephone number without spaces, and without a `(0)` after the country code, where
-/// nobody dials it.
+/// Returns a telephone number without spaces, and with what is dialled of a `(0)` after the country
+/// code.
 pub(crate) fn phone_number(alloc: Global, text: &str) -> Result<String, AllocError>
     ensures { IfOk result (λ value. string_bytes value ≡ phone_number text.now) }
 {
@@ -167,6 +199,30 @@ pub(crate) fn phone_digits(alloc: Global, text: &str) -> Result<String, AllocErr
         return Ok(number);
     }
     plain(alloc, number.as_str(), Cleaning::Digits)
+}
+
+// Whether a text is a CPF, a CNPJ, or a telephone number with its country code, by its characters.
+fn is_key_number(text: &str) -> bool
+    ensures { result ≡ is_key_number text.now }
+{
+    let bytes = text.as_bytes();
+    if bytes.starts_with(b"+") {
+        return are_digits(&bytes[1..]);
+    }
+    matches!(bytes.len(), 11 | 14) && are_capitals_or_digits(text)
+}
+
+/// Returns a Pix key: a number without the characters between its digits, any other key in small
+/// letters, without white space around it.
+pub(crate) fn pix_key(alloc: Global, text: &str) -> Result<String, AllocError>
+    ensures { IfOk result (λ value. string_bytes value ≡ pix_key text.now) }
+{
+    let spaceless = phone_number(alloc, text)?;
+    let number = plain(alloc, spaceless.as_str(), Cleaning::Key)?;
+    if is_key_number(number.as_str()) {
+        return Ok(number);
+    }
+    plain(alloc, text.trim(), Cleaning::Address)
 }
 
 fn are_equals(bytes: &[u8]) -> bool

@@ -2,20 +2,20 @@
 
 ghost use Rattle.std.specs.Prelude.{◌≡◌, IfOk, string_bytes};
 ghost use Rattle.qrcode_contents.specs.Bill.{addressee_of};
-ghost use Rattle.qrcode_contents.specs.Contact.{person_of};
+ghost use Rattle.qrcode_contents.specs.Contact.{contact_of};
 ghost use Rattle.qrcode_contents.specs.Phone.{phone_refusal};
 ghost use Rattle.qrcode_contents.specs.fields.Refusals.{Answers, checked};
 ghost use Rattle.qrcode_contents.specs.declared.fields.errors.Field.TheVariants.{Country, DebtorCountry};
 ghost use Rattle.qrcode_payloads.specs.Plain.{plain};
 ghost use Rattle.qrcode_payloads.specs.declared.plain.Cleaning.TheVariants as cleaning;
-ghost use Rattle.qrcode_payloads.specs.Values.{creditor_in, debtor_in, person_said};
+ghost use Rattle.qrcode_payloads.specs.Values.{creditor_in, debtor_in, contact_said};
 ghost use Rattle.qrcode_payloads.specs.Texts.{is_long, long_refusal, content_refusal, payload_text, sms_text, HasText, IsReadAs, IsReadAsSms};
 ghost use Rattle.qrcode_payloads.specs.declared.kinds.Kind.TheVariants.{Wifi, Mecard, Vcard, Payment, Bill, Mail, Geo, Tel, Sms, Otp, Event, Upi, Pix, Promptpay};
 
 use crate::amounts::plain_amount;
 use crate::given::Given;
 use crate::kinds::{Kind, fields_of};
-use crate::plain::{Cleaning, phone_digits, phone_number, plain, without_padding};
+use crate::plain::{Cleaning, phone_digits, phone_number, pix_key, plain, without_padding};
 use crate::times::{plain_day, plain_time};
 use crate::values;
 use qrcode_contents::card::Card;
@@ -85,7 +85,7 @@ fn geo_text<G: Given>(alloc: Global, given: &G) -> ContentResult<String>
 
 // The contact of the fields, with this telephone number and birthday.
 fn contact<'a, G: Given>(given: &'a G, phone: &'a str, birthday: Option<Day>) -> Contact<'a>
-    ensures { person_of result ≡ person_said (G.fields given.now) phone.now birthday }
+    ensures { contact_of result ≡ contact_said (G.fields given.now) phone.now birthday }
 {
     Contact {
         family: given.text(Field::Family),
@@ -282,10 +282,11 @@ fn upi_text<G: Given>(alloc: Global, given: &G) -> ContentResult<String>
 fn pix_text<G: Given>(alloc: Global, given: &G) -> ContentResult<String>
     ensures { HasText Pix (G.fields given.now) result }
 {
+    let key = pix_key(alloc, given.text(Field::Payee))?;
     let amount = plain_amount(alloc, given.text(Field::Amount))?;
     let cents = values::open_amount(amount.as_str())?;
     let payment = merchant::Pix {
-        key: given.text(Field::Payee),
+        key: key.as_str(),
         name: given.text(Field::Name),
         city: given.text(Field::City),
         cents,

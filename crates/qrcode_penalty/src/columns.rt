@@ -128,7 +128,7 @@ pub(crate) fn column_finder_penalties<R: PackedRow>(square: &PackedSquare<'_, R>
 }
 
 /// Returns the last column as a row: bit y is the module in row y.
-pub fn last_column<R: PackedRow>(square: &PackedSquare<'_, R>) -> R
+pub(crate) fn last_column<R: PackedRow>(square: &PackedSquare<'_, R>) -> R
     ensures { (y : ℕ) → y < square.now.width
         → is_set (R.bits result) y ≡ dark_in square.now.rows (square.now.width - 1) y }
 {

@@ -1,11 +1,10 @@
 //! The penalty of a square.
 
-ghost use Rattle.std.specs.Prelude.{◌≡◌, ℕ, ◌+◌, ◌-◌, ◌<◌, ◌≤◌, ◌^◌, Bool};
-ghost use Rattle.qrcode_penalty.specs.Rows.{is_set, dark_in, inside, Shows};
+ghost use Rattle.std.specs.Prelude.{◌≡◌, ℕ, ◌<◌, ◌^◌, Bool};
+ghost use Rattle.qrcode_penalty.specs.Rows.{dark_in, inside, Shows};
 ghost use Rattle.qrcode_penalty.specs.Penalty.{normal_penalty, micro_penalty};
 
-pub use crate::columns::last_column;
-use crate::columns::{column_finder_penalties, column_run_penalties};
+use crate::columns::{column_finder_penalties, column_run_penalties, last_column};
 use crate::row::PackedRow;
 use crate::rows::{dark_count, light_count, row_and_block_penalties};
 use crate::square::PackedSquare;
@@ -28,7 +27,8 @@ pub fn normal_penalty<R: PackedRow>(square: &PackedSquare<'_, R>) -> u32
     counted + balance
 }
 
-/// Returns the penalty of a Micro square (ISO/IEC 18004:2006, 6.8.3).
+/// Returns the penalty of a Micro square (ISO/IEC 18004:2006, 6.8.3). Only its last row and its last
+/// column count.
 pub fn micro_penalty<R: PackedRow>(square: &PackedSquare<'_, R>) -> u32
     ensures value { result ≡ micro_penalty square.now.width (dark_in square.now.rows) }
     ensures at_most { result < 2 ^ 24 }
@@ -38,21 +38,7 @@ pub fn micro_penalty<R: PackedRow>(square: &PackedSquare<'_, R>) -> u32
         → result ≡ micro_penalty square.now.width (inside square.now.width dark) }
 {
     let width = square.width();
-    micro_penalty_by_edges(square.row(width as usize - 1), last_column(square), width)
-}
-
-/// Returns the penalty of a Micro square from its last row and last column, which are all that
-/// counts. Bit x of `bottom` is the module in column x, bit y of `right` the one in row y.
-pub fn micro_penalty_by_edges<R: PackedRow>(bottom: R, right: R, width: u32) -> u32
-    requires at_least { 7 ≤ width }
-    requires room { width + 3 ≤ R.room }
-    ensures value { (dark : ℕ → ℕ → Bool)
-        → ((x : ℕ) → x < width → is_set (R.bits bottom) x ≡ dark x (width - 1))
-        → ((y : ℕ) → y < width → is_set (R.bits right) y ≡ dark (width - 1) y)
-        → result ≡ micro_penalty width dark }
-    ensures at_most { result < 2 ^ 24 }
-{
-    let row = light_count(bottom, width);
-    let column = light_count(right, width);
+    let row = light_count(square.row(width as usize - 1), width);
+    let column = light_count(last_column(square), width);
     row + column + 15 * row.max(column)
 }

@@ -7,9 +7,9 @@ ghost use Rattle.qrcode_types.specs.Versions.{is_valid, side};
 ghost use Rattle.qrcode_layout.specs.Figures.{fits};
 ghost use Rattle.qrcode_reader.specs.Figures.{difference, wrong_at, wrong_in_row, wrong_in, wrong_of, finder_figures, timing_figures, dark_figures, has_finders};
 
-use crate::walk::side;
 use qrcode_layout::figures::{Figure, micro_figures, normal_figures};
 use qrcode_types::types::{Color, Version};
+use qrcode_types::versions::side;
 
 // Returns 1 if two colours differ, else 0.
 fn difference(a: Color, b: Color) -> usize

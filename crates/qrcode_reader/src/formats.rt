@@ -11,10 +11,10 @@ ghost use Rattle.qrcode_layout.specs.declared.masks.MaskPattern.{MaskPattern};
 ghost use Rattle.qrcode_symbol.specs.Symbol.{bits_at};
 ghost use Rattle.qrcode_reader.specs.Formats.{NamesFormat, HasFormat, first_copy, copy_place};
 
-use crate::walk::side;
 use qrcode_layout::masks::{MaskPattern, mask_count, nth_mask};
 use qrcode_layout::words::format_word;
 use qrcode_types::types::{Color, EcLevel, Version};
+use qrcode_types::versions::side;
 
 /// A copy of the format word. In Micro there is one copy, and both variants name it.
 #[derive(Copy, Clone)]

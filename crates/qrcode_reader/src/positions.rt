@@ -14,8 +14,8 @@ use crate::parts::{PartsReading, read_parts};
 use crate::reading::{Reading, read};
 use crate::refusals::Unread;
 use crate::sizes::version_of;
-use crate::walk::side;
 use qrcode_types::types::{Color, Version};
+use qrcode_types::versions::side;
 use std::alloc::{AllocError, Global};
 
 /// How a symbol lies in a square of modules.

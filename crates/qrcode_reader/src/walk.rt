@@ -13,18 +13,8 @@ use qrcode_layout::masks::MaskPattern;
 use qrcode_layout::walk::right_column;
 use qrcode_symbol::canvas::{Canvas, Module};
 use qrcode_types::types::{Color, EcLevel, Version};
+use qrcode_types::versions::side;
 use std::alloc::{AllocError, Global};
-
-/// Returns the number of modules along a side.
-pub fn side(version: Version) -> usize
-    requires { IsTrue (is_valid version) }
-    ensures value { result ≡ side version }
-    ensures at_least { 11 ≤ result }
-    ensures at_most { result ≤ 177 }
-    ensures odd { result % 2 ≡ 1 }
-{
-    version.width() as usize
-}
 
 // Returns a canvas with just the functional patterns: what it leaves empty are the free places.
 fn patterned(alloc: Global, version: Version) -> Result<Canvas, AllocError>

@@ -1,23 +1,14 @@
--- The runs of dark cells, and what their path fills.
-use Rattle.std.proofs.Common.{◌≡◌, ℕ, zero, suc, ◌+◌, ◌-◌, ◌<◌, ◌≤◌, inl, inr, Bool, true, false, ◌&&◌, ◌||◌, nat_eq, nat_le, nat_lt, List, [], ◌∷◌, ◌++◌, get_or, refl, ap, ap₂, ◌∙◌, sym, arith, append_assoc}
-use Rattle.std.proofs.lemmas.Bool.{cases_lt}
+-- The cells that runs fill, as cells are added one by one.
+use Rattle.std.proofs.Common.{◌≡◌, ℕ, zero, suc, ◌+◌, ◌-◌, ◌*◌, ◌/◌, ◌%◌, ◌<◌, ◌≤◌, inl, inr, Bool, true, false, ◌&&◌, ◌||◌, nat_eq, nat_le, nat_lt, List, [], ◌∷◌, ◌++◌, length, get_or, refl, ap, ap₂, ◌∙◌, sym, arith}
+use Rattle.std.proofs.lemmas.Bool.{and_from, cases_lt, eq-eqb, eqb-true, le-leb, leb-true, lt-ltb, ltb-true, or_left, or_right, true≢false}
 use Rattle.std.proofs.lemmas.Bool.Decides.{nat_tests}
-use Rattle.std.proofs.lemmas.List.{get_or_past}
-use Rattle.std.proofs.lemmas.List.FromFn.{length-map-range_with_len, get_or-map-range_with_len}
-use Rattle.std.specs.List.{flat_map, range_with_len}
-use Rattle.qrcode_render.specs.Grid.{Grid, all_columns, all_rows, cell_row, is_dark_cell}
-use Rattle.qrcode_render.specs.Paths.{Run, Pen, run_text, behind, path_from, pen_after, covers, is_filled, ended, runs_from, runs_of}
-use Rattle.qrcode_render.proofs.Grids.{cell_outside}
-use Rattle.qrcode_render.proofs.LineTexts.{flat_range_more}
-
--- a path followed by another
-pub path-append : (pen : Pen) (xs ys : List Run) → path_from pen (xs ++ ys) ≡ path_from pen xs ++ path_from (pen_after pen xs) ys
-path-append pen [] ys = refl
-path-append pen (x ∷ xs) ys = ap (λ t. run_text pen x ++ t) (path-append (behind x) xs ys) ∙ sym (append_assoc (run_text pen x) (path_from (behind x) xs) (path_from (pen_after (behind x) xs) ys))
-
-pub pen-append : (pen : Pen) (xs ys : List Run) → pen_after pen (xs ++ ys) ≡ pen_after (pen_after pen xs) ys
-pen-append pen [] ys = refl
-pen-append pen (x ∷ xs) ys = pen-append (behind x) xs ys
+use Rattle.std.proofs.lemmas.Nat.{div-add-mod', div_below, mod_below, row_fits, same_from_place}
+use Rattle.qrcode_types.specs.Colors.{is_dark}
+use Rattle.qrcode_types.specs.declared.types.Color.TheVariants.{Light}
+use Rattle.qrcode_render.specs.Grid.{Grid, is_dark_cell, is_reached}
+use Rattle.qrcode_render.specs.Paths.{covers, is_filled}
+use Rattle.qrcode_render.specs.declared.runs.Run.{Run}
+use Rattle.qrcode_render.proofs.Pictures.{both_from, not_true}
 
 or_assoc : (a b c : Bool) → (a || (b || c)) ≡ ((a || b) || c)
 or_assoc true b c = refl
@@ -27,147 +18,166 @@ or_false : (a : Bool) → (a || false) ≡ a
 or_false true = refl
 or_false false = refl
 
-and_false : (a : Bool) → (a && false) ≡ false
-and_false true = refl
-and_false false = refl
+-- two tests agree if each follows from the other
+same_test : (a b : Bool) → (a ≡ true → b ≡ true) → (b ≡ true → a ≡ true) → a ≡ b
+same_test true b there back = sym (there refl)
+same_test false true there back = back refl
+same_test false false there back = refl
 
-filled-append : (xs ys : List Run) (c r : ℕ) → is_filled (xs ++ ys) c r ≡ (is_filled xs c r || is_filled ys c r)
+-- one of two tests holds
+either_from : (a b : Bool) → (a || b) ≡ true → (P : Type 0) → (a ≡ true → P) → (b ≡ true → P) → P
+either_from true b h P left right = left refl
+either_from false b h P left right = right h
+
+pub filled-append : (xs ys : List Run) (c r : ℕ) → is_filled (xs ++ ys) c r ≡ (is_filled xs c r || is_filled ys c r)
 filled-append [] ys c r = refl
 filled-append (x ∷ xs) ys c r = ap (λ b. covers x c r || b) (filled-append xs ys c r) ∙ or_assoc (covers x c r) (is_filled xs c r) (is_filled ys c r)
 
--- the three tests of a run
-three_hold : (a b c : Bool) → a ≡ true → b ≡ true → c ≡ true → (a && b && c) ≡ true
-three_hold a b c p q r = λ k. p k && q k && r k
+-- a new run of one cell
+new_run : (column row width c r : ℕ) → width ≡ 1 → is_filled ((record { left = column; top = row; width = width }) ∷ []) c r ≡ (nat_eq column c && nat_eq row r)
+new_run column row width c r one =
+    or_false _
+    ∙ same_test _ _
+    (λ h. let all = both_from _ _ h in
+    let sides = both_from _ _ all.0 in
+    and_from _ _ (eq-eqb column c (omega (arith, one, leb-true column c sides.0, ltb-true c (column + width) sides.1))) all.1)
+    (λ h. let both = both_from _ _ h in
+    let same = eqb-true column c both.0 in
+    and_from _ _ (and_from _ _ (le-leb column c (omega (arith, same))) (lt-ltb c (column + width) (omega (arith, one, same)))) both.1)
 
-first_fails : (a b c : Bool) → a ≡ false → (a && b && c) ≡ false
-first_fails a b c p = λ k. p k && b && c
-
-second_fails : (a b c : Bool) → b ≡ false → (a && b && c) ≡ false
-second_fails a b c q = (λ k. a && q k && c) ∙ ap (λ x. x && c) (and_false a)
-
-third_fails : (a b c : Bool) → c ≡ false → (a && b && c) ≡ false
-third_fails a b c r = (λ k. a && b && r k) ∙ and_false (a && b)
-
--- a run fills nothing in another row
-ended_elsewhere : (top end width c r : ℕ) → ((top ≡ r) → ⊥) → is_filled (ended top end width) c r ≡ false
-ended_elsewhere top end zero c r other = refl
-ended_elsewhere top end (suc n) c r other =
-    let no : nat_eq top r ≡ false = grind (arith, nat_tests, other) in
-    or_false (covers (record { left = end - suc n; top = top; width = suc n }) c r) ∙ third_fails (nat_le (end - suc n) c) (nat_lt c (end - suc n + suc n)) (nat_eq top r) no
-
--- it fills nothing before it
-ended_before : (top end width c : ℕ) → c < end - width → is_filled (ended top end width) c top ≡ false
-ended_before top end zero c before = refl
-ended_before top end (suc n) c before =
-    let no : nat_le (end - suc n) c ≡ false = grind (arith, nat_tests) in
-    or_false (covers (record { left = end - suc n; top = top; width = suc n }) c top) ∙ first_fails (nat_le (end - suc n) c) (nat_lt c (end - suc n + suc n)) (nat_eq top top) no
-
--- it fills its cells
-ended_inside : (top end width c : ℕ) → end - width ≤ c → c < end → width ≤ end → is_filled (ended top end width) c top ≡ true
-ended_inside top end zero c from below fits = absurd (omega arith)
-ended_inside top end (suc n) c from below fits =
-    let left : nat_le (end - suc n) c ≡ true = grind (arith, nat_tests) in
-    let right : nat_lt c (end - suc n + suc n) ≡ true = grind (arith, nat_tests) in
-    let row : nat_eq top top ≡ true = grind (arith, nat_tests) in
-    or_false (covers (record { left = end - suc n; top = top; width = suc n }) c top) ∙ three_hold (nat_le (end - suc n) c) (nat_lt c (end - suc n + suc n)) (nat_eq top top) left right row
-
--- it fills nothing after it
-ended_behind : (top end width c : ℕ) → end ≤ c → width ≤ end → is_filled (ended top end width) c top ≡ false
-ended_behind top end zero c behind fits = refl
-ended_behind top end (suc n) c behind fits =
-    let no : nat_lt c (end - suc n + suc n) ≡ false = grind (arith, nat_tests) in
-    or_false (covers (record { left = end - suc n; top = top; width = suc n }) c top) ∙ second_fails (nat_le (end - suc n) c) (nat_lt c (end - suc n + suc n)) (nat_eq top top) no
-
--- the runs of a row fill nothing in another
-row_elsewhere : (top column width : ℕ) (marks : List Bool) (c r : ℕ) → ((top ≡ r) → ⊥) → is_filled (runs_from top column width marks) c r ≡ false
-row_elsewhere top column width [] c r other = ended_elsewhere top column width c r other
-row_elsewhere top column width (true ∷ marks) c r other = row_elsewhere top (column + 1) (width + 1) marks c r other
-row_elsewhere top column width (false ∷ marks) c r other =
-    filled-append (ended top column width) (runs_from top (column + 1) 0 marks) c r
-    ∙ ap₂ (λ a b. a || b) (ended_elsewhere top column width c r other) (row_elsewhere top (column + 1) 0 marks c r other)
-
--- they fill nothing before the run that has not ended yet
-row_before : (top column width : ℕ) (marks : List Bool) (c : ℕ) → c < column - width → is_filled (runs_from top column width marks) c top ≡ false
-row_before top column width [] c before = ended_before top column width c before
-row_before top column width (true ∷ marks) c before = row_before top (column + 1) (width + 1) marks c (omega arith)
-row_before top column width (false ∷ marks) c before =
-    filled-append (ended top column width) (runs_from top (column + 1) 0 marks) c top
-    ∙ ap₂ (λ a b. a || b) (ended_before top column width c before) (row_before top (column + 1) 0 marks c (omega arith))
-
--- they fill the run that has not ended yet
-row_inside : (top column width : ℕ) (marks : List Bool) (c : ℕ) → column - width ≤ c → c < column → width ≤ column → is_filled (runs_from top column width marks) c top ≡ true
-row_inside top column width [] c from below fits = ended_inside top column width c from below fits
-row_inside top column width (true ∷ marks) c from below fits = row_inside top (column + 1) (width + 1) marks c (omega arith) (omega arith) (omega arith)
-row_inside top column width (false ∷ marks) c from below fits =
-    filled-append (ended top column width) (runs_from top (column + 1) 0 marks) c top
-    ∙ ap (λ a. a || is_filled (runs_from top (column + 1) 0 marks) c top) (ended_inside top column width c from below fits)
-
--- after it they fill the cells whose flags are true
-row_from : (top column width : ℕ) (marks : List Bool) (c : ℕ) → column ≤ c → width ≤ column → is_filled (runs_from top column width marks) c top ≡ get_or marks (c - column) false
-row_from top column width [] c from fits = ended_behind top column width c from fits ∙ sym (get_or_past [] (c - column) false (omega arith))
-row_from top column width (true ∷ marks) c from fits =
-    elim (cases_lt column c) [
-      | inl past ↦
-          let next : c - column ≡ suc (c - (column + 1)) = omega arith in
-          row_from top (column + 1) (width + 1) marks c (omega arith) (omega arith) ∙ sym (ap (λ n. get_or (true ∷ marks) n false) next)
-      | inr here ↦
-          let none : c - column ≡ 0 = omega arith in
-          row_inside top (column + 1) (width + 1) marks c (omega arith) (omega arith) (omega arith) ∙ sym (ap (λ n. get_or (true ∷ marks) n false) none)
-    ]
-row_from top column width (false ∷ marks) c from fits =
-    filled-append (ended top column width) (runs_from top (column + 1) 0 marks) c top
-    ∙ ap (λ a. a || is_filled (runs_from top (column + 1) 0 marks) c top) (ended_behind top column width c from fits)
-    ∙ elim (cases_lt column c) [
-      | inl past ↦
-          let next : c - column ≡ suc (c - (column + 1)) = omega arith in
-          row_from top (column + 1) 0 marks c (omega arith) (omega arith) ∙ sym (ap (λ n. get_or (false ∷ marks) n false) next)
-      | inr here ↦
-          let none : c - column ≡ 0 = omega arith in
-          row_before top (column + 1) 0 marks c (omega arith) ∙ sym (ap (λ n. get_or (false ∷ marks) n false) none)
-    ]
-
--- the flag of a cell in its row
-cell_of_row : (g : Grid) (c r : ℕ) → get_or (cell_row g r) c false ≡ is_dark_cell g c r
-cell_of_row g c r =
-    let n = all_columns g in
-    elim (cases_lt c n) [
-      | inl inside ↦ get_or-map-range_with_len (λ column. is_dark_cell g column r) 0 n c c false inside (omega arith)
-      | inr past ↦
-          get_or_past (cell_row g r) c false (omega (arith, length-map-range_with_len (λ column. is_dark_cell g column r) 0 n))
-          ∙ sym (cell_outside g c r (λ _ right _ _. omega arith))
-    ]
-
-rows_above : (g : Grid) (n c r : ℕ) → n ≤ r → is_filled (flat_map (λ row. runs_from row 0 0 (cell_row g row)) (range_with_len 0 n)) c r ≡ false
-rows_above g zero c r h = refl
-rows_above g (suc n) c r h =
-    let runs : ℕ → List Run = λ row. runs_from row 0 0 (cell_row g row) in
-    ap (λ xs. is_filled xs c r) (flat_range_more runs n (suc n) (omega arith))
-    ∙ filled-append (flat_map runs (range_with_len 0 n)) (runs n) c r
-    ∙ ap₂ (λ a b. a || b) (rows_above g n c r (omega arith)) (row_elsewhere n 0 0 (cell_row g n) c r (λ e. omega (arith, e)))
-
-rows_with : (g : Grid) (n c r : ℕ) → r < n → is_filled (flat_map (λ row. runs_from row 0 0 (cell_row g row)) (range_with_len 0 n)) c r ≡ is_dark_cell g c r
-rows_with g zero c r h = absurd (omega arith)
-rows_with g (suc n) c r h =
-    let runs : ℕ → List Run = λ row. runs_from row 0 0 (cell_row g row) in
-    ap (λ xs. is_filled xs c r) (flat_range_more runs n (suc n) (omega arith))
-    ∙ filled-append (flat_map runs (range_with_len 0 n)) (runs n) c r
-    ∙ elim (cases_lt r n) [
-      | inl before ↦
-          ap₂ (λ a b. a || b) (rows_with g n c r before) (row_elsewhere n 0 0 (cell_row g n) c r (λ e. omega (arith, e)))
-          ∙ or_false (is_dark_cell g c r)
+-- a run with a cell more
+longer_run : (run : Run) (column row width c r : ℕ) → run.top ≡ row → run.left + run.width ≡ column → width ≡ run.width + 1
+    → is_filled ((record { left = run.left; top = run.top; width = width }) ∷ []) c r ≡ (covers run c r || (nat_eq column c && nat_eq row r))
+longer_run run column row width c r top next more =
+    or_false _
+    ∙ same_test _ _
+    (λ h. let all = both_from _ _ h in
+    let sides = both_from _ _ all.0 in
+    let low = leb-true run.left c sides.0 in
+    let high = ltb-true c (run.left + width) sides.1 in
+    elim (cases_lt c (run.left + run.width)) [
+      | inl before ↦ or_left _ _ (and_from _ _ (and_from _ _ sides.0 (lt-ltb c (run.left + run.width) before)) all.1)
       | inr last ↦
-          let same : n ≡ r = omega arith in
-          let none : c - 0 ≡ c = omega arith in
-          ap₂ (λ a m. a || is_filled (runs m) c r) (rows_above g n c r last) same
-          ∙ row_from r 0 0 (cell_row g r) c (omega arith) (omega arith)
-          ∙ ap (λ k. get_or (cell_row g r) k false) none
-          ∙ cell_of_row g c r
-    ]
+          or_right (covers run c r) _
+          (and_from _ _ (eq-eqb column c (omega (arith, low, high, next, more, last))) (eq-eqb row r (sym top ∙ eqb-true run.top r all.1)))
+    ])
+    (λ h. either_from _ _ h ((nat_le run.left c && nat_lt c (run.left + width) && nat_eq run.top r) ≡ true)
+    (λ old. let all = both_from _ _ old in
+    let sides = both_from _ _ all.0 in
+    and_from _ _ (and_from _ _ sides.0 (lt-ltb c (run.left + width) (omega (arith, more, ltb-true c (run.left + run.width) sides.1)))) all.1)
+    (λ at. let both = both_from _ _ at in
+    let same = eqb-true column c both.0 in
+    and_from _ _
+    (and_from _ _ (le-leb run.left c (omega (arith, same, next))) (lt-ltb c (run.left + width) (omega (arith, same, next, more))))
+    (eq-eqb run.top r (top ∙ eqb-true row r both.1))))
 
--- the path of the runs fills the dark cells and no others
-pub runs_fill : (g : Grid) (c r : ℕ) → is_filled (runs_of g) c r ≡ is_dark_cell g c r
-runs_fill g c r =
-    elim (cases_lt r (all_rows g)) [
-      | inl inside ↦ rows_with g (all_rows g) c r inside
-      | inr past ↦ rows_above g (all_rows g) c r past ∙ sym (cell_outside g c r (λ _ _ _ bottom. omega arith))
-    ]
+-- a cell is added to the last run
+pub grown : (old before : List Run) (last : Run) (column row width x y : ℕ) → old ≡ before ++ last ∷ [] → last.top ≡ row → last.left + last.width ≡ column → width ≡ last.width + 1
+    → (is_filled before x y || is_filled ((record { left = last.left; top = last.top; width = width }) ∷ []) x y) ≡ (is_filled old x y || (nat_eq column x && nat_eq row y))
+grown old before last column row width x y whole top next more =
+    ap (λ b. is_filled before x y || b) (longer_run last column row width x y top next more)
+    ∙ or_assoc (is_filled before x y) (covers last x y) (nat_eq column x && nat_eq row y)
+    ∙ ap (λ b. b || (nat_eq column x && nat_eq row y))
+    (ap (λ b. is_filled before x y || b) (sym (or_false (covers last x y)))
+    ∙ sym (filled-append before (last ∷ []) x y)
+    ∙ ap (λ rs. is_filled rs x y) (sym whole))
+
+-- a cell is added as a new run
+pub begun : (old before : List Run) (column row width x y : ℕ) → old ≡ before → width ≡ 1
+    → (is_filled before x y || is_filled ((record { left = column; top = row; width = width }) ∷ []) x y) ≡ (is_filled old x y || (nat_eq column x && nat_eq row y))
+begun old before column row width x y whole one =
+    ap₂ (λ a b. a || b) (ap (λ rs. is_filled rs x y) (sym whole)) (new_run column row width x y one)
+
+abbrev pub is_at : Grid → ℕ → ℕ → ℕ → Bool  -- cell i is in column c and row r
+is_at g i c r = nat_eq (i % g.columns + g.zone) c && nat_eq (i / g.columns + g.zone) r
+
+place_of : (g : Grid) (i c r : ℕ) → is_at g i c r ≡ true → (r - g.zone) * g.columns + (c - g.zone) ≡ i
+place_of g i c r h =
+    let both = both_from _ _ h in
+    let column : c - g.zone ≡ i % g.columns = omega (arith, eqb-true (i % g.columns + g.zone) c both.0) in
+    let row : r - g.zone ≡ i / g.columns = omega (arith, eqb-true (i / g.columns + g.zone) r both.1) in
+    ap₂ (λ y x. y * g.columns + x) row column ∙ div-add-mod' i g.columns
+
+-- a dark cell, with its place
+pub dark_at : (g : Grid) (c r : ℕ) → is_dark_cell g c r ≡ true
+    → (g.zone ≤ c) × (c < g.zone + g.columns) × (g.zone ≤ r) × (r < g.zone + g.rows) × (is_dark (get_or g.cells ((r - g.zone) * g.columns + (c - g.zone)) Light) ≡ true)
+dark_at g c r h =
+    let all = both_from _ _ h in
+    let inside = both_from _ _ all.0 in
+    let upper = both_from _ _ inside.0 in
+    let sides = both_from _ _ upper.0 in
+    (leb-true g.zone c sides.0, ltb-true c (g.zone + g.columns) sides.1, leb-true g.zone r upper.1, ltb-true r (g.zone + g.rows) inside.1, all.1)
+
+is_at-from : (g : Grid) (i c r : ℕ) → 0 < g.columns → (r - g.zone) * g.columns + (c - g.zone) ≡ i → is_dark_cell g c r ≡ true → is_at g i c r ≡ true
+is_at-from g i c r some place dark =
+    let at = dark_at g c r dark in
+    let left = at.0 in
+    let right = at.1 in
+    let top = at.2 in
+    let short : c - g.zone < g.columns = omega arith in
+    let same = same_from_place (i / g.columns) (i % g.columns) (r - g.zone) (c - g.zone) g.columns (mod_below i g.columns some) short (div-add-mod' i g.columns ∙ sym place) in
+    let column : i % g.columns + g.zone ≡ c = omega (arith, same.1) in
+    let row : i / g.columns + g.zone ≡ r = omega (arith, same.0) in
+    and_from _ _ (eq-eqb (i % g.columns + g.zone) c column) (eq-eqb (i / g.columns + g.zone) r row)
+
+dark_from_at : (g : Grid) (i c r : ℕ) → i < g.rows * g.columns → 0 < g.columns → is_dark (get_or g.cells i Light) ≡ true → is_at g i c r ≡ true → is_dark_cell g c r ≡ true
+dark_from_at g i c r inside some dark h =
+    let both = both_from _ _ h in
+    let column : i % g.columns + g.zone ≡ c = eqb-true (i % g.columns + g.zone) c both.0 in
+    let row : i / g.columns + g.zone ≡ r = eqb-true (i / g.columns + g.zone) r both.1 in
+    let short = mod_below i g.columns some in
+    let high = div_below i g.columns g.rows some inside in
+    and_from _ _
+    (and_from _ _ (and_from _ _ (and_from _ _ (le-leb g.zone c (omega arith)) (lt-ltb c (g.zone + g.columns) (omega arith))) (le-leb g.zone r (omega arith))) (lt-ltb r (g.zone + g.rows) (omega arith)))
+    (ap (λ k. is_dark (get_or g.cells k Light)) (place_of g i c r h) ∙ dark)
+
+some_columns : (i rows columns : ℕ) → i < rows * columns → 0 < columns
+some_columns i rows zero h = absurd (omega arith)
+some_columns i rows (suc n) h = omega arith
+
+-- cell i is dark: it is filled too
+pub reached_dark : (g : Grid) (i c r : ℕ) → i < g.rows * g.columns → is_dark (get_or g.cells i Light) ≡ true → (is_reached g i c r || is_at g i c r) ≡ is_reached g (i + 1) c r
+reached_dark g i c r inside dark =
+    let some = some_columns i g.rows g.columns inside in
+    let place = (r - g.zone) * g.columns + (c - g.zone) in
+    same_test _ _
+    (λ h. either_from _ _ h (is_reached g (i + 1) c r ≡ true)
+    (λ before. let both = both_from _ _ before in and_from _ _ both.0 (lt-ltb place (i + 1) (omega (arith, ltb-true place i both.1))))
+    (λ at. and_from _ _ (dark_from_at g i c r inside some dark at) (lt-ltb place (i + 1) (omega (arith, place_of g i c r at)))))
+    (λ h. let both = both_from _ _ h in
+    elim (cases_lt place i) [
+      | inl before ↦ or_left _ _ (and_from _ _ both.0 (lt-ltb place i before))
+      | inr behind ↦
+          let same : place ≡ i = omega (arith, ltb-true place (i + 1) both.1) in
+          or_right (is_reached g i c r) _ (is_at-from g i c r some same both.0)
+    ])
+
+-- cell i is light: nothing more is filled
+pub reached_light : (g : Grid) (i c r : ℕ) → is_dark (get_or g.cells i Light) ≡ false → is_reached g i c r ≡ is_reached g (i + 1) c r
+reached_light g i c r light =
+    let place = (r - g.zone) * g.columns + (c - g.zone) in
+    same_test _ _
+    (λ h. let both = both_from _ _ h in and_from _ _ both.0 (lt-ltb place (i + 1) (omega (arith, ltb-true place i both.1))))
+    (λ h. let both = both_from _ _ h in
+    elim (cases_lt place i) [
+      | inl before ↦ and_from _ _ both.0 (lt-ltb place i before)
+      | inr behind ↦
+          let same : place ≡ i = omega (arith, ltb-true place (i + 1) both.1) in
+          absurd (true≢false (sym (dark_at g c r both.0).4 ∙ ap (λ k. is_dark (get_or g.cells k Light)) same ∙ light))
+    ])
+
+-- no cell is before the first
+pub reached_none : (g : Grid) (c r : ℕ) → is_reached g 0 c r ≡ false
+reached_none g c r = not_true _ (λ h. let below = ltb-true ((r - g.zone) * g.columns + (c - g.zone)) 0 (both_from _ _ h).1 in absurd (omega (arith, below)))
+
+-- all cells are before the end
+pub reached_all : (g : Grid) (n c r : ℕ) → g.rows * g.columns ≤ n → is_reached g n c r ≡ is_dark_cell g c r
+reached_all g n c r end =
+    same_test _ _
+    (λ h. (both_from _ _ h).0)
+    (λ h. let at = dark_at g c r h in
+    let left = at.0 in
+    let right = at.1 in
+    let top = at.2 in
+    let bottom = at.3 in
+    and_from _ _ h (lt-ltb _ n (omega (arith, end, row_fits (r - g.zone) g.columns g.rows g.columns (omega arith) (omega arith)))))

@@ -3,9 +3,7 @@ pub mod FilledRuns
 pub mod Folds
 pub mod Grids
 pub mod LineTexts
-pub mod Numbers
 pub mod PackedBits
-pub mod Palettes
 pub mod Pictures
 pub mod PixelRows
 pub mod RasterPictures

@@ -5,8 +5,8 @@ use Rattle.std.proofs.lemmas.List.{take_more, take-append-drop, take_all, append
 use Rattle.std.proofs.lemmas.Bool.Decides.{nat_tests}
 use Rattle.std.proofs.lemmas.List.Concat.{flat_map-append}
 use Rattle.std.proofs.lemmas.List.FromFn.{map-range_with_len_more, length-map-range_with_len}
-use Rattle.qrcode_render.specs.Lines.{line_start, twos_text}
-use Rattle.qrcode_render.specs.Texts.{marks_text, lines_text}
+use Rattle.qrcode_render.specs.Lines.{line_start}
+use Rattle.qrcode_render.specs.Texts.{lines_text}
 
 -- one more element
 pub flat_map_one : {A B : Type 0} (f : A → List B) (xs : List A) (i j : ℕ) (d : A) → i + 1 ≡ j → i < length xs → flat_map f (take j xs) ≡ flat_map f (take i xs) ++ f (get_or xs i d)
@@ -29,36 +29,6 @@ pub flat_range_more : {B : Type 0} (f : ℕ → List B) (n m : ℕ) → n + 1 �
 flat_range_more f n m next =
     let place : 0 + n ≡ n = omega arith in
     ap (λ k. flat_map f (range_with_len 0 k)) (sym next) ∙ flat_range_from f 0 n ∙ ap (λ k. flat_map f (range_with_len 0 n) ++ f k) place
-
-regroup : (x a b : List ℕ) → x ++ (a ++ (b ++ [])) ≡ x ++ a ++ b
-regroup x a b = simp (append_assoc, append-nil)
-
--- the texts of the first pairs of flags are the texts of these flags
-first_twos : (dark light : List ℕ) (two : Bool → Bool → List ℕ) (marks : List Bool) → ((a b : Bool) → two a b ≡ marks_text dark light (a ∷ b ∷ [])) → (k : ℕ) → 2 * k ≤ length marks
-    → flat_map (λ i. two (get_or marks (2 * i) false) (get_or marks (2 * i + 1) false)) (range_with_len 0 k) ≡ marks_text dark light (take (2 * k) marks)
-first_twos dark light two marks is zero inside = refl
-first_twos dark light two marks is (suc k) inside =
-    let text : Bool → List ℕ = λ m. if m then dark else light in
-    let mark : ℕ → List ℕ = λ i. text (get_or marks i false) in
-    let at = 2 * k in
-    let pair : ℕ → List ℕ = λ i. two (get_or marks (2 * i) false) (get_or marks (2 * i + 1) false) in
-    flat_range_more pair k (suc k) (omega arith)
-    ∙ ap (λ t. t ++ pair k) (first_twos dark light two marks is k (omega arith))
-    ∙ ap (λ t. marks_text dark light (take at marks) ++ t) (is (get_or marks at false) (get_or marks (at + 1) false))
-    ∙ regroup (marks_text dark light (take at marks)) (mark at) (mark (at + 1))
-    ∙ sym (ap (λ t. t ++ mark (at + 1)) (flat_map_one text marks at (at + 1) false refl (omega arith)))
-    ∙ sym (flat_map_one text marks (at + 1) (2 * suc k) false (omega arith) (omega arith))
-
--- the texts of all pairs of flags followed by that of the rest are the text of all flags
-pub twos_and_rest : (dark light : List ℕ) (two : Bool → Bool → List ℕ) (marks : List Bool) → ((a b : Bool) → two a b ≡ marks_text dark light (a ∷ b ∷ []))
-    → let k = length marks / 2 * 2 in twos_text two marks ++ marks_text dark light (take (length marks - k) (drop k marks)) ≡ marks_text dark light marks
-twos_and_rest dark light two marks is =
-    let k = length marks / 2 * 2 in
-    let place : 2 * (length marks / 2) ≡ k = omega arith in
-    let rest : take (length marks - k) (drop k marks) ≡ drop k marks = take_all (length marks - k) (drop k marks) (omega (arith, length-drop k marks)) in
-    ap₂ (λ t ms. t ++ marks_text dark light ms) (first_twos dark light two marks is (length marks / 2) (omega arith) ∙ ap (λ n. marks_text dark light (take n marks)) place) rest
-    ∙ sym (flat_map-append _ (take k marks) (drop k marks))
-    ∙ ap (marks_text dark light) (take-append-drop k marks)
 
 -- join_with_byte of lines and one more
 join-push : (lines : List (List ℕ)) (line : List ℕ) → join_with_byte 10 (lines ++ line ∷ []) ≡ join_with_byte 10 lines ++ line_start (length lines) ++ line

@@ -1,12 +1,10 @@
 -- The text of Encapsulated PostScript.
-use Rattle.std.proofs.Common.{◌≡◌}
-use Rattle.std.specs.Prelude.{ℕ, ◌+◌, ◌-◌, ◌*◌, ◌/◌, List, [], ◌++◌, codes, decimal}
+use Rattle.std.specs.Prelude.{ℕ, zero, suc, Option, None, Some, ◌+◌, ◌-◌, ◌*◌, ◌/◌, List, ◌++◌, codes, decimal}
 use Rattle.qrcode_types.specs.declared.types.Color.{Color}
 use Rattle.qrcode_render.specs.declared.eps.Color as eps
 use Rattle.qrcode_render.specs.Drawn.{drawn}
 use Rattle.qrcode_render.specs.Layout.{Layout, pixels_across, pixels_down}
 use Rattle.qrcode_render.specs.Paths.{thousandths}
-use Rattle.qrcode_render.specs.Strokes.{rect_text, regroup}
 
 -- sets the colour of what follows
 abbrev pub eps_paint : eps.Color → List ℕ
@@ -57,18 +55,6 @@ eps_sized_start dots w h dark light = eps_sized_head dots w h ++ (eps_paint ligh
 abbrev pub eps_rect : ℕ → ℕ → ℕ → ℕ → List ℕ → List ℕ
 eps_rect left top width height text = text ++ eps_box left top width height
 
--- the parts of a rectangle's text that depend on its column; `eps_row` has those that depend on its row and its sides
-abbrev pub eps_column : ℕ → List ℕ × List ℕ
-eps_column left = (decimal left ++ codes " ", [])
-
-abbrev pub eps_row : ℕ → ℕ → ℕ → List ℕ × List ℕ
-eps_row top width height = (decimal top ++ codes " " ++ decimal width ++ codes " " ++ decimal height, codes " rectfill\n")
-
--- the text of a rectangle is put together of these parts
-pub eps_rect-is : (left top width height : ℕ) (text : List ℕ) → eps_rect left top width height text ≡ text ++ rect_text (eps_column left) (eps_row top width height)
-eps_rect-is left top width height text =
-    regroup text [] (decimal left) (codes " ") (decimal top) (codes " ") (decimal width) (codes " ") (decimal height) [] [] [] (codes " rectfill\n")
-
 -- the text after the last dark rectangle
 abbrev pub eps_end : List ℕ
 eps_end = codes "showpage\n%%EOF\n"
@@ -77,6 +63,12 @@ eps_end = codes "showpage\n%%EOF\n"
 abbrev pub eps_text : Layout → List Color → eps.Color → eps.Color → List ℕ
 eps_text at content dark light = drawn eps_rect at content (eps_start (pixels_across at) (pixels_down at) dark light) ++ eps_end
 
--- the picture of modules in a dark and a light colour, with `dots` pixels to an inch
-abbrev pub eps_sized_text : ℕ → Layout → List Color → eps.Color → eps.Color → List ℕ
-eps_sized_text dots at content dark light = drawn eps_rect at content (eps_sized_start dots (pixels_across at) (pixels_down at) dark light) ++ eps_end
+-- the text before the first dark rectangle: a pixel is a point, unless pixels to an inch are given
+abbrev pub eps_front : Option ℕ → ℕ → ℕ → eps.Color → eps.Color → List ℕ
+eps_front None = eps_start
+eps_front (Some zero) = eps_start
+eps_front (Some (suc n)) = eps_sized_start (suc n)
+
+-- the picture of modules in a dark and a light colour, with these pixels to an inch, if given, and with PostScript over the modules
+abbrev pub eps_file : Option ℕ → Layout → List Color → eps.Color → eps.Color → List ℕ → List ℕ
+eps_file dots at content dark light over = drawn eps_rect at content (eps_front dots (pixels_across at) (pixels_down at) dark light) ++ (over ++ eps_end)

@@ -30,6 +30,10 @@ is_dark_cell g column row =
     nat_le g.zone column && nat_lt column (g.zone + g.columns) && nat_le g.zone row && nat_lt row (g.zone + g.rows)
     && is_dark (slice_index_or g.cells ((row - g.zone) * g.columns + (column - g.zone)) Light)
 
+-- the cell in a column and a row, border included, is dark and one of the first i, counted without the border
+abbrev pub is_reached : Grid → ℕ → ℕ → ℕ → Bool
+is_reached g i column row = is_dark_cell g column row && nat_lt ((row - g.zone) * g.columns + (column - g.zone)) i
+
 -- which cells of a row are dark, border included
 abbrev pub cell_row : Grid → ℕ → List Bool
 cell_row g row = map (λ column. is_dark_cell g column row) (range_with_len 0 (all_columns g))

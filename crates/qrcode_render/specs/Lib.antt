@@ -17,8 +17,6 @@ pub mod Raster
 pub mod Setting
 pub mod Shades
 pub mod Shown
-pub mod Strips
-pub mod Strokes
 pub mod Svg
 pub mod Texts
 pub mod Zpl

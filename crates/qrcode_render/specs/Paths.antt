@@ -1,22 +1,12 @@
 -- SVG with one path, whose subpaths are the runs of dark modules in each row.
-use Rattle.std.specs.Prelude.{◌≡◌, ℕ, zero, suc, ◌+◌, ◌-◌, ◌*◌, ◌/◌, ◌%◌, ◌==◌, nat_le, nat_lt, ◌&&◌, ◌||◌, Bool, true, false, List, [], ◌∷◌, ◌++◌, codes, decimal, length, map, flat_map, max, if◌then◌else◌}
+use Rattle.std.specs.Prelude.{◌≡◌, ℕ, ◌+◌, ◌-◌, ◌*◌, ◌/◌, ◌%◌, ◌==◌, ◌<◌, IsTrue, nat_le, nat_lt, ◌&&◌, ◌||◌, Bool, false, List, [], ◌∷◌, ◌++◌, codes, decimal, length, map, flat_map, max, if◌then◌else◌}
 use Rattle.std.specs.List.{range_with_len}
 use Rattle.qrcode_render.specs.Bitmap.{Bitmap}
-use Rattle.qrcode_render.specs.Grid.{Grid, all_rows, cell_row}
+use Rattle.qrcode_render.specs.declared.paths.Pen.{Pen}
+use Rattle.qrcode_render.specs.declared.runs.Run.{Run}
 use Rattle.qrcode_render.specs.declared.svg_path.Frame as code
 use Rattle.qrcode_render.specs.declared.svg_path.Size.{Size}
 use Rattle.qrcode_render.specs.declared.svg_path.Size.TheVariants.{Pixels, Free, Dots}
-
--- cells next to each other in a row: the first column, the row, and the number of cells
-pub record Run : Type 0 where
-  pub left : ℕ
-  pub top : ℕ
-  pub width : ℕ
-
--- the pen's position: the upper left corner of the cell in this column and row
-pub record Pen : Type 0 where
-  pub column : ℕ
-  pub row : ℕ
 
 -- a relative coordinate: the distance between two numbers, after `forward`, or after `back` if the second is smaller
 abbrev pub step_text : List ℕ → List ℕ → ℕ → ℕ → List ℕ
@@ -38,11 +28,6 @@ behind r = record { column = r.left; row = r.top + 1 }
 abbrev pub path_from : Pen → List Run → List ℕ
 path_from pen [] = []
 path_from pen (r ∷ runs) = run_text pen r ++ path_from (behind r) runs
-
--- the pen's position after the path of runs
-abbrev pub pen_after : Pen → List Run → Pen
-pen_after pen [] = pen
-pen_after pen (r ∷ runs) = pen_after (behind r) runs
 
 -- the pen's position at the start
 abbrev pub start : Pen
@@ -123,42 +108,36 @@ abbrev pub path_ground : ℕ → ℕ → List ℕ
 path_ground columns rows =
     codes "<rect width=\"" ++ (decimal columns ++ (codes "\" height=\"" ++ (decimal rows ++ codes "\" fill=\"")))
 
--- the element: the frame, the light background, and the dark path
-abbrev pub path_element : Frame → ℕ → ℕ → ℕ → ℕ → List ℕ → List ℕ → List Run → List ℕ
-path_element frame w h columns rows dark light runs =
+-- the element up to its end tag: the frame, the light background, and the dark path
+abbrev pub path_front : Frame → ℕ → ℕ → ℕ → ℕ → List ℕ → List ℕ → List Run → List ℕ
+path_front frame w h columns rows dark light runs =
     frame_text frame w h columns rows
-    ++ (path_ground columns rows ++ (light ++ (codes "\"/><path fill=\"" ++ (dark ++ (codes "\" d=\"" ++ (path_text runs ++ codes "\"/></svg>"))))))
+    ++ (path_ground columns rows ++ (light ++ (codes "\"/><path fill=\"" ++ (dark ++ (codes "\" stroke=\"none\" d=\"" ++ (path_text runs ++ codes "\"/>"))))))
+
+abbrev pub path_end : List ℕ
+path_end = codes "</svg>"
 
 -- the XML declaration of a file
 abbrev pub xml_head : List ℕ
 xml_head = codes "<?xml version=\"1.0\" standalone=\"yes\"?>"
 
--- an SVG text that shows the picture: its `viewBox` has this many columns and rows of cells, each cell is `across` by
--- `down` pixels, and the dark pixels are those of the cells that the path fills
-pub record IsPathIn (columns rows : ℕ) (head : List ℕ) (frame : Frame) (dark light : List ℕ) (b : Bitmap) (svg : List ℕ) : Type 0 where
+-- the dark pixels of a bitmap are those of the cells that runs fill, each of which is `across` by `down` pixels, in this many columns and rows; the
+-- runs fill no other cell
+pub record AreRunsOf (columns rows across down : ℕ) (b : Bitmap) (runs : List Run) : Type 0 where
+  pub wide : b.across ≡ columns * across
+  pub high : b.down ≡ rows * down
+  pub shown : b.marks ≡ map (λ i. is_filled runs (i % b.across / across) (i / b.across / down)) (range_with_len 0 (b.across * b.down))
+  pub inside : (column row : ℕ) → IsTrue (is_filled runs column row) → (column < columns) × (row < rows)
+
+-- an SVG text that shows the picture: its `viewBox` has this many columns and rows of cells, and the path fills the cells of the dark pixels; the
+-- elements `over` are drawn on top
+pub record IsPathIn (columns rows : ℕ) (head : List ℕ) (frame : Frame) (dark light : List ℕ) (b : Bitmap) (over svg : List ℕ) : Type 0 where
   pub across : ℕ
   pub down : ℕ
   pub runs : List Run
-  pub wide : b.across ≡ columns * across
-  pub high : b.down ≡ rows * down
-  pub written : svg ≡ head ++ path_element frame b.across b.down columns rows (attribute dark) (attribute light) runs
-  pub shown : b.marks ≡ map (λ i. is_filled runs (i % b.across / across) (i / b.across / down)) (range_with_len 0 (b.across * b.down))
+  pub written : svg ≡ (head ++ path_front frame b.across b.down columns rows (attribute dark) (attribute light) runs) ++ (over ++ path_end)
+  pub shown : AreRunsOf columns rows across down b runs
 
--- an SVG text that shows the picture, whatever the columns and rows of its `viewBox`
+-- an SVG text that shows the picture alone, whatever the columns and rows of its `viewBox`
 abbrev pub IsPathOf : List ℕ → Frame → List ℕ → List ℕ → Bitmap → List ℕ → Type 0
-IsPathOf head frame dark light b svg = (columns : ℕ) × ((rows : ℕ) × IsPathIn columns rows head frame dark light b svg)
-
--- the run of n cells that ends before column `end`; none if n is 0
-abbrev pub ended : ℕ → ℕ → ℕ → List Run
-ended top end zero = []
-ended top end (suc n) = (record { left = end - suc n; top = top; width = suc n }) ∷ []
-
--- the runs of a row's flags from a column on, before which `width` cells are dark
-abbrev pub runs_from : ℕ → ℕ → ℕ → List Bool → List Run
-runs_from top column width [] = ended top column width
-runs_from top column width (true ∷ marks) = runs_from top (column + 1) (width + 1) marks
-runs_from top column width (false ∷ marks) = ended top column width ++ runs_from top (column + 1) 0 marks
-
--- the runs of all rows
-abbrev pub runs_of : Grid → List Run
-runs_of g = flat_map (λ row. runs_from row 0 0 (cell_row g row)) (range_with_len 0 (all_rows g))
+IsPathOf head frame dark light b svg = (columns : ℕ) × ((rows : ℕ) × IsPathIn columns rows head frame dark light b [] svg)

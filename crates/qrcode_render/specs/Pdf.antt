@@ -4,7 +4,8 @@ use Rattle.std.specs.Char.Escape.{encode_utf16}
 use Rattle.std.specs.List.{range_with_len}
 use Rattle.std.specs.Str.{chars}
 use Rattle.qrcode_render.specs.Bitmap.{Bitmap}
-use Rattle.qrcode_render.specs.Paths.{Run, is_filled}
+use Rattle.qrcode_render.specs.Paths.{AreRunsOf}
+use Rattle.qrcode_render.specs.declared.runs.Run.{Run}
 use Rattle.qrcode_render.specs.Printers.{hex_pair}
 
 -- the decimal digit of a number at a power of ten
@@ -30,6 +31,10 @@ pub record Sheet : Type 0 where
   pub wide : ℕ
   pub high : ℕ
   pub dots : ℕ
+
+abbrev pub sheet : ℕ → ℕ → ℕ → ℕ → ℕ → Sheet
+sheet columns rows across down dots =
+    record { columns = columns; rows = rows; across = across; down = down; wide = columns * across; high = rows * down; dots = dots }
 
 -- a length of n pixels in points, 1/72 of an inch
 abbrev pub points : Sheet → ℕ → List ℕ
@@ -61,7 +66,7 @@ under s dark light = turn s ++ (paint light ++ (ground s ++ paint dark))
 
 -- the runs, filled as one path
 abbrev pub filled : List Run → List ℕ
-filled runs = flat_map run_box runs ++ codes "f"
+filled runs = flat_map run_box runs ++ codes "f\n"
 
 -- the operators of the page: the light background, the runs, and what is drawn over them
 abbrev pub content : Sheet → List ℕ → List ℕ → List Run → List ℕ → List ℕ
@@ -114,6 +119,10 @@ information title = codes "5 0 obj\n<<" ++ (if length title == 0 then [] else co
 abbrev pub body : Sheet → List ℕ → List ℕ → Body
 body s drawn title = with_object (information title) (with_object (stream drawn) (with_object (page s) (with_object pages (with_object catalog start))))
 
+-- the objects of a page with these runs
+abbrev pub page_body : Sheet → List ℕ → List ℕ → List Run → List ℕ → List ℕ → Body
+page_body s dark light runs over title = body s (content s dark light runs over) title
+
 -- the cross-reference table and the trailer, which says where the table begins
 abbrev pub ending : List ℕ → ℕ → List ℕ
 ending table start = codes "xref\n0 6\n" ++ table ++ (codes "trailer\n<</Size 6/Root 1 0 R/Info 5 0 R>>\nstartxref\n" ++ (decimal start ++ codes "\n%%EOF\n"))
@@ -122,26 +131,24 @@ ending table start = codes "xref\n0 6\n" ++ table ++ (codes "trailer\n<</Size 6/
 abbrev pub closed : Body → List ℕ
 closed b = b.text ++ ending b.table (length b.text)
 
--- the dark pixels of a bitmap are those of the runs' modules, each of which is `across` by `down` pixels
-abbrev pub AreRunsOf : ℕ → ℕ → Bitmap → List Run → Type 0
-AreRunsOf across down b runs = b.marks ≡ map (λ i. is_filled runs (i % b.across / across) (i / b.across / down)) (range_with_len 0 (b.across * b.down))
-
 -- PDF operators that fill the dark pixels of a bitmap in a colour, with a pixel as the unit
 pub record IsLayerOf (parts : List ℕ) (b : Bitmap) (text : List ℕ) : Type 0 where
+  pub columns : ℕ
+  pub rows : ℕ
   pub runs : List Run
-  pub written : text ≡ codes "\n" ++ paint parts ++ filled runs
-  pub shown : AreRunsOf 1 1 b runs
+  pub written : text ≡ paint parts ++ filled runs
+  pub shown : AreRunsOf columns rows 1 1 b runs
 
--- a PDF file whose page shows the picture: the dark pixels are those of the filled modules, each of which has a fixed
--- width and height in pixels, and the operators `over` are drawn on top; the file has the title, unless that is empty
-pub record IsPdfOf (dots : ℕ) (dark light : List ℕ) (b : Bitmap) (over title file : List ℕ) : Type 0 where
-  pub sheet : Sheet
+-- a PDF file whose page shows the picture: it has this many columns and rows of modules, which are the units of the page, and the dark pixels are
+-- those of the filled modules; the operators `over` are drawn on top; the file has the title, unless that is empty
+pub record IsPdfIn (columns rows dots : ℕ) (dark light : List ℕ) (b : Bitmap) (over title file : List ℕ) : Type 0 where
+  pub across : ℕ
+  pub down : ℕ
   pub runs : List Run
-  pub inch : sheet.dots ≡ dots
-  pub wide : sheet.wide ≡ b.across
-  pub high : sheet.high ≡ b.down
-  pub columns : b.across ≡ sheet.columns * sheet.across
-  pub rows : b.down ≡ sheet.rows * sheet.down
-  pub written : file ≡ closed (body sheet (content sheet dark light runs over) title)
-  pub fits : length (body sheet (content sheet dark light runs over) title).text < 10 ^ 10
-  pub shown : AreRunsOf sheet.across sheet.down b runs
+  pub written : file ≡ closed (page_body (sheet columns rows across down dots) dark light runs over title)
+  pub fits : length (page_body (sheet columns rows across down dots) dark light runs over title).text < 10 ^ 10
+  pub shown : AreRunsOf columns rows across down b runs
+
+-- likewise, whatever the columns and rows
+abbrev pub IsPdfOf : ℕ → List ℕ → List ℕ → Bitmap → List ℕ → List ℕ → List ℕ → Type 0
+IsPdfOf dots dark light b over title file = (columns : ℕ) × ((rows : ℕ) × IsPdfIn columns rows dots dark light b over title file)

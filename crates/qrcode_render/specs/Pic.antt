@@ -1,10 +1,8 @@
 -- The text of PIC.
-use Rattle.std.proofs.Common.{◌≡◌}
 use Rattle.std.specs.Prelude.{ℕ, List, [], ◌++◌, codes, decimal}
 use Rattle.qrcode_types.specs.declared.types.Color.{Color}
 use Rattle.qrcode_render.specs.Drawn.{drawn}
 use Rattle.qrcode_render.specs.Layout.{Layout, pixels_across, pixels_down}
-use Rattle.qrcode_render.specs.Strokes.{rect_text, regroup}
 
 -- the text before the first box
 abbrev pub pic_start : ℕ → ℕ → List ℕ
@@ -15,18 +13,6 @@ pic_start w h =
 abbrev pub pic_rect : ℕ → ℕ → ℕ → ℕ → List ℕ → List ℕ
 pic_rect left top width height text =
     text ++ (codes "p(" ++ (decimal left ++ (codes "," ++ (decimal top ++ (codes "," ++ (decimal width ++ (codes "," ++ (decimal height ++ codes ")\n"))))))))
-
--- the parts of a box's text that depend on its column; `pic_row` has those that depend on its row and its sides
-abbrev pub pic_column : ℕ → List ℕ × List ℕ
-pic_column left = (codes "p(" ++ decimal left ++ codes ",", [])
-
-abbrev pub pic_row : ℕ → ℕ → ℕ → List ℕ × List ℕ
-pic_row top width height = (decimal top ++ codes "," ++ decimal width ++ codes "," ++ decimal height, codes ")\n")
-
--- the text of a box is put together of these parts
-pub pic_rect-is : (left top width height : ℕ) (text : List ℕ) → pic_rect left top width height text ≡ text ++ rect_text (pic_column left) (pic_row top width height)
-pic_rect-is left top width height text =
-    regroup text (codes "p(") (decimal left) (codes ",") (decimal top) (codes ",") (decimal width) (codes ",") (decimal height) [] [] [] (codes ")\n")
 
 -- nothing follows the last box
 abbrev pub pic_end : List ℕ

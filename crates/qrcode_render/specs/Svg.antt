@@ -1,10 +1,8 @@
 -- The text of SVG with a rectangle for each dark module.
-use Rattle.std.proofs.Common.{◌≡◌}
 use Rattle.std.specs.Prelude.{ℕ, List, ◌++◌, codes, decimal}
 use Rattle.qrcode_types.specs.declared.types.Color.{Color}
 use Rattle.qrcode_render.specs.Drawn.{drawn}
 use Rattle.qrcode_render.specs.Layout.{Layout, pixels_across, pixels_down}
-use Rattle.qrcode_render.specs.Strokes.{rect_text, regroup}
 
 -- the picture's width and height, and its `viewBox`
 abbrev pub svg_frame : ℕ → ℕ → List ℕ
@@ -25,18 +23,6 @@ svg_start w h dark light =
 abbrev pub svg_rect : ℕ → ℕ → ℕ → ℕ → List ℕ → List ℕ
 svg_rect left top width height text =
     text ++ (codes "M" ++ (decimal left ++ (codes " " ++ (decimal top ++ (codes "h" ++ (decimal width ++ (codes "v" ++ (decimal height ++ (codes "H" ++ (decimal left ++ (codes "V" ++ decimal top)))))))))))
-
--- the parts of a subpath that depend on its column; `svg_row` has those that depend on its row and its sides
-abbrev pub svg_column : ℕ → List ℕ × List ℕ
-svg_column left = (codes "M" ++ decimal left ++ codes " ", codes "H" ++ decimal left ++ codes "V")
-
-abbrev pub svg_row : ℕ → ℕ → ℕ → List ℕ × List ℕ
-svg_row top width height = (decimal top ++ codes "h" ++ decimal width ++ codes "v" ++ decimal height, decimal top)
-
--- the text of a subpath is put together of these parts
-pub svg_rect-is : (left top width height : ℕ) (text : List ℕ) → svg_rect left top width height text ≡ text ++ rect_text (svg_column left) (svg_row top width height)
-svg_rect-is left top width height text =
-    regroup text (codes "M") (decimal left) (codes " ") (decimal top) (codes "h") (decimal width) (codes "v") (decimal height) (codes "H") (decimal left) (codes "V") (decimal top)
 
 -- the text after the last dark rectangle
 abbrev pub svg_end : List ℕ

@@ -21,14 +21,22 @@ digit_value c = if nat_le 48 c && nat_lt c 58 then c - 48 else (if nat_le 65 c &
 abbrev pub left_in_row : ℕ → List ℕ → ℕ
 left_in_row n digits = n - length digits % n
 
+-- the reading after a character that printers do not expect: it counts as a digit, but as one that no picture has
+abbrev pub spoiled : Reading → Reading
+spoiled r = reading 0 (r.digits ++ 16 ∷ [])
+
+-- the reading after digits that no letter may precede
+abbrev pub with_digits : List ℕ → Reading → Reading
+with_digits digits r = if r.times == 0 then reading 0 (r.digits ++ digits) else spoiled r
+
 -- the reading after another character, with n digits in a row: a comma fills the row with zeros, an exclamation mark
--- with ones, and a colon repeats the row above; the letters G to Y stand for 1 to 19 and g to z for 20, 40, .. 400, and
--- the letters before a digit add up to how many times it is repeated
+-- with ones, and a colon, which stands only between rows, repeats the row above; the letters G to Y stand for 1 to 19
+-- and g to z for 20, 40, .. 400, and the letters before a digit add up to how many times it is repeated
 abbrev pub read_one : ℕ → Reading → ℕ → Reading
 read_one n r c =
-    if c == 44 then reading 0 (r.digits ++ replicate (left_in_row n r.digits) 0)
-    else (if c == 33 then reading 0 (r.digits ++ replicate (left_in_row n r.digits) 15)
-    else (if c == 58 then reading 0 (r.digits ++ drop (length r.digits - n) r.digits)
+    if c == 44 then with_digits (replicate (left_in_row n r.digits) 0) r
+    else (if c == 33 then with_digits (replicate (left_in_row n r.digits) 15) r
+    else (if c == 58 then (if length r.digits % n == 0 then with_digits (drop (length r.digits - n) r.digits) r else spoiled r)
     else (if nat_le 71 c && nat_lt c 90 then reading (r.times + (c - 70)) r.digits
     else (if nat_le 103 c && nat_lt c 123 then reading (r.times + 20 * (c - 102)) r.digits
     else reading 0 (r.digits ++ replicate (max r.times 1) (digit_value c))))))

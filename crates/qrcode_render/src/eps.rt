@@ -1,19 +1,20 @@
-//! Draws Encapsulated PostScript. A pixel is a point, 1/72 of an inch, unless `with_density` is
-//! used.
+//! Draws Encapsulated PostScript. A pixel is a point, 1/72 of an inch, unless set by
+//! `with_extras`.
 
 ghost use Rattle.std.proofs.Common.{rules};
 ghost use Rattle.std.specs.Prelude.{◌≡◌, ◌<◌, ◌≤◌, ◌^◌, string_bytes, IfOk, IsOkUnless, IsTrue};
 ghost use Rattle.qrcode_types.specs.declared.types.QrError.TheVariants.{OutOfMemory};
 ghost use Rattle.qrcode_types.specs.Colors.{select_of};
-ghost use Rattle.qrcode_render.specs.Eps.{begun_points, eps_start, eps_rect, eps_rect-is, eps_column, eps_row, eps_end, eps_boxes, eps_sized_start, eps_sized_text};
+ghost use Rattle.qrcode_render.specs.Drawn.{drawn};
+ghost use Rattle.qrcode_render.specs.Eps.{begun_points, eps_boxes, eps_end, eps_file, eps_front, eps_paint, eps_rect, eps_sized_start, eps_start};
 ghost use Rattle.qrcode_render.specs.Paths.{thousandths};
 ghost use Rattle.qrcode_render.specs.Setting.{fits, layout_of};
 
-use crate::ink::{Piece, Script, Word};
-use crate::strokes::{Plot, Strokes, push_modules};
+use crate::strokes::{Plot, Strokes};
 use crate::{Pixel, Renderer};
 use qrcode_types::types::{Color as ModuleColor, QrResult};
 use std::alloc::Global;
+use std::fmt::Write;
 
 /// A colour of PostScript: red, green and blue.
 #[derive(Copy, Clone, PartialEq, Eq)]
@@ -66,12 +67,6 @@ impl Strokes<Color> for Boxes {
 
     ghost rect = { eps_rect };
 
-    ghost column_texts = { eps_column };
-
-    ghost row_texts = { eps_row };
-
-    ghost rect_is = { eps_rect-is };
-
     fn head(alloc: Global, width: u32, height: u32, dark: Color, light: Color) -> QrResult<String> {
         Ok(format!(in alloc;
             "%!PS-Adobe-3.0 EPSF-3.0\n%%BoundingBox: 0 0 {width} {height}\n%%LanguageLevel: 2\n\
@@ -86,34 +81,70 @@ impl Strokes<Color> for Boxes {
         "showpage\n%%EOF\n"
     }
 
-    fn column(left: u32) -> Piece {
-        Piece::new(Word::of("").number(left).text(" "), Word::of(""))
-    }
-
-    fn row(top: u32, width: u32, height: u32) -> Piece {
-        let front = Word::of("").number(top).text(" ").number(width);
-        Piece::new(front.text(" ").number(height), Word::of(" rectfill\n"))
+    fn push_rect(text: &mut String, left: u32, top: u32, width: u32, height: u32) -> QrResult<()> {
+        write!(text, "{left} {top} {width} {height} rectfill\n")?;
+        Ok(())
     }
 }
 
-/// Draws the picture as `build` does, but with `dots` pixels to an inch, at least 1.
+/// Draws the picture as `build` does, but with `dots` pixels to an inch, if any are given, and with
+/// PostScript over the modules. Its unit is a pixel, and its origin the upper left corner.
 ///
 /// Errors: only `OutOfMemory`.
-pub fn with_density(alloc: Global, renderer: &Renderer<Color>, dots: u32) -> QrResult<String>
-    requires fits { IsTrue (fits renderer.now) }
-    requires at_least { 1 ≤ dots }
-    ensures text { IfOk result (λ text. string_bytes text ≡ eps_sized_text dots
-        (layout_of renderer.now) renderer.now.content renderer.now.dark renderer.now.light) }
+pub fn with_extras(
+    alloc: Global,
+    renderer: &Renderer<Color>,
+    dots: Option<u32>,
+    over: &[u8],
+) -> QrResult<Vec<u8>>
+    requires { IsTrue (fits renderer.now) }
+    ensures value { IfOk result (λ file. file.items ≡ eps_file dots (layout_of renderer.now)
+        renderer.now.content renderer.now.dark renderer.now.light over.now) }
     ensures memory { IsOkUnless result OutOfMemory }
 {
     let (dark, light) = renderer.colors();
     let modules = renderer.modules();
-    let (width, height) = modules.pixels();
-    let head = sized_head(alloc, (width, height), dots, dark, light)?;
-    let mut text = Script::of(alloc, &head)?;
-    push_modules::<Color, Boxes>(alloc, &mut text, &modules)?;
-    text.push(Boxes::tail())?;
-    Ok(text.into_string())
+    let head = front(alloc, modules.pixels(), dots, dark, light)?;
+    let mut file = Canvas::after(head, &modules)?.into_bytes();
+    file.extend_from_slice(over)?;
+    file.extend_from_slice(Boxes::tail().as_bytes())?;
+    Ok(file)
+}
+
+/// Returns PostScript, for `with_extras`, that fills the dark modules in the dark colour.
+///
+/// Errors: only `OutOfMemory`.
+pub fn layer(alloc: Global, renderer: &Renderer<Color>) -> QrResult<Vec<u8>>
+    requires { IsTrue (fits renderer.now) }
+    ensures value { IfOk result (λ text. text.items ≡ drawn eps_rect (layout_of renderer.now)
+        renderer.now.content (eps_paint renderer.now.dark)) }
+    ensures memory { IsOkUnless result OutOfMemory }
+{
+    let (dark, _) = renderer.colors();
+    let paint = format!(in alloc;
+        "{} 255 div {} 255 div {} 255 div setrgbcolor\n",
+        dark.red, dark.green, dark.blue
+    )?;
+    Ok(Canvas::after(paint, &renderer.modules())?.into_bytes())
+}
+
+// Returns the text before the first dark rectangle, for sides in pixels, with `dots` pixels to an
+// inch if any are given.
+fn front(
+    alloc: Global,
+    sides: (u32, u32),
+    dots: Option<u32>,
+    dark: Color,
+    light: Color,
+) -> QrResult<String>
+    ensures value { IfOk result (λ text.
+        string_bytes text ≡ eps_front dots sides.0 sides.1 dark light) }
+    ensures memory { IsOkUnless result OutOfMemory }
+{
+    match dots {
+        Some(dots) if dots > 0 => sized_head(alloc, sides, dots, dark, light),
+        _ => Boxes::head(alloc, sides.0, sides.1, dark, light),
+    }
 }
 
 // Returns the text before the first dark rectangle, for sides in pixels and `dots` pixels to an

@@ -1,12 +1,15 @@
 //! Grids of cells, each drawn as a rectangle of pixels.
 
-ghost use Rattle.std.specs.Prelude.{◌≡◌, ◌+◌, ◌-◌, ◌*◌, ◌/◌, ◌^◌, ◌<◌, ◌≤◌, false, length, map, slice_index_or};
+ghost use Rattle.std.specs.Prelude.{◌≡◌, ◌+◌, ◌-◌, ◌*◌, ◌/◌, ◌%◌, ◌^◌, ◌<◌, ◌≤◌, false, true, length, map, slice_index_or, IfNone, IfOk, IfSome, IsOkUnless};
+ghost use Rattle.qrcode_types.specs.declared.types.QrError.TheVariants.{OutOfMemory};
 ghost use Rattle.std.specs.List.{range_with_len};
 ghost use Rattle.qrcode_types.specs.Colors.{is_dark};
+ghost use Rattle.qrcode_types.specs.declared.types.Color.TheVariants.{Light};
 ghost use Rattle.qrcode_render.specs.Bitmap.{marked_line, row_of};
 ghost use Rattle.qrcode_render.specs.Grid.{all_columns, all_rows, cell_row, pixels_of};
 
-use qrcode_types::types::Color;
+use qrcode_types::types::{Color, QrResult};
+use std::alloc::Global;
 use std::marker::Model;
 
 fn is_dark(color: Color) -> bool
@@ -143,6 +146,35 @@ impl<'a> Grid<'a> {
         )
     }
 
+    /// Returns the number of cells, without the border.
+    pub fn count(&self) -> usize
+        ensures { result ≡ self.now.rows * self.now.columns }
+    {
+        self.cells.len()
+    }
+
+    /// Returns the column and the row, border included, of cell `i`, counted without the border;
+    /// `None` if it is light.
+    pub fn dark_place(&self, i: usize) -> Option<(u32, u32)>
+        requires { i < self.now.rows * self.now.columns }
+        ensures dark { IfSome result (λ _.
+            is_dark (slice_index_or self.now.cells i Light) ≡ true) }
+        ensures column { IfSome result (λ place.
+            place.0 ≡ i % self.now.columns + self.now.zone) }
+        ensures row { IfSome result (λ place. place.1 ≡ i / self.now.columns + self.now.zone) }
+        ensures fits { IfSome result (λ place. place.0 + 1 < 2 ^ 32) }
+        ensures light { IfNone result
+            (is_dark (slice_index_or self.now.cells i Light) ≡ false) }
+    {
+        match self.cells[i] {
+            Color::Light => None,
+            Color::Dark => Some((
+                (i % self.columns + self.zone) as u32,
+                (i / self.columns + self.zone) as u32,
+            )),
+        }
+    }
+
     /// Writes into `marks` which cells of row `row` are dark. The border is part of rows and
     /// columns.
     pub fn mark_row(&self, row: usize, marks: &mut [bool])
@@ -157,23 +189,23 @@ impl<'a> Grid<'a> {
         }
     }
 
-    /// Writes into `marks` which pixels of row `y` are dark, border included. `cells` is scratch
-    /// space for the flags of a row of cells.
-    pub fn mark_pixels(&self, y: u32, cells: &mut [bool], marks: &mut [bool])
-        requires inside { y < all_rows self.now * self.now.down }
-        requires cells { length cells.old ≡ all_columns self.now }
-        requires pixels { length marks.old ≡ all_columns self.now * self.now.across }
-        ensures value { marks.new ≡ row_of (pixels_of self.now) y }
-        ensures cells { length cells.new ≡ length cells.old }
-        ensures pixels { length marks.new ≡ length marks.old }
+    /// Returns which pixels of row `y` are dark, border included.
+    ///
+    /// Errors: only `OutOfMemory`.
+    pub fn pixel_row(&self, alloc: Global, y: u32) -> QrResult<Vec<bool>>
+        requires { y < all_rows self.now * self.now.down }
+        ensures value { IfOk result (λ marks. marks.items ≡ row_of (pixels_of self.now) y) }
+        ensures memory { IsOkUnless result OutOfMemory }
     {
+        let (columns, _) = self.sides();
         let (across, down) = self.cell();
-        let row = (y / down) as usize;
+        let mut cells = vec![in alloc; false; columns]?;
+        self.mark_row((y / down) as usize, &mut cells);
         if across == 1 {
-            self.mark_row(row, marks);
-        } else {
-            self.mark_row(row, cells);
-            widen(cells, across as usize, marks);
+            return Ok(cells);
         }
+        let mut marks = vec![in alloc; false; columns * across as usize]?;
+        widen(&cells, across as usize, &mut marks);
+        Ok(marks)
     }
 }

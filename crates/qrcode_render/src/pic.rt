@@ -1,13 +1,13 @@
 //! Draws PIC, for troff, with a box for each dark module.
 
 ghost use Rattle.std.proofs.Common.{rules};
-ghost use Rattle.qrcode_render.specs.Pic.{pic_start, pic_rect, pic_rect-is, pic_column, pic_row, pic_end};
+ghost use Rattle.qrcode_render.specs.Pic.{pic_start, pic_rect, pic_end};
 
 use crate::Pixel;
-use crate::ink::{Piece, Word};
 use crate::strokes::{Plot, Strokes};
 use qrcode_types::types::QrResult;
 use std::alloc::Global;
+use std::fmt::Write;
 
 /// The only colour of PIC: dark modules are filled boxes, and light ones are not drawn.
 #[derive(Copy, Clone, Default, PartialEq, Eq, PartialOrd, Ord, Hash)]
@@ -47,12 +47,6 @@ impl Strokes<Color> for Boxes {
 
     ghost rect = { pic_rect };
 
-    ghost column_texts = { pic_column };
-
-    ghost row_texts = { pic_row };
-
-    ghost rect_is = { pic_rect-is };
-
     fn head(alloc: Global, width: u32, height: u32, _: Color, _: Color) -> QrResult<String> {
         Ok(format!(in alloc;
             "maxpswid={width};maxpsht={height};movewid=0;moveht=1;boxwid=1;boxht=1\n\
@@ -65,12 +59,8 @@ impl Strokes<Color> for Boxes {
         ""
     }
 
-    fn column(left: u32) -> Piece {
-        Piece::new(Word::of("p(").number(left).text(","), Word::of(""))
-    }
-
-    fn row(top: u32, width: u32, height: u32) -> Piece {
-        let front = Word::of("").number(top).text(",").number(width);
-        Piece::new(front.text(",").number(height), Word::of(")\n"))
+    fn push_rect(text: &mut String, left: u32, top: u32, width: u32, height: u32) -> QrResult<()> {
+        write!(text, "p({left},{top},{width},{height})\n")?;
+        Ok(())
     }
 }

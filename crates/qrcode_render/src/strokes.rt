@@ -1,13 +1,11 @@
 //! The canvas of vector formats that have a text for each dark rectangle, between a head and a
 //! tail.
 
-ghost use Rattle.std.specs.Prelude.{◌≡◌, ℕ, ◌+◌, ◌*◌, ◌^◌, ◌<◌, ◌≤◌, List, ◌++◌, string_bytes, IfOk, OnOk, IsOkUnless};
+ghost use Rattle.std.specs.Prelude.{◌≡◌, ℕ, ◌^◌, ◌<◌, List, ◌++◌, string_bytes, IfOk, OnOk, IsOkUnless};
 ghost use Rattle.qrcode_types.specs.declared.types.QrError.TheVariants.{OutOfMemory};
 ghost use Rattle.qrcode_render.specs.Drawn.{drawn};
 ghost use Rattle.qrcode_render.specs.Setting.{square_layout, drawing_of};
-ghost use Rattle.qrcode_render.specs.Strokes.{rect_text, columns_from};
 
-use crate::ink::{Piece, Script};
 use crate::{Canvas, Modules};
 use qrcode_types::types::QrResult;
 use std::alloc::Global;
@@ -25,12 +23,6 @@ pub trait Strokes<P>: Drop {
     // height.
     ghost rect: { ℕ → ℕ → ℕ → ℕ → List ℕ → List ℕ };
 
-    // The two parts of a rectangle's text that depend on its column; `row_texts` are the two that
-    // depend on its row and its sides.
-    ghost column_texts: { ℕ → List ℕ × List ℕ };
-
-    ghost row_texts: { ℕ → ℕ → ℕ → List ℕ × List ℕ };
-
     /// Returns the text before the first rectangle of a picture of `width` by `height` pixels.
     ///
     /// Errors: only `OutOfMemory`.
@@ -42,17 +34,13 @@ pub trait Strokes<P>: Drop {
     fn tail() -> &'static str
         ensures { result.now ≡ end };
 
-    /// Returns the parts of a rectangle's text that depend on its first column, `left`.
-    fn column(left: u32) -> Piece
-        ensures { result ≡ column_texts left };
-
-    /// Returns the parts of a rectangle's text that depend on its first row, `top`, and its sides.
-    fn row(top: u32, width: u32, height: u32) -> Piece
-        ensures { result ≡ row_texts top width height };
-
-    // The text of a rectangle is put together of these parts.
-    ghost rect_is: { (left top width height : ℕ) (text : List ℕ) → rect left top width height text
-        ≡ text ++ rect_text (column_texts left) (row_texts top width height) };
+    /// Appends a rectangle of `width` by `height` pixels, from column `left` and row `top` on.
+    ///
+    /// Errors: only `OutOfMemory`.
+    fn push_rect(text: &mut String, left: u32, top: u32, width: u32, height: u32) -> QrResult<()>
+        ensures appends { OnOk result
+            (string_bytes text.new ≡ rect left top width height (string_bytes text.old)) }
+        ensures memory { IsOkUnless result OutOfMemory };
 }
 
 /// The canvas of a vector format: its text so far.
@@ -60,10 +48,37 @@ pub trait Strokes<P>: Drop {
 pub struct Plot<P, S> {
     width: u32,
     height: u32,
-    text: Script,
+    text: String,
     of: PhantomData<(P, S)>,
     ghost width_fits: { width < 2 ^ 32 },
     ghost height_fits: { height < 2 ^ 32 },
+}
+
+impl<P: Copy, S: Strokes<P>> Plot<P, S> {
+    /// Returns `head`, followed by the rectangles of the dark modules.
+    ///
+    /// Errors: only `OutOfMemory`.
+    pub(crate) fn after(head: String, modules: &Modules) -> QrResult<String>
+        ensures value { IfOk result (λ text. string_bytes text ≡ drawn S.rect
+            (square_layout modules.now) modules.now.content (string_bytes head)) }
+        ensures memory { IsOkUnless result OutOfMemory }
+    {
+        let (width, height) = modules.pixels();
+        let mut plot = Self {
+            width,
+            height,
+            text: head,
+            of: PhantomData,
+        };
+        plot.draw_square(
+            modules.content,
+            modules.count,
+            modules.zone,
+            modules.width,
+            modules.height,
+        )?;
+        Ok(plot.text)
+    }
 }
 
 impl<P: Copy, S: Strokes<P>> Canvas for Plot<P, S> {
@@ -73,7 +88,7 @@ impl<P: Copy, S: Strokes<P>> Canvas for Plot<P, S> {
 
     ghost Drawing = { List ℕ };
 
-    ghost shown = { λ plot. plot.text };
+    ghost shown = { λ plot. string_bytes plot.text };
 
     ghost across = { λ plot. plot.width };
 
@@ -93,76 +108,25 @@ impl<P: Copy, S: Strokes<P>> Canvas for Plot<P, S> {
 
     fn new(alloc: Global, width: u32, height: u32, dark: P, light: P) -> QrResult<Self> {
         let head = S::head(alloc, width, height, dark, light)?;
-        let text = Script::of(alloc, &head)?;
         Ok(Plot {
             width,
             height,
-            text,
+            text: head,
             of: PhantomData,
         })
     }
 
     fn draw_dark_pixel(&mut self, x: u32, y: u32) -> QrResult<()> {
-        self.text.put_rect(&S::column(x), &S::row(y, 1, 1))
+        S::push_rect(&mut self.text, x, y, 1, 1)
     }
 
     fn draw_dark_rect(&mut self, left: u32, top: u32, width: u32, height: u32) -> QrResult<()> {
-        self.text
-            .put_rect(&S::column(left), &S::row(top, width, height))
-    }
-
-    fn picture(alloc: Global, modules: &Modules, dark: P, light: P) -> QrResult<String> {
-        let (width, height) = modules.pixels();
-        let head = S::head(alloc, width, height, dark, light)?;
-        let mut text = Script::of(alloc, &head)?;
-        push_modules::<P, S>(alloc, &mut text, modules)?;
-        text.push(S::tail())?;
-        Ok(text.into_string())
+        S::push_rect(&mut self.text, left, top, width, height)
     }
 
     fn into_image(self) -> QrResult<String> {
         let mut text = self.text;
-        text.push(S::tail())?;
-        Ok(text.into_string())
+        text.push_str(S::tail())?;
+        Ok(text)
     }
-}
-
-/// Appends the rectangles of the dark modules, row by row.
-///
-/// Errors: only `OutOfMemory`.
-pub fn push_modules<P, S: Strokes<P>>(
-    alloc: Global,
-    text: &mut Script,
-    modules: &Modules,
-) -> QrResult<()>
-    ensures appends { OnOk result (text.new
-        ≡ drawn S.rect (square_layout modules.now) modules.now.content text.old) }
-    ensures memory { IsOkUnless result OutOfMemory }
-{
-    let left = modules.zone * modules.width;
-    let columns = columns::<P, S>(alloc, left, modules.width, modules.count)?;
-    for row in 0..modules.count {
-        let top = (row + modules.zone) * modules.height;
-        let piece = S::row(top, modules.width, modules.height);
-        text.put_rects(&columns, &piece, modules.row(row))?;
-    }
-    Ok(())
-}
-
-// Returns the column parts of `count` modules of `width` pixels each, from column `left` on.
-fn columns<P, S: Strokes<P>>(
-    alloc: Global,
-    left: u32,
-    width: u32,
-    count: u32,
-) -> QrResult<Vec<Piece>>
-    requires { left + count * width < 2 ^ 32 }
-    ensures value { IfOk result (λ v. v.items ≡ columns_from S.column_texts left width count) }
-    ensures memory { IsOkUnless result OutOfMemory }
-{
-    let mut columns = Vec::with_capacity(alloc, count as usize)?;
-    for i in 0..count {
-        columns.push(S::column(left + i * width))?;
-    }
-    Ok(columns)
 }

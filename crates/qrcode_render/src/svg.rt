@@ -1,16 +1,17 @@
 //! Draws SVG with a rectangle for each dark module.
 
 ghost use Rattle.std.proofs.Common.{rules};
-ghost use Rattle.std.specs.Prelude.{◌≡◌, codes};
+ghost use Rattle.std.specs.Prelude.{◌≡◌, codes, string_bytes, OnOk, IsOkUnless};
+ghost use Rattle.qrcode_types.specs.declared.types.QrError.TheVariants.{OutOfMemory};
 ghost use Rattle.qrcode_types.specs.Colors.{select_of};
-ghost use Rattle.qrcode_render.specs.Svg.{svg_start, svg_rect, svg_rect-is, svg_column, svg_row, svg_end};
+ghost use Rattle.qrcode_render.specs.Svg.{svg_start, svg_rect, svg_end};
 
 use crate::Pixel;
-use crate::ink::{Piece, Word};
 use crate::strokes::{Plot, Strokes};
 pub use crate::svg_path::{Frame, Path, PathElement, Size, framed};
 use qrcode_types::types::{Color as ModuleColor, QrResult};
 use std::alloc::Global;
+use std::fmt::Write;
 
 /// A colour of SVG. It is written as it is, without escapes.
 #[derive(Copy, Clone, Default, PartialEq, Eq, PartialOrd, Ord, Hash)]
@@ -53,12 +54,6 @@ impl<'a> Strokes<Color<'a>> for Paths {
 
     ghost rect = { svg_rect };
 
-    ghost column_texts = { svg_column };
-
-    ghost row_texts = { svg_row };
-
-    ghost rect_is = { svg_rect-is };
-
     fn head(
         alloc: Global,
         width: u32,
@@ -82,19 +77,12 @@ impl<'a> Strokes<Color<'a>> for Paths {
         "\"/></svg>"
     }
 
-    fn column(left: u32) -> Piece
-        ensures { result ≡ svg_column left }
+    fn push_rect(text: &mut String, left: u32, top: u32, width: u32, height: u32) -> QrResult<()>
+        ensures appends { OnOk result
+            (string_bytes text.new ≡ svg_rect left top width height (string_bytes text.old)) }
+        ensures memory { IsOkUnless result OutOfMemory }
     {
-        Piece::new(
-            Word::of("M").number(left).text(" "),
-            Word::of("H").number(left).text("V"),
-        )
-    }
-
-    fn row(top: u32, width: u32, height: u32) -> Piece
-        ensures { result ≡ svg_row top width height }
-    {
-        let front = Word::of("").number(top).text("h").number(width);
-        Piece::new(front.text("v").number(height), Word::of("").number(top))
+        write!(text, "M{left} {top}h{width}v{height}H{left}V{top}")?;
+        Ok(())
     }
 }

@@ -6,12 +6,12 @@ ghost use Rattle.qrcode_types.specs.declared.types.QrError.TheVariants.{OutOfMem
 ghost use Rattle.qrcode_types.specs.Colors.{select_of};
 ghost use Rattle.qrcode_render.specs.Grid.{all_columns, all_rows, pixels_of};
 ghost use Rattle.qrcode_render.specs.Setting.{fits, picture_of, side_of};
-ghost use Rattle.qrcode_render.specs.Paths.{attribute, between, box_end, box_text, frame_of, frame_text, path_ground, plain, side_text, size_text, xml_head, IsPathIn, IsPathOf};
+ghost use Rattle.qrcode_render.specs.Paths.{attribute, between, box_end, box_text, frame_of, frame_text, path_front, path_ground, plain, side_text, size_text, xml_head, IsPathIn, IsPathOf};
 
 use crate::grid::Grid;
-use crate::ink::Script;
 use crate::page::{Finish, Page};
-use crate::runs::push_runs;
+use crate::paths::push_runs;
+use crate::runs::{Run, runs_of};
 use crate::{Pixel, Renderer};
 use qrcode_types::types::{Color as ModuleColor, QrResult};
 use std::alloc::Global;
@@ -88,7 +88,7 @@ impl<'a> Finish<Path<'a>> for WithHead {
 
     fn image(alloc: Global, grid: &Grid, dark: Path<'a>, light: Path<'a>) -> QrResult<String> {
         let text = String::from_str(alloc, "<?xml version=\"1.0\" standalone=\"yes\"?>")?;
-        with_element(text, &Frame::plain(), grid, dark.0, light.0)
+        with_element(text, grid, dark.0, light.0)
     }
 }
 
@@ -104,7 +104,7 @@ impl<'a> Finish<PathElement<'a>> for WithoutHead {
         dark: PathElement<'a>,
         light: PathElement<'a>,
     ) -> QrResult<String> {
-        with_element(String::new(alloc), &Frame::plain(), grid, dark.0, light.0)
+        with_element(String::new(alloc), grid, dark.0, light.0)
     }
 }
 
@@ -150,50 +150,70 @@ impl<'a> Frame<'a> {
     }
 }
 
-/// Draws the picture as `build` does, but with the texts and the size of `frame`. A module is one
-/// unit of the `viewBox`.
+/// Draws the picture as `build` does, but with the texts and the size of `frame`, and with elements
+/// over the path. A module is one unit of the `viewBox`.
 ///
 /// Errors: only `OutOfMemory`.
-pub fn framed(alloc: Global, renderer: &Renderer<Path<'_>>, frame: &Frame<'_>) -> QrResult<String>
+pub fn framed(
+    alloc: Global,
+    renderer: &Renderer<Path<'_>>,
+    frame: &Frame<'_>,
+    over: &[u8],
+) -> QrResult<Vec<u8>>
     requires fits { IsTrue (fits renderer.now) }
-    ensures shows { IfOk result (λ text. IsPathIn (side_of renderer.now) (side_of renderer.now)
+    ensures shows { IfOk result (λ file. IsPathIn (side_of renderer.now) (side_of renderer.now)
         xml_head (frame_of frame.now) renderer.now.dark.0.now renderer.now.light.0.now
-        (picture_of renderer.now) (string_bytes text)) }
+        (picture_of renderer.now) over.now file.items) }
     ensures memory { IsOkUnless result OutOfMemory }
 {
     let (dark, light) = renderer.colors();
+    let grid = renderer.grid();
+    let runs = runs_of(alloc, &grid)?;
     let text = String::from_str(alloc, "<?xml version=\"1.0\" standalone=\"yes\"?>")?;
-    let whole = with_element(text, frame, &renderer.grid(), dark.0, light.0)?;
+    let mut file = front(text, frame, &grid, &runs, (dark.0, light.0))?.into_bytes();
+    file.extend_from_slice(over)?;
+    file.extend_from_slice(b"</svg>")?;
+    Ok(file)
+}
+
+// Returns `text` followed by the element, without elements over the path.
+fn with_element(text: String, grid: &Grid, dark: &str, light: &str) -> QrResult<String>
+    ensures value { IfOk result (λ whole. IsPathOf (string_bytes text) plain dark.now light.now
+        (pixels_of grid.now) (string_bytes whole)) }
+    ensures memory { IsOkUnless result OutOfMemory }
+{
+    let runs = runs_of(*text.allocator(), grid)?;
+    let mut whole = front(text, &Frame::plain(), grid, &runs, (dark, light))?;
+    whole.push_str("</svg>")?;
     Ok(whole)
 }
 
-// Returns `text` followed by the element.
-fn with_element(
+// Returns `text` followed by the element up to its end tag, in a dark and a light colour.
+fn front(
     text: String,
     frame: &Frame<'_>,
     grid: &Grid,
-    dark: &str,
-    light: &str,
+    runs: &[Run],
+    colors: (&str, &str),
 ) -> QrResult<String>
-    ensures value { IfOk result (λ whole. IsPathIn (all_columns grid.now) (all_rows grid.now)
-        (string_bytes text) (frame_of frame.now) dark.now light.now (pixels_of grid.now)
-        (string_bytes whole)) }
+    ensures value { IfOk result (λ whole. string_bytes whole ≡ string_bytes text ++ path_front
+        (frame_of frame.now) (all_columns grid.now * grid.now.across)
+        (all_rows grid.now * grid.now.down) (all_columns grid.now) (all_rows grid.now)
+        (attribute colors.entry.0.now) (attribute colors.entry.1.now) runs.now) }
     ensures memory { IsOkUnless result OutOfMemory }
 {
+    let (dark, light) = colors;
     let mut text = text;
-    let alloc = *text.allocator();
     let (columns, rows) = grid.sides();
     push_frame(&mut text, frame, grid)?;
     push_ground(&mut text, columns, rows)?;
     push_attribute(&mut text, light)?;
     text.push_str("\"/><path fill=\"")?;
     push_attribute(&mut text, dark)?;
-    text.push_str("\" d=\"")?;
-    let mut marks = vec![in alloc; false; columns]?;
-    let mut script = Script::of(alloc, &text)?;
-    push_runs(&mut script, grid, &mut marks)?;
-    script.push("\"/></svg>")?;
-    Ok(script.into_string())
+    text.push_str("\" stroke=\"none\" d=\"")?;
+    push_runs(&mut text, runs)?;
+    text.push_str("\"/>")?;
+    Ok(text)
 }
 
 // Appends the start tag, the title and the description.

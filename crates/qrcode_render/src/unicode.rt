@@ -1,20 +1,17 @@
 //! Draws text of half blocks: two rows of pixels in a line.
 
 ghost use Rattle.std.proofs.Common.{rules};
-ghost use Rattle.std.specs.Prelude.{◌≡◌, ◌+◌, ◌*◌, ◌^◌, ◌<◌, ◌≤◌, Bool, [], ◌∷◌, ◌++◌, length, string_bytes, IfOk, OnOk, IsOkUnless};
+ghost use Rattle.std.specs.Prelude.{◌≡◌, ◌+◌, ◌*◌, ◌^◌, ◌<◌, ◌++◌, false, length, string_bytes, IfOk, OnOk, IsOkUnless};
 ghost use Rattle.qrcode_types.specs.declared.types.QrError.TheVariants.{OutOfMemory};
 ghost use Rattle.qrcode_types.specs.Colors.{is_dark};
 ghost use Rattle.qrcode_render.specs.Grid.{pixels_of};
 ghost use Rattle.qrcode_render.specs.Half.{is_dark_half};
-ghost use Rattle.qrcode_render.specs.Lines.{two_text};
-ghost use Rattle.qrcode_render.specs.Strips.{IsStripOf};
-ghost use Rattle.qrcode_render.specs.Texts.{half_blocks, column_text, dense_line, dense_text};
+ghost use Rattle.qrcode_render.specs.Lines.{line_start};
+ghost use Rattle.qrcode_render.specs.Texts.{half_blocks, column_text, columns_text, marks_text, dense_line, dense_text};
 
 use crate::Pixel;
-use crate::fours::{Fours, interleave, push_ones, push_twos};
 use crate::grid::Grid;
 use crate::page::{Finish, Page};
-use crate::stamps::{Line, Stamp};
 use qrcode_types::types::{Color, QrResult};
 use std::alloc::Global;
 
@@ -95,8 +92,7 @@ const LONGEST_HALF: usize = 3;
 
 // Returns the character whose upper and lower half are drawn if `upper` and `lower` are true.
 fn half(upper: bool, lower: bool) -> &'static str
-    ensures value { result.now ≡ half_blocks upper lower }
-    ensures at_most { length result.now ≤ 3 }
+    ensures { result.now ≡ half_blocks upper lower }
 {
     match (upper, lower) {
         (false, false) => " ",
@@ -106,115 +102,85 @@ fn half(upper: bool, lower: bool) -> &'static str
     }
 }
 
-// The characters of two pixels, one above the other. Dark pixels are drawn if `marked` is true,
-// light ones if `other` is.
-#[derive(Drop)]
-struct Halves {
+// Appends the characters of two rows of pixels, column by column. Dark pixels are drawn if `marked`
+// is true, light ones if `other` is.
+fn push_columns(
+    text: &mut String,
     marked: bool,
     other: bool,
-    palette: Fours,
-    ghost twos: { (upper lower : Bool) → two_text palette upper lower
-        ≡ column_text marked other upper lower },
+    upper: &[bool],
+    lower: &[bool],
+) -> QrResult<()>
+    requires { length lower.now ≡ length upper.now }
+    ensures appends { OnOk result (string_bytes text.new ≡ string_bytes text.old
+        ++ columns_text (column_text marked other) upper.now lower.now) }
+    ensures memory { IsOkUnless result OutOfMemory }
+{
+    for x in 0..upper.len() {
+        let above = if upper[x] { marked } else { other };
+        let below = if lower[x] { marked } else { other };
+        text.push_str(half(above, below))?;
+    }
+    Ok(())
 }
 
-impl Halves {
-    fn new(alloc: Global, marked: bool, other: bool) -> QrResult<Halves>
-        ensures marked { IfOk result (λ halves. halves.marked ≡ marked) }
-        ensures other { IfOk result (λ halves. halves.other ≡ other) }
-        ensures memory { IsOkUnless result OutOfMemory }
-    {
-        let columns = [
-            Stamp::new(half(other, other).as_bytes()),
-            Stamp::new(half(other, marked).as_bytes()),
-            Stamp::new(half(marked, other).as_bytes()),
-            Stamp::new(half(marked, marked).as_bytes()),
-        ];
-        Ok(Halves {
-            marked,
-            other,
-            palette: Fours::new(alloc, columns)?,
-        })
+// Appends the characters of a last row alone, whose lower halves are blank.
+fn push_last(text: &mut String, marked: bool, other: bool, marks: &[bool]) -> QrResult<()>
+    ensures appends { OnOk result (string_bytes text.new ≡ string_bytes text.old
+        ++ marks_text (half_blocks marked false) (half_blocks other false) marks.now) }
+    ensures memory { IsOkUnless result OutOfMemory }
+{
+    for mark in marks {
+        text.push_str(half(if *mark { marked } else { other }, false))?;
     }
+    Ok(())
 }
 
-// Scratch space: flags of a row of cells, of two rows of pixels, and of both in turn; and their
-// line.
-#[derive(Drop)]
-struct Strip {
-    cells: Vec<bool>,
-    upper: Vec<bool>,
-    lower: Vec<bool>,
-    columns: Vec<bool>,
-    line: Line,
+// Appends what begins line `i`: a newline, except before the first line.
+fn push_start(text: &mut String, i: u32) -> QrResult<()>
+    ensures appends { OnOk result
+        (string_bytes text.new ≡ string_bytes text.old ++ line_start i) }
+    ensures memory { IsOkUnless result OutOfMemory }
+{
+    if i > 0 {
+        text.push('\n')?;
+    }
+    Ok(())
 }
 
-impl Strip {
-    fn new(alloc: Global, grid: &Grid) -> QrResult<Strip>
-        ensures fits { IfOk result (IsStripOf grid.now) }
-        ensures memory { IsOkUnless result OutOfMemory }
-    {
-        let (columns, _) = grid.sides();
-        let (width, _) = grid.pixels();
-        Ok(Strip {
-            cells: vec![in alloc; false; columns]?,
-            upper: vec![in alloc; false; width as usize]?,
-            lower: vec![in alloc; false; width as usize]?,
-            columns: vec![in alloc; false; 2 * width as usize]?,
-            line: Line::of(Vec::new(alloc)),
-        })
+// Appends line `i`, of rows 2i and 2i + 1 or of a last row alone, after a newline unless it is the
+// first.
+fn push_line(text: &mut String, grid: &Grid, marked: bool, other: bool, i: u32) -> QrResult<()>
+    requires inside { 2 * i < (pixels_of grid.now).down }
+    requires at_most { 2 * i < 2 ^ 32 }
+    ensures appends { OnOk result (string_bytes text.new ≡ string_bytes text.old
+        ++ line_start i ++ dense_line marked other (pixels_of grid.now) i) }
+    ensures memory { IsOkUnless result OutOfMemory }
+{
+    let alloc = *text.allocator();
+    push_start(text, i)?;
+    let (_, height) = grid.pixels();
+    let upper = grid.pixel_row(alloc, 2 * i)?;
+    if 2 * i + 1 == height {
+        return push_last(text, marked, other, &upper);
     }
-
-    // Writes line `i`, of rows 2i and 2i + 1 or of a last row alone, and a newline.
-    fn write(&mut self, grid: &Grid, halves: &Halves, i: u32) -> QrResult<()>
-        requires fits { IsStripOf grid.now self.old }
-        requires inside { 2 * i < (pixels_of grid.now).down }
-        requires at_most { 2 * i < 2 ^ 32 }
-        ensures fits { OnOk result (IsStripOf grid.now self.new) }
-        ensures value { OnOk result (self.new.line
-            ≡ dense_line halves.now.marked halves.now.other (pixels_of grid.now) i ++ 10 ∷ []) }
-        ensures memory { IsOkUnless result OutOfMemory }
-    {
-        let (_, height) = grid.pixels();
-        grid.mark_pixels(2 * i, &mut self.cells, &mut self.upper);
-        self.line.clear();
-        if 2 * i + 1 < height {
-            grid.mark_pixels(2 * i + 1, &mut self.cells, &mut self.lower);
-            interleave(&self.upper, &self.lower, &mut self.columns);
-            push_twos(&mut self.line, &halves.palette, &self.columns)?;
-            return self.line.push(b"\n");
-        }
-        let dark = half(halves.marked, false);
-        let light = half(halves.other, false);
-        push_ones(
-            &mut self.line,
-            dark.as_bytes(),
-            light.as_bytes(),
-            &self.upper,
-        )?;
-        self.line.push(b"\n")
-    }
+    let lower = grid.pixel_row(alloc, 2 * i + 1)?;
+    push_columns(text, marked, other, &upper, &lower)
 }
 
 // Returns the lines of `grid`. Dark pixels are drawn if `marked` is true, light ones if `other` is.
 fn lines_of(alloc: Global, grid: &Grid, marked: bool, other: bool) -> QrResult<String>
-    requires across { 0 < (pixels_of grid.now).across }
-    requires down { 0 < (pixels_of grid.now).down }
+    requires { 0 < (pixels_of grid.now).across }
     ensures value { IfOk result (λ text.
         string_bytes text ≡ dense_text marked other (pixels_of grid.now)) }
     ensures memory { IsOkUnless result OutOfMemory }
 {
     let (width, height) = grid.pixels();
-    let halves = Halves::new(alloc, marked, other)?;
-    let mut strip = Strip::new(alloc, grid)?;
     let count = height.div_ceil(2);
     let longest = LONGEST_HALF * width as usize + 1;
-    let mut lines = Vec::with_capacity(alloc, longest.saturating_mul(count as usize))?;
+    let mut text = String::with_capacity(alloc, longest.saturating_mul(count as usize))?;
     for i in 0..count {
-        strip.write(grid, &halves, i)?;
-        lines.extend_from_slice(strip.line.as_slice())?;
+        push_line(&mut text, grid, marked, other, i)?;
     }
-    lines.pop();
-
-    // Half blocks, spaces and newlines are UTF-8.
-    Ok(unsafe { String::from_utf8_unchecked(lines) })
+    Ok(text)
 }

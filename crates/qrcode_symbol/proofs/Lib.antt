@@ -4,7 +4,6 @@ pub mod Carried
 pub mod Choices
 pub mod Codewords
 pub mod Decided
-pub mod Edges
 pub mod Filled
 pub mod Functional
 pub mod Mapped
@@ -18,7 +17,5 @@ pub mod Patterned
 pub mod Remasked
 pub mod Remasking
 pub mod RowLists
-pub mod Shown
-pub mod TwoRows
 pub mod Walk
 pub mod WrittenColors

@@ -9,7 +9,7 @@ use Rattle.qrcode_penalty.specs.Penalty.{same}
 use Rattle.qrcode_layout.specs.Masks.{turns, mask_number}
 use Rattle.qrcode_symbol.specs.Masking.{three_words}
 use borrow.Author.Tests.{ltb-true}
-use Rattle.qrcode_symbol.specs.declared.canvas.masked_rows.TheConstants.{TURNED, TURNED_COLUMNS}
+use Rattle.qrcode_symbol.specs.declared.canvas.masked_rows.TheConstants.{TURNED}
 use Rattle.qrcode_layout.specs.declared.masks.MaskPattern.{MaskPattern}
 use Rattle.qrcode_layout.specs.declared.masks.MaskPattern.TheVariants.{Checkerboard, HorizontalLines, VerticalLines, DiagonalLines, LargeCheckerboard, Fields, Diamonds, Meadow}
 
@@ -134,25 +134,3 @@ pub six_small : (p : MaskPattern) (y : ℕ) → y < 12 → slice_index_or (slice
 six_small p y l =
     let test = λ (n y : ℕ). nat_lt (slice_index_or (slice_index_or TURNED n []) y 0) 64 in
     ltb-true _ _ (all_holds 12 (test (mask_number p)) (all_holds 8 (λ n. all_below 12 (test n)) small_table (mask_number p) (mask_number_small p)) y l)
-
--- twelve bits repeated over 192 rows
-abbrev pub twelve_repeated : ℕ → ℕ
-twelve_repeated twelve = three_words (twelve * 0x1001001001001001 % 2 ^ 64)
-
--- the table `TURNED_COLUMNS` of the code: six columns of each mask, over 192 rows
-columns_table : (p : MaskPattern) → all_below 6 (λ x. all_below 192 (λ y. same (is_set (twelve_repeated (slice_index_or (slice_index_or TURNED_COLUMNS (mask_number p) []) x 0)) y) (turns p x y))) ≡ true
-unfolding is_set all_below
-columns_table Checkerboard = refl
-columns_table HorizontalLines = refl
-columns_table VerticalLines = refl
-columns_table DiagonalLines = refl
-columns_table LargeCheckerboard = refl
-columns_table Fields = refl
-columns_table Diamonds = refl
-columns_table Meadow = refl
-
-pub twelve_at : (p : MaskPattern) (x y : ℕ) → x < 6 → y < 192 → is_set (twelve_repeated (slice_index_or (slice_index_or TURNED_COLUMNS (mask_number p) []) x 0)) y ≡ turns p x y
-twelve_at p x y h l =
-    let test = λ (x y : ℕ). same (is_set (twelve_repeated (slice_index_or (slice_index_or TURNED_COLUMNS (mask_number p) []) x 0)) y) (turns p x y) in
-    same_true (is_set (twelve_repeated (slice_index_or (slice_index_or TURNED_COLUMNS (mask_number p) []) x 0)) y) (turns p x y)
-    (all_holds 192 (test x) (all_holds 6 (λ x. all_below 192 (test x)) (columns_table p) x h) y l)

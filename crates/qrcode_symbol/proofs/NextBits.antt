@@ -1,9 +1,6 @@
 -- The next bit of the codewords that are not drawn yet.
-use Rattle.std.proofs.Common.{◌≡◌, ℕ, zero, suc, ◌+◌, ◌-◌, ◌*◌, ◌/◌, ◌%◌, ◌^◌, ◌<◌, ◌≤◌, Bool, true, false, cond, List, [], ◌∷◌, ◌++◌, length, get_or, take, drop, refl, ap, ap₂, sym, ◌∙◌, arith, append_assoc, ◌⊎◌, inl, inr}
+use Rattle.std.proofs.Common.{◌≡◌, ℕ, zero, suc, ◌+◌, ◌-◌, ◌*◌, ◌/◌, ◌<◌, ◌≤◌, Bool, true, false, cond, List, [], ◌∷◌, ◌++◌, length, get_or, take, drop, refl, ap, sym, ◌∙◌, arith, append_assoc, ◌⊎◌, inl, inr}
 use Rattle.std.proofs.lemmas.Bool.Decides.{nat_tests}
-use Rattle.qrcode_penalty.specs.Rows.{is_set}
-use Rattle.qrcode_penalty.proofs.Places.{has_shr}
-use Rattle.qrcode_symbol.proofs.MaskRows.{has_mod}
 use Rattle.qrcode_types.specs.Bits.{number_bits, bits_of, has_bit}
 
 -- the next bit of a byte that is begun
@@ -100,40 +97,3 @@ taken_rest (b ∷ bytes) = let e : length (b ∷ bytes) - 1 ≡ length bytes = o
   take_all : (bytes : List ℕ) → take (length bytes) bytes ≡ bytes
   take_all [] = refl
   take_all (x ∷ xs) = ap (λ (l : List ℕ). x ∷ l) (take_all xs)
-
--- the bits of a number: those of its high part, then the lowest n
-number_bits_split : (m n x : ℕ) → number_bits (m + n) x ≡ number_bits m (x / 2 ^ n) ++ number_bits n x
-unfolding number_bits is_set
-number_bits_split zero n x = let e : zero + n ≡ n = omega arith in rw e refl
-number_bits_split (suc m) n x =
-    let e : suc m + n ≡ suc (m + n) = omega arith in
-    rw e (ap₂ (λ (b : Bool) (l : List Bool). b ∷ l) (sym (has_shr x n m)) (number_bits_split m n x))
-
-low_bits : (n room x : ℕ) → n ≤ room → number_bits n (x % 2 ^ room) ≡ number_bits n x
-unfolding number_bits is_set
-low_bits zero room x h = refl
-low_bits (suc n) room x h = ap₂ (λ (b : Bool) (l : List Bool). b ∷ l) (has_mod x room n (omega arith)) (low_bits n room x (omega arith))
-
--- the next eight bits, if some bits of the byte before are left
-eight_shifted : (left begun byte : ℕ) (tail : List Bool) → left < 8 → byte < 256
-    → number_bits left begun ++ (number_bits 8 byte ++ tail) ≡ number_bits 8 ((256 * begun + byte) / 2 ^ left) ++ (number_bits left byte ++ tail)
-eight_shifted left begun byte tail few small =
-    let x = 256 * begun + byte in
-    let high : x / 2 ^ 8 ≡ begun = omega arith in
-    let low : x % 2 ^ 8 ≡ byte = omega arith in
-    let turned : left + 8 ≡ 8 + left = omega arith in
-    sym (append_assoc (number_bits left begun) (number_bits 8 byte) tail)
-    ∙ ap (λ (l : List Bool). l ++ tail)
-    (ap₂ (λ (a : ℕ) (l : List Bool). number_bits left a ++ l) (sym high) (ap (number_bits 8) (sym low) ∙ low_bits 8 8 x (omega arith))
-    ∙ sym (number_bits_split left 8 x) ∙ ap (λ (n : ℕ). number_bits n x) turned ∙ number_bits_split 8 left x
-    ∙ ap (λ (l : List Bool). number_bits 8 (x / 2 ^ left) ++ l) (sym (low_bits left 8 x (omega arith)) ∙ ap (number_bits left) low))
-    ∙ append_assoc (number_bits 8 (x / 2 ^ left)) (number_bits left byte) tail
-
--- the next eight of all bits that are left
-pub next_eight_shifted : (left begun byte : ℕ) (bytes bytes1 : List ℕ) (half : Bool) (ec ec1 : List ℕ) → left < 8 → byte < 256
-    → bits_left 0 begun bytes half ec ≡ bits_left 8 byte bytes1 half ec1
-    → bits_left left begun bytes half ec ≡ number_bits 8 ((256 * (begun % 256) + byte) / 2 ^ left) ++ bits_left left byte bytes1 half ec1
-next_eight_shifted left begun byte bytes bytes1 half ec ec1 few small same =
-    let tail = take (8 * length bytes - cond half 4 0) (bits_of bytes) ++ bits_of ec in
-    ap₂ (λ (a l : List Bool). a ++ l) (sym (low_bits left 8 begun (omega arith))) (sym (nothing_begun 0 begun tail refl) ∙ same)
-    ∙ eight_shifted left (begun % 256) byte (take (8 * length bytes1 - cond half 4 0) (bits_of bytes1) ++ bits_of ec1) few small

@@ -1,18 +1,13 @@
 -- Packed lists, bit by bit.
-use Rattle.std.proofs.Common.{◌≡◌, ℕ, zero, suc, ◌+◌, ◌-◌, ◌*◌, ◌/◌, ◌%◌, ◌^◌, ◌<◌, ◌≤◌, Bool, true, false, ◌==◌, List, [], ◌∷◌, length, ◌++◌, take, drop, get_or, set, nat_lt, map, cond, replicate, below_more, refl, ap, sym, ◌∙◌, arith, min, bit_and, mul_assoc, mul_comm, length-drop, length-take, take-take, drop-drop}
-use Rattle.std.proofs.lemmas.Nat.{pow_pos, mod_low, and_mask}
+use Rattle.std.proofs.Common.{◌≡◌, ℕ, zero, suc, ◌+◌, ◌-◌, ◌*◌, ◌/◌, ◌%◌, ◌^◌, ◌<◌, ◌≤◌, Bool, true, false, ◌==◌, List, [], ◌∷◌, length, take, drop, get_or, set, map, cond, replicate, below_more, refl, ap, sym, ◌∙◌, arith, min, mul_assoc, mul_comm, length-drop, drop-drop}
+use Rattle.std.proofs.lemmas.Nat.{pow_pos, mod_low}
 use Rattle.std.specs.Int.{bit_at}
 use Rattle.std.proofs.lemmas.Nat.Bits.{bit_at_lowest, bit_at-suc}
-use Rattle.std.proofs.lemmas.List.{get_or-set_same, get_or-set_other, length-replicate, get_or-replicate, drop-replicate}
-use Rattle.std.proofs.lemmas.Bool.{eqb-true}
+use Rattle.std.proofs.lemmas.List.{get_or-set_same, get_or-set_other, length-replicate, get_or-replicate}
 use Rattle.std.proofs.Math.ListN.{length-set}
 use lib.Lanes.{mask_l}
-use borrow.Rule.Slice.PartMut.{put_mid, post_of}
 use Rattle.qrcode_penalty.specs.Rows.{is_set}
-use Rattle.qrcode_types.specs.Colors.{is_dark, color_of}
-use Rattle.qrcode_symbol.specs.Cells.{module_of_byte}
-use Rattle.qrcode_symbol.specs.declared.canvas.Module.TheVariants.{Empty, Masked, Unmasked}
-use Rattle.qrcode_symbol.specs.Masking.{is_dark_module, is_free, digit, packed}
+use Rattle.qrcode_symbol.specs.Masking.{digit, packed}
 
 pub digit_le : (b : Bool) → digit b ≤ 1
 digit_le true = omega arith
@@ -83,7 +78,7 @@ take_all (x ∷ xs) zero h = absurd (omega arith)
 take_all (x ∷ xs) (suc n) h = ap (λ ys. x ∷ ys) (take_all xs n (omega arith))
 
 -- a list of up to 192 results in three words
-pub packed_words : {A : Type 0} (f : A → Bool) (xs : List A) →
+packed_words : {A : Type 0} (f : A → Bool) (xs : List A) →
     (packed f (take (length xs - min (length xs) 128) (drop (min (length xs) 128) xs)) * 2 ^ 64 + packed f (take (min (length xs) 128 - min (length xs) 64) (drop (min (length xs) 64) xs))) * 2 ^ 64 + packed f (take (min (length xs) 64) xs) ≡ packed f xs
 packed_words f xs =
     let low : packed f (take (min (length xs) 64) xs) ≡ packed f (take 64 xs) = ap (packed f) (take_same xs (min (length xs) 64) 64 (omega arith)) in
@@ -94,21 +89,12 @@ packed_words f xs =
     let high : packed f (take (length xs - min (length xs) 128) (drop (min (length xs) 128) xs)) ≡ packed f (drop 64 (drop 64 xs)) = ap (packed f) (take_all (drop (min (length xs) 128) xs) (length xs - min (length xs) 128) (omega (arith, length-drop (min (length xs) 128) xs)) ∙ drop_same xs (min (length xs) 128) 128 (omega arith) ∙ sym (drop-drop 64 64 xs)) in
     omega (arith, low, middle, high, packed_cut f 64 xs, packed_cut f 64 (drop 64 xs))
 
--- `packed_words` for the parts that `pack_row` takes, with enough room for the list
+-- with enough room for the list
 pub packed_in_room : {A : Type 0} (f : A → Bool) (xs : List A) (room : ℕ) → length xs ≤ room →
-    ((packed f (take (length xs - min (length xs) 128) (take (length xs - min (length xs) 128) (drop (min (length xs) 128) xs))) * 2 ^ 64
-    + packed f (take (min (length xs) 128 - min (length xs) 64) (take (length xs - min (length xs) 64) (drop (min (length xs) 64) xs)))) * 2 ^ 64 + packed f (take (min (length xs) 64) xs)) % 2 ^ room ≡ packed f xs
+    ((packed f (take (length xs - min (length xs) 128) (drop (min (length xs) 128) xs)) * 2 ^ 64 + packed f (take (min (length xs) 128 - min (length xs) 64) (drop (min (length xs) 64) xs))) * 2 ^ 64 + packed f (take (min (length xs) 64) xs)) % 2 ^ room ≡ packed f xs
 packed_in_room f xs room h =
     let e : packed f xs ≡ 0 * 2 ^ room + packed f xs = omega arith in
-    let high = take-take (length xs - min (length xs) 128) (length xs - min (length xs) 128) (drop (min (length xs) 128) xs) (omega arith) in
-    let middle = take-take (min (length xs) 128 - min (length xs) 64) (length xs - min (length xs) 64) (drop (min (length xs) 64) xs) (omega arith) in
-    rw (high, middle) (ap (λ n. n % 2 ^ room) (packed_words f xs ∙ e) ∙ mod_low 0 room (packed f xs) (packed_lt f xs room h))
-
--- a list of up to 64 results in the lowest word
-pub packed_low : {A : Type 0} (f : A → Bool) (xs : List A) (room : ℕ) → length xs ≤ room → ((0 * 2 ^ 64 + 0) * 2 ^ 64 + packed f xs) % 2 ^ room ≡ packed f xs
-packed_low f xs room h =
-    let e : (0 * 2 ^ 64 + 0) * 2 ^ 64 + packed f xs ≡ 0 * 2 ^ room + packed f xs = omega arith in
-    ap (λ n. n % 2 ^ room) e ∙ mod_low 0 room (packed f xs) (packed_lt f xs room h)
+    ap (λ n. n % 2 ^ room) (packed_words f xs ∙ e) ∙ mod_low 0 room (packed f xs) (packed_lt f xs room h)
 
 one_digit : (b : Bool) → (digit b == 1) ≡ b
 one_digit true = refl
@@ -161,48 +147,3 @@ packed_lanes f (x ∷ xs) = one_more (f x) (packed_lanes f xs) where
   one_more : (b : Bool) → mask_l (map f xs) ≡ packed f xs → cond b 1 0 + 2 * mask_l (map f xs) ≡ 2 * packed f xs + digit b
   one_more true e = omega (arith, e)
   one_more false e = omega (arith, e)
-
--- appended bytes that fail the test add nothing
-padded : (f : ℕ → Bool) (bytes : List ℕ) (d k : ℕ) → f d ≡ false → packed f (bytes ++ replicate k d) ≡ packed f bytes
-padded f [] d zero e = refl
-padded f [] d (suc k) e =
-    let here : digit (f d) ≡ 0 = ap digit e in
-    let rest : packed f (replicate k d) ≡ 0 = padded f [] d k e in
-    omega (arith, here, rest)
-padded f (b ∷ bytes) d k e = omega (arith, padded f bytes d k e)
-
--- 64 bytes that begin with the given ones
-pub packed_word : (f : ℕ → Bool) (bytes : List ℕ) (d : ℕ) → length bytes ≤ 64 → f d ≡ false → packed f (put_mid 0 (length bytes) (replicate 64 d) bytes) ≡ packed f bytes
-packed_word f bytes d h e =
-    let behind : post_of 0 (length bytes) (replicate 64 d) ≡ replicate (64 - length bytes) d = drop-replicate (length bytes) 64 d in
-    ap (λ (l : List ℕ). packed f (bytes ++ l)) behind ∙ padded f bytes d (64 - length bytes) e
-
--- the first n of 64 results
-pub packed_first : {A : Type 0} (f : A → Bool) (n : ℕ) (xs : List A) → n ≤ 64 → packed f (take 64 xs) % 2 ^ n ≡ packed f (take n xs)
-packed_first f n xs h =
-    let fewer : take n (take 64 xs) ≡ take n xs = take-take n 64 xs h in
-    ap (λ k. k % 2 ^ n) (packed_cut f n (take 64 xs)) ∙ mod_low (packed f (drop n (take 64 xs))) n (packed f (take n (take 64 xs))) (packed_lt f (take n (take 64 xs)) n (omega (arith, length-take n (take 64 xs))))
-    ∙ ap (packed f) fewer
-
--- two tests that agree pack the same number
-pub packed_same : {A : Type 0} (f g : A → Bool) (xs : List A) → ((x : A) → f x ≡ g x) → packed f xs ≡ packed g xs
-packed_same f g [] each = refl
-packed_same f g (x ∷ xs) each = omega (arith, ap digit (each x), packed_same f g xs each)
-
-color_dark : (b : Bool) → is_dark (color_of b) ≡ b
-color_dark true = refl
-color_dark false = refl
-
-pub dark_byte : (n : ℕ) → (bit_and n 1 == 1) ≡ is_dark_module (module_of_byte n)
-dark_byte n = ap (λ m. m == 1) (and_mask n 1) ∙ sym (go (nat_lt n 128) (n == 2) refl) where
-  go : (low two : Bool) → (n == 2) ≡ two → is_dark_module (cond low (cond two Empty (Unmasked (color_of (n % 2 == 1)))) (Masked (color_of (n % 2 == 1)))) ≡ (n % 2 == 1)
-  go true true e = sym (ap (λ m. m % 2 == 1) (eqb-true n 2 e))
-  go true false e = color_dark (n % 2 == 1)
-  go false two e = color_dark (n % 2 == 1)
-
-pub free_byte : (n : ℕ) → nat_lt n 128 ≡ is_free (module_of_byte n)
-free_byte n = sym (go (nat_lt n 128) (n == 2)) where
-  go : (low two : Bool) → is_free (cond low (cond two Empty (Unmasked (color_of (n % 2 == 1)))) (Masked (color_of (n % 2 == 1)))) ≡ low
-  go true true = refl
-  go true false = refl
-  go false two = refl

@@ -1,24 +1,18 @@
 -- What remains to be drawn at each step of the walk.
-use Rattle.std.proofs.Common.{◌≡◌, ℕ, zero, suc, ◌+◌, ◌-◌, ◌*◌, ◌/◌, ◌%◌, ◌<◌, ◌≤◌, ◌≢◌, ◌==◌, ◌&&◌, Bool, true, false, List, [], ◌∷◌, ◌++◌, map, length, set, get_or, arith, add-mul, sym, ap, ap₂, subst, inl, inr, refl, ◌∙◌, if◌then◌else◌}
+use Rattle.std.proofs.Common.{◌≡◌, ℕ, zero, suc, ◌+◌, ◌-◌, ◌*◌, ◌/◌, ◌%◌, ◌<◌, ◌≤◌, ◌≢◌, Bool, true, false, List, [], ◌∷◌, map, set, get_or, arith, sym, ap, ap₂, refl, ◌∙◌}
 use Rattle.std.specs.Prelude.{slice_get, IsTrue}
-use Rattle.std.specs.List.{range_with_len, filter, list_all}
-use Rattle.std.proofs.lemmas.Bool.{and_parts}
-use Rattle.std.proofs.lemmas.Bool.Decides.{eqb_tells}
+use Rattle.std.specs.List.{range_with_len, filter}
 use Rattle.std.proofs.lemmas.List.{get_or-set_other}
-use Rattle.std.proofs.lemmas.Nat.{div-mul-add, mod-mul-add, mul-add-lt, same_from_place}
-use Rattle.std.proofs.lemmas.List.FromFn.{get_or-map-range_with_len}
+use Rattle.std.proofs.lemmas.Nat.{div-mul-add, mod-mul-add, same_from_place}
 use Rattle.std.proofs.Math.Nat.{mul-le-mul_left}
 use Rattle.std.proofs.lemmas.Simd.{map-map}
-use Rattle.qrcode_types.specs.Bits.{number_bits}
 use Rattle.qrcode_types.specs.Colors.{color_of}
-use Rattle.qrcode_penalty.specs.Rows.{is_set}
-use Rattle.qrcode_penalty.proofs.Places.{has_shr}
 use Rattle.qrcode_types.specs.Versions.{side, is_valid}
 use Rattle.qrcode_types.specs.declared.types.Version.{Version}
 use Rattle.qrcode_layout.specs.Stream.{zigzag, zigzag_place, right_column}
 use Rattle.qrcode_layout.proofs.Zigzag.{walk_is_inside, walk_is_apart}
 use Rattle.qrcode_symbol.specs.Canvas.{is_empty, put_bits, with_bits_drawn}
-use Rattle.qrcode_symbol.specs.Filling.{row_of_step, row_index, row_places, place_index, empty_from, filled_from, drawn_if, left_if, is_empty_at}
+use Rattle.qrcode_symbol.specs.Filling.{row_of_step, place_index, empty_from, filled_from, drawn_if, left_if, is_empty_at}
 use Rattle.qrcode_symbol.specs.declared.canvas.Module.{Module}
 use Rattle.qrcode_symbol.specs.declared.canvas.Module.TheVariants.{Empty, Unmasked}
 
@@ -155,114 +149,3 @@ apart v valid s t lt inside same =
     let one : zigzag_place v s ≡ zigzag_place v t = sym (ap₂ (λ (x y : ℕ). (x, y)) parts.1 parts.0) in
     let e : s ≡ t = walk_is_apart v s t valid s_inside inside one in
     absurd (omega arith)
-
--- bits drawn at once, if the next modules are all empty
-pub drawn_at_once : (v : Version) (bits rest : List Bool) (m : List Module) (t : ℕ) → IsApart v → t + length bits ≤ side v * (side v - 1)
-    → ((s : ℕ) → t ≤ s → s < t + length bits → is_empty_at m (place_index v s) ≡ true)
-    → filled_from v rest (put_bits (map (place_index v) (range_with_len t (length bits))) bits m) (t + length bits) ≡ filled_from v (bits ++ rest) m t
-drawn_at_once v [] rest m t apart inside free = let z : t + 0 ≡ t = omega arith in ap (filled_from v rest m) z
-drawn_at_once v (b ∷ bits) rest m t apart inside free =
-    let p = place_index v t in
-    let new = Unmasked (color_of b) in
-    let more : t + suc (length bits) ≡ t + 1 + length bits = omega arith in
-    ap (filled_from v rest (put_bits (map (place_index v) (range_with_len (t + 1) (length bits))) bits (set m p new))) more
-    ∙ drawn_at_once v bits rest (set m p new) (t + 1) apart (omega (arith, inside))
-    (λ s l h. ap is_empty (get_or-set_other m p (place_index v s) new Empty (apart t s (omega arith) (omega (arith, inside)))) ∙ free s (omega arith) (omega arith))
-    ∙ put v (bits ++ rest) m t b apart (omega (arith, inside)) (free t (omega arith) (omega arith))
-
--- the places of rows of a pair of columns are steps of the walk
-pub rows_places : (v : Version) (pair row n : ℕ) → row + n ≤ side v → 1 ≤ right_column v pair
-    → row_places (map (row_index v pair) (range_with_len row n)) ≡ map (place_index v) (range_with_len (2 * side v * pair + 2 * row) (2 * n))
-rows_places v pair row zero inside some = refl
-rows_places v pair row (suc n) inside some =
-    let two : 2 * suc n ≡ suc (suc (2 * n)) = omega arith in
-    let next : 2 * side v * pair + 2 * (row + 1) ≡ 2 * side v * pair + 2 * row + 1 + 1 = omega arith in
-    rw (two, right_place v pair row (omega arith), left_place v pair row (omega arith) some, rows_places v pair (row + 1) n (omega arith) some, next) refl
-
--- the index of the row some steps later, upwards and downwards
-upwards_by : (v : Version) (pair s r k : ℕ) → pair % 2 ≡ 0 → r ≡ s + k → r < side v → row_index v pair r + k * side v ≡ row_index v pair s
-upwards_by v pair s r k up by inside =
-    let at : (s : ℕ) → row_of_step (side v) pair s ≡ side v - 1 - s = λ s. ap (λ n. if n == 0 then side v - 1 - s else s) up in
-    let e : side v - 1 - s ≡ side v - 1 - r + k = omega (arith, by, inside) in
-    rw (at r, at s, e) (omega (arith, add-mul (side v - 1 - r) k (side v)))
-
-downwards_by : (v : Version) (pair s r k : ℕ) → pair % 2 ≡ 1 → r ≡ s + k → row_index v pair s + k * side v ≡ row_index v pair r
-downwards_by v pair s r k down by =
-    let at : (s : ℕ) → row_of_step (side v) pair s ≡ s = λ s. ap (λ n. if n == 0 then side v - 1 - s else s) down in
-    rw (at r, at s, by) (omega (arith, add-mul s k (side v)))
-
-four_steps : (v : Version) (pair s : ℕ) → map (row_index v pair) (range_with_len s 4) ≡ row_index v pair s ∷ row_index v pair (s + 1) ∷ row_index v pair (s + 2) ∷ row_index v pair (s + 3) ∷ []
-four_steps v pair s =
-    let two : s + 1 + 1 ≡ s + 2 = omega arith in
-    let three : s + 1 + 1 + 1 ≡ s + 3 = omega arith in
-    rw (three, two) refl
-
-pub four_upwards : (v : Version) (pair s first : ℕ) → pair % 2 ≡ 0 → s + 4 ≤ side v → first ≡ row_index v pair s
-    → (first ∷ (first - side v) ∷ (first - 2 * side v) ∷ (first - 3 * side v) ∷ []) ≡ map (row_index v pair) (range_with_len s 4)
-four_upwards v pair s first up inside at =
-    let a : first - side v ≡ row_index v pair (s + 1) = omega (arith, at, upwards_by v pair s (s + 1) 1 up (omega arith) (omega (arith, inside))) in
-    let b : first - 2 * side v ≡ row_index v pair (s + 2) = omega (arith, at, upwards_by v pair s (s + 2) 2 up (omega arith) (omega (arith, inside))) in
-    let c : first - 3 * side v ≡ row_index v pair (s + 3) = omega (arith, at, upwards_by v pair s (s + 3) 3 up (omega arith) (omega (arith, inside))) in
-    rw (a, b, c, at) (sym (four_steps v pair s))
-
-pub four_downwards : (v : Version) (pair s first : ℕ) → pair % 2 ≡ 1 → first ≡ row_index v pair s
-    → (first ∷ (first + side v) ∷ (first + 2 * side v) ∷ (first + 3 * side v) ∷ []) ≡ map (row_index v pair) (range_with_len s 4)
-four_downwards v pair s first down at =
-    let a : first + side v ≡ row_index v pair (s + 1) = omega (arith, at, downwards_by v pair s (s + 1) 1 down (omega arith)) in
-    let b : first + 2 * side v ≡ row_index v pair (s + 2) = omega (arith, at, downwards_by v pair s (s + 2) 2 down (omega arith)) in
-    let c : first + 3 * side v ≡ row_index v pair (s + 3) = omega (arith, at, downwards_by v pair s (s + 3) 3 down (omega arith)) in
-    rw (a, b, c, at) (sym (four_steps v pair s))
-
--- the right modules in the rows of four steps are inside the square
-pub four_within : (v : Version) (pair s len : ℕ) (rows : List ℕ) → rows ≡ map (row_index v pair) (range_with_len s 4) → len ≡ side v * side v → s + 4 ≤ side v → right_column v pair < side v
-    → (k : ℕ) → k < 4 → get_or rows k 0 < len
-four_within v pair s len rows are square inside right k l =
-    let at : get_or rows k 0 ≡ row_index v pair (s + k) = ap (λ (r : List ℕ). get_or r k 0) are ∙ get_or-map-range_with_len (row_index v pair) s 4 k (s + k) 0 l (omega arith) in
-    let row = row_small (side v) pair (s + k) (omega (arith, inside, l)) in
-    omega (arith, at, square, mul-add-lt (row_of_step (side v) pair (s + k)) (side v) (right_column v pair) (side v) row right) where
-      by_parity : (b : Bool) (w r : ℕ) → r < w → (if b then w - 1 - r else r) < w
-      by_parity true w r h = omega (arith, h)
-      by_parity false w r h = h
-
-      row_small : (w pair r : ℕ) → r < w → row_of_step w pair r < w
-      row_small w pair r h = by_parity (pair % 2 == 0) w r h
-
--- four rows, one by one
-pub four_again : (v : Version) (pair s : ℕ) (rows : List ℕ) → rows ≡ map (row_index v pair) (range_with_len s 4)
-    → (get_or rows 0 0 ∷ get_or rows 1 0 ∷ get_or rows 2 0 ∷ get_or rows 3 0 ∷ []) ≡ map (row_index v pair) (range_with_len s 4)
-four_again v pair s rows are = rw are refl
-
--- a test that passes along all steps passes at each
-all_along : (f : ℕ → Bool) (g : ℕ → ℕ) (a n : ℕ) → list_all f (map g (range_with_len a n)) ≡ true → (s : ℕ) → a ≤ s → s < a + n → f (g s) ≡ true
-all_along f g a zero e s l h = absurd (omega (arith, l, h))
-all_along f g a (suc n) e s l h =
-    let parts = and_parts (f (g a)) (list_all f (map g (range_with_len (a + 1) n))) e in
-    elim (eqb_tells s a) [
-      | inl p ↦ ap (λ i. f (g i)) p.1 ∙ parts.0
-      | inr p ↦ all_along f g (a + 1) n parts.1 s (omega (arith, p.1, l)) (omega (arith, h))
-    ]
-
--- eight bits drawn at once in the rows of four steps
-pub four_rows_drawn : (v : Version) (pair step byte a b c d : ℕ) (bits rest : List Bool) (m m1 m2 : List Module) → IsApart v → 2 * pair + 3 ≤ side v → step + 4 ≤ side v → 1 ≤ right_column v pair
-    → (a ∷ b ∷ c ∷ d ∷ []) ≡ map (row_index v pair) (range_with_len step 4)
-    → (is_empty_at m a && is_empty_at m (a - 1)) ≡ true → (is_empty_at m b && is_empty_at m (b - 1)) ≡ true
-    → (is_empty_at m c && is_empty_at m (c - 1)) ≡ true → (is_empty_at m d && is_empty_at m (d - 1)) ≡ true
-    → bits ≡ number_bits 8 byte ++ rest
-    → m1 ≡ put_bits (row_places (a ∷ b ∷ [])) (number_bits 4 (byte / 16)) m → m2 ≡ put_bits (row_places (c ∷ d ∷ [])) (number_bits 4 byte) m1
-    → filled_from v rest m2 (2 * side v * pair + 2 * (step + 4)) ≡ filled_from v bits m (2 * side v * pair + 2 * step)
-unfolding number_bits is_set
-four_rows_drawn v pair step byte a b c d bits rest m m1 m2 apart p inside some rows ea eb ec ed next after1 after2 =
-    let t = 2 * side v * pair + 2 * step in
-    let places = ap row_places rows ∙ rows_places v pair step 4 inside some in
-    let pa = and_parts (is_empty_at m a) (is_empty_at m (a - 1)) ea in
-    let pb = and_parts (is_empty_at m b) (is_empty_at m (b - 1)) eb in
-    let pc = and_parts (is_empty_at m c) (is_empty_at m (c - 1)) ec in
-    let pd = and_parts (is_empty_at m d) (is_empty_at m (d - 1)) ed in
-    let free : list_all (is_empty_at m) (row_places (a ∷ b ∷ c ∷ d ∷ [])) ≡ true = rw (pa.0, pa.1, pb.0, pb.1, pc.0, pc.1, pd.0, pd.1) refl in
-    let drawn : m2 ≡ put_bits (row_places (a ∷ b ∷ c ∷ d ∷ [])) (number_bits 8 byte) m =
-    rw (after2, after1, has_shr byte 4 3, has_shr byte 4 2, has_shr byte 4 1, has_shr byte 4 0) refl in
-    let all = subst (λ (l : List ℕ). list_all (is_empty_at m) l ≡ true) places free in
-    let end : 2 * side v * pair + 2 * (step + 4) ≡ t + 8 = omega arith in
-    let room : t + 8 ≤ side v * (side v - 1) = omega (arith, within (side v) pair (step + 3) p (omega arith)) in
-    rw (end, drawn, next) (subst (λ (l : List ℕ). filled_from v rest (put_bits l (number_bits 8 byte) m) (t + 8) ≡ filled_from v (number_bits 8 byte ++ rest) m t) (sym places)
-    (drawn_at_once v (number_bits 8 byte) rest m t apart room (λ s l h. all_along (is_empty_at m) (place_index v) t 8 all s l h)))

@@ -1,7 +1,6 @@
 -- Drawing bits along the walk, place by place.
-use Rattle.std.specs.Prelude.{ℕ, ◌+◌, ◌-◌, ◌*◌, ◌%◌, ◌==◌, if◌then◌else◌, Bool, true, false, List, [], ◌∷◌, map, filter, drop, Option, Some, None, slice_index_or, slice_set}
+use Rattle.std.specs.Prelude.{ℕ, ◌+◌, ◌-◌, ◌*◌, ◌%◌, ◌==◌, if◌then◌else◌, Bool, true, false, List, map, filter, drop, Option, Some, None, slice_index_or, slice_set}
 use Rattle.std.specs.List.{range_with_len}
-use Rattle.qrcode_types.specs.Bits.{number_bits}
 use Rattle.qrcode_types.specs.Colors.{color_of}
 use Rattle.qrcode_types.specs.Versions.{side}
 use Rattle.qrcode_types.specs.declared.types.Version.{Version}
@@ -44,13 +43,3 @@ is_empty_at modules index = is_empty (slice_index_or modules index Empty)
 -- the index of the right module of a pair of columns in the row of a step
 abbrev pub row_index : Version → ℕ → ℕ → ℕ
 row_index v pair step = row_of_step (side v) pair step * side v + right_column v pair
-
--- the indices of both modules in rows of a pair of columns, from those of the right ones
-abbrev pub row_places : List ℕ → List ℕ
-row_places [] = []
-row_places (i ∷ rows) = i ∷ (i - 1) ∷ row_places rows
-
--- the lowest eight bits of the number, or none
-abbrev pub eight_of : Option ℕ → List Bool
-eight_of (Some n) = number_bits 8 n
-eight_of None = []

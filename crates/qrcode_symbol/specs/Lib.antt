@@ -1,6 +1,5 @@
 pub mod Canvas
 pub mod Carried
-pub mod Cells
 pub mod Deciding
 pub mod Filling
 pub mod Lending

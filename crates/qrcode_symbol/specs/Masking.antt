@@ -41,7 +41,7 @@ ShowsModules test w modules rows = Shows w rows (λ x y. test (slice_index_or mo
 unfoldable pub masked_dark : Version → ℕ → MaskPattern → List ℕ → List ℕ → ℕ → ℕ → Bool
 masked_dark v word k dark free x y = unwrap_or (decided_bit v word x y) (turned_if (dark_in free x y && turns k x y) (dark_in dark x y))
 
--- the next 64 bits of a pattern that repeats every six or twelve bits
+-- the next 64 bits of a pattern that repeats every six bits
 abbrev pub next_places : ℕ → ℕ
 next_places word = bit_or (word / 2 ^ 4) (word * 2 ^ 56 % 2 ^ 64)
 
@@ -57,10 +57,6 @@ pub record IsTurnedRow (w : ℕ) (mask : MaskPattern) (dark free : List ℕ) (k 
 -- all rows before row `count` are such rows
 abbrev pub AreTurned : ℕ → MaskPattern → List ℕ → List ℕ → ℕ → List ℕ → Type 0
 AreTurned w mask dark free count rows = (y : ℕ) → y < count → IsTurnedRow w mask dark free y (slice_index_or rows y 0)
-
--- bit y of the number is the place in the last column and row y
-abbrev pub IsLastColumn : ℕ → List ℕ → ℕ → Type 0
-IsLastColumn w rows column = (y : ℕ) → y < w → is_set column y ≡ dark_in rows (w - 1) y
 
 -- the penalty of such rows under the k-th mask
 unfoldable pub nth_cost : Version → EcLevel → ℕ → List ℕ → List ℕ → ℕ → ℕ

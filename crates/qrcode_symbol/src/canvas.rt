@@ -1,6 +1,6 @@
 //! The modules of a symbol while it is drawn: patterns, data and masks.
 
-ghost use Rattle.std.specs.Prelude.{◌≡◌, ◌+◌, ◌*◌, ◌%◌, ◌<◌, ◌≤◌, pos, neg_ℤ, ◌≤ℤ◌, ◌<ℤ◌, nat_abs, length, map, slice_index_or, slice_set, ◌↔◌, IsTrue, IfOk, IsOkUnless};
+ghost use Rattle.std.specs.Prelude.{◌≡◌, ◌+◌, ◌*◌, ◌<◌, ◌≤◌, pos, neg_ℤ, ◌≤ℤ◌, ◌<ℤ◌, nat_abs, length, map, slice_index_or, slice_set, ◌↔◌, IsTrue, IfOk, IsOkUnless};
 ghost use Rattle.std.specs.Borrow.{sem};
 ghost use Rattle.qrcode_types.specs.Versions.{is_valid, has_level, side};
 ghost use Rattle.qrcode_layout.specs.Masks.{exists_in};
@@ -20,10 +20,8 @@ pub use qrcode_layout::mask_functions;
 pub use qrcode_layout::masks::MaskPattern;
 
 mod applying;
-mod cells;
 mod codewords;
 mod drawing;
-mod edges;
 mod filling;
 mod layer;
 mod masked_rows;
@@ -34,7 +32,6 @@ mod remasking;
 mod unpacking;
 
 use applying::mask_modules;
-use cells::Cell;
 use codewords::Codewords;
 use drawing::draw_patterns;
 use filling::draw_codewords;
@@ -42,6 +39,7 @@ pub use penalties::penalty;
 use qrcode_layout::laws;
 use qrcode_layout::patterns::is_functional_place;
 use qrcode_types::types::{Color, EcLevel, QrResult, Version};
+use qrcode_types::versions::side;
 pub use remasking::remask;
 use std::alloc::Global;
 use std::marker::Model;
@@ -115,17 +113,6 @@ impl Model for Canvas {
 
     ghost invariant = { λ c. IsTrue (is_valid c.version)
         × (length c.modules.items ≡ side c.version * side c.version) };
-}
-
-// Returns the number of modules along a side, which is odd.
-fn side(version: Version) -> usize
-    requires { IsTrue (is_valid version) }
-    ensures value { result ≡ side version }
-    ensures at_least { 11 ≤ result }
-    ensures at_most { result ≤ 177 }
-    ensures odd { result % 2 ≡ 1 }
-{
-    version.width() as usize
 }
 
 // Converts a coordinate from `-width` to `width - 1` into one from 0 to `width - 1`.
@@ -345,8 +332,7 @@ fn masked_modules(alloc: Global, colors: &[Color]) -> QrResult<Vec<Module>>
 }
 
 /// Returns the colours of a symbol with these codewords, row by row, under the first mask with the
-/// lowest penalty. The result is that of drawing the patterns and codewords on a new canvas, in
-/// half the memory.
+/// lowest penalty.
 ///
 /// Errors: only `OutOfMemory`.
 pub fn drawn_colors(
@@ -364,12 +350,10 @@ pub fn drawn_colors(
     // Under each mask, they carry the codewords.
     ensures carries { AreCarried version ec_level bytes.now ec.now }
 {
-    let width = side(version);
-    let mut cells = vec![in alloc; u8::of(Module::Empty); width * width]?;
-    draw_patterns(version, &mut cells);
-    let codewords = Codewords::new(version, ec_level, bytes, ec);
-    draw_codewords(version, codewords, &mut cells);
-    masking::best_colors(alloc, version, ec_level, cells)
+    let mut canvas = Canvas::new(alloc, version, ec_level)?;
+    canvas.draw_all_functional_patterns();
+    canvas.draw_data(bytes, ec);
+    canvas.into_best_colors(alloc)
 }
 
 // Returns whether a functional pattern or the format word covers column `x` and row `y`.

@@ -42,13 +42,14 @@ fn push_all(bits: &mut Bits, given: &[Given<'_>], level: EcLevel) -> QrResult<No
     Ok(note)
 }
 
-// Makes a push, and makes it again if memory ran out and the list is as long as before.
+// Makes a push, and makes it again if memory ran out. A push that fails for another reason is an
+// error only if the list is as long as before.
 fn push_again(bits: &mut Bits, given: &Given<'_>, level: EcLevel) -> QrResult<Note> {
     let length = bits.len();
     match push(bits, given, level) {
         Ok(()) => return Ok(Note::Whole),
-        Err(QrError::OutOfMemory) if bits.len() == length => {}
-        Err(QrError::OutOfMemory) => return Ok(Note::Kept),
+        Err(_) if bits.len() != length => return Ok(Note::Kept),
+        Err(QrError::OutOfMemory) => {}
         Err(error) => return Err(error),
     }
     push(bits, given, level)?;

@@ -75,13 +75,14 @@ fn bars(alloc: Global, asked: &Asked<'_>) -> QrResult<Digest> {
     Ok(digest)
 }
 
-// Draws no module (`none`), a wide symbol (`wide`), each call of the canvas (`calls`), or the
-// symbol of digits in the version that is asked for.
+// Draws no module (`none`), a wide symbol (`wide`), each call of the canvas (`calls`), a rectangle
+// pixel by pixel (`rect`), or the symbol of digits in the version that is asked for.
 fn picture<P: Pixel>(alloc: Global, asked: &Asked<'_>) -> QrResult<P::Image> {
     match asked.version {
         "none" => built(alloc, &Renderer::<P>::new(&[], 0, 0)),
         "wide" => wide::<P>(alloc, number(asked.level)),
         "calls" => drawn::<P>(alloc),
+        "rect" => filled::<P>(alloc),
         _ => built(alloc, &of_digits(alloc, asked.version())?.render::<P>()),
     }
 }
@@ -113,6 +114,15 @@ fn image(alloc: Global, asked: &Asked<'_>) -> QrResult<Digest> {
         return Err(QrError::DataTooLong);
     }
     Ok(Digest::of(&renderer.to_image(alloc)?.into_raw()))
+}
+
+// Fills a rectangle of two by two pixels.
+fn filled<P: Pixel>(alloc: Global) -> QrResult<P::Image> {
+    let dark = P::default_color(Color::Dark);
+    let light = P::default_color(Color::Light);
+    let mut canvas = P::Canvas::new(alloc, 9, 9, dark, light)?;
+    fill_rect(&mut canvas, 2, 3, 2, 2)?;
+    canvas.into_image()
 }
 
 // A row of modules.

@@ -1,6 +1,6 @@
 -- Versions and levels, and their entries in the tables. The number of a version is used without its sign, so definitions that take any version check
 -- `is_valid` first.
-use Rattle.std.specs.Prelude.{ℕ, ◌+◌, ◌-◌, ◌*◌, ◌==◌, ◌&&◌, ◌||◌, not, pos, nat_abs, int_le, Bool, true, false, List, [], ◌∷◌, ◌++◌, length, map, sum, sum_by, count_by, replicate, slice_index, slice_index_or, if◌then◌else◌}
+use Rattle.std.specs.Prelude.{ℕ, ◌+◌, ◌-◌, ◌*◌, ◌%◌, ◌==◌, ◌&&◌, ◌||◌, not, pos, nat_abs, int_le, Bool, true, false, List, [], ◌∷◌, ◌++◌, length, map, sum, sum_by, count_by, replicate, slice_index, slice_index_or, if◌then◌else◌}
 use Rattle.std.specs.List.{range_with_len}
 use Rattle.qrcode_types.specs.Tables.{block_table, codeword_table, remainder_table}
 use Rattle.qrcode_types.specs.declared.types.Version.{Version}
@@ -19,6 +19,13 @@ is_micro (Micro v) = true
 abbrev pub side : Version → ℕ  -- the number of modules along a side
 side (Normal v) = 4 * nat_abs v + 17
 side (Micro v) = 2 * nat_abs v + 9
+
+abbrev pub terminator_length : Version → ℕ  -- how many zeros end the data, if there is room
+terminator_length (Normal v) = 4
+terminator_length (Micro v) = 2 * nat_abs v + 1
+
+abbrev pub padding_byte : ℕ → ℕ  -- the bytes of the padding in turn
+padding_byte place = if place % 2 == 0 then 0xEC else 0x11
 
 abbrev pub row_of : Version → ℕ  -- the version's row in a table of 44 rows
 row_of (Normal v) = nat_abs v - 1

@@ -7,3 +7,4 @@ pub mod laws;
 pub mod modes;
 pub mod tables;
 pub mod types;
+pub mod versions;

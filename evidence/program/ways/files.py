@@ -100,8 +100,8 @@ def files_of_others_in_a_folder_for_everybody(program):
             os.chown(f"{folder}/b/{name}.svg", NOBODY, NOBODY)
             ran = run(program, ["-o", f"b/{name}.svg", "1"], folder)
             answers.append((ran.returncode, os.path.getsize(f"{folder}/b/{name}.svg"), ran.stderr))
-        said = [b"goqlanis: cannot write b/%s.svg: it is another user's, in a folder for "
-                b"everybody: remove it, or take another name\n" % it
+        said = [b"goqlanis: cannot write b/%s.svg: it belongs to another user, in a folder "
+                b"writable by everybody: remove it, or take another name\n" % it
                 for it in (b"0", b"pipe", b"file")]
         return answers == [(1, False, said[0]), *[(0, True, b"")] * 4,
                            (1, 0, said[1]), (1, 0, said[2])]
@@ -116,7 +116,7 @@ def a_folder_that_takes_no_file_is_named(program):
         ran = [run(program, ["-o", it, "1"], folder, **as_nobody)
                for it in ("old.svg", "a.svg", f"{folder}/old.svg")]
         os.chmod(folder, 0o755)
-        wanted = [rb"goqlanis: cannot write %s: no file can be made in its folder %s: [^\n]+\n"
+        wanted = [rb"goqlanis: cannot write %s: cannot create a file in %s: [^\n]+\n"
                   % (re.escape(one), re.escape(two)) for one, two in (
                       (b"old.svg", b"./"), (b"a.svg", b"./"),
                       (f"{folder}/old.svg".encode(), f"{folder}/".encode()))]

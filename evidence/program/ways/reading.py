@@ -3,8 +3,10 @@ size."""
 import json
 import random
 import re
+import zlib
 
 import checked
+import crowds
 import png
 from room import FILES, SYMBOLS, figures, file_of, rows_of, run, squares
 
@@ -40,6 +42,20 @@ def checks_are_those_of_the_judge(program):
                 if (ran.returncode, json.loads(ran.stdout)) != (1 - said["standard"], [said]):
                     return False
     return True
+
+
+def grades_are_those_of_the_standard(program):
+    """Codewords of 1-H are inverted, one more at a time, of 8 that may be wrong. Grades A to D begin
+    at 62, 50, 37 and 25 % of unused error correction (ISO/IEC 15415)."""
+    words, found = ["-l", "H", "-q", "0", "-s", "1", "-f", "pgm", "1"], ""
+    for count in range(9):
+        square = [int(it == 0) for it in run(program, words, "/").stdout[-441:]]
+        for place in checked.form("1").places[:8 * count]:
+            square[place] ^= 1
+        rows = [square[at:at + 21] for at in range(0, 441, 21)]
+        ran = run(program, ["check", "--json"], "/", file_of(rows, 4, 1))
+        found += json.loads(ran.stdout)[0]["grade"]
+    return found == "AAAABCDFF"
 
 
 def _headers_said(headers):
@@ -125,6 +141,60 @@ def png_files_of_every_kind_are_read(program):
     return True
 
 
+def png_files_with_more_than_a_picture_are_read(program):
+    """Bytes behind the end of a file, behind its zlib stream and behind its last row are ignored,
+    with a warning; so is the place of pHYs, without one."""
+    rows = SYMBOLS["one.pbm"]
+    whole, row = png.file_of(rows, 0, 8), bytes(1 + 3 * (len(rows) + 8))
+    ways = ((whole + b"PK\5\6" + bytes(18), True),
+            (png.with_stream(whole, lambda it: it + b"\0"), True),
+            (png.with_stream(whole, lambda it: zlib.compress(zlib.decompress(it) + row)), True),
+            (png.with_chunk(whole, b"pHYs", bytes(8) + b"\1", b"IDAT"), False))
+    warning = b"goqlanis: warning: standard input has data after its picture, which is ignored\n"
+    text = run(program, ["read"], "/", whole).stdout
+    return text and all(
+        (ran.returncode, ran.stdout, ran.stderr) == (0, text, warning if is_more else b"")
+        for ran, is_more in ((run(program, ["read"], "/", it), more) for it, more in ways))
+
+
+def _with_empty_block(stream):
+    """Returns a zlib stream that begins with an empty block. Of its own codes only the end has one,
+    of one bit, as zlib reads it (RFC 1951, 3.2.7)."""
+    lengths = "".join({2: "100", 3: "010", 17: "010"}.get(at, "000") for at in range(18))
+    zeros = "0" + "1111111" + "0" + "1101011"
+    bits = "001" + "00000" + "00000" + "0111" + lengths + zeros + "11" + "10" + "0" + "000"
+    bits = bits.ljust((len(bits) + 7) // 8 * 8, "0")
+    block = bytes(int(bits[at:at + 8][::-1], 2) for at in range(0, len(bits), 8))
+    made = stream[:2] + block + b"\0\0\xff\xff" + stream[2:]
+    assert zlib.decompress(made) == zlib.decompress(stream)
+    return made
+
+
+def png_files_are_read_as_the_standard_says(program):
+    """Of 16 bits the higher 8 count: 0x8000 is 128, which is light if the lightest pixel is 255. A
+    palette and its transparency have no entry too many, and the zlib window is at most 32,768."""
+    rows, corner = SYMBOLS["one.pbm"], iter([[0xffff]])
+    text = run(program, ["read"], "/", png.file_of(rows, 0, 1)).stdout
+    grey = png.file_of(rows, 0, 16, 0, lambda *it: [0] if it[2] else next(corner, [0x8000]))
+    plain, palette = png.file_of(rows, 0, 8), png.file_of(rows, 3, 1)
+    empty = png.with_stream(plain, _with_empty_block)
+    long = png.joined((kind, body + bytes(3) * (kind == b"PLTE"))
+                      for kind, body in png.chunks(palette))
+    for given, said in (
+            (grey, b""), (empty, b""), (long, b"not valid"),
+            (png.with_chunk(palette, b"tRNS", b"\xff\xff", b"PLTE"), b""),
+            (png.with_chunk(palette, b"tRNS", b"\xff\xff\xff", b"PLTE"), b"not valid"),
+            (png.with_stream(plain, lambda it: b"\x88\x1c" + it[2:]), b"damaged"),
+            (png.with_stream(plain, lambda it: it[:2] + b"\7" + it[3:]), b"damaged"),
+            (png.with_stream(plain, lambda it: it[:-1] + bytes([it[-1] ^ 1])), b"damaged")):
+        ran = run(program, ["read"], "/", given)
+        if (ran.returncode, ran.stdout) != ((1, b"") if said else (0, text)):
+            return False
+        if said not in ran.stderr or bool(said) != bool(ran.stderr):
+            return False
+    return text != b""
+
+
 def a_percent_sign_is_a_separator_behind_fnc1_alone(program):
     """So it is with any other headers too."""
     rows = {name[6:].encode(): it for name, it in SYMBOLS.items() if name.startswith("bytes ")}
@@ -162,6 +232,65 @@ def crowded_pages_are_read(program):
         if ran.stdout != said or ran.returncode != (not said):
             return False
     return True
+
+
+def _lines_read(program, picture):
+    """Returns the lines that `read` prints, sorted."""
+    return sorted(run(program, ["read"], "/", picture).stdout.decode().splitlines())
+
+
+def large_codes_beside_other_things_are_read(program):
+    """Two pages of each version from 30 to 40, one with a Micro QR code beside it."""
+    for version in range(30, 41):
+        for number in (3, 4):
+            file, texts = crowds.made(program, version, number)
+            if _lines_read(program, file) != sorted(texts):
+                return False
+    return True
+
+
+def _stretched(pixels, modules, *codes):
+    """Returns a PBM file of squares side by side, at so many pixels for so many modules."""
+    high = max(map(len, codes))
+    tall = [it + [[0] * len(it)] * (high - len(it)) for it in codes]
+    rows = [sum([[0] * 4 + row for row in line], []) + [0] * 4 for line in zip(*tall)]
+    blank = [[0] * len(rows[0])] * 4
+    rows = [*blank, *rows, *blank]
+    wide = [[row[x * modules // pixels] for x in range(len(row) * pixels // modules)]
+            for row in rows]
+    ink = [wide[y * modules // pixels] for y in range(len(rows) * pixels // modules)]
+    text = "\n".join("".join(map(str, it)) for it in ink)
+    return f"P1\n{len(ink[0])} {len(ink)}\n{text}".encode()
+
+
+def codes_of_uneven_pixels_beside_another_are_read(program):
+    """At two and a half pixels a module M1, version 40, version 20 with three finder patterns among
+    its data, and with wrong modules in a timing pattern; and at 1.2 pixels version 1."""
+    other = _square(program, "-v", "1", "hi")
+    decoyed, spoilt = (_square(program, "-v", "20", "-l", "H", "decoys") for _ in range(2))
+    for row, line in zip(decoyed, other[:8]):
+        for left in (21, 39, 57):
+            row[left:left + 9] = [0, *line[:7], 0]
+    for place in range(10, 30, 2):
+        spoilt[6][place] ^= 1
+    for code, pixels, modules, said in (
+            (_square(program, "-v", "M1", "12"), 5, 2, "12"), (decoyed, 5, 2, "decoys"),
+            (_square(program, "-v", "40", "large"), 5, 2, "large"), (spoilt, 5, 2, "decoys"),
+            (_square(program, "-v", "1", "small"), 6, 5, "small")):
+        if _lines_read(program, _stretched(pixels, modules, code, other)) != sorted([said, "hi"]):
+            return False
+    return True
+
+
+def no_micro_code_is_read_inside_an_unread_code(program):
+    """A code with a Micro QR code over its data, too large to be corrected, is not read at all."""
+    rows = _square(program, "-v", "5", "-l", "L", "unread")
+    for row in rows[10:27]:
+        row[10:27] = [0] * 17
+    for row, line in zip(rows[12:], _square(program, "-v", "M2", "12")):
+        row[12:25] = line
+    ran = run(program, ["read"], "/", file_of(rows, 4, 3))
+    return (ran.returncode, ran.stdout) == (1, b"") and b"37 by 37 modules" in ran.stderr
 
 
 def wrong_codewords_of_micro_codes_on_a_page(program):

@@ -36,7 +36,7 @@ pub struct Check {
     pub masks: Rank,
     /// The rank of the mask by the penalty with which this crate chooses masks, without such steps.
     pub masks_here: Rank,
-    /// Whether nothing departs and the mask has the lowest penalty by one of the two ranks.
+    /// Whether nothing departs; the mask may be the best by any reading of the standard.
     pub is_standard: bool,
 }
 

@@ -261,11 +261,12 @@ impl Options {
 
 /// The colour of a module.
 #[derive(Clone, Copy, Debug, PartialEq, Eq, PartialOrd, Ord, Hash)]
+#[repr(u8)]
 pub enum Color {
     /// A light module.
-    Light,
+    Light = 0,
     /// A dark module.
-    Dark,
+    Dark = 1,
 }
 
 impl Color {
@@ -288,7 +289,61 @@ impl Not for Color {
 
 /// The types of this crate under the path of the crate `qrcode`.
 pub mod types {
-    pub use crate::{Color, EcLevel, QrError, QrResult, Version};
+    pub use crate::{Color, EcLevel, Mode, QrError, QrResult, Version};
+}
+
+/// The mode of a segment.
+///
+/// ```
+/// use goqlanis::{types::Mode, Version};
+///
+/// let (digits, bits) = (Mode::Numeric, Mode::Numeric.length_bits_count(Version::Normal(10)));
+/// assert_eq!((bits, digits.data_bits_count(8)), (12, 27));
+/// assert_eq!(digits.max(Mode::Alphanumeric), Mode::Alphanumeric);
+/// assert_eq!(Mode::Kanji.max(digits), Mode::Byte);
+/// ```
+#[derive(Clone, Copy, Debug, PartialEq, Eq)]
+pub enum Mode {
+    /// Digits.
+    Numeric,
+    /// Digits, capitals, the space and `$%*+-./:`.
+    Alphanumeric,
+    /// Any bytes.
+    Byte,
+    /// Pairs of bytes of Shift JIS.
+    Kanji,
+}
+
+impl Mode {
+    /// Returns how many bits the character count of a segment takes in a version.
+    pub fn length_bits_count(self, version: Version) -> usize {
+        let row = match version {
+            Version::Micro(number) => [number + 2, number + 1, number + 1, number],
+            Version::Normal(1..=9) => [10, 9, 8, 8],
+            Version::Normal(10..=26) => [12, 11, 16, 10],
+            Version::Normal(_) => [14, 13, 16, 12],
+        };
+        row[self as usize] as usize
+    }
+
+    /// Returns how many bits that many characters take.
+    pub fn data_bits_count(self, characters: usize) -> usize {
+        match self {
+            Mode::Numeric => (characters * 10 + 2) / 3,
+            Mode::Alphanumeric => (characters * 11 + 1) / 2,
+            Mode::Byte => characters * 8,
+            Mode::Kanji => characters * 13,
+        }
+    }
+
+    /// Returns the narrowest mode that has all characters of both.
+    pub fn max(self, other: Mode) -> Mode {
+        match (self, other) {
+            (one, another) if one == another => one,
+            (Mode::Numeric, Mode::Alphanumeric) | (Mode::Alphanumeric, Mode::Numeric) => Mode::Alphanumeric,
+            _ => Mode::Byte,
+        }
+    }
 }
 
 /// A QR or Micro QR symbol.
@@ -318,26 +373,24 @@ impl QrCode {
 
     /// Encodes `data` at a level, in the smallest Normal version that holds it.
     pub fn with_error_correction_level<D: AsRef<[u8]>>(data: D, ec_level: EcLevel) -> QrResult<Self> {
-        let data = data.as_ref();
-        made!(goq_encode(data.as_ptr(), data.len(), ec_level as u32))
+        Self::with_options(data, &Options { ec_level, ..Options::default() })
     }
 
     /// Encodes `data` in a version and level.
     pub fn with_version<D: AsRef<[u8]>>(data: D, version: Version, ec_level: EcLevel) -> QrResult<Self> {
-        let data = data.as_ref();
-        made!(goq_encode_in(data.as_ptr(), data.len(), version.number(), ec_level as u32))
+        Self::with_options(data, &Options { ec_level, version: Some(version), ..Options::default() })
     }
 
     /// Encodes text at a level, in the smallest Normal version that holds it.
     ///
     /// Readers show the text if they take bytes for UTF-8; see `of_marked_text` for others.
     pub fn of_text(text: &str, ec_level: EcLevel) -> QrResult<Self> {
-        made!(goq_encode_text(text.as_ptr(), text.len(), ec_level as u32))
+        Self::with_options(text, &Options { ec_level, writing: Writing::Text, ..Options::default() })
     }
 
     /// Encodes text as `of_text` does, marked as UTF-8 (ECI 26), for readers that guess.
     pub fn of_marked_text(text: &str, ec_level: EcLevel) -> QrResult<Self> {
-        made!(goq_encode_marked_text(text.as_ptr(), text.len(), ec_level as u32))
+        Self::with_options(text, &Options { ec_level, writing: Writing::MarkedText, ..Options::default() })
     }
 
     /// Encodes `segments`, one after another, in a version and level.
@@ -489,7 +542,7 @@ impl QrCode {
 
     /// Returns a renderer, with a quiet zone of four modules, for Micro two.
     pub fn render<P: render::Pixel>(&self) -> render::Renderer<'_, P> {
-        render::Renderer::new(self, if self.version.is_micro() { 2 } else { 4 })
+        render::Renderer::of(self, if self.version.is_micro() { 2 } else { 4 })
     }
 }
 

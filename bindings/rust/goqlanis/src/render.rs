@@ -1,12 +1,8 @@
 //! Draws symbols: characters, half blocks, SVG, PIC, EPS, PNG, PBM, PGM, rows of grey pixels and
 //! more.
 use crate::logos::Logo;
-use crate::QrCode;
+use crate::{Color, QrCode};
 use goqlanis_sys as sys;
-
-mod sealed {
-    pub trait Sealed {}
-}
 
 /// Why a picture cannot be drawn.
 #[derive(Clone, Copy, Debug, PartialEq, Eq)]
@@ -24,20 +20,100 @@ says! { RenderError:
     RenderError::OutOfMemory => "out of memory";
 }
 
-/// A format of pictures: one of the types of this module. A value is the colour, or whatever the
-/// format has instead, of dark or light modules.
-pub trait Pixel: Copy + sealed::Sealed {
+/// A format of pictures: one of the types of this module, or one of yours with its own `Canvas`. A
+/// value is the colour, or whatever the format has instead, of dark or light modules.
+///
+/// ```
+/// use goqlanis::render::{Canvas, Pixel};
+/// use goqlanis::{Color, QrCode};
+///
+/// #[derive(Clone, Copy)]
+/// struct Count(usize);
+/// struct Counter(usize, Count);
+///
+/// impl Pixel for Count {
+///     type Image = usize;
+///     type Canvas = Counter;
+///     fn default_unit_size() -> (u32, u32) { (1, 1) }
+///     fn default_color(color: Color) -> Self { Count(color.select(1, 0)) }
+/// }
+///
+/// impl Canvas for Counter {
+///     type Pixel = Count;
+///     type Image = usize;
+///     fn new(_width: u32, _height: u32, dark: Count, _light: Count) -> Self { Counter(0, dark) }
+///     fn draw_dark_pixel(&mut self, _x: u32, _y: u32) { self.0 += self.1 .0; }
+///     fn into_image(self) -> usize { self.0 }
+/// }
+///
+/// let code = QrCode::new(b"01234567").unwrap();
+/// let dark = code.to_colors().iter().filter(|it| **it == Color::Dark).count();
+/// assert_eq!(code.render::<Count>().module_size(2).build(), 4 * dark);
+/// ```
+pub trait Pixel: Copy {
     /// The type of a picture.
     type Image;
 
-    #[doc(hidden)]
-    const SIZE: u32;
+    /// What the picture is drawn on.
+    type Canvas: Canvas<Pixel = Self, Image = Self::Image>;
+
+    /// Returns the default pixels per module, across and down.
+    fn default_unit_size() -> (u32, u32) {
+        (8, 8)
+    }
+
+    /// Returns the default colour of dark or light modules.
+    fn default_color(color: Color) -> Self;
 
     #[doc(hidden)]
-    fn default_color(is_dark: bool) -> Self;
+    fn picture(renderer: &Renderer<'_, Self>) -> Result<Self::Image, RenderError> {
+        Ok(renderer.on_canvas())
+    }
+}
 
-    #[doc(hidden)]
-    fn picture(renderer: &Renderer<'_, Self>) -> Result<Self::Image, RenderError>;
+/// What a picture is drawn on, light at first, by its dark modules.
+pub trait Canvas: Sized {
+    /// The type of a colour.
+    type Pixel: Sized;
+
+    /// The type of a picture.
+    type Image: Sized;
+
+    /// Returns a light canvas of that many pixels.
+    fn new(width: u32, height: u32, dark_pixel: Self::Pixel, light_pixel: Self::Pixel) -> Self;
+
+    /// Makes a pixel dark.
+    fn draw_dark_pixel(&mut self, x: u32, y: u32);
+
+    /// Makes the pixels of a rectangle dark.
+    fn draw_dark_rect(&mut self, left: u32, top: u32, width: u32, height: u32) {
+        for y in top..top + height {
+            for x in left..left + width {
+                self.draw_dark_pixel(x, y);
+            }
+        }
+    }
+
+    /// Returns the picture.
+    fn into_image(self) -> Self::Image;
+}
+
+/// The canvas of the formats that the library draws: nothing draws on it.
+pub struct OfLibrary<P>(std::convert::Infallible, std::marker::PhantomData<P>);
+
+impl<P: Pixel> Canvas for OfLibrary<P> {
+    type Pixel = P;
+    type Image = P::Image;
+
+    fn new(_width: u32, _height: u32, _dark_pixel: P, _light_pixel: P) -> Self {
+        unreachable!("the library draws this format")
+    }
+
+    fn draw_dark_pixel(&mut self, _x: u32, _y: u32) {}
+
+    fn into_image(self) -> P::Image {
+        match self.0 {}
+    }
 }
 
 /// Draws a symbol with its settings; `QrCode::render` makes one.
@@ -56,18 +132,36 @@ pub struct Renderer<'a, P> {
 }
 
 impl<'a, P: Pixel> Renderer<'a, P> {
-    pub(crate) fn new(code: &'a QrCode, zone: u32) -> Self {
+    pub(crate) fn of(code: &'a QrCode, zone: u32) -> Self {
+        Renderer { logo: code.logo.as_ref(), ..Self::with(&code.modules, code.width, zone) }
+    }
+
+    /// Draws a square of modules, e.g. of `QrCode::to_colors`, with `modules_count` of them per side
+    /// and a quiet zone.
+    ///
+    /// # Panics
+    ///
+    /// Panics if `content` does not have `modules_count * modules_count` modules.
+    pub fn new(content: &'a [Color], modules_count: usize, quiet_zone: u32) -> Self {
+        assert_eq!(Some(content.len()), modules_count.checked_mul(modules_count));
+        // SAFETY: a `Color` is a byte.
+        let modules = unsafe { std::slice::from_raw_parts(content.as_ptr().cast(), content.len()) };
+        Self::with(modules, modules_count, quiet_zone)
+    }
+
+    fn with(modules: &'a [u8], width: usize, zone: u32) -> Self {
+        let (across, down) = P::default_unit_size();
         Renderer {
-            modules: &code.modules,
-            width: code.width,
+            modules,
+            width,
             zone,
             whole_zone: zone,
-            across: P::SIZE,
-            down: P::SIZE,
-            dark: P::default_color(true),
-            light: P::default_color(false),
+            across,
+            down,
+            dark: P::default_color(Color::Dark),
+            light: P::default_color(Color::Light),
             dpi: 0,
-            logo: code.logo.as_ref(),
+            logo: None,
         }
     }
 
@@ -108,6 +202,17 @@ impl<'a, P: Pixel> Renderer<'a, P> {
     pub fn max_dimensions(&mut self, width: u32, height: u32) -> &mut Self {
         let side = self.side();
         self.module_size(width.min(height) / side)
+    }
+
+    // Draws the picture on a canvas, a rectangle for each dark module.
+    fn on_canvas(&self) -> P::Image {
+        let (across, down, side) = (self.across, self.down, self.side());
+        let mut canvas = P::Canvas::new(side * across, side * down, self.dark, self.light);
+        for (at, _) in self.modules.iter().enumerate().filter(|it| *it.1 != 0) {
+            let (x, y) = ((at % self.width) as u32 + self.zone, (at / self.width) as u32 + self.zone);
+            canvas.draw_dark_rect(x * across, y * down, across, down);
+        }
+        canvas.into_image()
     }
 
     // Returns the number of modules per side, with the quiet zone.
@@ -191,12 +296,15 @@ macro_rules! pixel {
         |$is_dark:ident| $color:expr,
         |$renderer:ident| $picture:expr
     ) => {
-        impl sealed::Sealed for $type {}
         $(#[$about])*
         impl Pixel for $type {
             type Image = $image;
-            const SIZE: u32 = $size;
-            fn default_color($is_dark: bool) -> Self {
+            type Canvas = OfLibrary<Self>;
+            fn default_unit_size() -> (u32, u32) {
+                ($size, $size)
+            }
+            fn default_color(color: Color) -> Self {
+                let $is_dark = color == Color::Dark;
                 $color
             }
             fn picture($renderer: &Renderer<'_, Self>) -> Result<$image, RenderError> {
@@ -377,9 +485,9 @@ pixel! { unicode::Dense1x2: String, 1,
             (Light, Dark) => renderer.text(sys::GOQ_LIGHT_HALF_BLOCKS),
             // The same for all modules, as if all were dark or all light.
             (one, _) => {
-                let side = renderer.side() as usize;
-                let modules = vec![u8::from(one == Dark); side * side];
-                Renderer { modules: &modules, width: side, zone: 0, ..*renderer }.text(sys::GOQ_HALF_BLOCKS)
+                let modules = vec![0; renderer.modules.len()];
+                let plain = Renderer { modules: &modules, ..*renderer };
+                plain.text(if one == Dark { sys::GOQ_LIGHT_HALF_BLOCKS } else { sys::GOQ_HALF_BLOCKS })
             }
         }
     }

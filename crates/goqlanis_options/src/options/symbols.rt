@@ -3,27 +3,6 @@
 use super::Takes::{self, Nothing, Number, Path, Text, Texts, Word};
 use super::{Entry, Purpose, Task};
 
-// From formats.rt of goqlanis_core, by bindings/same:
-const FORMATS: &[&str] = &[
-    "half-blocks",
-    "terminal",
-    "text",
-    "png",
-    "svg",
-    "eps",
-    "pic",
-    "pbm",
-    "pgm",
-    "pdf",
-    "zpl",
-    "tspl",
-    "escpos",
-    "xbm",
-    "ppm",
-    "ascii",
-];
-// Up to here.
-
 /// The task without a command: a plain code.
 #[rattlefmt::skip]
 pub static DRAWING: Task = Task {
@@ -39,26 +18,46 @@ pub static DATA: &[Entry] = &[
     entry!("input", 'i', Path, "Encode the contents of a file"),
     entry!("trim", Nothing, "Drop one trailing newline"),
     entry!("allow-empty", Nothing, "Accept empty input"),
-    entry!("bytes", Nothing, "Treat the input as bytes, not text, in the modes that take the fewest bits; some readers \
-        may then show UTF-8 wrongly"),
+    entry!("bytes", Nothing, "Encode raw bytes in the fewest bits; readers may show UTF-8 text wrongly"),
 ];
 
-/// Input options of plain codes only.
+/// Input options of tasks whose options give the data.
 #[rattlefmt::skip]
-pub static ONE_CODE: &[Entry] = &[
+pub static FILES: &[Entry] = &[
+    entry!("input", 'i', Path, "Read the data of one code, or with --lines of many, from a file"),
+];
+
+/// The option of segments.
+#[rattlefmt::skip]
+pub static SEGMENTS: &[Entry] = &[
     entry!("segment", Texts("MODE:DATA"),
         "Choose the segments: numeric:DIGITS, alphanumeric:TEXT, byte:TEXT (UTF-8), kanji:HEX (Shift \
         JIS) or eci:NUMBER; repeat as needed"),
+];
+
+/// Options of tasks that make a code for each line.
+#[rattlefmt::skip]
+pub static LINES: &[Entry] = &[
     entry!("lines", Nothing,
-        "Make one code per line. --output FILE gets a number per line; in its name, {} is the \
-        number, {text} the line, {1}, {2} .. its fields"),
-    entry!("field", Number("N", 1, 65535), "With --lines: encode only field N of each line"),
-    entry!("delimiter", Text("TEXT"),
-        "Separator of the fields in a line [default: ,]"),
+        "Make one code per input line. In --output, {} stands for the line number, {text} for the \
+        line, {1} for its first field; without them a number is added"),
+    entry!("header", Nothing,
+        "With --lines: the first line names the columns, e.g. ssid,password for wifi or 01,10 for \
+        gs1; {ssid} in --output is that field"),
+    entry!("columns", Text("NAMES"), "With --lines: names of the columns, if no line has them"),
+    entry!("field", Text("FIELD"), "With --lines: encode only this field of each line, by number or name"),
+    entry!("delimiter", Text("TEXT"), "Separator of the fields in a line [default: ,]"),
 ];
 
 // The value of `--level`.
 const LEVEL: Takes = Word("LEVEL", &["L", "M", "Q", "H"]);
+
+// The value of `--format`: the names in the table of formats, which `bindings/same` compares.
+#[rattlefmt::skip]
+const FORMAT: Takes = Word("FORMAT", &[
+    "half-blocks", "terminal", "text", "png", "svg", "eps", "pic", "pbm", "pgm", "pdf", "zpl", "tspl", "escpos", "xbm",
+    "ppm", "ascii",
+]);
 
 /// Level and version options.
 #[rattlefmt::skip]
@@ -107,7 +106,7 @@ pub static LOOKS: &[Entry] = &[
     entry!("output", 'o', Path,
         "Write to FILE, atomically; --lines and split add numbers, e.g. a-000001.png; - is standard \
         output"),
-    entry!("format", 'f', Word("FORMAT", FORMATS),
+    entry!("format", 'f', FORMAT,
         "Output format; terminal: half-blocks in black on white; text: a block per module; ascii: \
         ## per module; zpl, tspl, escpos: printers [default: FILE's extension (.txt: half-blocks); \
         to a terminal: terminal; else half-blocks]"),
@@ -116,8 +115,8 @@ pub static LOOKS: &[Entry] = &[
     entry!("scale", 's', Number("PIXELS", 1, 1000),
         "Pixels per module, 1 to 1,000 [default: 8; 1 in PIC, half-blocks, terminal, text, ascii]"),
     entry!("size", Text("SIZE"),
-        "Maximum side in pixels, e.g. 300, or a length, e.g. 30mm (cm, in, pt): exactly this in \
-        SVG, EPS and PDF without --dpi; other formats need --dpi"),
+        "Maximum side in pixels, e.g. 300, or a length (30mm; cm, in, pt). SVG, EPS and PDF have \
+        exactly that size unless --dpi is given; other formats need --dpi"),
     entry!("module", Text("LENGTH"),
         "Side of a module, e.g. 0.5mm; exact in SVG, EPS and PDF without --dpi, else whole pixels"),
     entry!("dpi", Number("N", 1, 65535), "Pixels per inch, 1 to 65,535"),
@@ -140,12 +139,17 @@ pub static LOOKS: &[Entry] = &[
     entry!("logo-area", Nothing, "Leave an empty area for a logo, in any format"),
     entry!("logo-size", Text("SIZE"),
         "Side of the area, in modules or percent of the code's side, e.g. 9 or 20% [default: the \
-        largest that uses at most half of the error correction]"),
+        largest that uses about half of the error correction]"),
     entry!("logo-margin", Number("MODULES", 0, 20), "Light modules around the logo [default: 1]"),
     entry!("keep-alignment", Nothing,
         "Keep the logo off alignment patterns, which some readers need"),
     entry!("verbose", Nothing, "Report version, level, mask and sizes on standard error"),
-    entry!("json", Nothing, "Report like --verbose, as a line of JSON on standard error"),
+    entry!("json", Nothing,
+        "Print that report as one line of JSON: on standard output if the code goes to a file, else \
+        on standard error"),
+    entry!("werror", Nothing, "Treat warnings as errors"),
+    entry!("dry-run", Nothing,
+        "Print the report only, with the smallest size that readers need at --dpi; write no code"),
 ];
 
 /// Options that print something about the program.

@@ -1,6 +1,6 @@
 //! The commands, in the order of help and manual.
 
-use super::Takes::{Nothing, Number, Path, Text, Wanted};
+use super::Takes::{self, Nothing, Number, Path, Text, Wanted};
 use super::fields::option_of;
 use super::{Entry, Purpose, Task};
 use qrcode_contents::fields::errors::Field;
@@ -40,7 +40,7 @@ pub static TASKS: &[Task] = &[
     task!("vcard", Purpose::Content(Kind::Vcard), "Contact (vCard 3.0)"),
     task!("epc", Purpose::Content(Kind::Payment), "SEPA credit transfer (EPC QR code)"),
     task!("bill", Purpose::Content(Kind::Bill),
-        "Swiss QR-bill, with its cross in SVG, PNG, EPS and PDF; print it with -q 0 --size 46mm"),
+        "Swiss QR-bill, with its cross in SVG, PNG, EPS and PDF; 46 mm wide in SVG, EPS, PDF, and at --dpi"),
     task!("upi", Purpose::Content(Kind::Upi), "Payment by UPI (India)"),
     task!("pix", Purpose::Content(Kind::Pix), "Static payment by Pix (Brazil)"),
     task!("promptpay", Purpose::Content(Kind::Promptpay), "Payment by PromptPay (Thailand)"),
@@ -58,76 +58,74 @@ pub static TASKS: &[Task] = &[
 
 /// Returns the option of `field` in payloads of `kind`, with the help that this kind has for it.
 pub fn entry_of(kind: Kind, field: Field) -> Entry {
-    let (long, value, help) = option_of(field);
-    let (value, help) = match own_help(kind, field) {
-        Some((name, help)) => (Text(name), help),
-        None => (value, help),
-    };
-    let takes = match value {
-        Text(name) if is_wanted(kind, field) => Wanted(name),
-        value => value,
+    let entry = option_of(field);
+    let own = OWN_HELP
+        .iter()
+        .find(|(of, known, _, _)| *of == kind && *known == field);
+    let (takes, help) = match own {
+        Some((_, _, name, help)) => (Text(name), *help),
+        None => (entry.takes, entry.help),
     };
     Entry {
-        long,
-        short: None,
-        takes,
+        takes: wanted(takes, kind, field),
         help,
+        ..*entry
     }
 }
 
-// Whether payloads of `kind` need `field`.
-#[rattlefmt::skip]
-fn is_wanted(kind: Kind, field: Field) -> bool {
-    match kind {
-        Kind::Wifi => matches!(field, Field::Ssid),
-        Kind::Mecard => matches!(field, Field::Family),
-        Kind::Vcard => matches!(field, Field::Name | Field::Family),
-        Kind::Payment => matches!(field, Field::Name | Field::Iban | Field::Amount),
-        Kind::Bill => matches!(
-            field,
-            Field::Iban | Field::Name | Field::PostalCode | Field::City | Field::Country
-        ),
-        Kind::Mail => matches!(field, Field::Email),
-        Kind::Geo => matches!(field, Field::Latitude | Field::Longitude),
-        Kind::Tel | Kind::Sms => matches!(field, Field::Phone),
-        Kind::Otp => matches!(field, Field::Account | Field::Secret),
-        Kind::Event => matches!(field, Field::Begin | Field::End),
-        Kind::Upi | Kind::Promptpay => matches!(field, Field::Payee),
-        Kind::Pix => matches!(field, Field::Payee | Field::Name | Field::City),
+// What an option takes, which is required if payloads of `kind` need `field`.
+fn wanted(takes: Takes, kind: Kind, field: Field) -> Takes {
+    let is_wanted = WANTED
+        .iter()
+        .any(|(of, fields)| *of == kind && fields.contains(&field));
+    match takes {
+        Text(name) if is_wanted => Wanted(name),
+        takes => takes,
     }
 }
 
-// The value name and help text of a field, if a kind has its own.
+// The fields that payloads need.
 #[rattlefmt::skip]
-fn own_help(kind: Kind, field: Field) -> Option<(&'static str, &'static str)> {
-    Some(match (kind, field) {
-        (Kind::Vcard, Field::Name) => ("NAME", "Full name, as displayed"),
-        (Kind::Payment, Field::Amount) =>
-            ("EUROS", "Amount in euros, 0.01 to 999999999.99, e.g. 12.30"),
-        (Kind::Payment, Field::Reference) =>
-            ("TEXT", "Reference (ISO 11649), e.g. RF18 5390 0754 7034"),
-        (Kind::Payment, Field::Message) =>
-            ("TEXT", "Message instead of a reference, up to 140 characters"),
-        (Kind::Bill, Field::Iban) => ("IBAN",
-            "Payee's account in Switzerland or Liechtenstein, e.g. CH58 0079 1123 0008 8901 2"),
-        (Kind::Bill, Field::Street) => ("TEXT", "Payee's street"),
-        (Kind::Bill, Field::PostalCode) => ("TEXT", "Payee's postal code"),
-        (Kind::Bill, Field::City) => ("TEXT", "Payee's city"),
-        (Kind::Bill, Field::Country) => ("CODE", "Payee's country, two letters, e.g. CH"),
-        (Kind::Bill, Field::Reference) =>
-            ("TEXT", "Reference: 27 digits with a QR-IBAN, otherwise RF.. or none"),
-        (Kind::Bill, Field::Message) => ("TEXT", "Message, up to 140 characters"),
-        (Kind::Upi, Field::Payee) => ("ADDRESS", "Payee's UPI address (VPA), e.g. name@bank"),
-        (Kind::Upi, Field::Name) => ("NAME", "Payee's name"),
-        (Kind::Pix, Field::Payee) => ("KEY",
-            "Payee's Pix key: CPF or CNPJ in digits, phone as +5561912345678, e-mail, random key"),
-        (Kind::Pix, Field::Name) => ("NAME", "Payee's name, up to 25 ASCII characters"),
-        (Kind::Pix, Field::City) => ("TEXT", "Payee's city, up to 15 ASCII characters"),
-        (Kind::Pix, Field::Reference) => ("TEXT", "Reference (txid), up to 25 letters and digits"),
-        (Kind::Pix, Field::Description) =>
-            ("TEXT", "ASCII description; up to 73 characters, key included"),
-        (Kind::Promptpay, Field::Payee) => ("NUMBER",
-            "Payee's phone number (081 234 5678), national or tax ID (13 digits), or e-wallet (15)"),
-        _ => return None,
-    })
-}
+static WANTED: &[(Kind, &[Field])] = &[
+    (Kind::Wifi, &[Field::Ssid]),
+    (Kind::Mecard, &[Field::Family]),
+    (Kind::Vcard, &[Field::Name, Field::Family]),
+    (Kind::Payment, &[Field::Name, Field::Iban, Field::Amount]),
+    (Kind::Bill, &[Field::Iban, Field::Name, Field::PostalCode, Field::City, Field::Country]),
+    (Kind::Mail, &[Field::Email]),
+    (Kind::Geo, &[Field::Latitude, Field::Longitude]),
+    (Kind::Tel, &[Field::Phone]),
+    (Kind::Sms, &[Field::Phone]),
+    (Kind::Otp, &[Field::Account, Field::Secret]),
+    (Kind::Event, &[Field::Begin, Field::End]),
+    (Kind::Upi, &[Field::Payee]),
+    (Kind::Promptpay, &[Field::Payee]),
+    (Kind::Pix, &[Field::Payee, Field::Name, Field::City]),
+];
+
+// The value name and help text of fields, if a kind has its own.
+#[rattlefmt::skip]
+static OWN_HELP: &[(Kind, Field, &str, &str)] = &[
+    (Kind::Vcard, Field::Name, "NAME", "Full name, as displayed"),
+    (Kind::Payment, Field::Amount, "EUROS", "Amount in euros, 0.01 to 999999999.99, e.g. 12.30"),
+    (Kind::Payment, Field::Reference, "TEXT", "Reference (ISO 11649), e.g. RF18 5390 0754 7034"),
+    (Kind::Payment, Field::Message, "TEXT", "Message instead of a reference, up to 140 characters"),
+    (Kind::Bill, Field::Iban, "IBAN",
+        "Payee's account in Switzerland or Liechtenstein, e.g. CH58 0079 1123 0008 8901 2"),
+    (Kind::Bill, Field::Street, "TEXT", "Payee's street"),
+    (Kind::Bill, Field::PostalCode, "TEXT", "Payee's postal code"),
+    (Kind::Bill, Field::City, "TEXT", "Payee's city"),
+    (Kind::Bill, Field::Country, "CODE", "Payee's country, two letters, e.g. CH"),
+    (Kind::Bill, Field::Reference, "TEXT", "Reference: 27 digits with a QR-IBAN, otherwise RF.. or none"),
+    (Kind::Bill, Field::Message, "TEXT", "Message, up to 140 characters"),
+    (Kind::Upi, Field::Payee, "ADDRESS", "Payee's UPI address (VPA), e.g. name@bank"),
+    (Kind::Upi, Field::Name, "NAME", "Payee's name"),
+    (Kind::Pix, Field::Payee, "KEY",
+        "Payee's Pix key: CPF or CNPJ, phone as +55 61 91234-5678, e-mail, random key"),
+    (Kind::Pix, Field::Name, "NAME", "Payee's name, up to 25 ASCII characters"),
+    (Kind::Pix, Field::City, "TEXT", "Payee's city, up to 15 ASCII characters"),
+    (Kind::Pix, Field::Reference, "TEXT", "Reference (txid), up to 25 letters and digits"),
+    (Kind::Pix, Field::Description, "TEXT", "ASCII description; up to 73 characters, key included"),
+    (Kind::Promptpay, Field::Payee, "NUMBER",
+        "Payee's phone number (081 234 5678), national or tax ID (13 digits), or e-wallet (15)"),
+];

@@ -1,23 +1,10 @@
 //! Writes the terminator and the padding after it.
 
-ghost use Rattle.std.specs.Prelude.{◌≡◌, ◌+◌, ◌*◌, ◌%◌, ◌==◌, ◌<◌, ◌≤◌, ◌++◌, IsTrue, if◌then◌else◌};
-ghost use Rattle.qrcode_types.specs.Versions.{is_valid};
-ghost use Rattle.qrcode_bits.specs.Written.{terminator_length, ending, padding};
+ghost use Rattle.std.specs.Prelude.{◌≡◌, ◌+◌, ◌*◌, ◌≤◌, ◌++◌};
+ghost use Rattle.qrcode_bits.specs.Written.{ending, padding};
 
 use super::stream::Stream;
-use qrcode_types::types::Version;
-
-// Returns how many zeros the terminator has, if there is room for them.
-pub(super) fn terminator_length(version: Version) -> usize
-    requires { IsTrue (is_valid version) }
-    ensures value { result ≡ terminator_length version }
-    ensures at_most { result ≤ 9 }
-{
-    match version {
-        Version::Normal(_) => 4,
-        Version::Micro(v) => 2 * (v as usize) + 1,
-    }
-}
+use qrcode_types::versions::padding_byte;
 
 // Appends the terminator and the padding after `used` bits, up to `capacity` bits.
 pub(super) fn push_ending(stream: &mut Stream, terminator: usize, used: usize, capacity: usize)
@@ -39,14 +26,7 @@ fn push_padding(stream: &mut Stream, count: usize)
     ensures { stream.new.bits ≡ stream.old.bits ++ padding count }
 {
     for i in 0..count / 8 {
-        stream.push_number(8, padding_byte(i));
+        stream.push_number(8, padding_byte(i).into());
     }
     stream.push_number((count % 8) as u32, 0);
-}
-
-fn padding_byte(place: usize) -> u32
-    ensures value { result ≡ (if place % 2 == 0 then 0xEC else 0x11) }
-    ensures at_most { result < 256 }
-{
-    if place % 2 == 0 { 0xEC } else { 0x11 }
 }

@@ -6,8 +6,8 @@ ghost use Rattle.qrcode_types.specs.Bits.{number_bits, bits_of};
 use std::alloc::{AllocError, Global};
 use std::marker::Model;
 
-// Bits: `bytes`, filled eight at a time, and then the fewer than 64 bits of `rest`. The first
-// allocation is for at least `first_room` bytes.
+// Bits: `bytes`, and then the fewer than eight bits of `rest`. The first allocation is for at least
+// `first_room` bytes.
 #[derive(Drop)]
 pub(super) struct Stream {
     bytes: Vec<u8>,
@@ -28,7 +28,7 @@ impl Model for Stream {
       room = 8 * vec_capacity s.bytes - (8 * vec_len s.bytes + s.rest_len);
     } };
 
-    ghost invariant = { λ s. (s.rest_len < 64) × (s.rest < 2 ^ s.rest_len)
+    ghost invariant = { λ s. (s.rest_len < 8) × (s.rest < 2 ^ s.rest_len)
         × (8 * vec_len s.bytes + s.rest_len ≤ 8 * vec_capacity s.bytes) };
 }
 
@@ -53,7 +53,7 @@ impl Stream {
     pub(super) fn copied(&self) -> Result<Stream, AllocError>
         ensures { IfOk result (λ copy. copy.bits ≡ self.now.bits) }
     {
-        let mut bytes = Vec::with_capacity(self.allocator(), self.bytes.len() + 8)?;
+        let mut bytes = Vec::with_capacity(self.allocator(), self.bytes.len() + 1)?;
         bytes.extend_from_slice(&self.bytes)?;
         Ok(Stream {
             bytes,
@@ -93,38 +93,10 @@ impl Stream {
         ensures bits { self.new.bits ≡ self.old.bits ++ number_bits count number }
         ensures room { self.old.room ≤ self.new.room + count }
     {
-        self.push_long_number(count, u64::from(number));
-    }
-
-    // Appends the `count` bits of a number, up to 64. Each eight full bytes are pushed at once.
-    #[inline(always)]
-    pub(super) fn push_long_number(&mut self, count: u32, number: u64)
-        requires at_most { count ≤ 64 }
-        requires fits { number < 2 ^ count }
-        requires room { count ≤ self.old.room }
-        ensures bits { self.new.bits ≡ self.old.bits ++ number_bits count number }
-        ensures room { self.old.room ≤ self.new.room + count }
-    {
-        let free = 64 - self.rest_len;
-        if count < free {
-            self.rest = (self.rest << count) + number;
-            self.rest_len += count;
-        } else {
-            let left = count - free;
-            self.rest = push_eight(&mut self.bytes, self.rest, self.rest_len, number, left);
-            self.rest_len = left;
-        }
-    }
-
-    // Appends eight bytes.
-    pub(super) fn push_word(&mut self, word: &[u8; 8])
-        requires { 64 ≤ self.old.room }
-        ensures bits { self.new.bits ≡ self.old.bits ++ bits_of word.now }
-        ensures room { self.old.room ≤ self.new.room + 64 }
-    {
-        let number = u64::from_be_bytes(*word);
-        let left = self.rest_len;
-        self.rest = push_eight(&mut self.bytes, self.rest, left, number, left);
+        let length = self.rest_len + count;
+        let all = (self.rest << count) + number as u64;
+        self.rest_len = push_whole_bytes(&mut self.bytes, all, length);
+        self.rest = all & ((1 << self.rest_len) - 1);
     }
 
     // Returns the bits as bytes, the last one filled with zeros.
@@ -133,32 +105,10 @@ impl Stream {
             × (bits_of result.items ≡ self.bits ++ replicate zeros false) }
     {
         let mut bytes = self.bytes;
-        let zeros = (64 - self.rest_len) % 8;
+        let zeros = (8 - self.rest_len) % 8;
         push_whole_bytes(&mut bytes, self.rest << zeros, self.rest_len + zeros);
         bytes
     }
-}
-
-// Pushes eight bytes: the bits of `rest` and the first bits of `number`. Returns the last `left`
-// bits of `number`.
-#[inline(always)]
-fn push_eight(bytes: &mut Vec<u8>, rest: u64, rest_len: u32, number: u64, left: u32) -> u64
-    requires rest_at_most { rest_len < 64 }
-    requires rest_fits { rest < 2 ^ rest_len }
-    requires left_at_most { left < 64 }
-    requires fits { number < 2 ^ (64 - rest_len + left) }
-    requires room { vec_len bytes.old + 8 ≤ vec_capacity bytes.old }
-    ensures bits { bits_of bytes.new.items ++ number_bits left result ≡ bits_of bytes.old.items
-        ++ (number_bits rest_len rest ++ number_bits (64 - rest_len + left) number) }
-    ensures fits { result < 2 ^ left }
-    ensures length { vec_len bytes.new ≡ vec_len bytes.old + 8 }
-    ensures capacity_at_least { vec_capacity bytes.old ≤ vec_capacity bytes.new }
-{
-    // Two shifts, since one by 64 is not allowed.
-    let front = rest << (63 - rest_len) << 1;
-    let word = front + (number >> left);
-    bytes.extend_from_slice(&word.to_be_bytes()).unwrap();
-    number & ((1 << left) - 1)
 }
 
 // Pushes the whole bytes of `number`, from its first bits on, and returns how many bits are left.

@@ -1,6 +1,6 @@
 //! Writes segments: mode indicator, length field and data bits.
 
-ghost use Rattle.std.specs.Prelude.{◌≡◌, ◌+◌, ◌-◌, ◌*◌, ◌/◌, ◌<◌, ◌≤◌, ◌^◌, ◌++◌, ◌&&◌, not, false, length, slice_index, IsTrue};
+ghost use Rattle.std.specs.Prelude.{◌≡◌, ◌+◌, ◌-◌, ◌*◌, ◌/◌, ◌<◌, ◌≤◌, ◌^◌, ◌++◌, ◌&&◌, not, false, length, IsTrue};
 ghost use Rattle.std.specs.List.{list_all};
 ghost use Rattle.qrcode_types.specs.Bits.{number_bits, bits_of};
 ghost use Rattle.qrcode_types.specs.Versions.{is_valid};
@@ -69,41 +69,16 @@ fn push_header(stream: &mut Stream, version: Version, mode: Mode, count: usize)
     stream.push_number(mode.length_bits_count(version) as u32, count as u32);
 }
 
-// Appends digits, twelve at a time in forty bits, and then the rest.
+// Appends digits, three in ten bits, a last two in seven, a last one in four.
 fn push_digits(stream: &mut Stream, digits: &[u8])
     requires digits { IsTrue (list_all characters.is_digit digits.now) }
     requires room { (10 * length digits.now + 2) / 3 ≤ stream.old.room }
     ensures { stream.new.bits ≡ stream.old.bits ++ numeric_bits digits.now }
 {
     let mut rest = digits;
-    while let Some((twelve, more)) = rest.split_first_chunk::<12>() {
-        stream.push_long_number(40, twelve_digits_number(twelve));
-        rest = more;
-    }
-    push_last_digits(stream, rest);
-}
-
-// Returns the forty bits of twelve digits as a number.
-#[inline(always)]
-fn twelve_digits_number(digits: &[u8; 12]) -> u64
-    requires { IsTrue (list_all characters.is_digit digits.now) }
-    ensures bits { number_bits 40 result ≡ numeric_bits digits.now }
-    ensures fits { result < 2 ^ 40 }
-{
-    let six = 1024 * three_digits_number(digits, 0) + three_digits_number(digits, 3);
-    let nine = 1024 * six + three_digits_number(digits, 6);
-    1024 * nine + three_digits_number(digits, 9)
-}
-
-// Appends digits, three in ten bits, a last two in seven, a last one in four.
-fn push_last_digits(stream: &mut Stream, digits: &[u8])
-    requires digits { IsTrue (list_all characters.is_digit digits.now) }
-    requires room { (10 * length digits.now + 2) / 3 ≤ stream.old.room }
-    ensures { stream.new.bits ≡ stream.old.bits ++ numeric_bits digits.now }
-{
-    let mut rest = digits;
-    while let Some((three, more)) = rest.split_first_chunk::<3>() {
-        stream.push_long_number(10, three_digits_number(three, 0));
+    while let [first, second, third, more @ ..] = rest {
+        let (first, second) = (digit_number(*first), digit_number(*second));
+        stream.push_number(10, 100 * first + 10 * second + digit_number(*third));
         rest = more;
     }
     match rest {
@@ -113,19 +88,6 @@ fn push_last_digits(stream: &mut Stream, digits: &[u8])
         [last] => stream.push_number(4, digit_number(*last)),
         _ => {}
     }
-}
-
-// Returns the number that three digits spell. The offset of `0` in ASCII is subtracted at the end.
-#[inline(always)]
-fn three_digits_number(digits: &[u8], at: usize) -> u64
-    requires digits { IsTrue (list_all characters.is_digit digits.now) }
-    requires inside { at + 3 ≤ length digits.now }
-    ensures value { result ≡ 100 * (slice_index digits.now at - 48)
-        + 10 * (slice_index digits.now (at + 1) - 48) + (slice_index digits.now (at + 2) - 48) }
-    ensures at_most { result ≤ 999 }
-{
-    let tens = 10 * u64::from(digits[at]) + u64::from(digits[at + 1]);
-    10 * tens + u64::from(digits[at + 2]) - 111 * 48
 }
 
 // Appends alphanumeric characters, two in eleven bits, a last one in six.
@@ -146,21 +108,7 @@ fn push_characters(stream: &mut Stream, text: &[u8])
     }
 }
 
-// Appends bytes, eight at a time, and then the rest.
 fn push_bytes(stream: &mut Stream, bytes: &[u8])
-    requires room { 8 * length bytes.now ≤ stream.old.room }
-    ensures { stream.new.bits ≡ stream.old.bits ++ bits_of bytes.now }
-{
-    let mut rest = bytes;
-    while let Some((word, more)) = rest.split_first_chunk::<8>() {
-        stream.push_word(word);
-        rest = more;
-    }
-    push_last_bytes(stream, rest);
-}
-
-// Appends bytes one by one.
-fn push_last_bytes(stream: &mut Stream, bytes: &[u8])
     requires room { 8 * length bytes.now ≤ stream.old.room }
     ensures { stream.new.bits ≡ stream.old.bits ++ bits_of bytes.now }
 {

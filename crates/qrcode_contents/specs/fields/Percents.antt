@@ -6,11 +6,11 @@ abbrev pub is_unreserved : ℕ → Bool  -- a byte that is not encoded: a letter
 is_unreserved b =
     is_digit b || (nat_lt 64 b && nat_lt b 91) || (nat_lt 96 b && nat_lt b 123) || b == 45 || b == 46 || b == 95 || b == 126
 
-abbrev pub hex_digit : ℕ → ℕ  -- the hexadecimal digit of a number below 16, with capitals
-hex_digit n = if nat_lt n 10 then 48 + n else 55 + n
+abbrev pub hex_digit : ℕ → ℕ  -- the hexadecimal digit of a number below 16, with capitals; any other number has a character above them
+hex_digit n = if nat_lt n 10 then 48 + n else (if nat_lt n 16 then 55 + n else 87 + n)
 
-abbrev pub hex_value : ℕ → ℕ  -- the number of a hexadecimal digit
-hex_value c = if nat_lt c 58 then c - 48 else c - 55
+abbrev pub hex_value : ℕ → ℕ  -- the number of a hexadecimal digit, in upper or lower case
+hex_value c = if nat_lt c 58 then c - 48 else (if nat_lt c 71 then c - 55 else c - 87)
 
 abbrev pub encoded_byte : ℕ → List ℕ  -- a byte as it is, or as a percent sign and two hexadecimal digits
 encoded_byte b = if is_unreserved b then b ∷ [] else 37 ∷ hex_digit (b / 16) ∷ hex_digit (b % 16) ∷ []
@@ -29,3 +29,8 @@ decoded (a ∷ b ∷ c ∷ rest) =
 printed_row : decoded (codes "a%20b") ≡ codes "a b"
 unfolding decoded
 printed_row = refl
+
+-- the printed example of section 6.2.2.1: both cases are equivalent
+case_row : decoded (codes "%3a%3A") ≡ codes "::"
+unfolding decoded
+case_row = refl

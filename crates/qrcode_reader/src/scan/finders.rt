@@ -1,9 +1,9 @@
 //! Finds finder patterns in pixels: dark, light, dark, light and dark runs of 1, 1, 3, 1 and 1
-//! modules, across and down.
+//! modules, across and down, in squares of seven modules a side.
 
 ghost use Rattle.std.specs.Prelude.{◌≡◌, ◌^◌, ◌<◌, ◌≤◌, length, IfOk, IfSome, OnOk};
 
-use crate::scan::pixels::Pixels;
+use crate::scan::pixels::{GREATEST_SIDE, Pixels};
 use std::alloc::{AllocError, Global};
 
 // The most finder patterns to keep of a picture. Bounds memory and time.
@@ -117,7 +117,7 @@ fn is_same(finder: Finder, other: Finder) -> bool {
 }
 
 // Returns the finder pattern around a pixel, about `width` pixels wide. Neither side may be more
-// than twice as long as the other.
+// than twice as long as the other, and at most a quarter of the modules may be wrong.
 fn finder_at(pixels: &Pixels, x: usize, y: usize, width: usize) -> Option<Finder>
     requires inside { (x ≤ pixels.now.across) × (y ≤ pixels.now.down) × (x ≤ 65535) }
     requires width { width ≤ 65535 }
@@ -129,12 +129,41 @@ fn finder_at(pixels: &Pixels, x: usize, y: usize, width: usize) -> Option<Finder
     if width > 2 * height || height > 2 * width {
         return None;
     }
-    Some(Finder {
+    let finder = Finder {
         x: left + right,
         y: top + bottom,
         width,
         height,
-    })
+    };
+    if 4 * wrong_modules(pixels, finder) > 49 {
+        return None;
+    }
+    Some(finder)
+}
+
+// Counts the wrong modules of a finder pattern. In the data of a large symbol, many places have its
+// runs through their middle, but hardly any has its modules.
+fn wrong_modules(pixels: &Pixels, finder: Finder) -> usize
+    ensures { result ≤ 49 }
+{
+    let mut wrong = 0;
+    for i in 0..49 {
+        let (column, row) = (i % 7, i / 7);
+        let x = centre_of(finder.x, finder.width, column);
+        let y = centre_of(finder.y, finder.height, row);
+        let is_ring = column.abs_diff(3).max(row.abs_diff(3)) == 2;
+        wrong += usize::from(is_dark(pixels, row_of(pixels, y), x) == is_ring);
+    }
+    wrong
+}
+
+// Returns the pixel in the middle of one of seven modules; `centre` is twice their centre, `seven`
+// their pixels.
+pub(crate) fn centre_of(centre: usize, seven: usize, number: usize) -> usize
+    requires { (centre ≤ 131070) × (seven ≤ 65535) × (number ≤ 6) }
+    ensures { result ≤ 65535 }
+{
+    ((7 * centre + 2 * number * seven).saturating_sub(6 * seven) / 14).min(GREATEST_SIDE)
 }
 
 // Returns the start and end of the finder pattern whose middle contains `place`. Looks at no more

@@ -2,9 +2,11 @@
 
 ghost use Rattle.std.specs.Prelude.{◌≡◌, ◌*◌, ◌+◌, ◌≤◌, IfSome};
 
-use crate::scan::finders::{Finder, Line, column_of, is_near, row_of, run_end, run_start};
+use crate::scan::finders::{
+    Finder, Line, centre_of, column_of, is_near, row_of, run_end, run_start,
+};
 use crate::scan::grids::{Grid, push_grid};
-use crate::scan::pixels::{GREATEST_SIDE, Pixels};
+use crate::scan::pixels::Pixels;
 use std::alloc::AllocError;
 
 // The modules along one side: where they start in pixels, how many pixels they take, and how many
@@ -35,8 +37,9 @@ pub(crate) fn push_micro(
 // Returns the grid of a Micro symbol that has this finder pattern in its left or right, upper or
 // lower corner.
 fn micro_grid(pixels: &Pixels, finder: Finder, is_right: bool, is_lower: bool) -> Option<Grid> {
-    let row = row_of(pixels, outer_line(finder.y, finder.height, is_lower));
-    let column = column_of(pixels, outer_line(finder.x, finder.width, is_right));
+    let (last, lowest) = (6 * usize::from(is_right), 6 * usize::from(is_lower));
+    let row = row_of(pixels, centre_of(finder.y, finder.height, lowest));
+    let column = column_of(pixels, centre_of(finder.x, finder.width, last));
     let across = span_of(pixels, row, finder.x, finder.width, is_right);
     let down = span_of(pixels, column, finder.y, finder.height, is_lower);
     if across.count != down.count || across.count < 11 {
@@ -51,20 +54,6 @@ fn micro_grid(pixels: &Pixels, finder: Finder, is_right: bool, is_lower: bool) -
         down: 2 * down.extent,
         parts: 2 * count,
     })
-}
-
-// Returns the pixel row or column through the middle of the first or last of seven modules;
-// `centre` is twice their centre, `seven` their pixels.
-fn outer_line(centre: usize, seven: usize, is_last: bool) -> usize
-    requires { (centre ≤ 131070) × (seven ≤ 65535) }
-    ensures { result ≤ 65535 }
-{
-    let place = if is_last {
-        7 * centre + 6 * seven
-    } else {
-        (7 * centre).saturating_sub(6 * seven)
-    };
-    (place / 14).min(GREATEST_SIDE)
 }
 
 // Measures the modules along an outer line of a finder pattern: its seven, and the timing pattern

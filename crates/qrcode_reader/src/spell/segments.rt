@@ -14,17 +14,7 @@ use crate::spell::refusals::Unspelled;
 use qrcode_types::characters::bytes_each;
 use qrcode_types::modes::{has_mode, indicator};
 use qrcode_types::types::{Mode, Version};
-
-// Returns how many zeros the terminator has, if there is room for all.
-fn terminator_length(version: Version) -> usize
-    requires { IsTrue (is_valid version) }
-    ensures { result ≡ written.terminator_length version }
-{
-    match version {
-        Version::Normal(_) => 4,
-        Version::Micro(v) => 2 * (v as usize) + 1,
-    }
-}
+use qrcode_types::versions::terminator_length;
 
 // Whether the segments end here: with the terminator, or as much of it as is left.
 pub(crate) fn is_end(bits: &[bool], version: Version) -> bool

@@ -5,12 +5,13 @@ ghost use Rattle.qrcode_types.specs.Versions.{has_level, side};
 ghost use Rattle.qrcode_layout.specs.Masks.{exists_in};
 ghost use Rattle.qrcode_symbol.specs.Canvas.{mask_module, with_mask};
 
+use super::Module;
 use super::layer::{Layer, fixed_bit};
-use super::{Module, side};
 use qrcode_layout::figures::color_of;
 use qrcode_layout::masks::MaskPattern;
 use qrcode_layout::words::format_word;
 use qrcode_types::types::{EcLevel, Version};
+use qrcode_types::versions::side;
 
 // Returns a module after a mask: a bit of the format word, the dark module, or the masked module.
 fn mask_module(layer: Layer, x: usize, y: usize, old: Module) -> Module

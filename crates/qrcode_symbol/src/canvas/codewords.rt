@@ -1,9 +1,8 @@
 //! The codewords of a symbol as a stream of bits.
 
-ghost use Rattle.std.specs.Prelude.{◌≡◌, ◌+◌, ◌*◌, ◌/◌, ◌%◌, ◌<◌, ◌^◌, ◌++◌, drop, slice_get, IsTrue};
+ghost use Rattle.std.specs.Prelude.{◌≡◌, ◌+◌, ◌*◌, ◌/◌, ◌%◌, ◌<◌, ◌++◌, drop, slice_get, IsTrue};
 ghost use Rattle.qrcode_types.specs.Versions.{is_valid};
 ghost use Rattle.qrcode_symbol.specs.Canvas.{drawn_bits};
-ghost use Rattle.qrcode_symbol.specs.Filling.{eight_of};
 
 use qrcode_types::tables::has_half_codeword;
 use qrcode_types::types::{EcLevel, Version};
@@ -32,20 +31,6 @@ impl<'a> Model for Codewords<'a> {
         ++ bits_of c.ec.now) };
 
     ghost invariant = { λ c. c.bits_left < 8 };
-}
-
-// Returns, as its lowest eight bits, those left of `begun` and then the highest of `next`. `next`
-// becomes `begun`, with as many bits left as before.
-#[inline(always)]
-fn shifted(begun: &mut u32, bits_left: u32, next: u8) -> u32
-    requires { bits_left < 8 }
-    ensures value { result ≡ (256 * (begun.old % 256) + next) / 2 ^ bits_left }
-    ensures begun { begun.new ≡ next }
-    ensures byte { next < 256 }
-{
-    let both = 256 * (*begun % 256) + next as u32;
-    *begun = next as u32;
-    both >> bits_left
 }
 
 impl<'a> Codewords<'a> {
@@ -87,24 +72,5 @@ impl<'a> Codewords<'a> {
         }
         self.bits_left -= 1;
         Some((self.begun >> self.bits_left) % 2 == 1)
-    }
-
-    // Returns the next eight bits, as the lowest of a number, if they end in a byte that is drawn
-    // whole.
-    #[inline(always)]
-    pub(super) fn next_eight(&mut self) -> Option<u32>
-        ensures { self.old ≡ eight_of result ++ self.new }
-    {
-        if self.bytes.len() > 1 {
-            let next = self.bytes[0];
-            self.bytes = &self.bytes[1..];
-            return Some(shifted(&mut self.begun, self.bits_left, next));
-        }
-        if self.bytes.is_empty() && !self.ec.is_empty() {
-            let next = self.ec[0];
-            self.ec = &self.ec[1..];
-            return Some(shifted(&mut self.begun, self.bits_left, next));
-        }
-        None
     }
 }

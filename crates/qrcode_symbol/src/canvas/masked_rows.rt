@@ -6,7 +6,7 @@ ghost use Rattle.qrcode_types.specs.Versions.{is_micro};
 ghost use Rattle.qrcode_penalty.specs.Rows.{FitsWidth, IsSquare, is_set, dark_in, Shows};
 ghost use Rattle.qrcode_layout.specs.Masks.{turns, turned_if, exists_in};
 ghost use Rattle.qrcode_layout.specs.Words.{format_word};
-ghost use Rattle.qrcode_symbol.specs.Masking.{masked_dark, next_places, three_words, AreTurned};
+ghost use Rattle.qrcode_symbol.specs.Masking.{masked_dark, next_places, three_words};
 ghost use Rattle.qrcode_symbol.specs.Deciding.{IsPutInRow, IsPutInColumn, AreDecided};
 
 use super::layer::Layer;
@@ -30,19 +30,6 @@ static TURNED: [[u8; 12]; 8] = [
     [0o25, 0o70, 0o61, 0o52, 0o07, 0o16, 0o25, 0o70, 0o61, 0o52, 0o07, 0o16],
 ];
 
-// `TURNED` by columns: in twelve rows of six columns; row y is bit y.
-#[rattlefmt::skip]
-static TURNED_COLUMNS: [[u16; 6]; 8] = [
-    [0o2525, 0o5252, 0o2525, 0o5252, 0o2525, 0o5252],
-    [0o2525, 0o2525, 0o2525, 0o2525, 0o2525, 0o2525],
-    [0o7777, 0o0000, 0o0000, 0o7777, 0o0000, 0o0000],
-    [0o1111, 0o4444, 0o2222, 0o1111, 0o4444, 0o2222],
-    [0o1463, 0o1463, 0o1463, 0o6314, 0o6314, 0o6314],
-    [0o7777, 0o0101, 0o1111, 0o2525, 0o1111, 0o0101],
-    [0o7777, 0o0707, 0o3333, 0o2525, 0o5555, 0o6161],
-    [0o2525, 0o7070, 0o6161, 0o5252, 0o0707, 0o1616],
-];
-
 // Repeats six bits over 64 columns.
 #[inline(always)]
 fn repeat(six: u64) -> u64
@@ -52,8 +39,8 @@ fn repeat(six: u64) -> u64
     six.wrapping_mul(0x1041_0410_4104_1041)
 }
 
-// Continues a pattern that repeats every six or twelve bits by the next 64. As 60 is a multiple of
-// both, that is a rotation by four bits.
+// Continues a pattern that repeats every six bits by the next 64. As 60 is a multiple of six, that is
+// a rotation by four bits.
 #[inline(always)]
 fn next_places(word: u64) -> u64
     ensures { result ≡ next_places word }
@@ -61,52 +48,22 @@ fn next_places(word: u64) -> u64
     word >> 4 | word << 56
 }
 
-/// Extends a pattern that repeats every six or twelve bits from its first 64 to a whole line.
+// Extends a pattern that repeats every six bits from its first 64 to a whole row.
 #[inline(always)]
-pub(super) fn long_row<R: PackedRow>(word: u64) -> R
+fn long_row<R: PackedRow>(word: u64) -> R
     ensures { R.bits result ≡ three_words word % 2 ^ R.room }
 {
     let middle = next_places(word);
     R::of_words(word, middle, next_places(middle))
 }
 
-/// Returns the modules that the mask reverses in the first 64 columns of row `y`. `long_row`
-/// extends them to the whole row.
+// Returns the modules that the mask reverses in the first 64 columns of row `y`. `long_row` extends
+// them to the whole row.
 #[inline(always)]
-pub(super) fn turned_row(mask: MaskPattern, y: usize) -> u64
+fn turned_row(mask: MaskPattern, y: usize) -> u64
     ensures { (x : ℕ) → x < 192 → is_set (three_words result) x ≡ turns mask x y }
 {
     repeat(TURNED[mask.number()][y % 12] as u64)
-}
-
-/// Returns the modules that the mask reverses in the first 64 rows of column `x`. `long_row`
-/// extends them to the whole column.
-#[inline(always)]
-pub(super) fn turned_column(mask: MaskPattern, x: usize) -> u64
-    ensures { (y : ℕ) → y < 192 → is_set (three_words result) y ≡ turns mask x y }
-{
-    (TURNED_COLUMNS[mask.number()][x % 6] as u64).wrapping_mul(0x1001_0010_0100_1001)
-}
-
-// The modules that a mask reverses in the first 64 columns of twelve rows. They give all rows,
-// since each mask repeats every twelve rows.
-#[derive(Drop)]
-struct TurnedRows {
-    mask: MaskPattern,
-    words: [u64; 12],
-    ghost length: { length words ≡ 12 },
-    ghost value: { (x y : ℕ) → x < 192
-        → is_set (slice_index_or (map three_words words) (y % 12) 0) x ≡ turns mask x y },
-}
-
-fn turned_rows(mask: MaskPattern) -> TurnedRows
-    ensures { result.mask ≡ mask }
-{
-    let mut words = [0u64; 12];
-    for y in 0..12 {
-        words[y] = turned_row(mask, y);
-    }
-    TurnedRows { mask, words }
 }
 
 // Returns the row with one bit set or cleared.
@@ -197,32 +154,6 @@ fn decide_rows<R: PackedRow>(layer: Layer, rows: &mut [R])
     }
 }
 
-// Writes up to twelve rows, starting at a multiple of twelve, with the modules reversed that the
-// mask reverses. Inlined with a count of twelve, it lets LLVM keep the mask's words at hand.
-#[inline(always)]
-fn turn_some_rows<R: PackedRow>(
-    modules: &PackedModules<'_, R>,
-    turned: &TurnedRows,
-    first: usize,
-    count: usize,
-    rows: &mut [R],
-)
-    requires at_most { count ≤ 12 }
-    requires multiple { first % 12 ≡ 0 }
-    requires inside { first + count ≤ modules.now.width }
-    requires length { length rows.old ≡ modules.now.width }
-    requires before { AreTurned modules.now.width turned.now.mask modules.now.dark.rows
-        modules.now.free.rows first (map R.bits rows.old) }
-    ensures { AreTurned modules.now.width turned.now.mask modules.now.dark.rows
-        modules.now.free.rows (first + count) (map R.bits rows.new) }
-{
-    for k in 0..count {
-        let y = first + k;
-        let places = modules.free.row(y).and(long_row(turned.words[k]));
-        rows[y] = modules.dark.row(y).xor(places);
-    }
-}
-
 // Writes all rows, with the modules reversed that the mask reverses.
 fn turn_rows<R: PackedRow>(modules: &PackedModules<'_, R>, mask: MaskPattern, rows: &mut [R])
     requires length { length rows.old ≡ modules.now.width }
@@ -233,12 +164,10 @@ fn turn_rows<R: PackedRow>(modules: &PackedModules<'_, R>, mask: MaskPattern, ro
     ensures fits { (y : ℕ)
         → FitsWidth modules.now.width (slice_index_or (map R.bits rows.new) y 0) }
 {
-    let turned = turned_rows(mask);
-    let count = modules.width / 12;
-    for k in 0..count {
-        turn_some_rows(modules, &turned, 12 * k, 12, rows);
+    for y in 0..modules.width {
+        let places = modules.free.row(y).and(long_row(turned_row(mask, y)));
+        rows[y] = modules.dark.row(y).xor(places);
     }
-    turn_some_rows(modules, &turned, 12 * count, modules.width % 12, rows);
 }
 
 /// Writes all rows under a mask, with its format word.

@@ -1,28 +1,26 @@
 //! Chooses the mask. Packs the modules into rows once, tries each mask on the rows, and writes the
 //! colours under the best one.
 
-ghost use Rattle.std.specs.Prelude.{◌≡◌, ◌+◌, ◌*◌, ◌<◌, ◌≤◌, ◌^◌, false, length, map, IsTrue, IfOk, IsOkUnless};
-ghost use Rattle.qrcode_types.specs.Versions.{is_micro, has_level, side};
+ghost use Rattle.std.specs.Prelude.{◌≡◌, ◌+◌, ◌*◌, ◌<◌, ◌≤◌, ◌^◌, length, IsTrue, IfOk, IsOkUnless};
+ghost use Rattle.qrcode_types.specs.Versions.{has_level, side};
 ghost use Rattle.qrcode_types.specs.declared.types.QrError.TheVariants.{OutOfMemory};
 ghost use Rattle.qrcode_layout.specs.Masks.{mask_count};
-ghost use Rattle.qrcode_symbol.specs.Masking.{nth_cost, IsFirstLeastCost, IsLastColumn, AreBestColors};
+ghost use Rattle.qrcode_symbol.specs.Masking.{nth_cost, IsFirstLeastCost, AreBestColors};
 
-use super::cells::Cell;
-use super::edges::{LastColumn, nth_micro_cost};
+use super::Module;
 use super::masked_rows::mask_rows;
 use super::packing::{PackedModules, pack_rows};
-use super::side;
+use super::penalties::square_penalty;
 use super::unpacking::unpack_rows;
 use qrcode_layout::masks::{mask_count, nth_mask};
-use qrcode_penalty::penalty::normal_penalty;
 use qrcode_penalty::row::{PackedRow, Row128, Row192};
 use qrcode_penalty::square::PackedSquare;
 use qrcode_types::types::{Color, EcLevel, QrResult, Version};
+use qrcode_types::versions::side;
 use std::alloc::Global;
 
-// Returns the penalty under the `k`-th mask of a Normal version; `masked` is scratch space.
-fn nth_normal_cost<R: PackedRow>(modules: &PackedModules<'_, R>, k: usize, masked: &mut [R]) -> u32
-    requires normal { is_micro modules.now.version ≡ false }
+// Returns the penalty under the `k`-th mask; `masked` is scratch space.
+fn nth_cost<R: PackedRow>(modules: &PackedModules<'_, R>, k: usize, masked: &mut [R]) -> u32
     requires mask_exists { k < mask_count modules.now.version }
     requires length { length masked.old ≡ modules.now.width }
     ensures value { result ≡ nth_cost modules.now.version modules.now.ec_level modules.now.width
@@ -30,28 +28,8 @@ fn nth_normal_cost<R: PackedRow>(modules: &PackedModules<'_, R>, k: usize, maske
     ensures at_most { result < 2 ^ 24 }
 {
     mask_rows(modules, nth_mask(modules.version, k), masked);
-    normal_penalty(&PackedSquare::new(masked, modules.width as u32))
-}
-
-// Returns the penalty under the `k`-th mask; `masked` is scratch space.
-fn nth_cost<R: PackedRow>(
-    modules: &PackedModules<'_, R>,
-    column: LastColumn<R>,
-    k: usize,
-    masked: &mut [R],
-) -> u32
-    requires mask_exists { k < mask_count modules.now.version }
-    requires dark { IsLastColumn modules.now.width modules.now.dark.rows (R.bits column.dark) }
-    requires free { IsLastColumn modules.now.width modules.now.free.rows (R.bits column.free) }
-    requires length { length masked.old ≡ modules.now.width }
-    ensures value { result ≡ nth_cost modules.now.version modules.now.ec_level modules.now.width
-        modules.now.dark.rows modules.now.free.rows k }
-    ensures at_most { result < 2 ^ 24 }
-{
-    match modules.version {
-        Version::Normal(_) => nth_normal_cost(modules, k, masked),
-        Version::Micro(_) => nth_micro_cost(modules, column, k),
-    }
+    let square = PackedSquare::new(masked, modules.width as u32);
+    square_penalty(modules.version, &square)
 }
 
 // Returns the number of the first mask with the lowest penalty; `masked` is scratch space.
@@ -62,11 +40,10 @@ fn least_mask<R: PackedRow>(modules: &PackedModules<'_, R>, masked: &mut [R]) ->
         modules.now.dark.rows modules.now.free.rows)
         (mask_count modules.now.version) result }
 {
-    let column = LastColumn::of(modules);
     let mut best = 0;
     let mut least = u32::MAX;
     for k in 0..mask_count(modules.version) {
-        let cost = nth_cost(modules, column, k, masked);
+        let cost = nth_cost(modules, k, masked);
         if cost < least {
             best = k;
             least = cost;
@@ -77,17 +54,17 @@ fn least_mask<R: PackedRow>(modules: &PackedModules<'_, R>, masked: &mut [R]) ->
 
 // Returns the colours under the first mask with the lowest penalty, with rows of type `R`. Frees
 // the modules before it writes the colours.
-fn best_by<R: PackedRow, C: Cell>(
+fn best_by<R: PackedRow>(
     alloc: Global,
     version: Version,
     ec_level: EcLevel,
-    modules: Vec<C>,
+    modules: Vec<Module>,
 ) -> QrResult<Vec<Color>>
     requires exists { IsTrue (has_level version ec_level) }
     requires room { side version + 3 ≤ R.room }
     requires square { length modules.items ≡ side version * side version }
     ensures best { IfOk result (λ colors.
-        AreBestColors version ec_level (map C.shows modules.items) colors.items) }
+        AreBestColors version ec_level modules.items colors.items) }
     ensures memory { IsOkUnless result OutOfMemory }
 {
     let width = side(version);
@@ -112,24 +89,24 @@ fn best_by<R: PackedRow, C: Cell>(
 
 /// Returns the colours under the first mask with the lowest penalty, with its format word, in row
 /// order. Frees the modules before it writes the colours.
-pub(super) fn best_colors<C: Cell>(
+pub(super) fn best_colors(
     alloc: Global,
     version: Version,
     ec_level: EcLevel,
-    modules: Vec<C>,
+    modules: Vec<Module>,
 ) -> QrResult<Vec<Color>>
     requires exists { IsTrue (has_level version ec_level) }
     requires square { length modules.items ≡ side version * side version }
     ensures best { IfOk result (λ colors.
-        AreBestColors version ec_level (map C.shows modules.items) colors.items) }
+        AreBestColors version ec_level modules.items colors.items) }
     ensures memory { IsOkUnless result OutOfMemory }
 {
     let width = side(version);
     if width + 3 <= 64 {
-        return best_by::<u64, C>(alloc, version, ec_level, modules);
+        return best_by::<u64>(alloc, version, ec_level, modules);
     }
     if width + 3 <= 128 {
-        return best_by::<Row128, C>(alloc, version, ec_level, modules);
+        return best_by::<Row128>(alloc, version, ec_level, modules);
     }
-    best_by::<Row192, C>(alloc, version, ec_level, modules)
+    best_by::<Row192>(alloc, version, ec_level, modules)
 }

@@ -9,12 +9,12 @@ ghost use Rattle.qrcode_symbol.specs.Penalties.{remasked_at, remasked};
 ghost use Rattle.qrcode_symbol.specs.Symbol.{IsSymbol};
 
 use super::layer::Layer;
-use super::side;
 use qrcode_layout::figures::color_of;
 use qrcode_layout::masks::MaskPattern;
 use qrcode_layout::patterns::{format_index, is_functional_place};
 use qrcode_layout::words::format_word;
 use qrcode_types::types::{Color, EcLevel, Version};
+use qrcode_types::versions::side;
 
 // Reverses a colour if exactly one of two masks reverses its place.
 fn turned(old: MaskPattern, mask: MaskPattern, x: usize, y: usize, color: Color) -> Color

@@ -60,11 +60,12 @@ static COLOURED: [Row<ppm::Color, File>; 1] = [
 
 // By the maker's manual: GS v 0, two bytes for the bytes of a row, and two for the number of rows.
 #[rattlefmt::skip]
-static RECEIPTS: [Row<escpos::Dot, File>; 2] = [
+static RECEIPTS: [Row<escpos::Dot, File>; 3] = [
     Row(DIAGONAL, On(0), Usual, Of(2, 3), File(b"\x1dv0\0\x01\0\x06\0", &[
         0b1100_0000, 0b1100_0000, 0b1100_0000, 0b0011_0000, 0b0011_0000, 0b0011_0000,
     ])),
     Row(DARK, On(0), Usual, Of(2064, 1), File(b"\x1dv0\0\x02\x01\x01\0", &[255; 258])),
+    Row(DARK, On(0), Usual, Of(1, 2064), File(b"\x1dv0\0\x01\0\x10\x08", &[0x80; 2064])),
 ];
 
 // By the maker's manual: a 0 prints a dot, so the bits that fill up a row are 1.
@@ -98,7 +99,7 @@ static MAPS: [Row<xbm::Dot, File>; 1] = [
     )),
 ];
 
-// Written by hand: the objects begin at bytes 9, 54, 105, 209 and 391.
+// Written by hand: the objects begin at bytes 9, 54, 105, 209 and 392.
 #[rattlefmt::skip]
 static PAGES: [Row<pdf::Color, File>; 1] = [
     Row(DIAGONAL, On(0), Both(pdf::Color([0, 0, 136]), pdf::Color([255, 255, 136])), Of(3, 2), File(
@@ -106,12 +107,12 @@ static PAGES: [Row<pdf::Color, File>; 1] = [
         2 0 obj\n<</Type/Pages/Kids[3 0 R]/Count 1>>\nendobj\n\
         3 0 obj\n<</Type/Page/Parent 2 0 R/Resources<<>>/Contents 4 0 R\
         /MediaBox[0 0 6.000000 4.000000]>>\nendobj\n",
-        b"4 0 obj\n<</Length 133>>\nstream\n3.000000 0 0 -2.000000 0 4.000000 cm\n\
+        b"4 0 obj\n<</Length 134>>\nstream\n3.000000 0 0 -2.000000 0 4.000000 cm\n\
         1.000000 1.000000 0.533333 rg\n0 0 2 2 re f\n0.000000 0.000000 0.533333 rg\n\
-        0 0 1 1 re\n1 1 1 1 re\nf\nendstream\nendobj\n5 0 obj\n<<>>\nendobj\n\
+        0 0 1 1 re\n1 1 1 1 re\nf\n\nendstream\nendobj\n5 0 obj\n<<>>\nendobj\n\
         xref\n0 6\n0000000000 65535 f \n0000000009 00000 n \n0000000054 00000 n \n\
-        0000000105 00000 n \n0000000209 00000 n \n0000000391 00000 n \n\
-        trailer\n<</Size 6/Root 1 0 R/Info 5 0 R>>\nstartxref\n411\n%%EOF\n",
+        0000000105 00000 n \n0000000209 00000 n \n0000000392 00000 n \n\
+        trailer\n<</Size 6/Root 1 0 R/Info 5 0 R>>\nstartxref\n412\n%%EOF\n",
     )),
 ];
 
@@ -149,14 +150,16 @@ static PATHS: [Row<svg::Path<'static>, Text>; 2] = [
             "version=\"1.1\" width=\"12\" height=\"8\" viewBox=\"0 0 4 4\" ",
             "preserveAspectRatio=\"none\" shape-rendering=\"crispEdges\">",
             "<rect width=\"4\" height=\"4\" fill=\"t&amp;n\"/>",
-            "<path fill=\"a&quot;b&lt;c&amp;d&gt;\" d=\"m1 1h2v1h-2m1 0h1v1h-1\"/></svg>"
+            "<path fill=\"a&quot;b&lt;c&amp;d&gt;\" stroke=\"none\" ",
+            "d=\"m1 1h2v1h-2m1 0h1v1h-1\"/></svg>"
         )),
     ),
     Row(DARK, On(1), Usual, Default, Is(concat!(
         "<?xml version=\"1.0\" standalone=\"yes\"?><svg xmlns=\"http://www.w3.org/2000/svg\" ",
         "version=\"1.1\" width=\"24\" height=\"24\" viewBox=\"0 0 3 3\" ",
         "preserveAspectRatio=\"none\" shape-rendering=\"crispEdges\">",
-        "<rect width=\"3\" height=\"3\" fill=\"#fff\"/><path fill=\"#000\" d=\"m1 1h1v1h-1\"/></svg>"
+        "<rect width=\"3\" height=\"3\" fill=\"#fff\"/><path fill=\"#000\" ",
+        "stroke=\"none\" d=\"m1 1h1v1h-1\"/></svg>"
     ))),
 ];
 
@@ -165,13 +168,15 @@ static ELEMENTS: [Row<svg::PathElement<'static>, Text>; 2] = [
     Row(MICRO_2, On(2), Dark(svg::PathElement("navy")), Default, Starts(concat!(
         "<svg xmlns=\"http://www.w3.org/2000/svg\" version=\"1.1\" width=\"136\" height=\"136\" ",
         "viewBox=\"0 0 17 17\" preserveAspectRatio=\"none\" shape-rendering=\"crispEdges\">",
-        "<rect width=\"17\" height=\"17\" fill=\"#fff\"/><path fill=\"navy\" d=\"m2 2h7v1h-7",
+        "<rect width=\"17\" height=\"17\" fill=\"#fff\"/><path fill=\"navy\" ",
+        "stroke=\"none\" d=\"m2 2h7v1h-7",
         "m8-1h1v1h-1m2-1h1v1h-1m2-1h1v1h-1m-12 0h1v1h-1m6-1h1"
     ))),
     Row(DARK, On(1), Usual, Default, Is(concat!(
         "<svg xmlns=\"http://www.w3.org/2000/svg\" version=\"1.1\" width=\"24\" height=\"24\" ",
         "viewBox=\"0 0 3 3\" preserveAspectRatio=\"none\" shape-rendering=\"crispEdges\">",
-        "<rect width=\"3\" height=\"3\" fill=\"#fff\"/><path fill=\"#000\" d=\"m1 1h1v1h-1\"/></svg>"
+        "<rect width=\"3\" height=\"3\" fill=\"#fff\"/><path fill=\"#000\" ",
+        "stroke=\"none\" d=\"m1 1h1v1h-1\"/></svg>"
     ))),
 ];
 

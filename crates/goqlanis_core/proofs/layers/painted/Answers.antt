@@ -5,7 +5,7 @@ use Rattle.qrcode_types.specs.declared.types.Version.{Version}
 use Rattle.qrcode_render.specs.Layout.{Layout}
 use Rattle.goqlanis_core.specs.Formats.{Sheet, View, layout_of, sheet_of, view_of}
 use Rattle.goqlanis_core.specs.Layers.{IsPaintedFile, IsPaintedIn}
-use Rattle.goqlanis_core.specs.declared.formats.Format.TheVariants.{Png}
+use Rattle.qrcode_formats.specs.declared.Format.TheVariants.{Png}
 use Rattle.goqlanis_core.specs.declared.layers.PartInk.{PartInk}
 use Rattle.goqlanis_core.proofs.Overlaid.{tail_end}
 use Rattle.goqlanis_core.proofs.layers.painted.Goals as goal

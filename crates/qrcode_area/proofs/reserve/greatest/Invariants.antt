@@ -6,4 +6,5 @@ invariant-loop-i l = record {
   inside : l.most.0 < length l.counts;
   value : l.most.1 ≡ slice_index l.counts l.most.0;
   at_least : (k : ℕ) → k < l.i → slice_index l.counts k ≤ l.most.1;
+  earlier : (k : ℕ) → k < l.most.0 → slice_index l.counts k < l.most.1;
 }

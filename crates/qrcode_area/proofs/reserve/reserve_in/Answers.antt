@@ -17,5 +17,5 @@ returns c =
     let l = c.args.ec_level in
     let are = subst (λ o. IfSome o (AreBlocks v l)) c.unwrap-blocks.ensures c.of.ensures.value in
     let g = c.greatest-worst.ensures in
-    is_reserve v l (covers c.args.area.now) _ c.deref.result.now c.deref.ensures.value c.in_ok-touched.ensures g.inside g.value g.at_least
+    is_reserve v l (covers c.args.area.now) _ c.deref.result.now c.deref.ensures.value c.in_ok-touched.ensures g.inside g.value g.at_least g.earlier
     (ap (λ n. n / 2) (sym (ap (λ e. e.0) are))) c.touched_places.ensures c.touched_places-2.ensures

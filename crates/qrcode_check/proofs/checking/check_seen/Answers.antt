@@ -30,6 +30,7 @@ returns c =
       causes = IfErr-weaker c.check_square.result (IsBitCause c.deref.result.now) (λ (e : Unread). (w : ℕ) → w * w ≡ length s → IsBitCause (turned w) e)
           (λ e is w square. subst (λ (m : List Color). IsBitCause m e) (stands w square) is)
           c.check_square.ensures.causes;
+      no_side = λ none. absurd (none (side v) (sym c.in-Some.ensures.some.1));
     }
 
 pub returns-in_default-clause-causes : goal.returns-in_default-clause-causes

@@ -13,7 +13,7 @@ returns c = λ a b.
     (Decides-and _ _ (bytes_eq-Decides a.work_phone.now b.work_phone.now)
     (bytes_eq-Decides a.home_phone.now b.home_phone.now)))))) in (
       (λ is. let h = all.0 is in λ i. record {
-        person = h.0 i;
+        contact = h.0 i;
         name = h.1.0 i;
         organisation = h.1.1.0 i;
         title = h.1.1.1.0 i;
@@ -21,5 +21,5 @@ returns c = λ a b.
         work_phone = h.1.1.1.1.1.0 i;
         home_phone = h.1.1.1.1.1.1 i;
       }),
-      (λ e. all.1 (ap (λ h. h.person) e, (ap (λ h. h.name) e, (ap (λ h. h.organisation) e, (ap (λ h. h.title) e, (ap (λ h. h.mobile) e, (ap (λ h. h.work_phone) e, ap (λ h. h.home_phone) e))))))),
+      (λ e. all.1 (ap (λ h. h.contact) e, (ap (λ h. h.name) e, (ap (λ h. h.organisation) e, (ap (λ h. h.title) e, (ap (λ h. h.mobile) e, (ap (λ h. h.work_phone) e, ap (λ h. h.home_phone) e))))))),
     )

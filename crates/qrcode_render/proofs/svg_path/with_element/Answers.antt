@@ -1,44 +1,31 @@
-use Rattle.std.proofs.Common.{◌≡◌, ℕ, List, ◌++◌, ◌*◌, ◌/◌, ◌%◌, map, refl, ap, ap₂, ◌∙◌, sym, append_assoc}
+use Rattle.std.proofs.Common.{◌++◌, ◌*◌, ap, ◌∙◌}
 use Rattle.std.specs.Prelude.{codes, string_bytes}
-use Rattle.std.specs.List.{range_with_len}
 use Rattle.qrcode_render.specs.Grid.{all_columns, all_rows}
-use Rattle.qrcode_render.specs.Paths.{frame_of, frame_text, path_ground, path_text, attribute, runs_of}
-use Rattle.qrcode_render.proofs.FilledRuns.{runs_fill}
+use Rattle.qrcode_render.specs.Paths.{attribute, path_front}
 use Rattle.qrcode_render.proofs.svg_path.with_element.Goals as goal
-
--- nine texts in a row
-nested : (t a b c d e f g h : List ℕ) → (((((((t ++ a) ++ b) ++ c) ++ d) ++ e) ++ f) ++ g) ++ h ≡ t ++ (a ++ (b ++ (c ++ (d ++ (e ++ (f ++ (g ++ h)))))))
-nested t a b c d e f g h = simp append_assoc
 
 pub returns-clause-value : goal.returns-clause-value
 returns-clause-value c =
     let grid = c.args.grid.now in
-    let head = string_bytes c.args.text in
     let w = all_columns grid * grid.across in
     let h = all_rows grid * grid.down in
-    let frame = frame_text (frame_of c.args.frame.now) w h (all_columns grid) (all_rows grid) in
+    let runs = c.in_ok-runs.runs.items in
+    let head = string_bytes c.args.text in
     let light = attribute c.args.light.now in
-    let dark = attribute c.args.dark.now in
-    let runs = path_text (runs_of grid) in
-    let ground = codes "\"/><path fill=\"" in
-    let path = codes "\" d=\"" in
-    let end = codes "\"/></svg>" in
-    let sides = c.sides-columns.ensures in
-    let framed : string_bytes c.push_ground.new.text ≡ (head ++ frame) ++ path_ground (all_columns grid) (all_rows grid) =
-    c.in_ok-push_ground.ensures.appends
-    ∙ ap₂ (λ x y. string_bytes c.push_frame.new.text ++ path_ground x y) sides.columns sides.rows
-    ∙ ap (λ t. t ++ path_ground (all_columns grid) (all_rows grid)) c.in_ok-push_frame.ensures.appends in
-    let lit = c.in_ok-push_attribute.ensures.appends ∙ ap (λ t. t ++ light) framed in
-    let grounded = c.in_ok-push_str.ensures.bytes ∙ ap (λ t. t ++ ground) lit in
-    let inked = c.in_ok-push_attribute-2.ensures.appends ∙ ap (λ t. t ++ dark) grounded in
-    let begun = c.in_ok-push_str-2.ensures.bytes ∙ ap (λ t. t ++ path) inked in
-    let drawn = c.in_ok-push_runs.ensures.appends ∙ ap (λ t. t ++ runs) (c.in_ok-script.ensures.value ∙ c.deref.ensures ∙ begun) in
-    record {
-      across = grid.across;
-      down = grid.down;
-      runs = runs_of grid;
-      wide = refl;
-      high = refl;
-      written = c.into_string.ensures ∙ c.in_ok-push.ensures.appends ∙ ap (λ t. t ++ end) drawn ∙ nested head frame (path_ground (all_columns grid) (all_rows grid)) light ground dark path runs end;
-      shown = λ k. map (λ i. sym (runs_fill grid (i % w / grid.across) (i / w / grid.down)) k) (range_with_len 0 (w * h));
-    }
+    let dark = attribute c.args.dark.now in (
+      all_columns grid,
+      (
+        all_rows grid,
+        record {
+          across = grid.across;
+          down = grid.down;
+          runs = runs;
+          written =
+              c.in_ok-push_str.ensures.bytes
+              ∙ ap (λ t. t ++ codes "</svg>")
+              (c.in_ok-whole.ensures.value
+              ∙ (λ k. head ++ path_front (c.plain.ensures k) w h (all_columns grid) (all_rows grid) dark light (c.deref.ensures.value k)));
+          shown = c.in_ok-runs.ensures.value;
+        },
+      ),
+    )

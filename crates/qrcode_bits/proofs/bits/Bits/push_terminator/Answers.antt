@@ -1,8 +1,8 @@
 use Rattle.std.proofs.Common.{◌≡◌, ◌≤◌, ◌++◌, arith, length, sym, ap, subst, ◌∙◌}
 use Rattle.std.specs.Prelude.{flat_map}
-use Rattle.qrcode_types.specs.Versions.{capacity}
+use Rattle.qrcode_types.specs.Versions.{capacity, terminator_length}
 use Rattle.qrcode_bits.specs.BitList.{BitList}
-use Rattle.qrcode_bits.specs.Written.{written, terminated, terminator_length, ending}
+use Rattle.qrcode_bits.specs.Written.{written, terminated, ending}
 use Rattle.qrcode_bits.specs.Spelling.{SpellsOnly}
 use Rattle.qrcode_bits.proofs.Changed.{list_of, changed, terminator_fits}
 use Rattle.qrcode_bits.proofs.Endings.{terminated-ending, length-terminated, spells_only_terminated}

@@ -6,7 +6,7 @@ use Rattle.qrcode_bits.proofs.bits.ending.push_padding.Goals as goal
 
 pub loop-i-preserved : goal.loop-i-preserved
 loop-i-preserved c = record {
-  bits = rw (c.push_number.ensures.bits, c.padding_byte.ensures.value, c.loop-i.invariant.bits, append_assoc, padding_bytes-more c.loop-i.i) refl;
+  bits = rw (c.push_number.ensures.bits, c.into.ensures, c.padding_byte.ensures, c.loop-i.invariant.bits, append_assoc, padding_bytes-more c.loop-i.i) refl;
   room = omega arith;
 }
 

@@ -1,16 +1,13 @@
-use Rattle.std.proofs.Common.{◌≡◌, ◌++◌, ap₂, ◌∙◌, arith, append_assoc}
-use Rattle.std.proofs.lemmas.List.{take-append-drop}
-use Rattle.qrcode_bits.proofs.Packing.{bits_of-append}
+use Rattle.std.proofs.Common.{take, get_or, arith, append_assoc}
+use Rattle.std.proofs.lemmas.List.{take_more}
+use Rattle.qrcode_bits.proofs.Packing.{bits_of-push}
 use Rattle.qrcode_bits.proofs.bits.written.push_bytes.Goals as goal
 
-pub loop-word-preserved : goal.loop-word-preserved
-loop-word-preserved c =
-    let rest = c.loop-word.rest.now in
-    let word = c.in-Some.word.now in
-    let more = c.in-Some.more.now in
-    let split = c.in-Some.ensures.cases in
-    let whole : word ++ more ≡ rest = ap₂ (λ xs ys. xs ++ ys) split.0 split.1 ∙ take-append-drop 8 rest in
+pub loop-byte-preserved : goal.loop-byte-preserved
+loop-byte-preserved c =
+    let bytes = c.args.bytes.now in
+    let at = c.loop-byte.byte-index in
     record {
-      bits = rw (c.push_word.ensures.bits, append_assoc, ← bits_of-append word more, whole) c.loop-word.invariant.bits;
-      room = omega (arith, split.2);
+      bits = rw (c.push_number.ensures.bits, c.from.ensures, c.loop-byte.invariant.bits, append_assoc, take_more bytes at 0 (omega arith), bits_of-push (take at bytes) (get_or bytes at 0));
+      room = omega arith;
     }

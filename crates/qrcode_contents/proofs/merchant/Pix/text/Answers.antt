@@ -8,7 +8,7 @@ use Rattle.std.proofs.lemmas.Slice.Eq.{bytes_eq-Decides}
 use Rattle.qrcode_contents.specs.declared.fields.errors.Field.TheVariants.{Amount, City, Description, Name, Payee, Reference}
 use Rattle.qrcode_contents.specs.declared.fields.errors.Cause.TheVariants.{Character, Empty, Range, TooLong}
 use Rattle.qrcode_contents.specs.Bill.{is_out_of_range}
-use Rattle.qrcode_contents.specs.Merchant.{Charge, charge_of, is_reference_byte, account_checks, account_refusal, receiver_checks, receiver_refusal, pix_refusal, key_objects, reference_text, pix_objects, pix_text, read_reference, charge_in, pix_in, read_pix}
+use Rattle.qrcode_contents.specs.Merchant.{PixFields, pix_of, is_reference_byte, account_checks, account_refusal, receiver_checks, receiver_refusal, pix_refusal, key_objects, reference_text, pix_objects, pix_text, read_reference, pix_with, pix_in, read_pix}
 use Rattle.qrcode_contents.specs.fields.Entries.{Entry, is_empty, is_filled, filled, value_of}
 use Rattle.qrcode_contents.specs.fields.EntryTests.{are_distinct}
 use Rattle.qrcode_contents.specs.fields.Links.{Parameter}
@@ -33,16 +33,16 @@ description_short key [] is = omega arith
 description_short key (b ∷ text) is = grind (arith, nat_tests)
 
 -- the object of the account fits
-record Fits (p : Charge) : Type 0 where
+record Fits (p : PixFields) : Type 0 where
   key_filled : is_filled p.key ≡ true
   key_short : nat_lt 77 (length p.key) ≡ false
   description : (is_filled p.description && nat_lt (73 - length p.key) (length p.description)) ≡ false
 
-account_are : (p : Charge) → Fits p → AreObjects (key_objects p)
+account_are : (p : PixFields) → Fits p → AreObjects (key_objects p)
 account_are p fits =
     (refl, omega arith, (refl, at_most (length p.key) 77 fits.key_short (omega arith), (refl, description_short (length p.key) p.description fits.description, tt)))
 
-key_size : (p : Charge) (described : Bool) (size : ℕ) → is_filled p.description ≡ described → nat_lt 77 (length p.key) ≡ false → (described && nat_lt (73 - length p.key) (length p.description)) ≡ false → size ≡ (if described then 4 + length p.description + 0 else 0) → 18 + (4 + length p.key + size) < 100
+key_size : (p : PixFields) (described : Bool) (size : ℕ) → is_filled p.description ≡ described → nat_lt 77 (length p.key) ≡ false → (described && nat_lt (73 - length p.key) (length p.description)) ≡ false → size ≡ (if described then 4 + length p.description + 0 else 0) → 18 + (4 + length p.key + size) < 100
 key_size p true size is short beside value = grind (arith, nat_tests)
 key_size p false size is short beside value = grind (arith, nat_tests)
 
@@ -50,7 +50,7 @@ described_size : (text : List ℕ) (described : Bool) → is_filled text ≡ des
 described_size text true is small = length_filled (codes "02") text [] refl small is ∙ ap (λ n. 4 + length text + n) no_length
 described_size text false is small = length_empty (codes "02") text [] is ∙ no_length
 
-account_short : (p : Charge) → Fits p → length (objects_text (key_objects p)) < 100
+account_short : (p : PixFields) → Fits p → length (objects_text (key_objects p)) < 100
 account_short p fits =
     let are = account_are p fits in
     let later : List Parameter = (codes "01", p.key) ∷ (codes "02", p.description) ∷ [] in
@@ -79,7 +79,7 @@ reference_read (b ∷ text) are =
     rw (some, not_asterisks (b ∷ text) are) refl
 
 -- what holds of a payment that passes all checks
-record AreSaid (p : Charge) : Type 0 where
+record AreSaid (p : PixFields) : Type 0 where
   fits : Fits p
   name : length p.name < 100
   city : length p.city < 100
@@ -87,7 +87,7 @@ record AreSaid (p : Charge) : Type 0 where
   reference_short : nat_lt 25 (length p.reference) ≡ false
   cents : is_out_of_range p.cents ≡ false
 
-pix_said : (p : Charge) → pix_refusal p ≡ None → AreSaid p
+pix_said : (p : PixFields) → pix_refusal p ≡ None → AreSaid p
 unfolding pix_refusal account_refusal receiver_refusal
 pix_said p is =
     let both = all_pass (account_refusal p ∷ receiver_refusal p ∷ []) is in
@@ -97,7 +97,7 @@ pix_said p is =
       fits = record {
         key_filled = not_empty p.key (test_passes (is_empty p.key) Payee Empty account.0);
         key_short = test_passes (nat_lt 77 (length p.key)) Payee TooLong account.1.1.0;
-        description = test_passes (is_filled p.description && nat_lt (73 - length p.key) (length p.description)) Description TooLong account.1.1.1.1.0;
+        description = test_passes (is_filled p.description && nat_lt (73 - length p.key) (length p.description)) Description TooLong account.1.1.1.1.1.1.0;
       };
       name = at_most (length p.name) 25 (test_passes (nat_lt 25 (length p.name)) Name TooLong receiver.1.1.0) (omega arith);
       city = at_most (length p.city) 15 (test_passes (nat_lt 15 (length p.city)) City TooLong receiver.1.1.1.1.1.0) (omega arith);
@@ -107,20 +107,20 @@ pix_said p is =
     }
 
 -- the objects inside the object of the reference
-abbrev more_objects : Charge → List Parameter
+abbrev more_objects : PixFields → List Parameter
 more_objects p = (codes "05", reference_text p.reference) ∷ []
 
-more_are : (p : Charge) → nat_lt 25 (length p.reference) ≡ false → AreObjects (more_objects p)
+more_are : (p : PixFields) → nat_lt 25 (length p.reference) ≡ false → AreObjects (more_objects p)
 more_are p short = let few = reference_short p.reference (is_filled p.reference) refl short in (refl, omega (arith, few), tt)
 
-more_short : (p : Charge) → nat_lt 25 (length p.reference) ≡ false → length (objects_text (more_objects p)) < 100
+more_short : (p : PixFields) → nat_lt 25 (length p.reference) ≡ false → length (objects_text (more_objects p)) < 100
 more_short p short =
     let few = reference_short p.reference (is_filled p.reference) refl short in
     let size = length_filled (codes "05") (reference_text p.reference) [] refl (omega (arith, few)) (reference_filled p.reference (is_filled p.reference) refl) in
     let none = no_length in
     omega (arith, few, size, none)
 
-objects_are : (p : Charge) → AreSaid p → AreObjects (pix_objects p)
+objects_are : (p : PixFields) → AreSaid p → AreObjects (pix_objects p)
 objects_are p said = (
   refl,
   omega arith,
@@ -144,10 +144,10 @@ objects_are p said = (
 )
 
 -- entries whose parts are all empty may be left out
-pix_in-filled : (es : List Entry) → are_distinct es ≡ true → pix_in (filled es) ≡ option_and_then (λ account. option_and_then (charge_in (filled es) account) (read_objects (value_of (codes "62") es))) (read_objects (value_of (codes "26") es))
+pix_in-filled : (es : List Entry) → are_distinct es ≡ true → pix_in (filled es) ≡ option_and_then (λ account. option_and_then (pix_with (filled es) account) (read_objects (value_of (codes "62") es))) (read_objects (value_of (codes "26") es))
 pix_in-filled es are = rw (part_of-filled (codes "26") 0 es are, part_of-filled (codes "62") 0 es are) refl
 
-objects-filled : (objects account more : List Entry) → are_distinct objects ≡ true → charge_in (filled objects) account more ≡ charge_in objects account more
+objects-filled : (objects account more : List Entry) → are_distinct objects ≡ true → pix_with (filled objects) account more ≡ pix_with objects account more
 objects-filled objects account more are =
     rw (
       part_of-filled (codes "00") 0 objects are,
@@ -158,18 +158,18 @@ objects-filled objects account more are =
       part_of-filled (codes "54") 0 objects are,
     ) refl
 
-account-filled : (objects account more : List Entry) → are_distinct account ≡ true → charge_in objects (filled account) more ≡ charge_in objects account more
+account-filled : (objects account more : List Entry) → are_distinct account ≡ true → pix_with objects (filled account) more ≡ pix_with objects account more
 account-filled objects account more are =
     rw (part_of-filled (codes "00") 0 account are, part_of-filled (codes "01") 0 account are, part_of-filled (codes "02") 0 account are) refl
 
-more-filled : (objects account more : List Entry) → are_distinct more ≡ true → charge_in objects account (filled more) ≡ charge_in objects account more
+more-filled : (objects account more : List Entry) → are_distinct more ≡ true → pix_with objects account (filled more) ≡ pix_with objects account more
 more-filled objects account more are = rw (part_of-filled (codes "05") 0 more are) refl
 
-same_charge : (p : Charge) (reference : List ℕ) → reference ≡ p.reference → (let x : Charge = record { key = p.key; name = p.name; city = p.city; cents = p.cents; reference = reference; description = p.description } in x) ≡ p
-same_charge p reference is = rw is refl
+same_fields : (p : PixFields) (reference : List ℕ) → reference ≡ p.reference → (let x : PixFields = record { key = p.key; name = p.name; city = p.city; cents = p.cents; reference = reference; description = p.description } in x) ≡ p
+same_fields p reference is = rw is refl
 
 -- reading the text gives back the fields
-pix_read : (p : Charge) → pix_refusal p ≡ None → read_pix (pix_text p) ≡ Some p
+pix_read : (p : PixFields) → pix_refusal p ≡ None → read_pix (pix_text p) ≡ Some p
 pix_read p is =
     let said = pix_said p is in
     let objects = entries_of (with_check (pix_objects p)) in
@@ -177,14 +177,14 @@ pix_read p is =
     let more = entries_of (more_objects p) in
     ap (option_and_then pix_in) (checked_read (pix_objects p) (objects_are p said))
     ∙ pix_in-filled objects refl
-    ∙ ap₂ (λ a m. option_and_then (λ x. option_and_then (charge_in (filled objects) x) m) a) (objects_read (key_objects p) (account_are p said.fits)) (objects_read (more_objects p) (more_are p said.reference_short))
+    ∙ ap₂ (λ a m. option_and_then (λ x. option_and_then (pix_with (filled objects) x) m) a) (objects_read (key_objects p) (account_are p said.fits)) (objects_read (more_objects p) (more_are p said.reference_short))
     ∙ objects-filled objects (filled account) (filled more) refl
     ∙ account-filled objects account (filled more) refl
     ∙ more-filled objects account more refl
-    ∙ rw (cents_read p.cents said.cents) (ap Some (same_charge p _ (reference_read p.reference said.reference)))
+    ∙ rw (cents_read p.cents said.cents) (ap Some (same_fields p _ (reference_read p.reference said.reference)))
 
 pub returns-clause-reads : goal.returns-clause-reads
 returns-clause-reads c =
-    let fields = charge_of c.args.self.now in
+    let fields = pix_of c.args.self.now in
     answered (pix_refusal fields) c.check.result c.in_ok-check.field-0 c.check.ensures c.in_ok-check.was c.written.result (pix_text fields) (λ text. read_pix text ≡ Some fields)
     c.written.ensures.value c.written.ensures.memory (pix_read fields)

@@ -1,13 +1,13 @@
 use Rattle.std.proofs.Common.{ap, ◌∙◌, [], ◌∷◌, codes, refl}
 use Rattle.qrcode_contents.specs.Bill.{amount_line}
-use Rattle.qrcode_contents.specs.Merchant.{charge_of, key_objects, reference_text}
+use Rattle.qrcode_contents.specs.Merchant.{pix_of, key_objects, reference_text}
 use Rattle.qrcode_contents.specs.fields.Objects.{checked_text, objects_text}
 use Rattle.qrcode_contents.proofs.ObjectReading.{none_yet, one_more}
 use Rattle.qrcode_contents.proofs.merchant.Pix.written.Goals as goal
 
 pub returns-clause-value : goal.returns-clause-value
 returns-clause-value c =
-    let p = charge_of c.args.self.now in
+    let p = pix_of c.args.self.now in
     let more = one_more _ (codes "05") (reference_text p.reference) (none_yet c.new-more.ensures.bytes) c.reference_text.ensures c.in_ok-push_object.ensures.appends in
     let o₀ = none_yet c.new-text.ensures.bytes in
     let o₁ = one_more _ (codes "00") (codes "01") o₀ refl c.in_ok-push_object-2.ensures.appends in

@@ -5,7 +5,7 @@ use Rattle.std.proofs.lemmas.Bool.Decides.{nat_tests}
 use Rattle.qrcode_contents.specs.declared.fields.errors.Field.TheVariants.{Amount, Payee}
 use Rattle.qrcode_contents.specs.declared.fields.errors.Cause.TheVariants.{Character, Range, TooShort}
 use Rattle.qrcode_contents.specs.Bill.{is_out_of_range}
-use Rattle.qrcode_contents.specs.Merchant.{Claim, claim_of, is_phone, is_identity, is_wallet, is_zero, promptpay_checks, promptpay_refusal, payee_objects, initiation, promptpay_objects, promptpay_text, read_payee, claim_in, promptpay_in, read_promptpay}
+use Rattle.qrcode_contents.specs.Merchant.{PromptPayFields, promptpay_of, is_phone, is_identity, is_wallet, is_zero, promptpay_checks, promptpay_refusal, payee_objects, initiation, promptpay_objects, promptpay_text, read_payee, promptpay_with, promptpay_in, read_promptpay}
 use Rattle.qrcode_contents.specs.fields.Entries.{Entry, is_filled, filled, value_of}
 use Rattle.qrcode_contents.specs.fields.EntryTests.{are_distinct}
 use Rattle.qrcode_contents.specs.fields.Links.{Parameter}
@@ -27,7 +27,7 @@ record Says (payee : List ℕ) (os : List Parameter) : Type 0 where
   are : AreObjects os
   short : length (objects_text os) < 100
   named : value_of (codes "00") (filled (entries_of os)) ≡ codes "A000000677010111"
-  told : read_payee (filled (entries_of os)) ≡ payee
+  told : read_payee (filled (entries_of os)) ≡ Some payee
 
 account_short : (tag value : List ℕ) → length tag ≡ 2 → length value < 20 → is_filled value ≡ true → length (objects_text (account_with tag value)) < 100
 account_short tag value two few some =
@@ -57,7 +57,7 @@ phone_says payee ten first =
       are = (refl, omega arith, (refl, omega (arith, few), tt));
       short = account_short (codes "01") value refl few some;
       named = part_of-filled (codes "00") 0 es refl;
-      told = read-filled es refl ∙ rw some (zero_first payee ten first);
+      told = read-filled es refl ∙ rw some (ap Some (zero_first payee ten first));
     }
 
 identity_says : (payee : List ℕ) → length payee ≡ 13 → Says payee (account_with (codes "02") payee)
@@ -103,11 +103,11 @@ account_by payee false false true p i w one first = subst (Says payee) (by_walle
 account_by payee false false false p i w one first = cc
 
 -- what holds of a payment that passes all checks
-record AreSaid (p : Claim) : Type 0 where
+record AreSaid (p : PromptPayFields) : Type 0 where
   account : Says p.payee (payee_objects p.payee)
   cents : is_out_of_range p.cents ≡ false
 
-promptpay_said : (p : Claim) → promptpay_refusal p ≡ None → AreSaid p
+promptpay_said : (p : PromptPayFields) → promptpay_refusal p ≡ None → AreSaid p
 unfolding promptpay_refusal
 promptpay_said p is =
     let none = all_pass (promptpay_checks p) is in
@@ -122,34 +122,34 @@ initiation_short : (cents : Option ℕ) → length (initiation cents) < 100
 initiation_short None = omega arith
 initiation_short (Some n) = omega arith
 
-objects_are : (p : Claim) → AreSaid p → AreObjects (promptpay_objects p)
+objects_are : (p : PromptPayFields) → AreSaid p → AreObjects (promptpay_objects p)
 objects_are p said =
     (refl, omega arith, (refl, initiation_short p.cents, (refl, said.account.short, (refl, omega arith, (refl, omega arith, (refl, cents_short p.cents said.cents, tt))))))
 
 -- entries whose parts are all empty may be left out
-promptpay_in-filled : (es : List Entry) → are_distinct es ≡ true → promptpay_in (filled es) ≡ option_and_then (claim_in (filled es)) (read_objects (value_of (codes "29") es))
+promptpay_in-filled : (es : List Entry) → are_distinct es ≡ true → promptpay_in (filled es) ≡ option_and_then (promptpay_with (filled es)) (read_objects (value_of (codes "29") es))
 promptpay_in-filled es are = rw (part_of-filled (codes "29") 0 es are) refl
 
-claim-filled : (es account : List Entry) → are_distinct es ≡ true → claim_in (filled es) account ≡ claim_in es account
+claim-filled : (es account : List Entry) → are_distinct es ≡ true → promptpay_with (filled es) account ≡ promptpay_with es account
 claim-filled es account are =
     rw (part_of-filled (codes "00") 0 es are, part_of-filled (codes "53") 0 es are, part_of-filled (codes "58") 0 es are, part_of-filled (codes "54") 0 es are) refl
 
-claim_said : (p : Claim) (account : List Entry) → value_of (codes "00") account ≡ codes "A000000677010111" → read_payee account ≡ p.payee → is_out_of_range p.cents ≡ false → claim_in (entries_of (with_check (promptpay_objects p))) account ≡ Some p
-claim_said p account named payee cents = rw (named, payee, cents_read p.cents cents) refl
+fields_said : (p : PromptPayFields) (account : List Entry) → value_of (codes "00") account ≡ codes "A000000677010111" → read_payee account ≡ Some p.payee → is_out_of_range p.cents ≡ false → promptpay_with (entries_of (with_check (promptpay_objects p))) account ≡ Some p
+fields_said p account named payee cents = rw (named, payee, cents_read p.cents cents) refl
 
 -- reading the text gives back the fields
-promptpay_read : (p : Claim) → promptpay_refusal p ≡ None → read_promptpay (promptpay_text p) ≡ Some p
+promptpay_read : (p : PromptPayFields) → promptpay_refusal p ≡ None → read_promptpay (promptpay_text p) ≡ Some p
 promptpay_read p is =
     let said = promptpay_said p is in
     let objects = entries_of (with_check (promptpay_objects p)) in
     ap (option_and_then promptpay_in) (checked_read (promptpay_objects p) (objects_are p said))
     ∙ promptpay_in-filled objects refl
-    ∙ ap (option_and_then (claim_in (filled objects))) (objects_read (payee_objects p.payee) said.account.are)
+    ∙ ap (option_and_then (promptpay_with (filled objects))) (objects_read (payee_objects p.payee) said.account.are)
     ∙ claim-filled objects (filled (entries_of (payee_objects p.payee))) refl
-    ∙ claim_said p (filled (entries_of (payee_objects p.payee))) said.account.named said.account.told said.cents
+    ∙ fields_said p (filled (entries_of (payee_objects p.payee))) said.account.named said.account.told said.cents
 
 pub returns-clause-reads : goal.returns-clause-reads
 returns-clause-reads c =
-    let fields = claim_of c.args.self.now in
+    let fields = promptpay_of c.args.self.now in
     answered (promptpay_refusal fields) c.check.result c.in_ok-check.field-0 c.check.ensures c.in_ok-check.was c.written.result (promptpay_text fields) (λ text. read_promptpay text ≡ Some fields)
     c.written.ensures.value c.written.ensures.memory (promptpay_read fields)

@@ -1,13 +1,13 @@
 use Rattle.std.proofs.Common.{ap, ◌∙◌, [], ◌∷◌, codes, refl}
 use Rattle.qrcode_contents.specs.Bill.{amount_line}
-use Rattle.qrcode_contents.specs.Merchant.{claim_of, initiation, payee_objects}
+use Rattle.qrcode_contents.specs.Merchant.{promptpay_of, initiation, payee_objects}
 use Rattle.qrcode_contents.specs.fields.Objects.{checked_text, objects_text}
 use Rattle.qrcode_contents.proofs.ObjectReading.{none_yet, one_more}
 use Rattle.qrcode_contents.proofs.merchant.PromptPay.written.Goals as goal
 
 pub returns-clause-value : goal.returns-clause-value
 returns-clause-value c =
-    let p = claim_of c.args.self.now in
+    let p = promptpay_of c.args.self.now in
     let o₀ = none_yet c.new-text.ensures.bytes in
     let o₁ = one_more _ (codes "00") (codes "01") o₀ refl c.in_ok-push_object.ensures.appends in
     let o₂ = one_more _ (codes "01") (initiation p.cents) o₁ c.initiation.ensures c.in_ok-push_object-2.ensures.appends in

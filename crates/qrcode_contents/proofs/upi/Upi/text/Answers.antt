@@ -6,7 +6,7 @@ use Rattle.std.proofs.lemmas.Bool.Decides.{nat_tests}
 use Rattle.qrcode_contents.specs.declared.fields.errors.Field.TheVariants.{Amount, Category, Name, Note, Payee, Reference}
 use Rattle.qrcode_contents.specs.declared.fields.errors.Cause.TheVariants.{Character, ControlCharacter, Range}
 use Rattle.qrcode_contents.specs.Bill.{amount_line, is_out_of_range, read_cents}
-use Rattle.qrcode_contents.specs.Upi.{Request, request_of, request_with, is_address_byte, is_category, upi_checks, upi_refusal, upi_parameters, upi_text, read_upi}
+use Rattle.qrcode_contents.specs.Upi.{UpiFields, upi_of, upi_with, is_address_byte, is_category, upi_checks, upi_refusal, upi_parameters, upi_text, read_upi}
 use Rattle.qrcode_contents.specs.fields.Amounts.{amount_text}
 use Rattle.qrcode_contents.specs.fields.Characters.{is_control, is_digit}
 use Rattle.qrcode_contents.specs.fields.Entries.{is_filled, filled, single, value_of}
@@ -58,12 +58,12 @@ amount_plain (Some n) is =
     (HasNo-append 13 (decimal (n / 10 % 10)) (decimal (n % 10)) (decimal_plain (n / 10 % 10) (omega arith)) (decimal_plain (n % 10) (omega arith)))
 
 -- what holds of a request that passes all checks
-record AreSaid (r : Request) : Type 0 where
+record AreSaid (r : UpiFields) : Type 0 where
   address : list_all is_address_byte r.payee ≡ true
   parameters : AreParameters (upi_parameters r)
   cents : is_out_of_range r.cents ≡ false
 
-upi_said : (r : Request) → upi_refusal r ≡ None → AreSaid r
+upi_said : (r : UpiFields) → upi_refusal r ≡ None → AreSaid r
 unfolding upi_refusal
 upi_said r is =
     let none = all_pass (upi_checks r) is in
@@ -79,7 +79,7 @@ upi_said r is =
     }
 
 -- the link after its scheme
-abbrev link_of : Request → List ℕ
+abbrev link_of : UpiFields → List ℕ
 link_of r = codes "?pa=" ++ (r.payee ++ and_text (upi_parameters r))
 
 first_read : (payee : List ℕ) → list_all is_address_byte payee ≡ true → read_parameter (codes "pa=" ++ payee) ≡ single (codes "pa") payee
@@ -87,25 +87,25 @@ unfolding read_parameter
 first_read payee are = ap (single (codes "pa")) (address_read payee are)
 
 -- the entries of a link
-link_entries : (r : Request) → AreSaid r → read_pieces (codes "pa=" ++ (r.payee ++ and_text (upi_parameters r))) ≡ single (codes "pa") r.payee ∷ filled (entries_of (upi_parameters r))
+link_entries : (r : UpiFields) → AreSaid r → read_pieces (codes "pa=" ++ (r.payee ++ and_text (upi_parameters r))) ≡ single (codes "pa") r.payee ∷ filled (entries_of (upi_parameters r))
 link_entries r said =
     later_read (codes "pa=" ++ r.payee) (upi_parameters r) (all_without is_address_byte (λ b. b == 38) (λ b is. (is_itself b is).no_and) r.payee said.address) said.parameters
     ∙ ap (λ entry. entry ∷ filled (entries_of (upi_parameters r))) (first_read r.payee said.address)
 
-value_of_link : (r : Request) → AreSaid r → (key : List ℕ) → bytes_eq key (codes "pa") ≡ false → are_distinct (entries_of (upi_parameters r)) ≡ true → value_in key (link_of r) ≡ value_of key (entries_of (upi_parameters r))
+value_of_link : (r : UpiFields) → AreSaid r → (key : List ℕ) → bytes_eq key (codes "pa") ≡ false → are_distinct (entries_of (upi_parameters r)) ≡ true → value_in key (link_of r) ≡ value_of key (entries_of (upi_parameters r))
 value_of_link r said key other distinct =
     ap (value_of key) (link_entries r said)
     ∙ rw other (part_of-filled key 0 (entries_of (upi_parameters r)) distinct)
 
-same_request : (r : Request) (payee name category reference note : List ℕ) → payee ≡ r.payee → name ≡ r.name → category ≡ r.category → reference ≡ r.reference → note ≡ r.note → (let x : Request = record { payee = payee; name = name; category = category; reference = reference; note = note; cents = r.cents } in x) ≡ r
+same_request : (r : UpiFields) (payee name category reference note : List ℕ) → payee ≡ r.payee → name ≡ r.name → category ≡ r.category → reference ≡ r.reference → note ≡ r.note → (let x : UpiFields = record { payee = payee; name = name; category = category; reference = reference; note = note; cents = r.cents } in x) ≡ r
 same_request r payee name category reference note h₁ h₂ h₃ h₄ h₅ = rw (h₁, h₂, h₃, h₄, h₅) refl
 
 -- reading the text gives back the fields
-upi_read : (r : Request) → upi_refusal r ≡ None → read_upi (upi_text r) ≡ Some r
+upi_read : (r : UpiFields) → upi_refusal r ≡ None → read_upi (upi_text r) ≡ Some r
 upi_read r is =
     let said = upi_said r is in
     let currency : value_in (codes "cu") (link_of r) ≡ codes "INR" = value_of_link r said (codes "cu") refl refl in
-    rw currency (ap (option_map (request_with (link_of r))) (ap read_cents (value_of_link r said (codes "am") refl refl) ∙ cents_read r.cents said.cents)
+    rw currency (ap (option_map (upi_with (link_of r))) (ap read_cents (value_of_link r said (codes "am") refl refl) ∙ cents_read r.cents said.cents)
     ∙ ap Some (same_request r _ _ _ _ _
     (ap (value_of (codes "pa")) (link_entries r said))
     (value_of_link r said (codes "pn") refl refl)
@@ -115,6 +115,6 @@ upi_read r is =
 
 pub returns-clause-reads : goal.returns-clause-reads
 returns-clause-reads c =
-    let fields = request_of c.args.self.now in
+    let fields = upi_of c.args.self.now in
     answered (upi_refusal fields) c.check.result c.in_ok-check.field-0 c.check.ensures c.in_ok-check.was c.written.result (upi_text fields) (λ text. read_upi text ≡ Some fields)
     c.written.ensures.value c.written.ensures.memory (upi_read fields)

@@ -4,4 +4,4 @@ use Rattle.qrcode_layout.proofs.Agreements.{all_at}
 use Rattle.qrcode_symbol.proofs.canvas.drawing.draw_figures.Goals as goal
 
 pub draw_figure-requires-clause-fits : goal.draw_figure-requires-clause-fits
-draw_figure-requires-clause-fits g c = all_at (fits c.args.version) c.args.figures.now c.loop-figure.figure-index _ c.requires.fits (omega arith)
+draw_figure-requires-clause-fits c = all_at (fits c.args.version) c.args.figures.now c.loop-figure.figure-index _ c.requires.fits (omega arith)

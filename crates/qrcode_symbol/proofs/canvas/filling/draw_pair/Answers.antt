@@ -1,21 +1,22 @@
-use Rattle.std.proofs.Common.{◌≡◌, ◌+◌, ◌*◌, ◌/◌, ◌∙◌, ap, map, arith}
+use Rattle.std.proofs.Common.{◌≡◌, ◌+◌, ◌*◌, ◌∙◌, ap, arith}
 use Rattle.qrcode_types.specs.Versions.{side}
 use Rattle.qrcode_symbol.specs.Filling.{filled_from}
+use Rattle.qrcode_symbol.proofs.Walk.{row_step, apart}
 use Rattle.qrcode_symbol.proofs.canvas.filling.draw_pair.Goals as goal
 
-pub loop-four-preserved : goal.loop-four-preserved
-loop-four-preserved g c =
+pub loop-step-preserved : goal.loop-step-preserved
+loop-step-preserved c =
     let p = c.args.pair in
-    let v = p.version in
-    let t = 2 * side v * p.number in
-    let e : t + 2 * (4 * (c.loop-four.four + 1)) ≡ t + 2 * (4 * c.loop-four.four + 4) = omega arith in
-    ap (filled_from v c.draw_four.new.codewords (map g.C.Cell.shows c.draw_four.new.modules)) e ∙ c.draw_four.ensures ∙ c.loop-four.invariant
+    row_step p.version p.number c.loop-step.step c.index-index.result
+    c.loop-step.codewords c.draw_bit.new.codewords c.draw_bit-in-loop-step.new.codewords
+    c.loop-step.modules c.draw_bit.new.modules c.draw_bit-in-loop-step.new.modules
+    (apart p.version p.valid) (omega (arith, p.inside, p.wide)) (omega (arith, p.wide)) c.index-index.ensures.value (omega (arith, p.at_least, p.column))
+    c.draw_bit.ensures.rest c.draw_bit.ensures.after c.draw_bit-in-loop-step.ensures.rest c.draw_bit-in-loop-step.ensures.after
+    ∙ c.loop-step.invariant
 
 pub returns : goal.returns
-returns g c =
+returns c =
     let p = c.args.pair in
     let v = p.version in
-    let e : 2 * side v * (p.number + 1) ≡ 2 * side v * p.number + 2 * p.width = omega (arith, p.wide) in
-    let from : 4 * (p.width / 4) ≡ 4 * c.loop-four.four = omega arith in
-    ap (filled_from v c.draw_steps.new.codewords (map g.C.Cell.shows c.draw_steps.new.modules)) e ∙ c.draw_steps.ensures
-    ∙ ap (λ n. filled_from v c.loop-four.codewords (map g.C.Cell.shows c.loop-four.modules) (2 * side v * p.number + 2 * n)) from ∙ c.loop-four.invariant
+    let e : 2 * side v * (p.number + 1) ≡ 2 * side v * p.number + 2 * c.loop-step.step = omega (arith, p.wide) in
+    ap (filled_from v c.loop-step.codewords c.loop-step.modules) e ∙ c.loop-step.invariant

@@ -1,11 +1,10 @@
-use Rattle.std.proofs.Common.{◌≡◌, ◌+◌, ◌*◌, map}
+use Rattle.std.proofs.Common.{◌≡◌, ◌+◌, ◌*◌}
 use Rattle.qrcode_types.specs.Versions.{side}
 use Rattle.qrcode_symbol.specs.Filling.{filled_from}
 use Rattle.qrcode_symbol.proofs.canvas.filling.draw_pair.Given as goal
 
-abbrev pub invariant-loop-four : goal.invariant-loop-four
-invariant-loop-four g l =
+abbrev pub invariant-loop-step : goal.invariant-loop-step
+invariant-loop-step l =
     let v = l.fn.pair.version in
-    let pair = l.fn.pair.number in
-    filled_from v l.codewords (map g.C.Cell.shows l.modules) (2 * side v * pair + 2 * (4 * l.four))
-    ≡ filled_from v l.initial.codewords (map g.C.Cell.shows l.initial.modules) (2 * side v * pair)
+    let t = 2 * side v * l.fn.pair.number in
+    filled_from v l.codewords l.modules (t + 2 * l.step) ≡ filled_from v l.initial.codewords l.initial.modules t

@@ -1,5 +1,5 @@
-use Rattle.std.proofs.Common.{◌≡◌, length, ◌-◌, ◌*◌, take, drop, map, ap, sym, ◌∙◌, arith, length-drop}
-use Rattle.std.proofs.lemmas.List.{length-map, drop-map, take_all}
+use Rattle.std.proofs.Common.{◌≡◌, length, ◌+◌, ◌-◌, ◌*◌, take, drop, map, ap, ◌∙◌, arith}
+use Rattle.std.proofs.lemmas.List.{length-map}
 use Rattle.qrcode_symbol.specs.Masking.{is_dark_module, is_free, packed}
 use Rattle.qrcode_penalty.proofs.RowLists.{rows_more}
 use Rattle.qrcode_symbol.proofs.RowLists.{shows_packed, fits_packed, modules_of_row}
@@ -10,21 +10,18 @@ loop-y-preserved g c =
     let bits = g.R.PackedRow.bits in
     let w = c.args.width in
     let y = c.loop-y.y in
-    let shows = g.C.Cell.shows in
-    let modules = map shows c.args.modules.now in
-    let all = c.args.modules.now in
-    let row : take w (map shows (take (length all - y * w) (drop (y * w) all))) ≡ modules_of_row w modules y =
-    ap (λ l. take w (map shows l)) (take_all (length all - y * w) (drop (y * w) all) (omega (arith, length-drop (y * w) all))) ∙ ap (take w) (sym (drop-map shows (y * w) all)) in
+    let modules = c.args.modules.now in
+    let row : take ((y + 1) * w - y * w) (drop (y * w) modules) ≡ modules_of_row w modules y = let e : (y + 1) * w - y * w ≡ w = omega arith in ap (λ n. take n (drop (y * w) modules)) e in
     record {
       dark = rows_more bits (λ k n. n ≡ packed is_dark_module (modules_of_row w modules k)) c.loop-y.dark y c.pack_row-packed.result.0 (omega arith) c.loop-y.invariant.dark (c.pack_row-packed.ensures.dark ∙ ap (packed is_dark_module) row);
       free = rows_more bits (λ k n. n ≡ packed is_free (modules_of_row w modules k)) c.loop-y.free y c.pack_row-packed.result.1 (omega arith) c.loop-y.invariant.free (c.pack_row-packed.ensures.free ∙ ap (packed is_free) row);
     }
 
 pub returns-clause-dark : goal.returns-clause-dark
-returns-clause-dark g c = shows_packed is_dark_module (map g.C.Cell.shows c.args.modules.now) c.args.width (length-map c.args.modules.now g.C.Cell.shows ∙ c.requires.square) (map g.R.PackedRow.bits c.loop-y.dark) (λ y h. c.loop-y.invariant.dark y (omega arith))
+returns-clause-dark g c = shows_packed is_dark_module c.args.modules.now c.args.width c.requires.square (map g.R.PackedRow.bits c.loop-y.dark) (λ y h. c.loop-y.invariant.dark y (omega arith))
 
 pub returns-clause-free : goal.returns-clause-free
-returns-clause-free g c = shows_packed is_free (map g.C.Cell.shows c.args.modules.now) c.args.width (length-map c.args.modules.now g.C.Cell.shows ∙ c.requires.square) (map g.R.PackedRow.bits c.loop-y.free) (λ y h. c.loop-y.invariant.free y (omega arith))
+returns-clause-free g c = shows_packed is_free c.args.modules.now c.args.width c.requires.square (map g.R.PackedRow.bits c.loop-y.free) (λ y h. c.loop-y.invariant.free y (omega arith))
 
 pub returns-clause-dark_square : goal.returns-clause-dark_square
 returns-clause-dark_square g c =
@@ -34,7 +31,7 @@ returns-clause-dark_square g c =
       at_least = c.requires.at_least;
       spare = c.requires.room;
       length = size;
-      fits = fits_packed is_dark_module (map g.C.Cell.shows c.args.modules.now) c.args.width (length-map c.args.modules.now g.C.Cell.shows ∙ c.requires.square) rows (λ y h. c.loop-y.invariant.dark y (omega arith)) size;
+      fits = fits_packed is_dark_module c.args.modules.now c.args.width c.requires.square rows (λ y h. c.loop-y.invariant.dark y (omega arith)) size;
     }
 
 pub returns-clause-free_square : goal.returns-clause-free_square
@@ -45,5 +42,5 @@ returns-clause-free_square g c =
       at_least = c.requires.at_least;
       spare = c.requires.room;
       length = size;
-      fits = fits_packed is_free (map g.C.Cell.shows c.args.modules.now) c.args.width (length-map c.args.modules.now g.C.Cell.shows ∙ c.requires.square) rows (λ y h. c.loop-y.invariant.free y (omega arith)) size;
+      fits = fits_packed is_free c.args.modules.now c.args.width c.requires.square rows (λ y h. c.loop-y.invariant.free y (omega arith)) size;
     }

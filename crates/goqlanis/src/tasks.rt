@@ -1,0 +1,124 @@
+//! Runs what the command line asks for.
+
+use clap::ArgMatches;
+use clap::error::{Error, ErrorKind};
+use goqlanis_draw::make;
+use goqlanis_files::failure::{Failure, status};
+use goqlanis_files::refused;
+use goqlanis_files::streams::{Escaped, print};
+use goqlanis_look::{check, join_pictures, read};
+use goqlanis_options::advice::{advice, wrapped_help};
+use goqlanis_options::asked::asked_for;
+use goqlanis_options::command::{command_of, end_of_help};
+use goqlanis_options::completions::{completions_of, shell_named};
+use goqlanis_options::manual::manual_page;
+use goqlanis_options::options::{DRAWING, Purpose, Task, task_named};
+use goqlanis_options::pictures::pictures_of;
+use std::alloc::{AllocError, Global};
+use std::process::ExitCode;
+use std::{env, io};
+
+// The version of the program and everything installed with it.
+const VERSION: &str = "1.0.0";
+
+/// Runs the program and returns its exit status. A failure is reported on one line of standard
+/// error.
+pub fn run(rt: &HostRuntime) -> ExitCode {
+    status(rt, run_words(rt))
+}
+
+// Runs the program; the error says why it failed.
+fn run_words(rt: &HostRuntime) -> Result<ExitCode, Failure> {
+    let mut words = all_words(rt)?;
+    let task = take_command(rt.alloc(), &mut words)?;
+    let help_end = end_of_help(rt.alloc(), task)?;
+    let given = match command_of(rt.alloc(), task, help_end.as_str())?.try_get_matches_from(
+        &words,
+    ) {
+        Ok(given) => given,
+        Err(error) => return refuse(rt, task, &words, &error),
+    };
+    let done = perform(rt, task, &given);
+    drop(given);
+    done
+}
+
+// Returns the task of the command line. If its first word is a command, the word moves into the
+// program's name, so that `clap` parses the rest.
+fn take_command(alloc: Global, words: &mut Vec<String>) -> Result<&'static Task, AllocError> {
+    if words.len() > 1 && words[1].as_str() == "help" {
+        words.remove(1);
+        words.push(String::from_str(alloc, "--help")?)?;
+    }
+    match words.get(1).and_then(|word| task_named(word.as_str())) {
+        Some(task) if words.len() > 1 => {
+            words.remove(1);
+            words[0] = format!(in alloc; "goqlanis {}", task.word)?;
+            Ok(task)
+        }
+        _ => Ok(&DRAWING),
+    }
+}
+
+// Returns the words of the command line.
+fn all_words(rt: &HostRuntime) -> Result<Vec<String>, Failure> {
+    match env::args(rt) {
+        Ok(words) => Ok(words.collect(rt.alloc())?),
+        Err(error) if error.kind() == io::ErrorKind::InvalidData => refused!(rt.alloc();
+            "an argument is not UTF-8: use --input FILE for other data, and UTF-8 in file names"
+        ),
+        Err(_) => Err(Failure::OutOfMemory),
+    }
+}
+
+// Explains a command line that `clap` rejects, or prints the text that it asks for (`--help`).
+fn refuse(
+    rt: &HostRuntime,
+    task: &Task,
+    words: &[String],
+    error: &Error,
+) -> Result<ExitCode, Failure> {
+    if error.kind() == ErrorKind::OutOfMemory {
+        return Err(Failure::OutOfMemory);
+    }
+    if let Some(why) = advice(rt.alloc(), task, words, error)? {
+        return Err(Failure::Usage(why));
+    }
+    let text = format!(in rt.alloc(); "{error}")?;
+    if !error.use_stderr() {
+        return print(rt, wrapped_help(rt.alloc(), text.as_str())?.as_bytes());
+    }
+    let shown = Escaped {
+        bytes: text.as_bytes(),
+        has_lines: true,
+    };
+    let _ = eprint!(rt; "{shown}");
+    Ok(ExitCode::from(error.exit_code() as u8))
+}
+
+// Runs a task.
+fn perform(rt: &HostRuntime, task: &Task, given: &ArgMatches<'_>) -> Result<ExitCode, Failure> {
+    match task.purpose {
+        Purpose::Read => read(rt, &pictures_of(given)),
+        Purpose::Check => check(rt, &pictures_of(given)),
+        Purpose::Join => join_pictures(rt, &pictures_of(given)),
+        Purpose::Draw => match text_about(rt.alloc(), given)? {
+            Some(text) => print(rt, text.as_bytes()),
+            None => make(rt, task, &asked_for(rt, task, given)?),
+        },
+        _ => make(rt, task, &asked_for(rt, task, given)?),
+    }
+}
+
+// Returns the text about the program that an option asks for, if any.
+fn text_about(alloc: Global, given: &ArgMatches<'_>) -> Result<Option<String>, AllocError> {
+    if let Some(shell) = given.get_str("completions").and_then(shell_named) {
+        Ok(Some(completions_of(alloc, shell)?))
+    } else if given.get_flag("manual") {
+        Ok(Some(manual_page(alloc)?))
+    } else if given.get_flag("version") {
+        Ok(Some(format!(in alloc; "goqlanis {VERSION}\n")?))
+    } else {
+        Ok(None)
+    }
+}

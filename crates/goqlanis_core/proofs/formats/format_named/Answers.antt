@@ -1,7 +1,0 @@
-use Rattle.goqlanis_core.specs.Formats.{formats}
-use Rattle.goqlanis_core.proofs.formats.format_named.Goals as goal
-
--- the table of the code is the defined one
-pub returns : goal.returns
-unfolding formats
-returns c = c.named_among.ensures

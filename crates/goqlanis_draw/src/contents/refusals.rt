@@ -1,0 +1,79 @@
+//! Explains why a payload is refused: which option is wrong, and what would help.
+
+ghost use Rattle.std.specs.Prelude.{IsErr};
+
+use crate::rows::Columns;
+use goqlanis_files::failure::Failure;
+use goqlanis_files::refused;
+use goqlanis_options::options::entry_of;
+use qrcode_contents::fields::errors::{Cause, ContentError, Field};
+use qrcode_payloads::kinds::Kind;
+use std::alloc::Global;
+
+/// Fails because of an error of a payload format, with a message: the option, what is wrong with
+/// it, and what its help says.
+pub(crate) fn not_made(
+    alloc: Global,
+    kind: Kind,
+    error: ContentError,
+    columns: &Columns,
+) -> Result<String, Failure>
+    ensures { IsErr result }
+{
+    let ContentError::Refused(field, cause) = error else {
+        return Err(Failure::OutOfMemory);
+    };
+    let what = what_is_wrong(kind, field, cause);
+    let entry = entry_of(kind, field);
+    let (name, help) = (columns.label(alloc, entry.long)?, entry.help);
+    if entry.long.is_empty() {
+        refused!(alloc; "the whole text: {what}")
+    } else if matches!(cause, Cause::ControlCharacter | Cause::CheckDigits) {
+        refused!(alloc; "{name}: {what}")
+    } else {
+        refused!(alloc; "{name}: {what}; expected: {help}")
+    }
+}
+
+// Says what is wrong with a field, more precisely than its cause if possible.
+fn what_is_wrong(kind: Kind, field: Field, cause: Cause) -> &'static str {
+    match (kind, field, cause) {
+        (_, Field::Amount, Cause::Character) =>
+            "use a point before the decimals and no other sign, e.g. 1949.75",
+        (Kind::Pix, Field::Name | Field::City | Field::Description, Cause::Character) =>
+            "it may only have ASCII characters: write a for \u{e3}, c for \u{e7}",
+        (_, Field::Reference, Cause::Unused) => "it does not go with this account",
+        (Kind::Mail, Field::Email, Cause::Character) => "it has no @, or more than one",
+        (Kind::Promptpay, Field::Payee, Cause::Character) =>
+            "it may only have digits, and a phone number begins with 0, without a country code",
+        (Kind::Pix, Field::Payee, Cause::CheckDigits) =>
+            "the check digits match neither a CPF nor a CNPJ; write a phone number with +55",
+        (Kind::Pix, Field::Payee, Cause::Character) => "it is none of the keys that Pix has",
+        (Kind::Upi, Field::Payee, Cause::Character) =>
+            "it may only have letters, digits and -._ around one @",
+        (_, Field::Phone | Field::Mobile | Field::WorkPhone | Field::HomePhone, Cause::Character) =>
+            "it may only have digits, spaces and -.(), with + in front",
+        (_, Field::Begin | Field::End | Field::Stamp, Cause::TooShort) =>
+            "it has no time zone: add that of the place and day, e.g. +02:00, or Z for UTC",
+        (_, Field::Begin | Field::Stamp, Cause::Character) => "it is not written as a day or time",
+        (_, Field::End, Cause::Character) => "it is not in the same form as --begin",
+        _ => cause_text(cause),
+    }
+}
+
+// Says what is wrong, by the cause alone.
+fn cause_text(cause: Cause) -> &'static str {
+    match cause {
+        Cause::Empty => "it is missing or empty",
+        Cause::TooLong => "it is longer than the format allows",
+        Cause::TooShort => "it is shorter than the format allows",
+        Cause::ControlCharacter =>
+            "it has a line break or another control character; leave that out",
+        Cause::Character => "it has a character that the format does not allow there",
+        Cause::CheckDigits => "the check digits do not match: look for a mistyped or swapped digit",
+        Cause::Range => "it is outside what the format allows",
+        Cause::Unused => "it cannot be given together with the other options; leave it out",
+        Cause::Decimals => "it has too many digits after the point",
+        Cause::Word => "it is not one of the values that it may have",
+    }
+}

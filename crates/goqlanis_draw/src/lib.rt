@@ -1,0 +1,16 @@
+//! Makes and draws codes, and writes them to files.
+#![tactic(auto)]
+
+mod contents;
+mod drawing;
+mod lines;
+mod logos;
+mod making;
+mod middle;
+mod names;
+mod rows;
+mod segments;
+mod shrinking;
+mod splitting;
+
+pub use making::make;

@@ -1,0 +1,350 @@
+//! `--lines`: one code for each line.
+
+use crate::drawing::draw_one;
+use crate::making::{draw_elements, draw_payload};
+use crate::names::{check_made, check_names, has_text, name_of, take_name};
+use crate::rows::{Columns, Line, Row, fields_of};
+use goqlanis_core::Grouped;
+use goqlanis_files::failure::Failure;
+use goqlanis_files::progress::Progress;
+use goqlanis_files::streams::{ask, shown, unread};
+use goqlanis_files::{doubted, refused, usage};
+use goqlanis_options::asked::{Asked, Lines, Source, Target};
+use goqlanis_options::options::fields::option_of;
+use qrcode_payloads::kinds::{Kind, fields_of as fields_in};
+use std::alloc::{AllocError, Global};
+use std::collections::BTreeSet;
+use std::fs;
+use std::io::{BufRead, BufReader, IsTerminal, Read};
+use std::process::ExitCode;
+
+// The maximum length of a line in bytes, far more than a code holds.
+const MOST_IN_LINE: usize = 100_000;
+
+/// What a line is.
+#[derive(Clone, Copy)]
+pub(crate) enum Lined {
+    /// Data, or a field that is the data.
+    Data,
+    /// The fields of a payload.
+    Payload(Kind),
+    /// A GS1 element string, or its values.
+    Elements,
+}
+
+// How lines are taken.
+#[derive(Clone, Copy)]
+struct Taking<'a> {
+    what: Lined,
+    lines: Lines<'a>,
+    // The name of the input in messages.
+    name: &'a str,
+    progress: Progress,
+}
+
+/// Draws a code of each line as it arrives, without its LF or CR LF. A line that is refused is
+/// reported by number and skipped; if a drawing cannot be written, the remaining lines are not
+/// drawn.
+pub(crate) fn draw_lines(
+    rt: &HostRuntime,
+    asked: &Asked<'_, '_>,
+    lines: Lines<'_>,
+    what: Lined,
+) -> Result<ExitCode, Failure> {
+    let goes_to_file = matches!(asked.target, Target::File(_));
+    let taking = Taking {
+        what,
+        lines,
+        name: name_of_source(asked.input.source),
+        progress: Progress::new(rt, !goes_to_file && rt.stdout().is_terminal()),
+    };
+    match asked.input.source {
+        Source::Text(text) => draw_from(rt, asked, taking, text.as_bytes()),
+        Source::File(path) => match fs::open(rt, path) {
+            Ok(file) => draw_from(rt, asked, taking, file),
+            Err(error) => unread(rt.alloc(), path, &error),
+        },
+        Source::StandardInput => {
+            ask(rt, "the lines");
+            draw_from(rt, asked, taking, rt.stdin())
+        }
+    }
+}
+
+// Returns what messages call a source.
+fn name_of_source(source: Source<'_>) -> &str {
+    match source {
+        Source::Text(_) => "TEXT",
+        Source::File(path) => path,
+        Source::StandardInput => "standard input",
+    }
+}
+
+// Draws each line of an input.
+fn draw_from<R: Read + Drop>(
+    rt: &HostRuntime,
+    asked: &Asked<'_, '_>,
+    taking: Taking<'_>,
+    from: R,
+) -> Result<ExitCode, Failure> {
+    let mut from = BufReader::new(rt.alloc(), from).map_err(|_| Failure::OutOfMemory)?;
+    let mut line = Vec::new(rt.alloc());
+    let columns = columns_of(rt.alloc(), taking, &mut from, &mut line)?;
+    check_names(rt, asked, &columns)?;
+    check_columns(rt, taking, asked, &columns)?;
+    let drawn = draw_each(rt, asked, taking, &columns, &mut from, &mut line);
+    taking.progress.clear(rt);
+    drawn
+}
+
+// Returns the names of the columns: those of the command line, or of the first line.
+fn columns_of<R: BufRead>(
+    alloc: Global,
+    taking: Taking<'_>,
+    from: &mut R,
+    line: &mut Vec<u8>,
+) -> Result<Columns, Failure> {
+    if let Some(names) = taking.lines.columns {
+        return Columns::read(alloc, names, taking.lines.delimiter);
+    }
+    if !taking.lines.has_header || !next_line(alloc, taking.name, from, line, 1)? {
+        return Ok(Columns::none(alloc));
+    }
+    let text = String::from_utf8_lossy(alloc, text_of(line, 1))?;
+    Columns::read(alloc, text.as_str(), taking.lines.delimiter)
+}
+
+// Warns of columns that are neither encoded nor part of a file name, and refuses payloads without
+// any column that is.
+fn check_columns(
+    rt: &HostRuntime,
+    taking: Taking<'_>,
+    asked: &Asked<'_, '_>,
+    columns: &Columns,
+) -> Result<(), Failure> {
+    let Lined::Payload(kind) = taking.what else {
+        return Ok(());
+    };
+    if columns.is_empty() && !taking.lines.has_header {
+        return usage!(rt.alloc();
+            "--lines: add --header if the first line names the columns, or name them with \
+            --columns, e.g. --columns ssid,password"
+        );
+    }
+    for name in columns.names() {
+        let name = name.as_str();
+        if !is_field(kind, name) && !is_in_path(rt.alloc(), asked.target, name)? {
+            let name = shown(name);
+            doubted!(rt, asked.is_strict;
+                "column {name} is no option of this command, so it is not encoded"
+            )?;
+        }
+    }
+    Ok(())
+}
+
+// Whether payloads of `kind` have a field of this name.
+fn is_field(kind: Kind, name: &str) -> bool {
+    fields_in(kind).iter().any(|field| option_of(*field).long.eq_ignore_ascii_case(name.trim()))
+}
+
+// Whether the path of the output has the column as a placeholder.
+fn is_in_path(alloc: Global, target: Target<'_>, name: &str) -> Result<bool, AllocError> {
+    let place = format!(in alloc; "{{{name}}}")?;
+    Ok(matches!(target, Target::File(path) if path.contains(place.as_str())))
+}
+
+// Draws each line, and reports the refused ones.
+fn draw_each<R: BufRead>(
+    rt: &HostRuntime,
+    asked: &Asked<'_, '_>,
+    taking: Taking<'_>,
+    columns: &Columns,
+    from: &mut R,
+    line: &mut Vec<u8>,
+) -> Result<ExitCode, Failure> {
+    let mut code = ExitCode::SUCCESS;
+    let mut taken = BTreeSet::new(rt.alloc());
+    let header = usize::from(taking.lines.has_header);
+    for number in 1..usize::MAX {
+        let place = number.saturating_add(header);
+        if !next_line(rt.alloc(), taking.name, from, line, place)? {
+            return Ok(code);
+        }
+        let text = text_of(line, place);
+        match draw_line(rt, asked, taking, columns, &mut taken, (text, number)) {
+            Ok(_) => taking.progress.show(rt, number),
+            Err(Failure::Refused(why)) => {
+                taking.progress.clear(rt);
+                let why = shown(why.as_str());
+                let _ = eprintln!(rt; "goqlanis: line {place}: {why}");
+                code = ExitCode::FAILURE;
+            }
+            Err(failure) => return Err(failure),
+        }
+    }
+    Ok(code)
+}
+
+// Draws a line, given with its number, to a file named after it if `--output` is given.
+fn draw_line(
+    rt: &HostRuntime,
+    asked: &Asked<'_, '_>,
+    taking: Taking<'_>,
+    columns: &Columns,
+    taken: &mut BTreeSet<String>,
+    numbered: (&[u8], usize),
+) -> Result<ExitCode, Failure> {
+    let alloc = rt.alloc();
+    let (bytes, number) = numbered;
+    let line = line_of(alloc, asked, taking, columns, bytes, number)?;
+    let Target::File(path) = asked.target else {
+        return draw_what(rt, asked, taking, columns, &line, bytes);
+    };
+    let name = name_of(alloc, path, columns, &line)?;
+    if has_text(path, columns) {
+        take_name(alloc, taken, name.as_str())?;
+    }
+    check_made(rt, asked, name.as_str())?;
+    let target = Target::File(name.as_str());
+    let asked = Asked { target, ..*asked };
+    draw_what(rt, &asked, taking, columns, &line, bytes)
+}
+
+// Returns a line, with its fields if they are needed.
+fn line_of(
+    alloc: Global,
+    asked: &Asked<'_, '_>,
+    taking: Taking<'_>,
+    columns: &Columns,
+    bytes: &[u8],
+    number: usize,
+) -> Result<Line, Failure> {
+    let text = String::from_utf8_lossy(alloc, bytes)?;
+    let is_named = matches!(asked.target, Target::File(path) if has_text(path, columns));
+    let fields = if is_named || taking.lines.field.is_some() || !columns.is_empty() {
+        fields_of(alloc, text.as_str(), taking.lines.delimiter)?
+    } else {
+        Vec::new(alloc)
+    };
+    Ok(Line {
+        number,
+        text,
+        fields,
+    })
+}
+
+// Draws what a line is.
+fn draw_what(
+    rt: &HostRuntime,
+    asked: &Asked<'_, '_>,
+    taking: Taking<'_>,
+    columns: &Columns,
+    line: &Line,
+    bytes: &[u8],
+) -> Result<ExitCode, Failure> {
+    let alloc = rt.alloc();
+    if let (Lined::Data, None) = (taking.what, taking.lines.field) {
+        return draw_one(rt, asked, bytes);
+    }
+    let text = utf8(alloc, bytes, taking.lines.field)?;
+    match (taking.what, taking.lines.field) {
+        (Lined::Payload(kind), _) => {
+            let row = Row::of(alloc, kind, columns, line, &asked.fields)?;
+            draw_payload(rt, kind, asked, &row, columns)
+        }
+        (Lined::Elements, None) if !columns.is_empty() => {
+            let text = elements_in(alloc, columns, line)?;
+            draw_elements(rt, asked, text.as_str())
+        }
+        (Lined::Elements, None) => draw_elements(rt, asked, text),
+        (Lined::Data, None) => draw_one(rt, asked, text.as_bytes()),
+        (what, Some(name)) => {
+            let data = line.field(alloc, field_number(alloc, columns, name)?)?;
+            match what {
+                Lined::Elements => draw_elements(rt, asked, data),
+                _ => draw_one(rt, asked, data.as_bytes()),
+            }
+        }
+    }
+}
+
+// Returns a line as text.
+fn utf8<'a>(alloc: Global, bytes: &'a [u8], field: Option<&str>) -> Result<&'a str, Failure> {
+    match str::from_utf8(bytes) {
+        Ok(text) => Ok(text),
+        Err(_) if field.is_some() => refused!(alloc; "it is not UTF-8: leave out --field"),
+        Err(_) => refused!(alloc; "it is not UTF-8"),
+    }
+}
+
+// Returns the number of the field that `--field` selects.
+fn field_number(alloc: Global, columns: &Columns, name: &str) -> Result<usize, Failure> {
+    match (columns.number_of(name), name.parse::<u16>()) {
+        (Some(number), _) => Ok(number),
+        (None, Ok(number)) if number > 0 => Ok(number as usize),
+        _ => usage!(alloc;
+            "--field {name}: use a whole number, 1 to 65,535, or the name of a column"
+        ),
+    }
+}
+
+// Returns the element string of a line whose columns are named by application identifiers. Empty
+// fields are left out.
+fn elements_in(alloc: Global, columns: &Columns, line: &Line) -> Result<String, Failure> {
+    let mut text = String::new(alloc);
+    for (name, field) in columns.names().iter().zip(&line.fields) {
+        let name = name
+            .as_str()
+            .trim()
+            .trim_start_matches(|sign: char| matches!(sign, '(' | '['))
+            .trim_end_matches(|sign: char| matches!(sign, ')' | ']'));
+        let is_identifier = name.bytes().all(|byte| byte.is_ascii_digit());
+        if is_identifier && !name.is_empty() && !field.is_empty() {
+            let value = field.as_str().split('(').collect::<Vec<&str>>(alloc)?;
+            let value = value.join(alloc, "\\(")?;
+            write!(text, "({name}){value}")?;
+        }
+    }
+    Ok(text)
+}
+
+// Replaces `line` with the next line, line ending included. Returns `false` at the end.
+fn next_line<R: BufRead>(
+    alloc: Global,
+    name: &str,
+    from: &mut R,
+    line: &mut Vec<u8>,
+    number: usize,
+) -> Result<bool, Failure> {
+    line.clear();
+    let mut from = from.by_ref().take(MOST_IN_LINE as u64 + 2);
+    match from.read_until(b'\n', line) {
+        Ok(0) => Ok(false),
+        Ok(_) if without_ending(line).len() <= MOST_IN_LINE => Ok(true),
+        Ok(_) => {
+            let most = Grouped(MOST_IN_LINE);
+            refused!(alloc;
+                "cannot read {name}: line {number} has more than {most} bytes; neither it nor the \
+                lines after it are encoded"
+            )
+        }
+        Err(error) => unread(alloc, name, &error),
+    }
+}
+
+// Strips the line ending, and from the first line the byte order mark that spreadsheets write.
+fn text_of(line: &[u8], number: usize) -> &[u8] {
+    match without_ending(line) {
+        [0xef, 0xbb, 0xbf, text @ ..] if number == 1 => text,
+        text => text,
+    }
+}
+
+// Strips a final LF or CR LF.
+fn without_ending(line: &[u8]) -> &[u8] {
+    match line {
+        [text @ .., b'\r', b'\n'] | [text @ .., b'\n'] => text,
+        _ => line,
+    }
+}

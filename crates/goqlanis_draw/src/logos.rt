@@ -1,0 +1,217 @@
+//! Logo files: PNG and SVG.
+
+use base64::engine::general_purpose::STANDARD;
+use goqlanis_files::failure::{Failure, warn_of_more};
+use goqlanis_files::refused;
+use goqlanis_options::logos::Logo;
+use qrcode_png::{Picture, Unread, read};
+use std::alloc::{AllocError, Global};
+
+/// Decodes a PNG logo to pixels; `path` names the file in messages, and `file` is its content. Data
+/// after the picture gets a warning, or is an error.
+pub(crate) fn pixels_of(
+    rt: &HostRuntime,
+    is_error: bool,
+    path: &str,
+    file: &[u8],
+) -> Result<Logo, Failure> {
+    let why = "a PNG file takes a PNG logo; save it as PNG, or use --format svg";
+    let picture = picture_of(rt, is_error, path, file, why)?;
+    let (across, down) = picture.sides();
+    Ok(Logo::Pixels(picture.pixels(rt.alloc())?, across as u16, down as u16))
+}
+
+/// Makes an SVG element of a PNG or SVG logo; `path` names the file in messages, and `file` is its
+/// content. Data after a PNG picture gets a warning, or is an error.
+pub(crate) fn element_of(
+    rt: &HostRuntime,
+    is_error: bool,
+    path: &str,
+    file: &[u8],
+) -> Result<Logo, Failure> {
+    let alloc = rt.alloc();
+    let Ok(text) = str::from_utf8(file) else {
+        let (across, down) = picture_of(rt, is_error, path, file, UNKNOWN)?.sides();
+        return Ok(image(alloc, across as u32, down as u32, "png", file)?);
+    };
+    match svg_sides(text) {
+        Ok((across, down)) => Ok(image(alloc, across, down, "svg+xml", file)?),
+        Err(why) => refused!(alloc; "--logo {path}: {why}"),
+    }
+}
+
+// Decodes a PNG file; `other` is the message for any other kind of file.
+fn picture_of(
+    rt: &HostRuntime,
+    is_error: bool,
+    path: &str,
+    file: &[u8],
+    other: &str,
+) -> Result<Picture, Failure> {
+    let alloc = rt.alloc();
+    match read(alloc, file) {
+        Ok(picture) => {
+            if picture.has_more() {
+                warn_of_more(rt, is_error, path)?;
+            }
+            Ok(picture)
+        }
+        Err(Unread::OutOfMemory) => Err(Failure::OutOfMemory),
+        Err(Unread::NotPng) => refused!(alloc; "--logo {path}: {other}"),
+        Err(why) => refused!(alloc; "--logo {path}: {why}"),
+    }
+}
+
+// Messages for files that cannot be logos.
+const UNKNOWN: &str = "it is neither a PNG file nor SVG in UTF-8";
+
+const SCRIPTS: &str = "it has scripts or entities; save it as plain SVG";
+
+const SIZELESS: &str = "its svg element needs a viewBox, or width and height in pixels";
+// Without it, no browser draws the file as an image.
+const NAMELESS: &str =
+    "its svg element needs xmlns=\"http://www.w3.org/2000/svg\", as every SVG file has";
+
+// Embeds a picture file of this width and height as an image: so it draws nothing outside its box,
+// and its styles do not affect the code.
+fn image(
+    alloc: Global,
+    across: u32,
+    down: u32,
+    kind: &str,
+    file: &[u8],
+) -> Result<Logo, AllocError> {
+    let data = STANDARD.encode(alloc, file)?;
+    let rest = format!(in alloc;
+        " viewBox=\"0 0 {across} {down}\"><image width=\"{across}\" height=\"{down}\" \
+        xmlns:xlink=\"http://www.w3.org/1999/xlink\" \
+        xlink:href=\"data:image/{kind};base64,{data}\"/></svg>"
+    )?;
+    Ok(Logo::Element(across, down, rest))
+}
+
+// The attributes of the root element of an SVG file that give its size, and its namespace.
+#[derive(Clone, Copy)]
+struct Root<'a> {
+    view: &'a str,
+    width: &'a str,
+    height: &'a str,
+    space: &'a str,
+}
+
+// Returns the width and height of an SVG file, in proportion.
+fn svg_sides(text: &str) -> Result<(u32, u32), &'static str> {
+    if text.contains("<script") || text.contains("<!ENTITY") || has_handler(text) {
+        return Err(SCRIPTS);
+    }
+    let Some(mut left) = behind_prolog(text).and_then(|text| text.strip_prefix("<svg")) else {
+        return Err(UNKNOWN);
+    };
+    let mut root = Root {
+        view: "",
+        width: "",
+        height: "",
+        space: "",
+    };
+    for _ in 0..text.len() {
+        left = left.trim_start();
+        if left.starts_with('>') && text.trim_end().ends_with("</svg>") {
+            return sides(&root);
+        }
+        let Some((name, value, rest)) = next_attribute(left) else {
+            return Err(UNKNOWN);
+        };
+        match name {
+            "width" => root.width = value,
+            "height" => root.height = value,
+            "viewBox" => root.view = value,
+            "xmlns" => root.space = value,
+            _ => {}
+        }
+        left = rest;
+    }
+    Err(UNKNOWN)
+}
+
+// Whether an SVG file has an attribute that browsers execute, such as `onload`.
+fn has_handler(text: &str) -> bool {
+    let mut begins = false;
+    for word in text.split_whitespace() {
+        if begins && word.starts_with('=') {
+            return true;
+        }
+        begins = word.starts_with("on");
+        if begins && word.contains('=') {
+            return true;
+        }
+    }
+    text.contains("javascript:")
+}
+
+// Skips the declaration, comments and document type of an XML file.
+fn behind_prolog(text: &str) -> Option<&str> {
+    let mut left = text.strip_prefix('\u{feff}').unwrap_or(text);
+    for _ in 0..100 {
+        let text = left.trim_start();
+        let behind = if text.starts_with("<?") {
+            text.split_once("?>")
+        } else if text.starts_with("<!--") {
+            text.split_once("-->")
+        } else if text.starts_with("<!DOCTYPE") {
+            text.split_once('>')
+        } else {
+            return Some(text);
+        };
+        left = behind?.1;
+    }
+    None
+}
+
+// Parses an attribute: returns its name, its value, and the rest.
+fn next_attribute(text: &str) -> Option<(&str, &str, &str)> {
+    let (name, behind) = text.split_once('=')?;
+    let behind = behind.trim_start();
+    let mark = if behind.starts_with('"') { '"' } else { '\'' };
+    let (value, rest) = behind.strip_prefix(mark)?.split_once(mark)?;
+    let name = name.trim_end();
+    if name.contains(|c: char| c.is_whitespace() || matches!(c, '<' | '>' | '/')) {
+        return None;
+    }
+    Some((name, value, rest))
+}
+
+// Returns the proportions of a root element: of its width and height in pixels, or of its viewBox.
+fn sides(root: &Root<'_>) -> Result<(u32, u32), &'static str> {
+    let mut units = root
+        .view
+        .split(|c: char| c == ',' || c.is_ascii_whitespace())
+        .filter(|number| !number.is_empty())
+        .skip(2);
+    let found = pixels(root.width).zip(pixels(root.height));
+    let (across, down) = found.or(units.next().zip(units.next())).ok_or(SIZELESS)?;
+    if root.space != "http://www.w3.org/2000/svg" {
+        return Err(NAMELESS);
+    }
+    whole(across).zip(whole(down)).ok_or(SIZELESS)
+}
+
+// Strips the unit of a number of pixels; `None` if it is not one.
+fn pixels(text: &str) -> Option<&str> {
+    let number = match text.strip_suffix("px") {
+        Some(number) => number.trim_end(),
+        None => text,
+    };
+    let is_number = number
+        .bytes()
+        .all(|byte| byte.is_ascii_digit() || byte == b'.');
+    (is_number && !number.is_empty()).then_some(number)
+}
+
+// Returns the integer part of a decimal number, at least 1.
+fn whole(number: &str) -> Option<u32> {
+    let digits = match number.split_once('.') {
+        Some((digits, _)) => digits,
+        None => number,
+    };
+    Some(digits.parse::<u32>().ok()?.max(1))
+}

@@ -1,0 +1,162 @@
+//! Makes the codes that the command line asks for.
+
+use crate::contents::{payload_of, with_round_brackets};
+use crate::drawing::{application_code, draw_one, elements_code, segments_code, write_code};
+use crate::lines::{Lined, draw_lines};
+use crate::middle::{SWISS_CROSS, has_cross, read_logo};
+use crate::rows::Columns;
+use crate::splitting::{MOST_IN_SEVERAL, draw_several};
+use goqlanis_files::failure::Failure;
+use goqlanis_files::streams::{MOST_DATA, read_file, read_standard_input};
+use goqlanis_files::{doubted, refused, usage};
+use goqlanis_options::asked::{Asked, Source};
+use goqlanis_options::logos::{AskedLogo, Middle};
+use goqlanis_options::options::{Purpose, Task};
+use goqlanis_options::warnings::warn_of_password;
+use qrcode::QrCode;
+use qrcode::types::QrError;
+use qrcode_contents::bill;
+use qrcode_payloads::given::Given;
+use qrcode_payloads::kinds::Kind;
+use std::alloc::Global;
+use std::process::ExitCode;
+
+/// Makes codes, after reading the logo file if there is one.
+pub fn make(rt: &HostRuntime, task: &Task, asked: &Asked<'_, '_>) -> Result<ExitCode, Failure> {
+    let file = read_logo(rt, asked)?;
+    let middle = file.as_ref().map_or(Middle::Light, Middle::Logo);
+    let logo = asked.logo.map(|logo| AskedLogo { middle, ..logo });
+    draw(rt, task, &Asked { logo, ..*asked })
+}
+
+// Makes codes.
+fn draw(rt: &HostRuntime, task: &Task, asked: &Asked<'_, '_>) -> Result<ExitCode, Failure> {
+    let what = match task.purpose {
+        Purpose::Several => return draw_several(rt, asked, &data(rt, asked, MOST_IN_SEVERAL)?),
+        Purpose::Content(kind) => Lined::Payload(kind),
+        Purpose::Elements => Lined::Elements,
+        _ => Lined::Data,
+    };
+    asked.fields.check(rt.alloc())?;
+    match (asked.input.lines, what, asked.input.segments) {
+        (Some(lines), _, _) => draw_lines(rt, asked, lines, what),
+        (None, Lined::Payload(kind), _) => draw_content(rt, kind, asked),
+        (None, Lined::Elements, _) => draw_gs1(rt, asked),
+        (None, Lined::Data, Some(words)) => {
+            write_code(rt, asked, segments_code(rt.alloc(), asked, words)?)
+        }
+        (None, Lined::Data, None) => draw_one(rt, asked, &data(rt, asked, MOST_DATA)?),
+    }
+}
+
+// Draws a payload whose fields the options give.
+fn draw_content(rt: &HostRuntime, kind: Kind, asked: &Asked<'_, '_>) -> Result<ExitCode, Failure> {
+    if matches!(asked.input.source, Source::File(_)) {
+        return usage!(rt.alloc();
+            "--input goes with --lines, which takes the fields from columns; without it, options \
+            give them"
+        );
+    }
+    draw_payload(rt, kind, asked, &asked.fields, &Columns::none(rt.alloc()))
+}
+
+/// Draws a payload with these fields; messages name those of `columns` by column.
+pub(crate) fn draw_payload<G: Given>(
+    rt: &HostRuntime,
+    kind: Kind,
+    asked: &Asked<'_, '_>,
+    given: &G,
+    columns: &Columns,
+) -> Result<ExitCode, Failure> {
+    let text = payload_of(rt.alloc(), kind, given, columns)?;
+    if matches!(kind, Kind::Bill) {
+        return draw_bill(rt, asked, text.as_str());
+    }
+    if matches!(kind, Kind::Wifi) {
+        warn_of_password(rt, asked.is_strict, given)?;
+    }
+    if matches!(kind, Kind::Payment) && !text.as_str().is_ascii() {
+        doubted!(rt, asked.is_strict;
+            "some readers show letters outside ASCII wrong in a credit transfer, and the format \
+            allows no hint; write e.g. Maerz for März to be safe"
+        )?;
+    }
+    draw_one(rt, asked, text.as_bytes())
+}
+
+// Draws a Swiss QR-bill, with the Swiss cross if the format supports it.
+fn draw_bill(rt: &HostRuntime, asked: &Asked<'_, '_>, text: &str) -> Result<ExitCode, Failure> {
+    check_bill(rt.alloc(), text)?;
+    if asked.logo.is_some() {
+        return usage!(rt.alloc(); "--logo, --logo-area: a bill has the Swiss cross in its middle");
+    }
+    let logo = has_cross(asked.request.format).then_some(SWISS_CROSS);
+    if logo.is_none() {
+        doubted!(rt, asked.is_strict;
+            "this format lacks the Swiss cross of a bill; png, svg, eps and pdf have it"
+        )?;
+    }
+    if asked.request.is_inverted {
+        doubted!(rt, asked.is_strict; "a bill is dark on light: leave out --invert")?;
+    }
+    draw_one(rt, &Asked { logo, ..*asked }, text.as_bytes())
+}
+
+// The bytes that fit in any case in a code of a bill's level and largest version.
+const BILL_ROOM: usize = 997;
+
+// Checks that a bill's text fits in the largest version that bills may have.
+fn check_bill(alloc: Global, text: &str) -> Result<(), Failure> {
+    if text.len() <= BILL_ROOM {
+        return Ok(());
+    }
+    match QrCode::of_text_in(alloc, text, bill::LARGEST, bill::LEVEL) {
+        Ok(_) => Ok(()),
+        Err(QrError::OutOfMemory) => Err(Failure::OutOfMemory),
+        Err(_) => {
+            let more = text.len() - BILL_ROOM;
+            refused!(alloc;
+                "too long: a bill may use at most version 25 ({BILL_ROOM} bytes); shorten it by {more} \
+                bytes (a letter with an accent takes two)"
+            )
+        }
+    }
+}
+
+// Draws a GS1 element string, or data in an industry's own format.
+fn draw_gs1(rt: &HostRuntime, asked: &Asked<'_, '_>) -> Result<ExitCode, Failure> {
+    let bytes = data(rt, asked, MOST_DATA)?;
+    let Ok(text) = str::from_utf8(&bytes) else {
+        return refused!(rt.alloc(); "ELEMENTS: they are not UTF-8");
+    };
+    let text = text.trim_end_matches('\n');
+    let Some(indicator) = asked.input.application else {
+        return draw_elements(rt, asked, text);
+    };
+    let code = application_code(rt.alloc(), &asked.request, indicator, text)?;
+    write_code(rt, asked, code)
+}
+
+/// Draws a GS1 element string.
+pub(crate) fn draw_elements(
+    rt: &HostRuntime,
+    asked: &Asked<'_, '_>,
+    text: &str,
+) -> Result<ExitCode, Failure> {
+    let text = with_round_brackets(rt.alloc(), text)?;
+    let code = elements_code(rt.alloc(), &asked.request, text.as_str())?;
+    write_code(rt, asked, code)
+}
+
+// Returns the data to encode; at most `most` bytes are read.
+fn data(rt: &HostRuntime, asked: &Asked<'_, '_>, most: usize) -> Result<Vec<u8>, Failure> {
+    let mut bytes = match asked.input.source {
+        Source::Text(text) => Vec::from_slice(rt.alloc(), text.as_bytes())?,
+        Source::File(path) => read_file(rt, path, most)?,
+        Source::StandardInput => read_standard_input(rt, "the text", most)?,
+    };
+    if asked.input.is_trimmed && bytes.last() == Some(&b'\n') {
+        bytes.pop();
+    }
+    Ok(bytes)
+}

@@ -1,0 +1,222 @@
+//! Names of numbered files, and of files named after lines, from the pattern in `--output`.
+
+use crate::rows::{Columns, Line};
+use goqlanis_files::failure::Failure;
+use goqlanis_files::files::is_stream;
+use goqlanis_files::streams::is_unseen;
+use goqlanis_files::{refused, usage};
+use goqlanis_options::asked::{Asked, Source, Target};
+use std::alloc::{AllocError, Global};
+use std::collections::BTreeSet;
+use std::fs;
+
+// The maximum length of a file name on Linux, in bytes.
+const MOST_IN_NAME: usize = 255;
+
+// A placeholder in a path: `{}`, `{text}` or `{1}`.
+#[derive(Clone, Copy)]
+enum Place {
+    Number,
+    Text,
+    /// A field of the line, counted from 1.
+    Field(usize),
+}
+
+/// Checks that file names can be made from the path in `--output`.
+pub(crate) fn check_names(
+    rt: &HostRuntime,
+    asked: &Asked<'_, '_>,
+    columns: &Columns,
+) -> Result<(), Failure> {
+    let Target::File(path) = asked.target else {
+        return Ok(());
+    };
+    let folder = path.rsplit_once('/').map_or("", |(folder, _)| folder);
+    if is_stream(rt, path) {
+        usage!(rt.alloc();
+            "--output {path}: each code gets its own file; name one, e.g. a.png, or leave out \
+            --output for text"
+        )
+    } else if folder.contains("{}") || has_text(folder, columns) {
+        usage!(rt.alloc();
+            "--output: {{}}, {{text}} and {{1}} are for the file name, not for its folder"
+        )
+    } else if has_text(path, columns) && asked.input.lines.is_none() {
+        usage!(rt.alloc(); "--output: {{text}} and {{1}} are for --lines; {{}} is the number")
+    } else if let Some(word) = unknown_word(path, columns) {
+        usage!(rt.alloc();
+            "--output: {{{word}}} is unknown; {{}} is the number, {{text}} the line, {{1}} its \
+            first field; --header or --columns name others"
+        )
+    } else {
+        Ok(())
+    }
+}
+
+// Returns the first placeholder that is unknown.
+fn unknown_word<'a>(path: &'a str, columns: &Columns) -> Option<&'a str> {
+    path.split('{').skip(1).find_map(|piece| {
+        let (word, _) = piece.split_once('}')?;
+        place_of(piece, columns).is_none().then_some(word)
+    })
+}
+
+/// Records `name` in `taken`; refuses it if an earlier line has the same, or one that differs only
+/// in case, which some systems ignore.
+pub(crate) fn take_name(
+    alloc: Global,
+    taken: &mut BTreeSet<String>,
+    name: &str,
+) -> Result<(), Failure> {
+    if taken.insert(name.to_ascii_lowercase(alloc)?)? {
+        return Ok(());
+    }
+    refused!(alloc;
+        "{name} is the file of an earlier line; {{}} in --output is the number of the line"
+    )
+}
+
+/// Checks that a generated name is a plain file, and not the input: no line may write elsewhere.
+pub(crate) fn check_made(
+    rt: &HostRuntime,
+    asked: &Asked<'_, '_>,
+    name: &str,
+) -> Result<(), Failure> {
+    let what = if is_stream(rt, name) {
+        "a pipe, device or folder"
+    } else if fs::symlink_metadata(rt, name).is_ok_and(|found| found.is_symlink()) {
+        "a link"
+    } else if matches!(asked.input.source, Source::File(path) if path == name) {
+        "the input"
+    } else {
+        return Ok(());
+    };
+    refused!(rt.alloc(); "{name} is {what}; each code gets its own file")
+}
+
+/// Returns the file name for a line: `path` with its placeholders filled in, or else with the number
+/// of the line before the file extension.
+///
+/// Errors: `Refused` if the line lacks a field, or the name is none that a file may have;
+/// `OutOfMemory`.
+pub(crate) fn name_of(
+    alloc: Global,
+    path: &str,
+    columns: &Columns,
+    line: &Line,
+) -> Result<String, Failure> {
+    if !path.contains("{}") && !has_text(path, columns) {
+        return Ok(numbered(alloc, path, line.number)?);
+    }
+    let mut name = String::from_str(alloc, path.split('{').next().unwrap_or(""))?;
+    for piece in path.split('{').skip(1) {
+        push_piece(&mut name, piece, columns, line)?;
+    }
+    check_name(alloc, path, name.as_str())?;
+    Ok(name)
+}
+
+// Checks the file name of a generated path: not too long, not empty, not `.` or `..`, and not hidden
+// unless the pattern says so, since a field was empty.
+fn check_name(alloc: Global, pattern: &str, path: &str) -> Result<(), Failure> {
+    let name = file_name(path);
+    let is_hidden = name.starts_with('.') && !file_name(pattern).starts_with('.');
+    if name.len() > MOST_IN_NAME {
+        refused!(alloc; "its file name would have more than 255 bytes")
+    } else if matches!(name, "" | "." | "..") {
+        refused!(alloc; "its file name would be empty, \".\" or \"..\"")
+    } else if is_reserved(name) {
+        refused!(alloc; "its file would be {name}, a name that Windows reserves")
+    } else if is_hidden {
+        refused!(alloc; "its file name would begin with a dot, since the field is empty")
+    } else {
+        Ok(())
+    }
+}
+
+// Whether Windows reserves a name, with any file extension.
+fn is_reserved(name: &str) -> bool {
+    let stem = name.split('.').next().unwrap_or("");
+    let device = stem.trim_end_matches(|character: char| character.is_ascii_digit());
+    let is_numbered = stem.len() == device.len().saturating_add(1);
+    if is_numbered {
+        return ["com", "lpt"]
+            .iter()
+            .any(|known| device.eq_ignore_ascii_case(known));
+    }
+    ["con", "prn", "aux", "nul"]
+        .iter()
+        .any(|known| stem.eq_ignore_ascii_case(known))
+}
+
+// Returns what follows the last slash.
+fn file_name(path: &str) -> &str {
+    path.rsplit('/').next().unwrap_or("")
+}
+
+/// Inserts a number before the file extension.
+pub(crate) fn numbered(alloc: Global, path: &str, number: usize) -> Result<String, AllocError> {
+    match path.rsplit_once('.') {
+        Some((stem, ending)) if !ending.contains('/') => {
+            format!(in alloc; "{stem}-{number:06}.{ending}")
+        }
+        _ => format!(in alloc; "{path}-{number:06}"),
+    }
+}
+
+/// Whether a path has a placeholder for text of the line.
+pub(crate) fn has_text(path: &str, columns: &Columns) -> bool {
+    path.split('{').skip(1).any(|piece| matches!(
+        place_of(piece, columns),
+        Some((Place::Text | Place::Field(_), _))
+    ))
+}
+
+// Parses the placeholder whose `{` precedes `piece`; returns it and the rest after its `}`.
+fn place_of<'a>(piece: &'a str, columns: &Columns) -> Option<(Place, &'a str)> {
+    let (word, rest) = piece.split_once('}')?;
+    let place = match (word, word.parse::<usize>(), columns.number_of(word)) {
+        ("", _, _) => Place::Number,
+        (_, _, Some(number)) => Place::Field(number),
+        ("text", _, _) => Place::Text,
+        (_, Ok(number), _) if number > 0 && !word.starts_with('+') => Place::Field(number),
+        _ => return None,
+    };
+    Some((place, rest))
+}
+
+// Appends the value of the placeholder at the start of `piece`, and the rest of `piece`; or `{` and
+// `piece` if it is not a placeholder.
+fn push_piece(
+    name: &mut String,
+    piece: &str,
+    columns: &Columns,
+    line: &Line,
+) -> Result<(), Failure> {
+    let Some((place, rest)) = place_of(piece, columns) else {
+        return Ok(write!(name, "{{{piece}")?);
+    };
+    let number = line.number;
+    match place {
+        Place::Number => write!(name, "{number}")?,
+        Place::Text => push_clean(name, line.text.as_str())?,
+        Place::Field(number) => push_clean(name, line.field(*name.allocator(), number)?)?,
+    }
+    Ok(name.push_str(rest)?)
+}
+
+// Appends text to a file name. `_` replaces characters that some systems forbid, invisible ones, a
+// leading `.`, which would hide the file, and a leading `-`, which would look like an option.
+fn push_clean(name: &mut String, text: &str) -> Result<(), AllocError> {
+    for character in text.chars() {
+        let is_first = name.is_empty() || name.ends_with('/');
+        let is_clean = !is_unseen(character)
+            && !(is_first && matches!(character, '.' | '-'))
+            && !matches!(
+                character,
+                '/' | '\\' | ':' | '*' | '?' | '"' | '<' | '>' | '|'
+            );
+        name.push(if is_clean { character } else { '_' })?;
+    }
+    Ok(())
+}

@@ -1,0 +1,208 @@
+//! Lines of an input, their fields and the names of their columns.
+
+ghost use Rattle.std.specs.Prelude.{◌≡◌, map};
+ghost use Rattle.goqlanis_draw.specs.Rows.{pair_of, text_named, texts_of};
+ghost use Rattle.goqlanis_options.specs.Fields.{name_of};
+
+use goqlanis_files::failure::Failure;
+use goqlanis_files::refused;
+use goqlanis_options::fields::DECISIVE;
+use goqlanis_options::options::fields::option_of;
+use qrcode_contents::fields::errors::Field;
+use qrcode_payloads::given::Given;
+use qrcode_payloads::kinds::{Kind, fields_of as fields_in};
+use std::alloc::{AllocError, Global};
+
+/// The names of columns, in order; there may be none.
+#[derive(Drop)]
+pub(crate) struct Columns {
+    names: Vec<String>,
+}
+
+impl Columns {
+    /// Returns no names.
+    pub(crate) fn none(alloc: Global) -> Columns {
+        Columns {
+            names: Vec::new(alloc),
+        }
+    }
+
+    /// Reads the names in a line.
+    ///
+    /// Errors: `Refused` if a quotation mark is not closed; `OutOfMemory`.
+    pub(crate) fn read(alloc: Global, line: &str, delimiter: &str) -> Result<Columns, Failure> {
+        Ok(Columns {
+            names: fields_of(alloc, line, delimiter)?,
+        })
+    }
+
+    /// Whether there are none.
+    pub(crate) fn is_empty(&self) -> bool {
+        self.names.is_empty()
+    }
+
+    /// Returns the names in order.
+    pub(crate) fn names(&self) -> &[String] {
+        &self.names
+    }
+
+    /// Returns the number of the column called `name`, from 1.
+    pub(crate) fn number_of(&self, name: &str) -> Option<usize> {
+        let mut names = self.names.iter();
+        let place = names.position(|known| known.as_str().trim().eq_ignore_ascii_case(name))?;
+        Some(place.saturating_add(1))
+    }
+
+    /// Returns what messages call the option `name`: its column, if it has one.
+    ///
+    /// Errors: only `AllocError`.
+    pub(crate) fn label(&self, alloc: Global, name: &str) -> Result<String, AllocError> {
+        match self.number_of(name) {
+            Some(number) => format!(in alloc; "column {number}, {name}"),
+            None => format!(in alloc; "--{name}"),
+        }
+    }
+}
+
+/// A line.
+#[derive(Drop)]
+pub(crate) struct Line {
+    /// Its number among the lines that are encoded, from 1.
+    pub number: usize,
+    /// Its text; � stands for bytes that are not UTF-8.
+    pub text: String,
+    /// Its fields, if they are needed.
+    pub fields: Vec<String>,
+}
+
+impl Line {
+    /// Returns a field, counted from 1.
+    ///
+    /// Errors: `Refused` if there is none; `OutOfMemory`.
+    pub(crate) fn field(&self, alloc: Global, number: usize) -> Result<&str, Failure> {
+        match self.fields.get(number.saturating_sub(1)) {
+            Some(field) => Ok(field.as_str()),
+            None => refused!(alloc;
+                "it has no field {number}; --delimiter says what separates fields"
+            ),
+        }
+    }
+}
+
+/// The fields of a payload in a line: names of options with their texts.
+#[derive(Drop)]
+pub(crate) struct Row {
+    pairs: Vec<(String, String)>,
+}
+
+impl Given for Row {
+    ghost fields = { λ row. texts_of row };
+
+    fn text(&self, field: Field) -> &str {
+        text_named(&self.pairs, option_of(field).long)
+    }
+}
+
+// The text of the first pair with this name; empty if there is none.
+fn text_named<'a>(pairs: &'a [(String, String)], name: &str) -> &'a str
+    ensures { result.now ≡ text_named (map pair_of pairs.now) name.now }
+{
+    for (known, text) in pairs {
+        if known.as_str() == name {
+            return text.as_str();
+        }
+    }
+    ""
+}
+
+impl Row {
+    /// Returns the fields of a line: those of its columns, and the others as `options` give them.
+    ///
+    /// Errors: `Refused` if the line has fewer fields than columns; `OutOfMemory`.
+    pub(crate) fn of<G: Given>(
+        alloc: Global,
+        kind: Kind,
+        columns: &Columns,
+        line: &Line,
+        options: &G,
+    ) -> Result<Row, Failure> {
+        let mut pairs = Vec::new(alloc);
+        for field in fields_in(kind) {
+            let name = option_of(*field).long;
+            let text = match columns.number_of(name) {
+                Some(number) => decided(alloc, name, number, line.field(alloc, number)?)?,
+                None => options.text(*field),
+            };
+            let pair = (
+                String::from_str(alloc, name)?,
+                String::from_str(alloc, text)?,
+            );
+            pairs.push(pair)?;
+        }
+        Ok(Row { pairs })
+    }
+}
+
+// Returns the text of a column; refuses an empty one if that changes what the payload means.
+fn decided<'a>(
+    alloc: Global,
+    name: &str,
+    number: usize,
+    text: &'a str,
+) -> Result<&'a str, Failure> {
+    if text.is_empty() && DECISIVE.contains(&name) {
+        return refused!(alloc;
+            "column {number}, {name}: it is empty; leave the column out for none"
+        );
+    }
+    Ok(text)
+}
+
+/// Returns the fields of `line`. As in CSV, a quoted field may contain the delimiter, and a
+/// quotation mark that is doubled.
+///
+/// Errors: `Refused` if a quotation mark is not closed; `OutOfMemory`.
+pub(crate) fn fields_of(
+    alloc: Global,
+    line: &str,
+    delimiter: &str,
+) -> Result<Vec<String>, Failure> {
+    let mut fields = Vec::new(alloc);
+    let mut field = String::new(alloc);
+    let (mut is_open, mut is_odd) = (false, false);
+    for piece in line.split(delimiter) {
+        if is_open {
+            field.push_str(delimiter)?;
+            is_odd = is_odd != has_odd_quotes(delimiter);
+        } else {
+            field.clear();
+            is_odd = false;
+        }
+        field.push_str(piece)?;
+        is_odd = is_odd != has_odd_quotes(piece);
+        is_open = is_odd && field.starts_with('"');
+        if !is_open {
+            fields.push(unquoted(alloc, field.as_str())?)?;
+        }
+    }
+    if is_open {
+        return refused!(alloc; "a field has no quotation mark at its end");
+    }
+    Ok(fields)
+}
+
+fn has_odd_quotes(text: &str) -> bool {
+    text.bytes().filter(|byte| *byte == b'"').count() % 2 == 1
+}
+
+// Removes the quotation marks around a field, and undoubles those inside.
+fn unquoted(alloc: Global, field: &str) -> Result<String, AllocError> {
+    let inner = field
+        .strip_prefix('"')
+        .and_then(|rest| rest.strip_suffix('"'));
+    let Some(inner) = inner else {
+        return String::from_str(alloc, field);
+    };
+    let parts = inner.split("\"\"").collect::<Vec<&str>>(alloc)?;
+    parts.join(alloc, "\"")
+}

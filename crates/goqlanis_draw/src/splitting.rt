@@ -1,0 +1,97 @@
+//! `goqlanis split`: structured append.
+
+use crate::drawing::{check_empty, manner, write_code};
+use crate::names::{check_made, check_names, name_of};
+use crate::rows::{Columns, Line};
+use goqlanis_files::failure::Failure;
+use goqlanis_files::refused;
+use goqlanis_files::streams::{MOST_DATA, shown};
+use goqlanis_options::asked::{Asked, Target, check_one_behind_another, versions_of};
+use qrcode::QrCode;
+use qrcode::types::QrError;
+use qrcode_append::{encode_among, encode_counted};
+use std::alloc::Global;
+use std::fs;
+use std::process::ExitCode;
+
+// The maximum number of codes in a split.
+const MOST_SYMBOLS: usize = 16;
+
+/// The maximum number of input bytes of `split`: 16 codes' worth.
+pub(crate) const MOST_IN_SEVERAL: usize = MOST_SYMBOLS * MOST_DATA;
+
+/// Splits `bytes` over several codes, each written to a numbered file.
+pub(crate) fn draw_several(
+    rt: &HostRuntime,
+    asked: &Asked<'_, '_>,
+    bytes: &[u8],
+) -> Result<ExitCode, Failure> {
+    let alloc = rt.alloc();
+    check_one_behind_another(alloc, asked)?;
+    check_names(rt, asked, &Columns::none(alloc))?;
+    check_empty(alloc, asked, bytes)?;
+    let versions = versions_of(alloc, asked)?;
+    let level = asked.request.level;
+    let manner = manner(alloc, asked, bytes)?;
+    let made = match asked.split.count {
+        None => encode_among(alloc, bytes, manner, versions, level),
+        Some(count) => encode_counted(alloc, bytes, manner, versions, level, count as usize),
+    };
+    match made {
+        Ok(codes) => draw_each(rt, asked, codes),
+        Err(QrError::DataTooLong) => refused!(alloc;
+            "the data does not fit: allow more codes (--count, up to 16), larger versions or a \
+            lower --level; 16 codes hold at most 47,216 bytes, at --level L"
+        ),
+        Err(_) => Err(Failure::OutOfMemory),
+    }
+}
+
+// Draws codes one after another, each to a numbered file if `--output` is given.
+fn draw_each(
+    rt: &HostRuntime,
+    asked: &Asked<'_, '_>,
+    codes: Vec<QrCode>,
+) -> Result<ExitCode, Failure> {
+    let count = codes.len();
+    for (index, code) in codes.into_iter().enumerate() {
+        if let Target::File(path) = asked.target {
+            let name = part_name(rt.alloc(), path, index.saturating_add(1))?;
+            check_made(rt, asked, name.as_str())?;
+            let target = Target::File(name.as_str());
+            write_code(rt, &Asked { target, ..*asked }, code)?;
+        } else {
+            write_code(rt, asked, code)?;
+        }
+    }
+    if let Target::File(path) = asked.target {
+        warn_of_others(rt, path, count)?;
+    }
+    Ok(ExitCode::SUCCESS)
+}
+
+// Returns the file name of a part.
+fn part_name(alloc: Global, path: &str, number: usize) -> Result<String, Failure> {
+    let line = Line {
+        number,
+        text: String::new(alloc),
+        fields: Vec::new(alloc),
+    };
+    name_of(alloc, path, &Columns::none(alloc), &line)
+}
+
+// Warns of files with higher numbers, left by an earlier run.
+fn warn_of_others(rt: &HostRuntime, path: &str, count: usize) -> Result<(), Failure> {
+    let mut others = String::new(rt.alloc());
+    for number in count.saturating_add(1)..MOST_SYMBOLS + 1 {
+        let name = part_name(rt.alloc(), path, number)?;
+        if fs::exists(rt, name.as_str()).unwrap_or(false) {
+            write!(others, " {name}")?;
+        }
+    }
+    if !others.is_empty() {
+        let others = shown(others.as_str());
+        let _ = eprintln!(rt; "goqlanis: from an earlier run, not part of this data:{others}");
+    }
+    Ok(())
+}

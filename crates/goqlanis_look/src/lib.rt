@@ -1,0 +1,12 @@
+//! `goqlanis read`, `check` and `join`: decodes pictures, and reports on the codes in them.
+#![tactic(auto)]
+
+mod checking;
+mod joining;
+mod pictures;
+mod reading;
+mod reports;
+
+pub use checking::check;
+pub use joining::join_pictures;
+pub use reading::read;

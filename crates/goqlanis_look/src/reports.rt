@@ -1,0 +1,293 @@
+//! Reports on decoded codes, as text or JSON.
+
+use goqlanis_core::{Scan, VersionName};
+use goqlanis_files::streams::is_unseen;
+use goqlanis_options::modes::mode_name;
+use goqlanis_options::push_either;
+use qrcode::types::Mode;
+use qrcode_check::masks::place_of;
+use qrcode_reader::spell::{Header, Part};
+use qrcode_reader::{Position, WrongCodeword};
+use std::alloc::{AllocError, Global};
+use std::fmt;
+
+// ECI numbers of character sets, as AIM assigns them, with the names that IANA registers.
+#[rattlefmt::skip]
+static CHARACTER_SETS: &[(u32, &str)] = &[
+    (0, "IBM437"), (1, "ISO-8859-1"), (2, "IBM437"), (3, "ISO-8859-1"), (4, "ISO-8859-2"),
+    (5, "ISO-8859-3"), (6, "ISO-8859-4"), (7, "ISO-8859-5"), (8, "ISO-8859-6"), (9, "ISO-8859-7"),
+    (10, "ISO-8859-8"), (11, "ISO-8859-9"), (12, "ISO-8859-10"), (13, "ISO-8859-11"),
+    (15, "ISO-8859-13"), (16, "ISO-8859-14"), (17, "ISO-8859-15"), (18, "ISO-8859-16"),
+    (20, "Shift_JIS"), (21, "windows-1250"), (22, "windows-1251"), (23, "windows-1252"),
+    (24, "windows-1256"), (25, "UTF-16BE"), (26, "UTF-8"), (27, "US-ASCII"), (28, "Big5"),
+    (29, "GB2312"), (30, "EUC-KR"), (31, "GBK"), (32, "GB18030"), (33, "UTF-16LE"),
+    (34, "UTF-32BE"), (35, "UTF-32LE"), (170, "ISO 646 invariant"), (899, "bytes"),
+];
+
+/// The ECI number of a character set; displayed with its name.
+#[derive(Clone, Copy)]
+pub(crate) struct CharacterSet(u32);
+
+impl CharacterSet {
+    // Returns the name, if it is known.
+    fn name(self) -> Option<&'static str> {
+        let (_, name) = CHARACTER_SETS.iter().find(|(known, _)| *known == self.0)?;
+        Some(*name)
+    }
+}
+
+impl fmt::Display for CharacterSet {
+    fn fmt<W: fmt::Write>(&self, f: &mut fmt::Formatter<W>) -> fmt::Result {
+        let number = self.0;
+        match self.name() {
+            Some(name) => write!(f, "ECI {number}, {name}"),
+            None => write!(f, "ECI {number}, a character set without a known name"),
+        }
+    }
+}
+
+/// Returns the first character set in the headers other than UTF-8, ASCII and binary data.
+pub(crate) fn other_set(parts: &[Part]) -> Option<CharacterSet> {
+    for part in parts {
+        if let Part::Front(Header::Eci(number)) = *part {
+            if !matches!(number, 26 | 27 | 170 | 899) {
+                return Some(CharacterSet(number));
+            }
+        }
+    }
+    None
+}
+
+// Whether headers and modes allow UTF-8: no other character set is named, and no segment is Kanji.
+fn is_in_utf8(parts: &[Part]) -> bool {
+    parts.iter().all(|part| match *part {
+        Part::Front(Header::Eci(number)) => matches!(number, 26 | 27 | 170),
+        Part::Bytes(mode, _) => mode != Mode::Kanji,
+        _ => true,
+    })
+}
+
+/// Reports on decoded codes as lines of text, under the name of their file unless it is empty.
+///
+/// Errors: only `AllocError`.
+pub(crate) fn report(alloc: Global, scans: &[Scan], file: &str) -> Result<String, AllocError> {
+    let mut text = String::new(alloc);
+    push_heading(&mut text, file)?;
+    for scan in scans {
+        push_scan(&mut text, scan, false)?;
+    }
+    Ok(text)
+}
+
+/// Appends the name of a file as a heading, unless it is empty.
+///
+/// Errors: only `AllocError`.
+pub(crate) fn push_heading(text: &mut String, file: &str) -> Result<(), AllocError> {
+    if file.is_empty() {
+        return Ok(());
+    }
+    write!(text, "{file}:\n")
+}
+
+/// Returns a JSON object of a code with its data, on one line; it names the file unless that is
+/// empty.
+///
+/// Errors: only `AllocError`.
+pub(crate) fn object_of(alloc: Global, scan: &Scan, file: &str) -> Result<String, AllocError> {
+    let mut text = String::new(alloc);
+    push_file(&mut text, file)?;
+    push_scan(&mut text, scan, true)?;
+    push_data(&mut text, scan)?;
+    Ok(text)
+}
+
+/// Begins a JSON object with the name of a file, unless it is empty.
+///
+/// Errors: only `AllocError`.
+pub(crate) fn push_file(text: &mut String, file: &str) -> Result<(), AllocError> {
+    text.push('{')?;
+    if file.is_empty() {
+        return Ok(());
+    }
+    text.push_str("\"file\": \"")?;
+    push_string(text, file)?;
+    text.push_str("\", ")
+}
+
+// Appends the report on one code: members of a JSON object, or lines of text.
+fn push_scan(text: &mut String, scan: &Scan, is_json: bool) -> Result<(), AllocError> {
+    push_symbol(text, scan, is_json)?;
+    push_wrong(text, &scan.any.reading.wrong, is_json)?;
+    let mut sign = "";
+    for part in &scan.parts {
+        text.push_str(sign)?;
+        push_part(text, *part, is_json)?;
+        sign = if is_json { ", " } else { "" };
+    }
+    Ok(())
+}
+
+// Appends version, level, mask, sizes and position of a code.
+fn push_symbol(text: &mut String, scan: &Scan, is_json: bool) -> Result<(), AllocError> {
+    let (square, reading) = (&scan.square, &scan.any.reading);
+    let (version, level) = (VersionName(reading.version), reading.ec_level);
+    let mask = place_of(reading.version, reading.mask);
+    let (count, zone, scale) = (square.count, square.zone, square.scale);
+    push_either!(text, is_json;
+        "\"version\": \"{version}\", \"level\": \"{level:?}\", \"mask\": {mask}, \
+        \"modules\": {count}",
+        "version {version}, level {level:?}, mask {mask}\n\
+        modules: {count} by {count}; pixels of a module: {scale}"
+    )?;
+    if scan.grid.is_none() {
+        push_either!(text, is_json; ", \"quiet_zone\": {zone}", "; quiet zone: {zone}")?;
+    }
+    let place = position_text(scan.any.position);
+    let inverted = scan.is_inverted != scan.any.is_inverted;
+    let shades = if inverted { ", inverted" } else { "" };
+    push_either!(text, is_json;
+        ", \"scale\": {scale}, \"position\": \"{place}\", \"inverted\": {inverted}, ",
+        "\nposition: {place}{shades}\n"
+    )
+}
+
+// Appends the wrong codewords: their number, and the block and place of each.
+fn push_wrong(text: &mut String, wrong: &[WrongCodeword], is_json: bool) -> Result<(), AllocError> {
+    let count = wrong.len();
+    push_either!(text, is_json; "\"wrong_codewords\": [", "wrong codewords: {count}")?;
+    let mut sign = if is_json {
+        ""
+    } else {
+        ", all corrected; block.place, from 0: "
+    };
+    for each in wrong {
+        let (block, place) = (each.block, each.place);
+        push_either!(text, is_json; "{sign}[{block}, {place}]", "{sign}{block}.{place}")?;
+        sign = ", ";
+    }
+    text.push_str(if is_json { "], \"parts\": [" } else { "\n" })
+}
+
+// Appends a segment or a header: a JSON object, or a line of text.
+fn push_part(text: &mut String, part: Part, is_json: bool) -> Result<(), AllocError> {
+    match part {
+        Part::Bytes(mode, count) => {
+            let mode = mode_name(mode);
+            push_either!(text, is_json;
+                "{{\"mode\": \"{mode}\", \"bytes\": {count}}}",
+                "segment: {mode} mode, bytes: {count}\n"
+            )
+        }
+        Part::Front(header) => push_header(text, header, is_json),
+    }
+}
+
+fn push_header(text: &mut String, header: Header, is_json: bool) -> Result<(), AllocError> {
+    match header {
+        Header::Eci(number) => push_set(text, CharacterSet(number), is_json),
+        Header::Fnc1First => push_either!(text, is_json;
+            "{{\"fnc1\": \"first\"}}",
+            "header: FNC1 in first position, elements of GS1\n"
+        ),
+        Header::Fnc1Second(indicator) => push_application(text, Application(indicator), is_json),
+        Header::StructuredAppend {
+            place,
+            last,
+            parity,
+        } => {
+            let (number, count) = (place.saturating_add(1), last.saturating_add(1));
+            push_either!(text, is_json;
+                "{{\"symbol\": {number}, \"of\": {count}, \"parity\": {parity}}}",
+                "header: structured append, symbol {number} of {count}, parity {parity}\n"
+            )
+        }
+    }
+}
+
+// Appends the header of a character set.
+fn push_set(text: &mut String, set: CharacterSet, is_json: bool) -> Result<(), AllocError> {
+    let number = set.0;
+    match set.name() {
+        _ if !is_json => write!(text, "header: {set}\n"),
+        Some(name) => write!(text, "{{\"eci\": {number}, \"name\": \"{name}\"}}"),
+        None => write!(text, "{{\"eci\": {number}}}"),
+    }
+}
+
+// Appends the header of an industry's own format.
+fn push_application(
+    text: &mut String,
+    application: Application,
+    is_json: bool,
+) -> Result<(), AllocError> {
+    push_either!(text, is_json;
+        "{{\"fnc1\": \"second\", \"application\": \"{application}\"}}",
+        "header: FNC1 in second position, application {application}\n"
+    )
+}
+
+// An application indicator: two digits, or a letter, encoded as its ASCII code plus 100.
+#[derive(Clone, Copy)]
+struct Application(u8);
+
+impl fmt::Display for Application {
+    fn fmt<W: fmt::Write>(&self, f: &mut fmt::Formatter<W>) -> fmt::Result {
+        let (indicator, code) = (self.0, self.0.saturating_sub(100));
+        if code.is_ascii_alphabetic() {
+            let letter = char::from(code);
+            write!(f, "{letter}")
+        } else {
+            write!(f, "{indicator:02}")
+        }
+    }
+}
+
+// Names a position.
+fn position_text(position: Position) -> &'static str {
+    match position {
+        Position::Upright => "upright",
+        Position::TurnedLeft => "rotated left",
+        Position::UpsideDown => "upside down",
+        Position::TurnedRight => "rotated right",
+        Position::Mirrored => "mirrored",
+        Position::Flipped => "flipped",
+        Position::Transposed => "transposed",
+        Position::Antitransposed => "antitransposed",
+    }
+}
+
+// Ends the JSON object of a code with its data: as text if it is UTF-8, and in hex.
+fn push_data(text: &mut String, scan: &Scan) -> Result<(), AllocError> {
+    let data = scan.any.reading.data.as_slice();
+    text.push_str("], ")?;
+    if let (true, Ok(known)) = (is_in_utf8(&scan.parts), str::from_utf8(data)) {
+        text.push_str("\"text\": \"")?;
+        push_string(text, known)?;
+        text.push_str("\", ")?;
+    }
+    let data = hex::encode(*text.allocator(), data)?;
+    write!(text, "\"hex\": \"{data}\"}}")
+}
+
+// Appends the characters of a JSON string.
+fn push_string(text: &mut String, plain: &str) -> Result<(), AllocError> {
+    for character in plain.chars() {
+        push_escaped(text, character)?;
+    }
+    Ok(())
+}
+
+// Appends a character of a JSON string. Control and invisible characters become `\u` escapes.
+fn push_escaped(text: &mut String, character: char) -> Result<(), AllocError> {
+    match character {
+        '"' => text.push_str("\\\""),
+        '\\' => text.push_str("\\\\"),
+        _ if is_unseen(character) => {
+            for unit in character.encode_utf16(&mut [0; 2]) {
+                write!(text, "\\u{unit:04x}")?;
+            }
+            Ok(())
+        }
+        _ => text.push(character),
+    }
+}

@@ -1,6 +1,0 @@
-use Rattle.std.proofs.Common.{◌≡◌, ◌++◌, take}
-use Rattle.qrcode_render.specs.Texts.{marks_text}
-use Rattle.qrcode_render.proofs.fours.push_ones.Given as goal
-
-abbrev pub invariant-loop-mark : goal.invariant-loop-mark
-invariant-loop-mark l = l.line ≡ l.fn.line ++ marks_text l.dark l.light (take l.mark-index l.marks)

@@ -1,6 +1,0 @@
-use Rattle.std.proofs.Common.{◌+◌, map}
-use Rattle.qrcode_symbol.specs.Masking.{AreTurned}
-use Rattle.qrcode_symbol.proofs.canvas.masked_rows.turn_some_rows.Given as goal
-
-abbrev pub invariant-loop-k : goal.invariant-loop-k
-invariant-loop-k g l = AreTurned l.modules.width l.turned.mask l.modules.dark.rows l.modules.free.rows (l.first + l.k) (map g.R.PackedRow.bits l.rows)
