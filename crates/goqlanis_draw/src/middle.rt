@@ -8,7 +8,7 @@ use goqlanis_core::areas::{LogoError, LogoSize, LogoWish, logo_area, roomier};
 use goqlanis_core::overlays::{
     CROSS_UNITS, Inside, cross_pixels, cross_size, cross_width, with_logo,
 };
-use goqlanis_core::pasting::{Inset, pasted};
+use goqlanis_core::pasting::Inset;
 use goqlanis_core::places::{Place, place_in};
 use goqlanis_core::{Request, VersionName};
 use goqlanis_files::failure::Failure;
@@ -95,7 +95,7 @@ pub(crate) fn draw_with_middle(
                 down: *down,
                 place: place.fitted(*across, *down),
             };
-            draw_inset(alloc, request, code, area, &inset)
+            draw_inside(alloc, request, code, area, Inside::Pixels(inset))
         }
         Middle::Logo(Logo::Element(_, _, rest)) => {
             let inside = Inside::Element(logo.margin, rest.as_str());
@@ -142,21 +142,10 @@ fn draw_cross(
         down: CROSS_UNITS,
         place: place.square(cross_width(request, code)),
     };
-    draw_inset(alloc, request, code, area, &inset)
+    draw_inside(alloc, request, code, area, Inside::Pixels(inset))
 }
 
-// Draws a code with a picture in its area, as a PNG file.
-fn draw_inset(
-    alloc: Global,
-    request: &Request<'_>,
-    code: &QrCode,
-    area: Rectangle,
-    inset: &Inset<'_>,
-) -> Result<Vec<u8>, Failure> {
-    pasted(alloc, request, code, area, inset).map_err(|_| Failure::OutOfMemory)
-}
-
-// Draws a code with something other than pixels in its area.
+// Draws a code with something in its area.
 fn draw_inside(
     alloc: Global,
     request: &Request<'_>,
