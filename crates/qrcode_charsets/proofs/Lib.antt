@@ -1,0 +1,10 @@
+pub mod Bands
+pub mod Chosen
+pub mod Cuts
+pub mod Leasts
+pub mod Lists
+pub mod Marks
+pub mod Rooms
+pub mod Rows
+pub mod Shown
+pub mod Writings

@@ -1,0 +1,5 @@
+pub mod Charsets
+pub mod Laid
+pub mod Shortest
+pub mod Shown
+pub mod Table
