@@ -85,22 +85,31 @@ nothing : (p : Part) (b : ℕ) → 128 ≤ b → 160 ≤ b → get_or (character
 nothing p b h k none =
     cond-false (nat_lt b 128) _ _ (le-ltb b 128 h) ∙ cond-false (nat_lt b 160) _ _ (le-ltb b 160 k) ∙ cond-true (get_or (characters p) (b - 160) 0 == 0) _ _ (eq-eqb _ 0 none)
 
-same_item : (a b : ℕ) → Some a ≡ Some b → a ≡ b
-same_item a b e = cc
+low_is : (p : Part) (b : ℕ) → b < 128 → character p b ≡ Some b
+low_is p b low = cond-true (nat_lt b 128) (Some b) _ (lt-ltb b 128 low)
 
-no_item : (a : ℕ) → None ≡ Some a → ⊥
-no_item a e = cc
+control_is : (p : Part) (b : ℕ) → 128 ≤ b → b < 160 → character p b ≡ None
+control_is p b high control = cond-false (nat_lt b 128) _ _ (le-ltb b 128 high) ∙ cond-true (nat_lt b 160) _ _ (lt-ltb b 160 control)
+
+same_item : (o : Option ℕ) (a b : ℕ) → o ≡ Some a → o ≡ Some b → a ≡ b
+same_item o a b e f = cc
+
+no_item : (o : Option ℕ) (a : ℕ) → o ≡ None → o ≡ Some a → ⊥
+no_item o a e f = cc
+
+has_cell : (p : Part) (b c : ℕ) → 128 ≤ b → 160 ≤ b → ¬ (get_or (characters p) (b - 160) 0 ≡ 0) → character p b ≡ Some c → HasCharacter p b c
+has_cell p b c high cell some e =
+    let is : get_or (characters p) (b - 160) 0 ≡ c = same_item (character p b) (get_or (characters p) (b - 160) 0) c (above p b high cell some) e in
+    inr (cell, is, λ none. some (is ∙ none))
 
 pub has_character : (p : Part) (b c : ℕ) → character p b ≡ Some c → HasCharacter p b c
 has_character p b c e = elim (cases_lt b 128) [
-  | inl low ↦ inl (low, same_item b c (sym (cond-true (nat_lt b 128) (Some b) _ (lt-ltb b 128 low)) ∙ e))
+  | inl low ↦ inl (low, same_item (character p b) b c (low_is p b low) e)
   | inr high ↦ elim (cases_lt b 160) [
-    | inl control ↦ absurd (no_item c (sym (cond-false (nat_lt b 128) _ _ (le-ltb b 128 high) ∙ cond-true (nat_lt b 160) _ _ (lt-ltb b 160 control)) ∙ e))
+    | inl control ↦ absurd (no_item (character p b) c (control_is p b high control) e)
     | inr cell ↦ elim (cases_eq (get_or (characters p) (b - 160) 0) 0) [
-      | inl zero ↦ absurd (no_item c (sym (nothing p b high cell zero) ∙ e))
-      | inr some ↦
-          let is = same_item (get_or (characters p) (b - 160) 0) c (sym (above p b high cell some) ∙ e) in
-          inr (cell, is, λ none. some (is ∙ none))
+      | inl none ↦ absurd (no_item (character p b) c (nothing p b high cell none) e)
+      | inr some ↦ has_cell p b c high cell some e
     ]
   ]
 ]
