@@ -1,0 +1,2 @@
+pub mod Charsets
+pub mod Table
