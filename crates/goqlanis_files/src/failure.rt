@@ -49,7 +49,7 @@ pub fn status(rt: &HostRuntime, run: Result<ExitCode, Failure>) -> ExitCode {
     code
 }
 
-/// Warns on standard error that the PNG file `name` has more than its picture.
+/// Warns on standard error that the file `name` has more than its picture.
 pub fn warn_of_more(rt: &HostRuntime, name: &str) {
     let _ = eprintln!(rt; "goqlanis: warning: {name} has data after its picture, which is ignored");
 }

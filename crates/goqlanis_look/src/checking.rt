@@ -1,6 +1,7 @@
 //! `goqlanis check`: reports where the codes in a picture depart from the standard.
 
-use crate::reading::{complain, picture_of, warn_of_missed};
+use crate::pictures::{picture_name, pictures_in};
+use crate::reading::{picture_of, reported, status_of, warn_of_missed};
 use crate::reports::{push_file, push_heading};
 use goqlanis_core::{Unread, VersionName, check_codes};
 use goqlanis_files::failure::{Failure, warn_of_more};
@@ -26,28 +27,18 @@ pub fn check(rt: &HostRuntime, pictures: &Pictures<'_, '_>) -> Result<ExitCode, 
     let names = pictures.names.unwrap_or(STANDARD_INPUT);
     for name in names {
         let file = if pictures.is_many { *name } else { "" };
-        match check_one(rt, is_json, name, file, &mut text) {
-            Ok(is_so) => is_standard = is_standard && is_so,
-            Err(Failure::Refused(why)) if pictures.is_many => {
-                complain(rt, why.as_str());
-                is_standard = false;
-            }
-            Err(failure) => return Err(failure),
-        }
+        let checked = check_one(rt, is_json, name, file, &mut text);
+        is_standard = reported(rt, pictures.is_many, checked)? && is_standard;
     }
     if is_json {
         text.push_str(if text.is_empty() { "[\n]\n" } else { "\n]\n" })?;
     }
     print(rt, text.as_bytes())?;
-    Ok(if is_standard {
-        ExitCode::SUCCESS
-    } else {
-        ExitCode::FAILURE
-    })
+    Ok(status_of(is_standard))
 }
 
-// Checks the codes in a picture and appends the report; `file` names it there, unless it is empty.
-// Returns whether all are read and follow the standard.
+// Checks the codes in the pictures of a file and appends the report; `file` names it there, unless
+// it is empty. Returns whether all are read and follow the standard.
 fn check_one(
     rt: &HostRuntime,
     is_json: bool,
@@ -55,25 +46,46 @@ fn check_one(
     file: &str,
     text: &mut String,
 ) -> Result<bool, Failure> {
-    let alloc = rt.alloc();
     let (name, bytes) = picture_of(rt, name)?;
-    let found = match check_codes(alloc, &bytes) {
-        Ok(found) => found,
-        Err(Unread::OutOfMemory) => return Err(Failure::OutOfMemory),
-        Err(error) => return refused!(alloc; "cannot check {name}: {error}"),
-    };
-    let checks = found.checks.as_slice();
+    let pictures = pictures_in(rt, name, &bytes)?;
+    let count = pictures.len();
+    let mut checks = Vec::new(rt.alloc());
+    let mut is_whole = true;
+    for (place, picture) in pictures.iter().enumerate() {
+        let name = picture_name(rt.alloc(), name, place, count)?;
+        let checked = push_checks(rt, name.as_str(), picture, &mut checks);
+        is_whole = reported(rt, count > 1, checked)? && is_whole;
+    }
+    let checks = checks.as_slice();
     if is_json {
         push_objects(text, checks, file)?;
     } else {
         push_heading(text, file)?;
         push_texts(text, checks)?;
     }
+    Ok(is_whole && checks.iter().all(|check| check.is_standard()))
+}
+
+// Checks the codes in a picture that messages call `name`. Returns whether all are read.
+fn push_checks(
+    rt: &HostRuntime,
+    name: &str,
+    picture: &[u8],
+    checks: &mut Vec<Check>,
+) -> Result<bool, Failure> {
+    let found = match check_codes(rt.alloc(), picture) {
+        Ok(found) => found,
+        Err(Unread::OutOfMemory) => return Err(Failure::OutOfMemory),
+        Err(error) => return refused!(rt.alloc(); "cannot check {name}: {error}"),
+    };
     if found.codes.has_more {
         warn_of_more(rt, name);
     }
     let is_whole = warn_of_missed(rt, &found.codes);
-    Ok(is_whole && checks.iter().all(|check| check.is_standard()))
+    for check in found.checks {
+        checks.push(check)?;
+    }
+    Ok(is_whole)
 }
 
 // Appends a JSON object for each code.

@@ -1,6 +1,6 @@
 //! `goqlanis join`: joins the data of the codes that `split` made.
 
-use crate::reading::codes_of;
+use crate::reading::push_scans;
 use goqlanis_core::{Grouped, Scan};
 use goqlanis_files::failure::Failure;
 use goqlanis_files::refused;
@@ -28,9 +28,11 @@ pub fn join_pictures(rt: &HostRuntime, pictures: &Pictures<'_, '_>) -> Result<Ex
     }
     let (mut sources, mut scans) = (Vec::new(rt.alloc()), Vec::new(rt.alloc()));
     for name in names {
-        for scan in codes_of(rt, name)?.scans {
+        if !push_scans(rt, name, &mut scans)? {
+            return Ok(ExitCode::FAILURE);
+        }
+        for _ in sources.len()..scans.len() {
             sources.push(*name)?;
-            scans.push(scan)?;
         }
     }
     match scans.as_slice() {

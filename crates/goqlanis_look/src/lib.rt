@@ -3,6 +3,7 @@
 
 mod checking;
 mod joining;
+mod pictures;
 mod reading;
 mod reports;
 

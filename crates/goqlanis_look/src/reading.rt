@@ -1,5 +1,6 @@
 //! `goqlanis read`: decodes pictures.
 
+use crate::pictures::{picture_name, pictures_in};
 use crate::reports::{object_of, other_set, report};
 use goqlanis_core::{Codes, Scan, Unread, read_codes};
 use goqlanis_files::failure::{Failure, warn_of_more};
@@ -15,38 +16,34 @@ use std::process::ExitCode;
 /// read is reported, and the status is then 1.
 pub fn read(rt: &HostRuntime, pictures: &Pictures<'_, '_>) -> Result<ExitCode, Failure> {
     let is_json = pictures.report == Report::Json;
-    let mut code = ExitCode::SUCCESS;
+    let mut is_whole = true;
     let mut data = Vec::new(rt.alloc());
     let names = pictures.names.unwrap_or(STANDARD_INPUT);
     for name in names {
         let file = if pictures.is_many { *name } else { "" };
-        match read_one(rt, pictures.report, name, file, &mut data) {
-            Ok(()) => {}
-            Err(Failure::Refused(why)) if pictures.is_many => {
-                complain(rt, why.as_str());
-                code = ExitCode::FAILURE;
-            }
-            Err(failure) => return Err(failure),
-        }
+        let read = read_one(rt, pictures.report, name, file, &mut data);
+        is_whole = reported(rt, pictures.is_many, read)? && is_whole;
     }
     if is_json {
         let end = if data.is_empty() { "[\n]\n" } else { "\n]\n" };
         data.extend_from_slice(end.as_bytes())?;
     }
     write_data(rt, pictures.output, &data)?;
-    Ok(code)
+    Ok(status_of(is_whole))
 }
 
-// Decodes a picture, and appends the data of its codes; `file` names it there, unless it is empty.
+// Decodes the pictures in a file, and appends the data of their codes; `file` names it there, unless
+// it is empty. Returns whether all of them are read.
 fn read_one(
     rt: &HostRuntime,
     wanted: Report,
     name: &str,
     file: &str,
     data: &mut Vec<u8>,
-) -> Result<(), Failure> {
-    let codes = codes_of(rt, name)?;
-    let scans = codes.scans.as_slice();
+) -> Result<bool, Failure> {
+    let mut scans = Vec::new(rt.alloc());
+    let is_whole = push_scans(rt, name, &mut scans)?;
+    let scans = scans.as_slice();
     if wanted == Report::Text {
         let text = report(rt.alloc(), scans, file)?;
         let _ = eprint!(rt; "{text}");
@@ -55,10 +52,11 @@ fn read_one(
         warn_of_data(rt, scan);
     }
     if wanted == Report::Json {
-        push_objects(rt.alloc(), data, scans, file)
+        push_objects(rt.alloc(), data, scans, file)?;
     } else {
-        push_all(data, scans, file)
+        push_all(data, scans, file)?;
     }
+    Ok(is_whole)
 }
 
 // Warns of data that may be wrong, or is in another character set.
@@ -107,24 +105,70 @@ fn push_objects(
     Ok(())
 }
 
-/// Reports on standard error that one of several pictures is not read.
-pub(crate) fn complain(rt: &HostRuntime, why: &str) {
-    let why = shown(why);
-    let _ = eprintln!(rt; "goqlanis: {why}");
+/// Reports a refusal on standard error if it is of one of several pictures; returns whether there is
+/// none, and everything went well.
+pub(crate) fn reported(
+    rt: &HostRuntime,
+    is_many: bool,
+    done: Result<bool, Failure>,
+) -> Result<bool, Failure> {
+    match done {
+        Err(Failure::Refused(why)) if is_many => {
+            let why = shown(why.as_str());
+            let _ = eprintln!(rt; "goqlanis: {why}");
+            Ok(false)
+        }
+        done => done,
+    }
 }
 
-/// Decodes the picture in the file at `path`, or in standard input for `-`. Warns of codes that are
-/// found but not decoded.
-pub(crate) fn codes_of(rt: &HostRuntime, path: &str) -> Result<Codes, Failure> {
-    let alloc = rt.alloc();
+/// Returns the exit status of a run in which everything went well, or not.
+pub(crate) fn status_of(is_whole: bool) -> ExitCode {
+    if is_whole {
+        ExitCode::SUCCESS
+    } else {
+        ExitCode::FAILURE
+    }
+}
+
+/// Decodes the pictures in the file at `path`, or in standard input for `-`, and appends their codes
+/// in order. Of several pictures, one that cannot be read is reported. Returns whether all are read.
+pub(crate) fn push_scans(
+    rt: &HostRuntime,
+    path: &str,
+    scans: &mut Vec<Scan>,
+) -> Result<bool, Failure> {
     let (name, bytes) = picture_of(rt, path)?;
-    match read_codes(alloc, &bytes) {
+    let pictures = pictures_in(rt, name, &bytes)?;
+    let count = pictures.len();
+    let mut is_whole = true;
+    for (place, picture) in pictures.iter().enumerate() {
+        let name = picture_name(rt.alloc(), name, place, count)?;
+        let read = push_codes(rt, name.as_str(), picture, scans);
+        is_whole = reported(rt, count > 1, read)? && is_whole;
+    }
+    Ok(is_whole)
+}
+
+// Decodes a picture that messages call `name`, and appends its codes. Warns of codes that are found
+// but not decoded.
+fn push_codes(
+    rt: &HostRuntime,
+    name: &str,
+    picture: &[u8],
+    scans: &mut Vec<Scan>,
+) -> Result<bool, Failure> {
+    let alloc = rt.alloc();
+    match read_codes(alloc, picture) {
         Ok(codes) => {
             if codes.has_more {
                 warn_of_more(rt, name);
             }
             warn_of_missed(rt, &codes);
-            Ok(codes)
+            for scan in codes.scans {
+                scans.push(scan)?;
+            }
+            Ok(true)
         }
         Err(Unread::OutOfMemory) => Err(Failure::OutOfMemory),
         Err(error) => refused!(alloc; "cannot read {name}: {error}"),
@@ -134,10 +178,7 @@ pub(crate) fn codes_of(rt: &HostRuntime, path: &str) -> Result<Codes, Failure> {
 // Up to this many codes are found, whatever else is in the picture.
 const MOST_SURE: usize = 64;
 
-// The maximum size of a binary PBM file, in bytes: 67,108,864 pixels, as for PNG.
-const MOST_PACKED: usize = 8_389_632;
-
-/// Reads the bytes of a picture from the file at `path`, or from standard input for `-`; returns
+/// Reads the bytes of pictures from the file at `path`, or from standard input for `-`; returns
 /// them with the name that messages use.
 pub(crate) fn picture_of<'a>(
     rt: &HostRuntime,
@@ -151,12 +192,6 @@ pub(crate) fn picture_of<'a>(
     };
     if bytes.is_empty() {
         return refused!(rt.alloc(); "cannot read {name}: it is empty");
-    }
-    if bytes.starts_with(b"P4") && bytes.len() > MOST_PACKED {
-        return refused!(rt.alloc();
-            "cannot read {name}: it has more than 8,389,632 bytes, those of 67,108,864 pixels; \
-            crop it, or make it smaller"
-        );
     }
     Ok((name, bytes))
 }
