@@ -10,6 +10,7 @@ mod middle;
 mod names;
 mod rows;
 mod segments;
+mod shrinking;
 mod splitting;
 
 pub use making::make;

@@ -4,6 +4,7 @@ ghost use Rattle.std.specs.Prelude.{IfOk, IsErr};
 ghost use Rattle.goqlanis_core.specs.Places.{HasPixels};
 
 use crate::logos::{element_of, pixels_of};
+use crate::shrinking::shrunk;
 use goqlanis_core::areas::{LogoError, LogoSize, LogoWish, logo_area, roomier};
 use goqlanis_core::overlays::{
     CROSS_UNITS, Inside, cross_pixels, cross_size, cross_width, with_logo,
@@ -95,7 +96,7 @@ pub(crate) fn draw_with_middle(
                 down: *down,
                 place: place.fitted(*across, *down),
             };
-            draw_inset(alloc, request, code, area, &inset)
+            draw_logo(alloc, request, code, area, inset)
         }
         Middle::Logo(Logo::Element(_, _, rest)) => {
             let inside = Inside::Element(logo.margin, rest.as_str());
@@ -124,6 +125,33 @@ pub(crate) fn warn_of_logo(
             "the logo gets only {width} by {height} modules; for more, use --logo-size 40% or a \
             larger version with -v"
         );
+    }
+}
+
+// Draws a code with a logo in its area, as a PNG file. A logo with more pixels than its place is
+// shrunk to them.
+fn draw_logo(
+    alloc: Global,
+    request: &Request<'_>,
+    code: &QrCode,
+    area: Rectangle,
+    logo: Inset<'_>,
+) -> Result<Vec<u8>, Failure> {
+    match (
+        u16::try_from(logo.place.width),
+        u16::try_from(logo.place.height),
+    ) {
+        (Ok(across), Ok(down)) if across < logo.across && down < logo.down => {
+            let pixels = shrunk(alloc, logo, across, down)?;
+            let small = Inset {
+                pixels: &pixels,
+                across,
+                down,
+                ..logo
+            };
+            draw_inset(alloc, request, code, area, &small)
+        }
+        _ => draw_inset(alloc, request, code, area, &logo),
     }
 }
 

@@ -1,6 +1,9 @@
 """Tests of what goqlanis draws: colours of parts, labels, covered squares and logos."""
+import random
 import re
 import shlex
+from fractions import Fraction
+from itertools import product
 
 import labels
 import parts
@@ -71,15 +74,54 @@ def _greys(pgm):
     return [[(it, it, it, 255) for it in grey[side * y:side * (y + 1)]] for y in range(side)]
 
 
-def _put_logo(rows, left, top):
-    """Draws the logo over opaque pixels, in an area of 9 by 5 modules of 8 pixels that begins
-    there: the logo, 4 by 3, has 53 by 40 pixels, and each shows what lies at its middle."""
-    for y in range(40):
-        for x in range(left + 9, left + 62):
-            *levels, opacity = COLOURS[(2 * y + 1) * 3 // 80][(2 * (x - left - 9) + 1) * 4 // 106]
+# The logo, 4 by 3, in 53 by 40 pixels: each shows what lies at its middle.
+_NEAREST = [[COLOURS[(2 * y + 1) * 3 // 80][(2 * x + 1) * 4 // 106] for x in range(53)]
+            for y in range(40)]
+
+
+def _put_logo(rows, left, top, logo=_NEAREST):
+    """Draws a logo of 53 by 40 pixels over opaque ones, in the middle of an area of 9 by 5 modules
+    of 8 pixels that begins there."""
+    for y, row in enumerate(logo):
+        for x, (*levels, opacity) in enumerate(row, left + 9):
             shade = [int(0.5 + (it * opacity + below * (255 - opacity)) / 255)
                      for it, below in zip(levels, rows[top + y][x])]
             rows[top + y][x] = (*shade, 255)
+
+
+def _covered(place, count, whole):
+    """Yields the pixels of `whole` that pixel `place` of `count` covers, each with its share."""
+    begin, end = place * whole, (place + 1) * whole
+    for it in range(begin // count, -(-end // count)):
+        yield it, min(end, (it + 1) * count) - max(begin, it * count)
+
+
+def _mean(logo, x, y):
+    """Returns the mean of what pixel (x, y) of 53 by 40 covers, by area and opacity."""
+    total = [0] * 5
+    for (row, high), (column, wide) in product(_covered(y, 40, len(logo)),
+                                               _covered(x, 53, len(logo[0]))):
+        *levels, opacity = logo[row][column]
+        parts = [high * wide * opacity * it for it in (*levels, 1)] + [high * wide]
+        total = [sum(it) for it in zip(total, parts)]
+    *levels, opacity, area = total
+    return [int(Fraction(it, opacity or 1) + Fraction(1, 2)) for it in levels] + \
+        [int(Fraction(opacity, area) + Fraction(1, 2))]
+
+
+def a_logo_with_more_pixels_than_its_place_is_averaged(program):
+    """Each pixel is the mean of those of the logo that it covers, by area and opacity."""
+    words, chance = ["-v", "5", "-l", "H", "--logo-size", "9", "GOQLANIS"], random.Random(5)
+    logo = [[tuple(chance.randbytes(3)) + (chance.choice((0, 9, 255)),) for _ in range(100)]
+            for _ in range(75)]
+    rows = _greys(run(program, [*words[:4], words[-1], "-f", "pgm"], "/").stdout)
+    for row in rows[160:200]:
+        row[144:216] = [(255,) * 4] * 72
+    _put_logo(rows, 144, 160, [[_mean(logo, x, y) for x in range(53)] for y in range(40)])
+    with empty() as folder:
+        put(folder, "logo.png", png.of_pixels(logo))
+        more = ["--logo", "logo.png", "--logo-margin", "0", "-f", "png"]
+        return png.pixels_of(run(program, [*words, *more], folder).stdout) == rows
 
 
 def a_logo_in_png_is_drawn_in_its_area_alone(program):
