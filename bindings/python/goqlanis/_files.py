@@ -84,8 +84,8 @@ def _found(folder: int, name: str) -> Optional[os.stat_result]:
         return None
     above = os.fstat(folder)
     if above.st_mode & 0o1002 == 0o1002 and found.st_uid not in (above.st_uid, os.geteuid()):
-        raise PermissionError(errno.EACCES, "it is another user's, in a folder for everybody: "
-                              "remove it, or take another name")
+        raise PermissionError(errno.EACCES, "it belongs to another user, in a folder writable by "
+                              "everybody: remove it, or take another name")
     return found
 
 

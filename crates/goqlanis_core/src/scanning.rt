@@ -67,27 +67,34 @@ impl fmt::Display for Unread {
             Unread::Unscanned(cause) => f.write_str(cause_text(*cause)),
             Unread::Png(cause) => write!(f, "{cause}"),
             Unread::Jpeg => f.write_str("it is a JPEG file; convert it to PNG"),
-            Unread::NoSquare => f.write_str(
-                "it shows no code, neither in an even margin nor by its finder patterns",
+            Unread::NoSquare => write!(
+                f,
+                "no code found, neither in a plain margin nor by finder patterns; {STRAIGHT}"
+            ),
+            Unread::NoSymbol(count, qrcode_reader::Unread::NoSuchSide) => write!(
+                f,
+                "no code found: {count} by {count} modules are the size of none; {STRAIGHT}"
             ),
             Unread::NoSymbol(count, error) => {
-                write!(f, "{count} by {count} modules are no symbol: {error}")
+                write!(f, "{count} by {count} modules do not decode: {error}")
             }
             Unread::OutOfMemory => f.write_str("out of memory"),
         }
     }
 }
 
+// What helps if no code is found.
+const STRAIGHT: &str = "codes must be straight, but zbarimg reads photographs";
+
 // Says why there are no pixels.
 fn cause_text(cause: Unscanned) -> &'static str {
     match cause {
         Unscanned::NotPicture =>
             "it is neither a PNG, PBM or PGM file nor half blocks; convert it to PNG",
-        Unscanned::NoSide => {
-            "it has no pixels, or more than 65,535 along a side, of half blocks 4,096"
-        }
-        Unscanned::NoGrey => "its greatest grey is not one of 1 to 255; convert it to PNG",
-        Unscanned::NotPixel => "something that is no pixel stands before its last pixel",
+        Unscanned::NoSide =>
+            "it has no pixels, or too many: at most 65,535 a side, 4,096 in half blocks",
+        Unscanned::NoGrey => "its maximum grey must be 1 to 255; convert it to PNG",
+        Unscanned::NotPixel => "it contains something that is not a pixel",
         Unscanned::TooShort => "it ends before its last pixel",
         Unscanned::OutOfMemory => "out of memory",
     }
