@@ -121,7 +121,9 @@ def _created(folder: int, name: str, mode: int) -> int:
 def _write_straight(place: str, data: bytes, folder: Optional[int] = None) -> None:
     """Writes to something other than a regular file, by its name in a folder, and leaves a regular
     file alone that took its place in the meantime; or, without a folder, appends to a file that is
-    already open."""
+    already open. The owner's rights of its link say for what it is open."""
+    if folder is None and not os.lstat(place).st_mode & stat.S_IWUSR:
+        raise PermissionError(errno.EACCES, "it is open for reading only: name the file itself")
     flags = os.O_WRONLY | (os.O_APPEND if folder is None else 0)
     descriptor = os.open(place, flags, dir_fd=folder)
     with open(descriptor, "wb") as file:

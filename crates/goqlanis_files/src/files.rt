@@ -32,6 +32,9 @@ pub enum Unwritten {
     /// The path names another user's file, link or pipe in a folder that everybody may write to.
     #[error("it belongs to another user, in a folder writable by everybody: remove it, or take another name")]
     Strange,
+    /// The path names a file that is open, but not for writing.
+    #[error("it is open for reading only; name the file itself")]
+    ReadOnly,
     /// All temporary names are taken in this folder.
     #[error("its folder {0} has goqlanis-0.new to goqlanis-9999.new: remove those of ended runs")]
     Taken(String),
@@ -100,7 +103,7 @@ pub fn write_whole(rt: &HostRuntime, path: &str, bytes: &[u8]) -> Result<(), Unw
             Err(error) => return Err(Unwritten::File(error)),
         };
         if is_open_file(rt, name, &found) {
-            return write_straight(rt, inside.as_str(), true, bytes);
+            return append(rt, inside.as_str(), &found, bytes);
         }
         if is_strange(rt, folder.way.as_str(), &found)? {
             return Err(Unwritten::Strange);
@@ -178,6 +181,15 @@ fn is_strange(rt: &HostRuntime, folder: &str, found: &Metadata) -> io::Result<bo
 // Splits a path into its folder, without the slash at its end, and the name in it.
 fn parts_of(path: &str) -> (&str, &str) {
     path.rsplit_once('/').unwrap_or((".", path))
+}
+
+// Appends to a file that is already open, to which the link `found` leads. The owner's rights of
+// such a link say for what the file is open.
+fn append(rt: &HostRuntime, place: &str, found: &Metadata, bytes: &[u8]) -> Result<(), Unwritten> {
+    if found.mode() & 0o200 == 0 {
+        return Err(Unwritten::ReadOnly);
+    }
+    write_straight(rt, place, true, bytes)
 }
 
 // Writes to a pipe or device, or appends to a file that is already open. A regular file that took
