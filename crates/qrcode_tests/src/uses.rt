@@ -11,6 +11,7 @@ use qrcode_examples::drawings::{as_chars, as_grey_map, as_half_blocks, as_pairs,
 use qrcode_examples::label::label_bars;
 use qrcode_examples::ticket::ticket_blocks;
 use qrcode_examples::{plain, texts};
+use qrcode_reader::read_parts;
 use std::alloc::Global;
 use std::process::Abort;
 
@@ -122,26 +123,46 @@ const CITY: &str = "Z\u{fc}rich";
 
 const GREETING: &str = "\u{3053}\u{3093}\u{306b}\u{3061}\u{306f}\u{4e16}\u{754c}";
 
-// Whether a symbol has this version and level, and both dark and light modules.
-fn is_of(code: QrResult<QrCode>, version: Version, ec_level: EcLevel) -> bool {
+// The city and the greeting.
+const BOTH: &str = "Z\u{fc}rich\u{3053}\u{3093}\u{306b}\u{3061}\u{306f}\u{4e16}\u{754c}";
+
+// Whether a symbol of this version and level decodes to these bytes.
+fn says(
+    alloc: Global,
+    code: QrResult<QrCode>,
+    version: Version,
+    ec_level: EcLevel,
+    bytes: &[u8],
+) -> bool {
     let Ok(code) = code else {
         return false;
     };
-    let dark = texts::count_of_dark(&code);
-    let of_kind = code.version() == version && code.error_correction_level() == ec_level;
-    of_kind && 0 < dark && dark < code.colors().len()
+    match read_parts(alloc, code.colors()) {
+        Ok(read) => {
+            let is_of_kind = read.version == version && read.ec_level == ec_level;
+            is_of_kind && read.parts.bytes.as_slice() == bytes
+        }
+        Err(_) => false,
+    }
 }
 
 #[test]
 fn symbols_are_made(rt: HostRuntime) {
     let alloc = rt.alloc();
-    assert!(rt; is_of(texts::sign(alloc, GREETING), Normal(2), M));
-    assert!(rt; is_of(texts::marked_sign(alloc, CITY), Normal(1), M));
-    assert!(rt; is_of(texts::small_label(alloc, CITY), Normal(2), M));
-    assert!(rt; is_of(texts::small_marked_label(alloc, CITY), Normal(2), M));
-    assert!(rt; is_of(texts::smallest(alloc, CITY), Micro(3), L));
-    assert!(rt; is_of(texts::smallest_and_safest(alloc, CITY), Micro(3), M));
-    assert!(rt; is_of(texts::bytes_in_normal_5(alloc, b"\xca\xfe"), Normal(5), H));
-    assert!(rt; is_of(texts::in_two_parts(alloc, CITY, GREETING), Normal(4), Q));
-    assert!(rt; is_of(plain::greek(alloc), Normal(1), L));
+    let (city, greeting) = (CITY.as_bytes(), GREETING.as_bytes());
+    assert!(rt; says(alloc, texts::sign(alloc, GREETING), Normal(2), M, greeting));
+    assert!(rt; says(alloc, texts::marked_sign(alloc, CITY), Normal(1), M, city));
+    assert!(rt; says(alloc, texts::small_label(alloc, CITY), Normal(2), M, city));
+    let marked = texts::small_marked_label(alloc, CITY);
+    assert!(rt; says(alloc, marked, Normal(2), M, city));
+    assert!(rt; says(alloc, texts::smallest(alloc, CITY), Micro(3), L, city));
+    let safest = texts::smallest_and_safest(alloc, CITY);
+    assert!(rt; says(alloc, safest, Micro(3), M, city));
+    let bytes = texts::bytes_in_normal_5(alloc, b"\xca\xfe");
+    assert!(rt; says(alloc, bytes, Normal(5), H, b"\xca\xfe"));
+    let parts = texts::in_two_parts(alloc, CITY, GREETING);
+    assert!(rt; says(alloc, parts, Normal(4), Q, BOTH.as_bytes()));
+    assert!(rt; says(alloc, plain::greek(alloc), Normal(1), L, GREEK_TEXT));
+    // As many as the printed symbol has.
+    assert!(rt; texts::count_of_dark(&digits(&rt, alloc)) == 210);
 }
