@@ -4,5 +4,5 @@ mod elements;
 mod payloads;
 mod refusals;
 
-pub(crate) use elements::Elements;
+pub(crate) use elements::{Elements, with_round_brackets};
 pub(crate) use payloads::payload_of;

@@ -295,8 +295,8 @@ fn elements_in(alloc: Global, columns: &Columns, line: &Line) -> Result<String, 
         let name = name
             .as_str()
             .trim()
-            .trim_start_matches('(')
-            .trim_end_matches(')');
+            .trim_start_matches(|sign: char| matches!(sign, '(' | '['))
+            .trim_end_matches(|sign: char| matches!(sign, ')' | ']'));
         let is_identifier = name.bytes().all(|byte| byte.is_ascii_digit());
         if is_identifier && !name.is_empty() && !field.is_empty() {
             let value = field.as_str().split('(').collect::<Vec<&str>>(alloc)?;

@@ -1,6 +1,6 @@
 //! Makes the codes that the command line asks for.
 
-use crate::contents::payload_of;
+use crate::contents::{payload_of, with_round_brackets};
 use crate::drawing::{application_code, draw_one, elements_code, segments_code, write_code};
 use crate::lines::{Lined, draw_lines};
 use crate::middle::{SWISS_CROSS, has_cross, read_logo};
@@ -141,7 +141,9 @@ pub(crate) fn draw_elements(
     asked: &Asked<'_, '_>,
     text: &str,
 ) -> Result<ExitCode, Failure> {
-    write_code(rt, asked, elements_code(rt.alloc(), &asked.request, text)?)
+    let text = with_round_brackets(rt.alloc(), text)?;
+    let code = elements_code(rt.alloc(), &asked.request, text.as_str())?;
+    write_code(rt, asked, code)
 }
 
 // Returns the data to encode; at most `most` bytes are read.

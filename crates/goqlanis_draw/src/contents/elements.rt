@@ -174,6 +174,29 @@ fn with_bracket(mut value: String) -> Result<String, Failure>
     Ok(value)
 }
 
+/// Returns `text` with identifiers in round brackets: where it starts with a square bracket, all its
+/// identifiers stand in square ones, and `(` needs no backslash in a value.
+///
+/// Errors: only `AllocError`.
+pub(crate) fn with_round_brackets(alloc: Global, text: &str) -> Result<String, AllocError> {
+    if !text.starts_with('[') {
+        return String::from_str(alloc, text);
+    }
+    let mut round = String::new(alloc);
+    let mut is_open = false;
+    for character in text.chars() {
+        match character {
+            '[' => round.push('(')?,
+            ']' if is_open => round.push(')')?,
+            '(' => round.push_str("\\(")?,
+            '\\' => round.push_str("\\\\")?,
+            character => round.push(character)?,
+        }
+        is_open = character == '[' || (is_open && character != ']');
+    }
+    Ok(round)
+}
+
 // Messages for a text that does not start with a bracket, and for a bracket that is never closed.
 const NO_BRACKET: &str =
     "ELEMENTS: start with an identifier in round brackets, e.g. (01)09521234543213";
@@ -186,6 +209,12 @@ fn push_character(text: &mut String, digits: usize, value: &str) -> Result<(), A
         let place = index.saturating_add(1);
         if index < digits && !character.is_ascii_digit() {
             return write!(text, "{character} at place {place} is no digit");
+        }
+        if character == '\\' {
+            return write!(
+                text,
+                "\\ at place {place}: only ( is written with a backslash"
+            );
         }
         // GS1's character set 82.
         if !matches!(character, '!' | '"' | '%'..='?' | 'A'..='Z' | '_' | 'a'..='z') {
