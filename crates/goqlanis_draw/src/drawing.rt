@@ -235,7 +235,7 @@ pub(crate) fn write_code(
         return Ok(ExitCode::SUCCESS);
     }
     let shown = draw_code(rt.alloc(), asked, code)?;
-    warn_of_logo(rt, asked, &shown.drawing.code, shown.area);
+    warn_of_logo(rt, asked, &shown.drawing.code, shown.area)?;
     show_report(rt, asked, &shown.drawing.code, shown.area)?;
     write_bytes(rt, asked, &shown.drawing.bytes)
 }

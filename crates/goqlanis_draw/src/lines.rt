@@ -8,7 +8,7 @@ use goqlanis_core::Grouped;
 use goqlanis_files::failure::Failure;
 use goqlanis_files::progress::Progress;
 use goqlanis_files::streams::{ask, shown, unread};
-use goqlanis_files::{refused, usage, warning};
+use goqlanis_files::{doubted, refused, usage};
 use goqlanis_options::asked::{Asked, Lines, Source, Target};
 use goqlanis_options::options::fields::option_of;
 use qrcode_payloads::kinds::{Kind, fields_of as fields_in};
@@ -135,7 +135,9 @@ fn check_columns(
         let name = name.as_str();
         if !is_field(kind, name) && !is_in_path(rt.alloc(), asked.target, name)? {
             let name = shown(name);
-            warning!(rt; "column {name} is no option of this command, so it is not encoded");
+            doubted!(rt, asked.is_strict;
+                "column {name} is no option of this command, so it is not encoded"
+            )?;
         }
     }
     Ok(())

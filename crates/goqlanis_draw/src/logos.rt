@@ -7,20 +7,31 @@ use goqlanis_options::logos::Logo;
 use qrcode_png::{Picture, Unread, read};
 use std::alloc::{AllocError, Global};
 
-/// Decodes a PNG logo to pixels; `path` names the file in messages, and `file` is its content.
-pub(crate) fn pixels_of(rt: &HostRuntime, path: &str, file: &[u8]) -> Result<Logo, Failure> {
+/// Decodes a PNG logo to pixels; `path` names the file in messages, and `file` is its content. Data
+/// after the picture gets a warning, or is an error.
+pub(crate) fn pixels_of(
+    rt: &HostRuntime,
+    is_error: bool,
+    path: &str,
+    file: &[u8],
+) -> Result<Logo, Failure> {
     let why = "a PNG file takes a PNG logo; save it as PNG, or use --format svg";
-    let picture = picture_of(rt, path, file, why)?;
+    let picture = picture_of(rt, is_error, path, file, why)?;
     let (across, down) = picture.sides();
     Ok(Logo::Pixels(picture.pixels(rt.alloc())?, across as u16, down as u16))
 }
 
 /// Makes an SVG element of a PNG or SVG logo; `path` names the file in messages, and `file` is its
-/// content.
-pub(crate) fn element_of(rt: &HostRuntime, path: &str, file: &[u8]) -> Result<Logo, Failure> {
+/// content. Data after a PNG picture gets a warning, or is an error.
+pub(crate) fn element_of(
+    rt: &HostRuntime,
+    is_error: bool,
+    path: &str,
+    file: &[u8],
+) -> Result<Logo, Failure> {
     let alloc = rt.alloc();
     let Ok(text) = str::from_utf8(file) else {
-        let (across, down) = picture_of(rt, path, file, UNKNOWN)?.sides();
+        let (across, down) = picture_of(rt, is_error, path, file, UNKNOWN)?.sides();
         return Ok(image(alloc, across as u32, down as u32, "png", file)?);
     };
     match svg_sides(text) {
@@ -30,12 +41,18 @@ pub(crate) fn element_of(rt: &HostRuntime, path: &str, file: &[u8]) -> Result<Lo
 }
 
 // Decodes a PNG file; `other` is the message for any other kind of file.
-fn picture_of(rt: &HostRuntime, path: &str, file: &[u8], other: &str) -> Result<Picture, Failure> {
+fn picture_of(
+    rt: &HostRuntime,
+    is_error: bool,
+    path: &str,
+    file: &[u8],
+    other: &str,
+) -> Result<Picture, Failure> {
     let alloc = rt.alloc();
     match read(alloc, file) {
         Ok(picture) => {
             if picture.has_more() {
-                warn_of_more(rt, path);
+                warn_of_more(rt, is_error, path)?;
             }
             Ok(picture)
         }

@@ -8,7 +8,7 @@ use crate::rows::Columns;
 use crate::splitting::{MOST_IN_SEVERAL, draw_several};
 use goqlanis_files::failure::Failure;
 use goqlanis_files::streams::{MOST_DATA, read_file, read_standard_input};
-use goqlanis_files::{refused, usage, warning};
+use goqlanis_files::{doubted, refused, usage};
 use goqlanis_options::asked::{Asked, Source};
 use goqlanis_options::logos::{AskedLogo, Middle};
 use goqlanis_options::options::{Purpose, Task};
@@ -73,13 +73,13 @@ pub(crate) fn draw_payload<G: Given>(
         return draw_bill(rt, asked, text.as_str());
     }
     if matches!(kind, Kind::Wifi) {
-        warn_of_password(rt, given);
+        warn_of_password(rt, asked.is_strict, given)?;
     }
     if matches!(kind, Kind::Payment) && !text.as_str().is_ascii() {
-        warning!(rt;
+        doubted!(rt, asked.is_strict;
             "some readers show letters outside ASCII wrong in a credit transfer, and the format \
             allows no hint; write e.g. Maerz for März to be safe"
-        );
+        )?;
     }
     draw_one(rt, asked, text.as_bytes())
 }
@@ -92,10 +92,12 @@ fn draw_bill(rt: &HostRuntime, asked: &Asked<'_, '_>, text: &str) -> Result<Exit
     }
     let logo = has_cross(asked.request.format).then_some(SWISS_CROSS);
     if logo.is_none() {
-        warning!(rt; "this format lacks the Swiss cross of a bill; png, svg, eps and pdf have it");
+        doubted!(rt, asked.is_strict;
+            "this format lacks the Swiss cross of a bill; png, svg, eps and pdf have it"
+        )?;
     }
     if asked.request.is_inverted {
-        warning!(rt; "a bill is dark on light: leave out --invert");
+        doubted!(rt, asked.is_strict; "a bill is dark on light: leave out --invert")?;
     }
     draw_one(rt, &Asked { logo, ..*asked }, text.as_bytes())
 }

@@ -14,7 +14,7 @@ use goqlanis_core::places::{Place, place_in};
 use goqlanis_core::{Request, VersionName};
 use goqlanis_files::failure::Failure;
 use goqlanis_files::streams::read_file;
-use goqlanis_files::{refused, warning};
+use goqlanis_files::{doubted, refused};
 use goqlanis_options::asked::Asked;
 use goqlanis_options::logos::{AskedLogo, Logo, Middle};
 use qrcode::QrCode;
@@ -47,9 +47,9 @@ pub(crate) fn read_logo(rt: &HostRuntime, asked: &Asked<'_, '_>) -> Result<Optio
     };
     let file = read_file(rt, path, MOST_LOGO)?;
     Ok(Some(if asked.request.format.row().middle == Drawn::Pixels {
-        pixels_of(rt, path, &file)?
+        pixels_of(rt, asked.is_strict, path, &file)?
     } else {
-        element_of(rt, path, &file)?
+        element_of(rt, asked.is_strict, path, &file)?
     }))
 }
 
@@ -110,22 +110,25 @@ pub(crate) fn draw_with_middle(
 }
 
 /// Warns of a logo whose area is less than a tenth of the code's side, across or down.
+///
+/// Errors: `Refused` if warnings are errors; `OutOfMemory`.
 pub(crate) fn warn_of_logo(
     rt: &HostRuntime,
     asked: &Asked<'_, '_>,
     code: &QrCode,
     area: Option<Rectangle>,
-) {
+) -> Result<(), Failure> {
     let Some(area) = area.filter(|_| asked.logo_file.is_some()) else {
-        return;
+        return Ok(());
     };
     let (width, height) = (area.width, area.height);
-    if width.min(height).saturating_mul(10) < code.width() {
-        warning!(rt;
-            "the logo gets only {width} by {height} modules; for more, use --logo-size 40% or a \
-            larger version with -v"
-        );
+    if width.min(height).saturating_mul(10) >= code.width() {
+        return Ok(());
     }
+    doubted!(rt, asked.is_strict;
+        "the logo gets only {width} by {height} modules; for more, use --logo-size 40% or a \
+        larger version with -v"
+    )
 }
 
 // Draws a code with a logo in its area, as a PNG file. A logo with more pixels than its place is

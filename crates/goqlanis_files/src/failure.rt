@@ -49,9 +49,27 @@ pub fn status(rt: &HostRuntime, run: Result<ExitCode, Failure>) -> ExitCode {
     code
 }
 
-/// Warns on standard error that the file `name` has more than its picture.
-pub fn warn_of_more(rt: &HostRuntime, name: &str) {
-    let _ = eprintln!(rt; "goqlanis: warning: {name} has data after its picture, which is ignored");
+/// Warns, or fails like `doubted`, since the file `name` has more than its picture.
+pub fn warn_of_more(rt: &HostRuntime, is_error: bool, name: &str) -> Result<(), Failure> {
+    doubted(
+        rt,
+        is_error,
+        format_args!("{name} has data after its picture, which is ignored"),
+    )
+}
+
+/// Prints a warning on standard error; if warnings are errors, fails with `Refused` instead. If
+/// memory runs out then, fails with `OutOfMemory`.
+pub fn doubted<D: Display + Drop>(
+    rt: &HostRuntime,
+    is_error: bool,
+    what: D,
+) -> Result<(), Failure> {
+    if is_error {
+        return refused(rt.alloc(), what);
+    }
+    let _ = eprintln!(rt; "goqlanis: warning: {what}");
+    Ok(())
 }
 
 /// Fails with `Usage`: the command line is wrong because of `why`. If memory runs out, fails with
@@ -82,6 +100,14 @@ macro_rules! usage {
 macro_rules! refused {
     ($alloc:expr; $($why:tt)+) => {
         $crate::failure::refused($alloc, format_args!($($why)+))
+    };
+}
+
+/// Warns or fails like the function `doubted`, with a message as for `format!`.
+#[macro_export]
+macro_rules! doubted {
+    ($rt:expr, $is_error:expr; $($what:tt)+) => {
+        $crate::failure::doubted($rt, $is_error, format_args!($($what)+))
     };
 }
 

@@ -79,7 +79,7 @@ fn push_checks(
         Err(error) => return refused!(rt.alloc(); "cannot check {name}: {error}"),
     };
     if found.codes.has_more {
-        warn_of_more(rt, name);
+        warn_of_more(rt, false, name)?;
     }
     let is_whole = warn_of_missed(rt, &found.codes);
     for check in found.checks {

@@ -7,8 +7,8 @@ use std::alloc::{AllocError, Global};
 // The maximum size of a binary PBM picture, in bytes: 67,108,864 pixels, as for PNG.
 const MOST_PACKED: usize = 8_389_632;
 
-/// Returns the pictures in the file called `name`, in order. PBM and PGM files may have several, one
-/// after another, as netpbm defines them; others have one. Warns of what follows the last.
+/// Returns the pictures in the file called `name`, in order. PBM and PGM files may have several,
+/// one after another, as netpbm defines them; others have one. Warns of what follows the last.
 ///
 /// Errors: `Refused` if a binary PBM picture has too many pixels; `OutOfMemory`.
 pub(crate) fn pictures_in<'a>(
@@ -29,7 +29,7 @@ pub(crate) fn pictures_in<'a>(
         }
     }
     if !rest.is_empty() {
-        warn_of_more(rt, name);
+        warn_of_more(rt, false, name)?;
     }
     Ok(pictures)
 }

@@ -32,8 +32,8 @@ pub fn read(rt: &HostRuntime, pictures: &Pictures<'_, '_>) -> Result<ExitCode, F
     Ok(status_of(is_whole))
 }
 
-// Decodes the pictures in a file, and appends the data of their codes; `file` names it there, unless
-// it is empty. Returns whether all of them are read.
+// Decodes the pictures in a file, and appends the data of their codes; `file` names it there,
+// unless it is empty. Returns whether all of them are read.
 fn read_one(
     rt: &HostRuntime,
     wanted: Report,
@@ -162,7 +162,7 @@ fn push_codes(
     match read_codes(alloc, picture) {
         Ok(codes) => {
             if codes.has_more {
-                warn_of_more(rt, name);
+                warn_of_more(rt, false, name)?;
             }
             warn_of_missed(rt, &codes);
             for scan in codes.scans {

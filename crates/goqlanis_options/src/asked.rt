@@ -110,12 +110,14 @@ pub struct Asked<'a, 'w> {
     pub report: Report,
     /// Whether the code is only reported, and not drawn.
     pub is_dry: bool,
+    /// Whether warnings are errors.
+    pub is_strict: bool,
 }
 
 /// Turns the options in `given` into a request, and warns on standard error of doubtful ones.
 ///
 /// Errors: options that contradict each other, an unknown format, version, size, colour or place,
-/// or an option that the format does not support; `OutOfMemory`.
+/// or an option that the format does not support; a warning if warnings are errors; `OutOfMemory`.
 pub fn asked_for<'a, 'w>(
     rt: &HostRuntime,
     task: &Task,
@@ -142,11 +144,12 @@ pub fn asked_for<'a, 'w>(
         logo_file: given.get_str("logo"),
         report: report_of(given),
         is_dry: given.get_flag("dry-run"),
+        is_strict: given.get_flag("werror"),
     };
     if asked.input.lines.is_some() {
         check_one_behind_another(alloc, &asked)?;
     }
-    warn(rt, &asked);
+    warn(rt, &asked)?;
     Ok(asked)
 }
 

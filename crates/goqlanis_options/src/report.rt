@@ -49,7 +49,7 @@ struct Report {
 /// it; and warns of sizes in any case. Reports go to standard error; with `--dry-run` to standard
 /// output, and with `--json` too if the drawing goes to a file.
 ///
-/// Errors: those of `print`; `OutOfMemory`.
+/// Errors: those of `print` and `warn_of_sizes`; `OutOfMemory`.
 pub fn show_report(
     rt: &HostRuntime,
     asked: &Asked<'_, '_>,
@@ -57,7 +57,7 @@ pub fn show_report(
     area: Option<Rectangle>,
 ) -> Result<(), Failure> {
     let report = report_of(asked, code, area);
-    warn_of_sizes(rt, asked, report.all, report.scale, report.dots);
+    warn_of_sizes(rt, asked, report.all, report.scale, report.dots)?;
     if asked.report == Wanted::Nothing && !asked.is_dry {
         return Ok(());
     }

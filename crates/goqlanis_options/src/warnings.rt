@@ -2,8 +2,9 @@
 
 use crate::asked::{Asked, Target, ending_format};
 use goqlanis_core::{Grouped, Ink, Request};
+use goqlanis_files::doubted;
+use goqlanis_files::failure::Failure;
 use goqlanis_files::streams::shown;
-use goqlanis_files::warning;
 use qrcode::types::Color;
 use qrcode_contents::fields::errors::Field;
 use qrcode_formats::Format;
@@ -12,22 +13,28 @@ use std::fmt;
 
 /// Warns of colours with too little contrast, of UTF-8 text after the ECI of another character set,
 /// and of a file extension that belongs to another format.
-pub fn warn(rt: &HostRuntime, asked: &Asked<'_, '_>) {
-    warn_of_colours(rt, &asked.request);
+///
+/// Errors: `Refused` with the first warning if warnings are errors; `OutOfMemory`.
+pub fn warn(rt: &HostRuntime, asked: &Asked<'_, '_>) -> Result<(), Failure> {
+    let is_error = asked.is_strict;
+    warn_of_colours(rt, is_error, &asked.request)?;
     if let Some(words) = asked.input.segments {
-        warn_of_character_set(rt, words);
+        warn_of_character_set(rt, is_error, words)?;
     }
     if let Target::File(path) = asked.target {
         if is_named_otherwise(path, asked.request.format) {
             let path = shown(path);
-            warning!(rt; "{path} has the file extension of another format than --format");
+            return doubted!(rt, is_error;
+                "{path} has the file extension of another format than --format"
+            );
         }
     }
+    Ok(())
 }
 
 // Warns of a dark and a light colour that are too close, or else of a colour on the wrong side of
 // the threshold that readers use.
-fn warn_of_colours(rt: &HostRuntime, request: &Request<'_>) {
+fn warn_of_colours(rt: &HostRuntime, is_error: bool, request: &Request<'_>) -> Result<(), Failure> {
     let dark = extremes(request, Color::Dark);
     let light = extremes(request, Color::Light);
     if let Some((dark, light)) = close_colours(dark, light, request.is_inverted) {
@@ -37,18 +44,20 @@ fn warn_of_colours(rt: &HostRuntime, request: &Request<'_>) {
             "have less than 40 % contrast, which many readers need"
         };
         let (dark, light) = (name_of(dark), name_of(light));
-        warning!(rt; "dark modules {dark} on light modules {light} {why}");
+        doubted!(rt, is_error; "dark modules {dark} on light modules {light} {why}")
     } else if let Some((ink, better)) = stray_colour(dark, light) {
         let name = name_of(ink);
-        warning!(rt;
+        doubted!(rt, is_error;
             "readers may take {name} for the other kind of module; use a {better} colour"
-        );
+        )
+    } else {
+        Ok(())
     }
 }
 
 // Warns of the first `--segment byte:` with more than ASCII after an ECI that is not UTF-8, since
 // arguments are UTF-8. ECI numbers from 899 on name no character set.
-fn warn_of_character_set(rt: &HostRuntime, words: &[&str]) {
+fn warn_of_character_set(rt: &HostRuntime, is_error: bool, words: &[&str]) -> Result<(), Failure> {
     let mut set = 26;
     for word in words {
         let (name, text) = word.split_once(':').unwrap_or(("", ""));
@@ -56,31 +65,41 @@ fn warn_of_character_set(rt: &HostRuntime, words: &[&str]) {
             set = text.parse::<u32>().unwrap_or(26);
         } else if set != 26 && set < 899 && name.eq_ignore_ascii_case("byte") && !text.is_ascii() {
             let word = shown(word);
-            warning!(rt;
+            return doubted!(rt, is_error;
                 "--segment {word}: this text is UTF-8, but eci:{set} names another character set, \
                 so readers show it wrongly; use eci:26"
             );
-            return;
         }
     }
+    Ok(())
 }
 
 /// Warns of a Wi-Fi password that is too short or too long for WPA: it takes 8 to 63 characters, or
 /// a key of 64 hexadecimal digits.
-pub fn warn_of_password<G: Given>(rt: &HostRuntime, given: &G) {
+///
+/// Errors: `Refused` if warnings are errors; `OutOfMemory`.
+pub fn warn_of_password<G: Given>(
+    rt: &HostRuntime,
+    is_error: bool,
+    given: &G,
+) -> Result<(), Failure> {
     let (password, security) = (given.text(Field::Password), given.text(Field::Security));
     let is_wpa = ["", "WPA", "WPA2"]
         .iter()
         .any(|name| security.eq_ignore_ascii_case(name));
     if !is_wpa || password.is_empty() {
-        return;
+        return Ok(());
     }
     let length = password.chars().count();
     let is_key = length == 64 && password.bytes().all(|byte| byte.is_ascii_hexdigit());
     if length < 8 {
-        warning!(rt; "--password has fewer than 8 characters, which WPA and WPA2 need");
+        doubted!(rt, is_error; "--password has fewer than 8 characters, which WPA and WPA2 need")
     } else if length > 63 && !is_key {
-        warning!(rt; "--password has more than 63 characters, which WPA and WPA2 do not allow");
+        doubted!(rt, is_error;
+            "--password has more than 63 characters, which WPA and WPA2 do not allow"
+        )
+    } else {
+        Ok(())
     }
 }
 
@@ -92,37 +111,43 @@ const MOST_FIELD: u32 = 99_999;
 ///
 /// The code has `modules` modules a side, quiet zone included, each of `scale` pixels; `dots` is
 /// the number of pixels per inch, if known.
+///
+/// Errors: `Refused` with the first warning if warnings are errors; `OutOfMemory`.
 pub fn warn_of_sizes(
     rt: &HostRuntime,
     asked: &Asked<'_, '_>,
     modules: u32,
     scale: u32,
     dots: Option<u32>,
-) {
+) -> Result<(), Failure> {
+    let is_error = asked.is_strict;
     let side = modules.saturating_mul(scale);
     if let Some(dots) = dots.filter(|_| asked.input.lines.is_none()) {
         let (wanted, made) = (asked.hundredths.unwrap_or(0), hundredths_of(side, dots));
         if made.saturating_add(10) <= wanted {
             let (wanted, made) = (Decimal(wanted), Decimal(made));
-            warning!(rt;
+            doubted!(rt, is_error;
                 "--size {wanted}mm comes out at {made} mm: {modules} modules of {scale} whole \
                 pixels"
-            );
+            )?;
         }
         let module = hundredths_of(scale, dots);
         if module < 25 {
             let module = Decimal(module);
-            warning!(rt; "modules of {module} mm are under the 0.25 mm that many readers need");
+            doubted!(rt, is_error;
+                "modules of {module} mm are under the 0.25 mm that many readers need"
+            )?;
         }
     }
     let bytes = side.div_ceil(8).saturating_mul(side);
     if asked.request.format == Format::Zpl && bytes > MOST_FIELD {
         let most = Grouped(MOST_FIELD as usize);
-        warning!(rt;
+        return doubted!(rt, is_error;
             "ZPL takes at most {most} bytes of a picture, and this one has more; use a smaller \
             --scale, --size, --module or --dpi"
         );
     }
+    Ok(())
 }
 
 /// Converts `pixels` to hundredths of a millimetre, at `dots` pixels per inch.

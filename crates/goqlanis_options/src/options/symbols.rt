@@ -140,6 +140,7 @@ pub static LOOKS: &[Entry] = &[
     entry!("json", Nothing,
         "Print that report as one line of JSON: on standard output if the code goes to a file, else \
         on standard error"),
+    entry!("werror", Nothing, "Treat warnings as errors"),
     entry!("dry-run", Nothing,
         "Print the report only, with the smallest size that readers need at --dpi; write no code"),
 ];
