@@ -21,7 +21,8 @@ pub fn command_of<'a>(alloc: Global, task: &Task, end: &'a str) -> Result<Comman
     Ok(command)
 }
 
-/// Returns the end of a task's help: for plain codes the list of commands, and examples.
+/// Returns the end of a task's help: for plain codes the list of commands, and examples; for other
+/// codes where the options are that all have.
 ///
 /// Errors: only `AllocError`.
 pub fn end_of_help(alloc: Global, task: &Task) -> Result<String, AllocError> {
@@ -33,6 +34,10 @@ pub fn end_of_help(alloc: Global, task: &Task) -> Result<String, AllocError> {
             write!(text, "  {word:9}  {about}\n")?;
         }
         write!(text, "\n{EXAMPLES}")?;
+    } else if task.draws() {
+        text.push_str(
+            "Options for sizes, colours, logos and reports are those of goqlanis --help.\n",
+        )?;
     }
     Ok(text)
 }
@@ -49,7 +54,12 @@ fn arguments<'a>(alloc: Global, task: &Task) -> Result<Vec<Arg<'a>>, AllocError>
         })?;
     }
     for (heading, entry) in task.all_options(alloc)? {
-        arguments.push(argument(alloc, entry)?.help_heading(heading))?;
+        let is_hidden = !task.word.is_empty() && task.draws() && is_common(heading, &entry);
+        arguments.push(
+            argument(alloc, entry)?
+                .help_heading(heading)
+                .hide(is_hidden),
+        )?;
     }
     let help = Arg::new(alloc, "help")
         .short('h')
@@ -57,6 +67,11 @@ fn arguments<'a>(alloc: Global, task: &Task) -> Result<Vec<Arg<'a>>, AllocError>
         .help("Print help");
     arguments.push(help.action(ArgAction::Help).help_heading("Other"))?;
     Ok(arguments)
+}
+
+// Whether an option is the same for all codes, so that the help of a command need not repeat it.
+fn is_common(heading: &str, entry: &Entry) -> bool {
+    heading != "Input" && heading != "Code" && !matches!(entry.long, "output" | "format")
 }
 
 // Builds an option. A negative number after it is its value.
