@@ -44,6 +44,20 @@ def checks_are_those_of_the_judge(program):
     return True
 
 
+def grades_are_those_of_the_standard(program):
+    """Codewords of 1-H are inverted, one more at a time, of 8 that may be wrong. Grades A to D begin
+    at 62, 50, 37 and 25 % of unused error correction (ISO/IEC 15415)."""
+    words, found = ["-l", "H", "-q", "0", "-s", "1", "-f", "pgm", "1"], ""
+    for count in range(9):
+        square = [int(it == 0) for it in run(program, words, "/").stdout[-441:]]
+        for place in checked.form("1").places[:8 * count]:
+            square[place] ^= 1
+        rows = [square[at:at + 21] for at in range(0, 441, 21)]
+        ran = run(program, ["check", "--json"], "/", file_of(rows, 4, 1))
+        found += json.loads(ran.stdout)[0]["grade"]
+    return found == "AAAABCDFF"
+
+
 def _headers_said(headers):
     """Returns what `read --verbose` prints for headers, given as in evidence/others/symbols."""
     words = ", ".join(headers)
