@@ -1,7 +1,33 @@
-"""Shows symbols to other readers, by g++ and Debian 12's packages libzxing-dev (1.4.0) and
-zbar-tools (0.23.92)."""
+"""Shared by the scripts that look what others make of symbols: goqlanis, files of modules, and what
+zxing and zbar read, by g++ and Debian 12's packages libzxing-dev and zxing-cpp-tools (1.4.0) and
+zbar-tools (0.23.92). It finds the modules of evidence/program, evidence/judge and evidence/oracle.
+"""
+import os
 import subprocess
+import sys
 from pathlib import Path
+
+ROOT = Path(__file__).resolve().parents[2]
+sys.path[:0] = [str(ROOT / "evidence" / it) for it in ("program", "judge", "oracle")]
+# The program that `rt ci goqlanis` left in out/, or the one that GOQLANIS names.
+PROGRAM = os.environ.get("GOQLANIS", str(ROOT / "crates" / "goqlanis" / "out" / "goqlanis"))
+
+
+def run(*words, data=None, may_fail=False):
+    """Returns the output of a command, as bytes, or nothing if it fails, unless it may."""
+    ran = subprocess.run(words, input=data, capture_output=True, check=False)
+    return ran.stdout if may_fail or ran.returncode == 0 else b""
+
+
+def drawn(*words):
+    """Returns what goqlanis draws."""
+    return subprocess.run([PROGRAM, *words], capture_output=True, check=True).stdout
+
+
+def pixels(picture, kind):
+    """Returns the pixels of a picture as ImageMagick reads them: gray, rgb or rgba."""
+    words = ["convert", picture, "-depth", "8", f"{kind}:-"]
+    return subprocess.run(words, capture_output=True, check=True).stdout
 
 
 def line_of(rows):
@@ -10,6 +36,14 @@ def line_of(rows):
     bits = "".join("01"[bool(module)] for row in rows for module in row)
     bits += "0" * (-len(bits) % 4)
     return f"{len(rows)} {int(bits, 2):0{len(bits) // 4}x}"
+
+
+def pbm(rows, zone=0):
+    """Returns a PBM file of rows of modules in a quiet zone, at one pixel a module."""
+    wide = [0] * (len(rows[0]) + 2 * zone)
+    rows = [*[wide] * zone, *([0] * zone + row + [0] * zone for row in rows), *[wide] * zone]
+    text = "\n".join(" ".join(map(str, row)) for row in rows)
+    return f"P1\n{len(wide)} {len(rows)}\n{text}\n".encode()
 
 
 def pgm(rows):
@@ -32,3 +66,15 @@ def zbar(path):
     words = ["zbarimg", "-q", "--raw", "--oneshot", "-Sdisable", "-Sqrcode.enable", path]
     ran = subprocess.run(words, capture_output=True, check=False)
     return ran.stdout.removesuffix(b"\n") if ran.returncode == 0 else None
+
+
+def keep(text, found, words):
+    """Prints what was found and writes it to a file, or with the word `check` says whether it stands
+    there; returns the exit status."""
+    print(text, end="")
+    if words == ["check"]:
+        is_same = text == found.read_text()
+        print("the same" if is_same else f"OTHERS than in {found.name}")
+        return int(not is_same)
+    found.write_text(text)
+    return 0
