@@ -19,50 +19,47 @@
 use goqlanis_sys as sys;
 use std::fmt;
 
-/// Why a format cannot express a field.
-#[derive(Clone, Copy, Debug, PartialEq, Eq)]
-pub enum Cause {
-    /// The field may not be empty.
-    Empty,
-    /// The field, or the whole text, is longer than the format allows.
-    TooLong,
-    /// The field is shorter than the format allows.
-    TooShort,
-    /// The field has a line break or another control character.
-    ControlCharacter,
-    /// The field has a character that the format does not allow there.
-    Character,
-    /// The check digits do not match.
-    CheckDigits,
-    /// The number is outside the format's range.
-    Range,
-    /// The field cannot be given together with the others.
-    Unused,
-    /// The number has more digits after its point than the format allows.
-    Decimals,
-    /// The field is not one of the words that it may be.
-    Word,
-    /// The application identifier of an element is not in the table.
-    UnknownIdentifier,
-    /// The value of an element has too few or too many characters.
-    Length,
+// The causes, with the answers of the library.
+macro_rules! causes {
+    ($(#[$about:meta])* $name:ident: $($(#[$told:meta])* $cause:ident = $answer:ident,)+) => {
+        $(#[$about])*
+        #[derive(Clone, Copy, Debug, PartialEq, Eq)]
+        pub enum $name {
+            $($(#[$told])* $cause,)+
+        }
+
+        const CAUSES: &[(u32, $name)] = &[$((sys::$answer, $name::$cause)),+];
+    };
 }
 
-// The causes, by the answers of the library.
-const CAUSES: [(u32, Cause); 12] = [
-    (sys::GOQ_FIELD_EMPTY, Cause::Empty),
-    (sys::GOQ_FIELD_TOO_LONG, Cause::TooLong),
-    (sys::GOQ_FIELD_TOO_SHORT, Cause::TooShort),
-    (sys::GOQ_FIELD_CONTROL, Cause::ControlCharacter),
-    (sys::GOQ_FIELD_CHARACTER, Cause::Character),
-    (sys::GOQ_FIELD_CHECK_DIGITS, Cause::CheckDigits),
-    (sys::GOQ_FIELD_RANGE, Cause::Range),
-    (sys::GOQ_FIELD_UNUSED, Cause::Unused),
-    (sys::GOQ_FIELD_DECIMALS, Cause::Decimals),
-    (sys::GOQ_FIELD_WORD, Cause::Word),
-    (sys::GOQ_NO_SUCH_IDENTIFIER, Cause::UnknownIdentifier),
-    (sys::GOQ_ELEMENT_LENGTH, Cause::Length),
-];
+causes! {
+    /// Why a format cannot express a field.
+    Cause:
+    /// The field may not be empty.
+    Empty = GOQ_FIELD_EMPTY,
+    /// The field, or the whole text, is longer than the format allows.
+    TooLong = GOQ_FIELD_TOO_LONG,
+    /// The field is shorter than the format allows.
+    TooShort = GOQ_FIELD_TOO_SHORT,
+    /// The field has a line break or another control character.
+    ControlCharacter = GOQ_FIELD_CONTROL,
+    /// The field has a character that the format does not allow there.
+    Character = GOQ_FIELD_CHARACTER,
+    /// The check digits do not match.
+    CheckDigits = GOQ_FIELD_CHECK_DIGITS,
+    /// The number is outside the format's range.
+    Range = GOQ_FIELD_RANGE,
+    /// The field cannot be given together with the others.
+    Unused = GOQ_FIELD_UNUSED,
+    /// The number has more digits after its point than the format allows.
+    Decimals = GOQ_FIELD_DECIMALS,
+    /// The field is not one of the words that it may be.
+    Word = GOQ_FIELD_WORD,
+    /// The application identifier of an element is not in the table.
+    UnknownIdentifier = GOQ_NO_SUCH_IDENTIFIER,
+    /// The value of an element has too few or too many characters.
+    Length = GOQ_ELEMENT_LENGTH,
+}
 
 impl fmt::Display for Cause {
     fn fmt(&self, out: &mut fmt::Formatter<'_>) -> fmt::Result {
@@ -97,6 +94,13 @@ pub type ContentResult = Result<String, ContentError>;
 
 // A field: its name and its text.
 type Field<'a> = (&'static str, &'a str);
+
+// The fields of a payload in the library's order, with their texts.
+macro_rules! given {
+    ($it:expr; $($field:ident $(.$part:ident)?),+) => {
+        &[$((concat!(stringify!($field) $(, ".", stringify!($part))?), &*$it.$field$(.$part)?.said())),+]
+    };
+}
 
 // Returns the text of a kind of payload; its fields are in the library's order.
 fn text_of(kind: u32, fields: &[Field<'_>]) -> ContentResult {
@@ -252,7 +256,7 @@ macro_rules! payload {
         impl $name<'_> {
             $(#[$made])*
             pub fn $call(&self) -> ContentResult {
-                text_of(sys::$kind, &[$((stringify!($field), &self.$field.said())),+])
+                text_of(sys::$kind, given!(self; $($field),+))
             }
         }
     };
@@ -423,28 +427,11 @@ pub struct Bill<'a> {
 impl Bill<'_> {
     /// Returns the text, to be encoded by `QrCode::of_text`.
     pub fn text(&self) -> ContentResult {
-        let (creditor, debtor) = (&self.creditor, &self.debtor);
         text_of(
             sys::GOQ_BILL,
-            &[
-                ("iban", self.iban),
-                ("creditor.name", creditor.name),
-                ("creditor.street", creditor.street),
-                ("creditor.number", creditor.number),
-                ("creditor.code", creditor.code),
-                ("creditor.city", creditor.city),
-                ("creditor.country", creditor.country),
-                ("cents", &self.cents.said()),
-                ("currency", self.currency.word()),
-                ("reference", self.reference),
-                ("message", self.message),
-                ("debtor.name", debtor.name),
-                ("debtor.street", debtor.street),
-                ("debtor.number", debtor.number),
-                ("debtor.code", debtor.code),
-                ("debtor.city", debtor.city),
-                ("debtor.country", debtor.country),
-            ],
+            given!(self; iban, creditor.name, creditor.street, creditor.number, creditor.code, creditor.city,
+                creditor.country, cents, currency, reference, message, debtor.name, debtor.street, debtor.number,
+                debtor.code, debtor.city, debtor.country),
         )
     }
 }
@@ -601,15 +588,15 @@ pub struct Moment {
     pub second: u8,
 }
 
-impl Day {
-    fn text(self) -> String {
+impl Said for Day {
+    fn said(&self) -> String {
         format!("{:04}-{:02}-{:02}", self.year, self.month, self.day)
     }
 }
 
-impl Moment {
-    fn text(self) -> String {
-        format!("{}T{:02}:{:02}:{:02}Z", self.day.text(), self.hour, self.minute, self.second)
+impl Said for Moment {
+    fn said(&self) -> String {
+        format!("{}T{:02}:{:02}:{:02}Z", self.day.said(), self.hour, self.minute, self.second)
     }
 }
 
@@ -643,20 +630,13 @@ impl Event<'_> {
     /// Returns the text, to be encoded by `QrCode::of_text`.
     pub fn text(&self) -> ContentResult {
         let (begin, end) = match self.span {
-            Span::Days(first, end) => (first.text(), end.text()),
-            Span::Times(begin, end) => (begin.text(), end.text()),
+            Span::Days(first, end) => (first.said(), end.said()),
+            Span::Times(begin, end) => (begin.said(), end.said()),
         };
         text_of(
             sys::GOQ_EVENT,
-            &[
-                ("begin", &begin),
-                ("end", &end),
-                ("summary", self.summary),
-                ("location", self.location),
-                ("description", self.description),
-                ("uid", self.uid),
-                ("stamp", &self.stamp.map_or_else(String::new, Moment::text)),
-            ],
+            &[("begin", &begin), ("end", &end), ("summary", self.summary), ("location", self.location),
+                ("description", self.description), ("uid", self.uid), ("stamp", &self.stamp.said())],
         )
     }
 }
