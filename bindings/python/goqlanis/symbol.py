@@ -19,6 +19,7 @@ from .areas import Area, Logo, Rectangle, Reserve
 from .errors import NoSuchSide, NotInFormat, refuse
 
 Path = Union[str, bytes, "os.PathLike[str]"]
+Whole = Optional[int]
 BLACK_ON_WHITE, USUAL_COLOURS = "\x1b[38;5;16;48;5;231m", "\x1b[0m"
 
 
@@ -110,7 +111,7 @@ class Symbol:
         """
         return 2 if self.version.startswith("M") else 4
 
-    def matrix_iter(self, scale: int = 1, border: Optional[int] = None) -> Iterator[Tuple[bool, ...]]:
+    def matrix_iter(self, scale: int = 1, border: Whole = None) -> Iterator[Tuple[bool, ...]]:
         """Yields the rows of the picture, True for a dark pixel, with the quiet zone.
 
         >>> from goqlanis import encode
@@ -125,7 +126,7 @@ class Symbol:
 
     @named
     def save(self, out: Union[Path, IO[Any]], kind: Optional[str] = None, *,
-             scale: Optional[int] = None, quiet_zone: Optional[int] = None, **look: Any) -> None:
+             scale: Whole = None, quiet_zone: Whole = None, **look: Any) -> None:
         """Writes the symbol to a file.
 
         `out` is a path, whose file is written completely or not at all, or a file that is open for
@@ -153,8 +154,7 @@ pbm, pgm, pdf, zpl, tspl, escpos, xbm, ppm: save 'ticket.png', and convert that
         _files.write(out, data, _drawing.KINDS[name].is_text)
 
     @named
-    def png(self, scale: Optional[int] = None, quiet_zone: Optional[int] = None,
-            **look: Any) -> bytes:
+    def png(self, scale: Whole = None, quiet_zone: Whole = None, **look: Any) -> bytes:
         """Returns the bytes of a PNG file, with at most 65,535 pixels per side.
 
         >>> from goqlanis import encode
@@ -164,8 +164,7 @@ pbm, pgm, pdf, zpl, tspl, escpos, xbm, ppm: save 'ticket.png', and convert that
         return self._drawn("png", scale, quiet_zone, look)
 
     @named
-    def svg(self, scale: Optional[int] = None, quiet_zone: Optional[int] = None,
-            **look: Any) -> str:
+    def svg(self, scale: Whole = None, quiet_zone: Whole = None, **look: Any) -> str:
         """Returns the text of an SVG file, which has one path.
 
         >>> from goqlanis import encode
@@ -175,8 +174,7 @@ pbm, pgm, pdf, zpl, tspl, escpos, xbm, ppm: save 'ticket.png', and convert that
         return self._drawn("svg", scale, quiet_zone, look).decode()
 
     @named
-    def eps(self, scale: Optional[int] = None, quiet_zone: Optional[int] = None,
-            **look: Any) -> str:
+    def eps(self, scale: Whole = None, quiet_zone: Whole = None, **look: Any) -> str:
         """Returns Encapsulated PostScript, with one point per pixel.
 
         >>> from goqlanis import encode
@@ -186,8 +184,7 @@ pbm, pgm, pdf, zpl, tspl, escpos, xbm, ppm: save 'ticket.png', and convert that
         return self._drawn("eps", scale, quiet_zone, look).decode()
 
     @named
-    def pdf(self, scale: Optional[int] = None, quiet_zone: Optional[int] = None,
-            **look: Any) -> bytes:
+    def pdf(self, scale: Whole = None, quiet_zone: Whole = None, **look: Any) -> bytes:
         """Returns the bytes of a PDF file with one page and one point per pixel.
 
         >>> from goqlanis import encode
@@ -197,8 +194,7 @@ pbm, pgm, pdf, zpl, tspl, escpos, xbm, ppm: save 'ticket.png', and convert that
         return self._drawn("pdf", scale, quiet_zone, look)
 
     @named
-    def pbm(self, scale: Optional[int] = None, quiet_zone: Optional[int] = None,
-            **look: Any) -> bytes:
+    def pbm(self, scale: Whole = None, quiet_zone: Whole = None, **look: Any) -> bytes:
         """Returns the bytes of a PBM file: black and white pixels, eight per byte.
 
         >>> from goqlanis import encode
@@ -208,8 +204,7 @@ pbm, pgm, pdf, zpl, tspl, escpos, xbm, ppm: save 'ticket.png', and convert that
         return self._drawn("pbm", scale, quiet_zone, look)
 
     @named
-    def grey(self, scale: Optional[int] = None, quiet_zone: Optional[int] = None,
-             **look: Any) -> bytes:
+    def grey(self, scale: Whole = None, quiet_zone: Whole = None, **look: Any) -> bytes:
         """Returns the pixels row by row, a byte each: 0 for a dark pixel, 255 for a light one.
 
         >>> from goqlanis import encode
@@ -219,8 +214,7 @@ pbm, pgm, pdf, zpl, tspl, escpos, xbm, ppm: save 'ticket.png', and convert that
         return self._drawn("grey", scale, quiet_zone, look)
 
     @named
-    def pic(self, scale: Optional[int] = None, quiet_zone: Optional[int] = None,
-            **look: Any) -> str:
+    def pic(self, scale: Whole = None, quiet_zone: Whole = None, **look: Any) -> str:
         """Returns PIC text, for troff.
 
         >>> from goqlanis import encode
@@ -229,8 +223,7 @@ pbm, pgm, pdf, zpl, tspl, escpos, xbm, ppm: save 'ticket.png', and convert that
         """
         return self._drawn("pic", scale, quiet_zone, look).decode()
 
-    def text(self, light: bool = False, quiet_zone: Optional[int] = None, *,
-             border: Optional[int] = None) -> str:
+    def text(self, light: bool = False, quiet_zone: Whole = None, *, border: Whole = None) -> str:
         """Returns half blocks, two modules per character; `light` is for light text on a dark
         background.
 
@@ -255,7 +248,7 @@ pbm, pgm, pdf, zpl, tspl, escpos, xbm, ppm: save 'ticket.png', and convert that
             file.write(self.svg(**look))
         webbrowser.open(f"file://{file.name}")
 
-    def terminal(self, out: Optional[IO[str]] = None, *, border: Optional[int] = None) -> None:
+    def terminal(self, out: Optional[IO[str]] = None, *, border: Whole = None) -> None:
         """Prints the symbol, or writes it to `out`, as half blocks.
 
         On a terminal they are black on white, whatever its colours are, unless the environment
@@ -329,7 +322,7 @@ pbm, pgm, pdf, zpl, tspl, escpos, xbm, ppm: save 'ticket.png', and convert that
         return areas.reserve(*self._pair(), area)
 
     @named
-    def largest_area(self, ratio: Tuple[int, int] = (1, 1), *, reserve: Optional[int] = None,
+    def largest_area(self, ratio: Tuple[int, int] = (1, 1), *, reserve: Whole = None,
                      keep_alignment: bool = False) -> Rectangle:
         """Returns the largest rectangle in the middle that may show anything, e.g. a logo.
 
@@ -368,8 +361,7 @@ take a smaller area
 
     @named
     def with_logo(self, logo: Union[Path, bytes], area: Optional[Rectangle] = None, *,
-                  margin: int = 1, reserve: Optional[int] = None,
-                  keep_alignment: bool = False) -> "Symbol":
+                  margin: int = 1, reserve: Whole = None, keep_alignment: bool = False) -> "Symbol":
         """Returns the symbol with a logo: the path or the bytes of an SVG or PNG file.
 
         `area` is a rectangle, by default the largest one in the ratio of the logo, for which
