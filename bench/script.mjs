@@ -40,7 +40,8 @@ export async function measure(goqlanis, qrcode, bytes, spent = 1500) {
         const [code, its] = [goqlanis.encode(data), other()];
         if (code.width !== its.getModuleCount())
             throw new Error(`${code.width} modules, and ${its.getModuleCount()}`);
-        found[`symbol ${length}`] = [timeOf(() => goqlanis.encode(data), spent), timeOf(other, spent)];
+        found[`symbol ${length}`] = [timeOf(() => goqlanis.encode(data), spent),
+            timeOf(other, spent)];
         found[`svg ${length}`] = [timeOf(() => goqlanis.encode(data).svg(), spent),
             timeOf(() => other().createSvgTag({ cellSize: 8 }), spent)];
     }
@@ -55,5 +56,6 @@ if (typeof process !== "undefined" && process.argv[3]) {
     const [folder, generator] = process.argv.slice(2, 4).map((it) => resolve(it));
     const goqlanis = await import(pathToFileURL(`${folder}/index.mjs`));
     const bytes = new Uint8Array(readFileSync(`${folder}/goqlanis.wasm`));
-    console.log(JSON.stringify(await measure(goqlanis, createRequire(import.meta.url)(generator), bytes)));
+    const qrcode = createRequire(import.meta.url)(generator);
+    console.log(JSON.stringify(await measure(goqlanis, qrcode, bytes)));
 }

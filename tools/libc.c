@@ -1,4 +1,5 @@
-/* Memory for the library and the program on 64-bit ARM, as the kit's liblibc_c.a gives it on x86-64. */
+/* Memory for the library and the program on 64-bit ARM, as the kit's liblibc_c.a gives it on
+   x86-64. */
 #include <stdbool.h>
 #include <stdlib.h>
 

@@ -25,7 +25,8 @@ def link(machine, made, proved=False):
     if not machine.has_compiler():
         sys.exit(f"tools/link.py: there is no {machine.gcc}")
     if not proved and not are_libraries_left(NAME):
-        sys.exit("tools/link.py: no green gate left the libraries of these sources: run ./test first")
+        sys.exit("tools/link.py: no green gate left the libraries of these sources: run ./test "
+                 "first")
     with tempfile.TemporaryDirectory() as name:
         program = Path(name) / f"{NAME}.o"
         if not machine.compile(NAME, "src/main.rt", program):

@@ -24,8 +24,9 @@ class Machine(NamedTuple):
 
     def compile(self, crate, root, made, *more):
         """Compiles a crate over the proved libraries of those below it; whether that succeeded."""
-        how = ["--target", self.target] if self.target else ["--incremental", "out/incremental"]
+        how = ["--target", self.target] if self.target else []
         how += ["--toolchain", f"{kit()}/toolchain", "--backend", "llvm", "--jobs", "2"]
+        how += ["--incremental", "out/incremental"]
         made.parent.mkdir(parents=True, exist_ok=True)
         words = words_over(crate, "build", *how, *more, "-o", made, root=root)
         return subprocess.run(words, cwd=CRATES / crate, stdout=sys.stderr).returncode == 0

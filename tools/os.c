@@ -1,5 +1,5 @@
-/* The program's arguments, environment and errors on 64-bit ARM, as the kit's libos_c.a gives them on
-   x86-64. */
+/* The program's arguments, environment and errors on 64-bit ARM, as the kit's libos_c.a gives them
+   on x86-64. */
 #include <errno.h>
 #include <stdlib.h>
 #include <sys/types.h>

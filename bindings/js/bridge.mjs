@@ -1,7 +1,7 @@
-/* Makes calls of the package for a script in another language: bridge.mjs FOLDER reads lines of JSON,
-   [call, arguments], and writes for each {"made": ..} or {"error": [name, field, message]}. Bytes
-   are {"$b": hex}, large numbers {"$n": digits}, dates {"$d": text}, codes {"$c": [modules, version,
-   level]}. */
+/* Makes calls of the package for a script in another language: bridge.mjs FOLDER reads lines of
+   JSON, [call, arguments], and writes for each {"made": ..} or {"error": [name, field, message]}.
+   Bytes are {"$b": hex}, large numbers {"$n": digits}, dates {"$d": text}, codes {"$c": [modules,
+   version, level]}. */
 
 import { createInterface } from "node:readline";
 import { pathToFileURL } from "node:url";

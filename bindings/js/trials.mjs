@@ -69,7 +69,8 @@ const TRIALS = {
 };
 
 await goqlanis.load();
-const wanted = Object.fromEntries(Object.entries(TRIALS).map(([name, call]) => [name, `${call(goqlanis)}`]));
+const wanted = Object.fromEntries(Object.entries(TRIALS)
+    .map(([name, call]) => [name, `${call(goqlanis)}`]));
 
 /* What is refused: the call, the name of the error, and a part of what it says. */
 const one = goqlanis.encode("1");
@@ -94,8 +95,8 @@ const REFUSED = [
     [() => one.pbm({ dark: "navy" }), "NotInFormat", "black on white"],
     [() => one.svg({ dark: "nvy" }), "RangeError", "not a colour"],
     [() => one.svg({ size: "30mm" }), "RangeError", "how many pixels"],
-    [() => one.withArea({ left: 0, top: 0, width: 21, height: 21 }), "AreaTooLarge", "smaller area"],
-    [() => one.withArea({ left: 20, top: 0, width: 2, height: 2 }), "NoSuchArea", "inside the symbol"],
+    [() => one.withArea({ left: 0, top: 0, width: 21, height: 21 }), "AreaTooLarge", "smaller"],
+    [() => one.withArea({ left: 20, top: 0, width: 2, height: 2 }), "NoSuchArea", "inside"],
     [(it) => it.wifi({ ssid: "a", pasword: "b" }), "TypeError", "it takes ssid, password"],
     [(it) => it.gs1([["(01)", "1"]]), "UnknownIdentifier", "without brackets"],
     [(it) => it.gs1([["20", "123"]]), "WrongLength", "it needs 2"],
@@ -136,7 +137,8 @@ for (let pages = 17; pages < 140; pages += pages < 40 ? 1 : 7) {
         }
 }
 note(`out of memory is an answer: ${found.OutOfMemory} times, and ${found.right} right ones`,
-    wrong.length === 0 && found.right > 100 && found.OutOfMemory > 20, wrong.slice(0, 3).join(", "));
+    wrong.length === 0 && found.right > 100 && found.OutOfMemory > 20,
+    wrong.slice(0, 3).join(", "));
 
 /* After a trap no export runs, and the package begins with a new memory. */
 const { exports: raw } = new WebAssembly.Instance(new WebAssembly.Module(bytes));
@@ -149,19 +151,21 @@ const traps = (call) => {
     }
 };
 const bounds = traps(() => raw.goq_mask(0xfffffff0n, 441n, 16n));
-const after = [() => raw.goq_version(), () => raw.host_alloc(16n), () => raw.host_free(0n)].map(traps);
+const after = [() => raw.goq_version(), () => raw.host_alloc(16n), () => raw.host_free(0n)]
+    .map(traps);
 note("a wrong address traps, and then each call", bounds !== "" && after.every((it) => it !== ""),
     JSON.stringify([bounds, after]));
 await goqlanis.load(bytes);
 const thrown = traps(() => number("goq_mask", 0xfffffff0, 441, 16));
-note("the package goes on after a trap", thrown !== "" && `${goqlanis.encode(text).modules}` === wanted.encode,
-    thrown);
+note("the package goes on after a trap",
+    thrown !== "" && `${goqlanis.encode(text).modules}` === wanted.encode, thrown);
 
 /* A million calls, and the memory as it was; each tenth call is refused. */
 const code = goqlanis.encode("seat 12");
 const calls = [() => goqlanis.encode("seat 12"), () => code.svg(), () => code.mask,
     () => goqlanis.wifi({ ssid: "Guests", password: "secret" }), () => goqlanis.readSquare(code),
-    () => goqlanis.encode("12345", { micro: true }), () => code.reserve({ left: 9, top: 9, width: 1, height: 1 }),
+    () => goqlanis.encode("12345", { micro: true }),
+    () => code.reserve({ left: 9, top: 9, width: 1, height: 1 }),
     () => goqlanis.checkSquare(code), () => goqlanis.gs1([["10", "ABC"]]),
     () => goqlanis.payment({ name: "A", iban: "BE72000000001617", amount: 1 })];
 const memory = () => goqlanis.memoryBytes();

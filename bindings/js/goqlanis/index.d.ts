@@ -40,11 +40,11 @@ export interface EncodeOptions {
     mask?: number | null;
     /** Marks a string as UTF-8 (ECI 26), for readers that guess. */
     marked?: boolean;
-    /** The number of the character set of bytes; then only `level` and `version` may be given too. */
+    /** The number of the character set of bytes; then only `level` and `version` go with it. */
     eci?: number | null;
 }
-/** Encodes a string or bytes. Throws NoRoom, TooLong, NoSuchLevel, NoSuchVersion, LevelNotInVersion,
-    NoMode, NoSuchMask or NoSuchNumber. */
+/** Encodes a string or bytes. Throws NoRoom, TooLong, NoSuchLevel, NoSuchVersion,
+    LevelNotInVersion, NoMode, NoSuchMask or NoSuchNumber. */
 export function encode(data: Data, options?: EncodeOptions): QrCode;
 /** Splits data over up to 16 codes (structured append), which `join` joins: as few as possible, or
     `count`. */
@@ -64,8 +64,8 @@ export function encodeGs1(elements: Iterable<Element>, options?: { level?: Level
 /** Whether a module of a version belongs to a pattern or to the format or version information. */
 export function isFunctional(version: Version, x: number, y: number): boolean;
 
-/** A CSS name, "#rgb", "#rrggbb", "#rrggbbaa", [red, green, blue] or [red, green, blue, opacity], each
-    0 to 255; null is transparent. */
+/** A CSS name, "#rgb", "#rrggbb", "#rrggbbaa", [red, green, blue] or [red, green, blue, opacity],
+    each 0 to 255; null is transparent. */
 export type Colour = string | number[] | null;
 export interface DrawOptions {
     /** Pixels per module; the default is 8, for text and PIC 1. */
@@ -81,8 +81,8 @@ export interface DrawOptions {
     /** Dots per inch that a PNG file states. */
     dpi?: number | null;
 }
-/** The formats: "txt" and "light" are half blocks, "grey" is a byte per pixel, and "zpl", "tspl" and
-    "escpos" are for printers. */
+/** The formats: "txt" and "light" are half blocks, "grey" is a byte per pixel, and "zpl", "tspl"
+    and "escpos" are for printers. */
 export type Format = "txt" | "light" | "png" | "svg" | "eps" | "pic" | "pbm" | "pgm" | "pdf" | "zpl"
     | "tspl" | "escpos" | "xbm" | "ppm" | "grey";
 /** The formats with a file extension. */
@@ -154,9 +154,10 @@ export class QrCode {
     /** The code with a light area, by default the largest. Whatever the area then shows, the code
         decodes to the same data. Throws NoSuchArea or AreaTooLarge. */
     withArea(area?: Rectangle | Rectangle[]): QrCode;
-    /** The code with a logo, the bytes or the text of an SVG or PNG file, in an area, by default the
-        largest in its ratio. Only SVG shows it; other formats leave the area light. */
-    withLogo(logo: Data, options?: AreaOptions & { area?: Rectangle | null; margin?: number }): QrCode;
+    /** The code with a logo, the bytes or the text of an SVG or PNG file, in an area, by default
+        the largest in its ratio. Only SVG shows it; other formats leave the area light. */
+    withLogo(logo: Data,
+        options?: AreaOptions & { area?: Rectangle | null; margin?: number }): QrCode;
 }
 
 /** A field of a payload, as people write it. */
@@ -171,18 +172,21 @@ type Address = "street" | "city" | "region" | "code" | "country";
 type Card = "family" | "given" | "phone" | "email" | "url" | "birthday" | "note" | Address;
 export const wifi: Payload<"ssid" | "password" | "security" | "hidden">;
 export const mecard: Payload<Card>;
-export const vcard: Payload<Card | "name" | "organisation" | "title" | "mobile" | "workPhone" | "homePhone">;
-export const payment: Payload<"name" | "iban" | "amount" | "bic" | "purpose" | "reference" | "message"
-    | "information">;
-export const bill: Payload<"iban" | "name" | "street" | "number" | "code" | "city" | "country" | "amount"
-    | "currency" | "reference" | "message" | "debtorName" | "debtorStreet" | "debtorNumber"
-    | "debtorCode" | "debtorCity" | "debtorCountry">;
+export const vcard: Payload<Card | "name" | "organisation" | "title" | "mobile" | "workPhone"
+    | "homePhone">;
+export const payment: Payload<"name" | "iban" | "amount" | "bic" | "purpose" | "reference"
+    | "message" | "information">;
+export const bill: Payload<"iban" | "name" | "street" | "number" | "code" | "city" | "country"
+    | "amount" | "currency" | "reference" | "message" | "debtorName" | "debtorStreet"
+    | "debtorNumber" | "debtorCode" | "debtorCity" | "debtorCountry">;
 export const mail: Payload<"address" | "subject" | "body">;
 export const geo: Payload<"latitude" | "longitude">;
 export const tel: Payload<"number">;
 export const sms: Payload<"number" | "body">;
-export const otp: Payload<"account" | "secret" | "issuer" | "algorithm" | "digits" | "period" | "counter">;
-export const event: Payload<"begin" | "end" | "summary" | "location" | "description" | "uid" | "stamp">;
+export const otp: Payload<"account" | "secret" | "issuer" | "algorithm" | "digits" | "period"
+    | "counter">;
+export const event: Payload<"begin" | "end" | "summary" | "location" | "description" | "uid"
+    | "stamp">;
 export const upi: Payload<"payee" | "name" | "amount" | "note" | "reference" | "category">;
 export const pix: Payload<"payee" | "name" | "city" | "amount" | "reference" | "description">;
 export const promptpay: Payload<"payee" | "amount">;
@@ -190,13 +194,15 @@ export const promptpay: Payload<"payee" | "amount">;
 export function gs1(elements: Iterable<Element>): Uint8Array;
 
 /** What a square of modules says, and how many codewords were wrong and corrected. */
-export interface Reading { data: Uint8Array; version: string; level: Level; mask: number; wrong: number }
-/** The position is "upright", "rotated left", "upside down", "rotated right", "mirrored", "flipped",
-    "transposed" or "antitransposed". */
+export interface Reading {
+    data: Uint8Array; version: string; level: Level; mask: number; wrong: number }
+/** The position is "upright", "rotated left", "upside down", "rotated right", "mirrored",
+    "flipped", "transposed" or "antitransposed". */
 export interface AnyReading extends Reading { position: string; isInverted: boolean }
-/** A header or a segment: `number` is a character set, an application indicator or a parity, `place`
-    and `symbols` belong to "oneOfSeveral", and `length` is the number of bytes. */
-export interface Part { kind: string; number?: number; place?: number; symbols?: number; length?: number }
+/** A header or a segment: `number` is a character set, an application indicator or a parity,
+    `place` and `symbols` belong to "oneOfSeveral", and `length` is the number of bytes. */
+export interface Part {
+    kind: string; number?: number; place?: number; symbols?: number; length?: number }
 /** A code in a picture; `text` is null unless the data is UTF-8. */
 export interface Found extends AnyReading { parts: Part[]; text: string | null }
 /** A PNG, PBM or PGM file, text of half blocks, or the pixels of a canvas. */
@@ -225,7 +231,8 @@ export class Check {
     readonly allowedByBlock: number;
     readonly unusedCorrection: number;
     readonly grade: string;
-    readonly wrongModules: Record<"finder" | "alignment" | "timing" | "format" | "version" | "remainder", number>;
+    readonly wrongModules: Record<"finder" | "alignment" | "timing" | "format" | "version"
+        | "remainder", number>;
     readonly segments: boolean;
     readonly bits: number | null;
     readonly fewestBits: number | null;
