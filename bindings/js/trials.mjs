@@ -1,12 +1,12 @@
-/* Tries wrong arguments, memory over a million calls, and answers when memory runs out or a call
-   traps. trials.mjs FOLDER [COUNT]; the last line is 'N passed, M failed'. */
+/* Tries wrong arguments, memory over COUNT calls, and answers when memory runs out or a call traps.
+   trials.mjs FOLDER [COUNT]; the last line is 'N passed, M failed'. */
 
 import { readFileSync } from "node:fs";
 import { resolve } from "node:path";
 import { pathToFileURL } from "node:url";
 
 const folder = pathToFileURL(`${resolve(process.argv[2])}/`);
-const count = Number(process.argv[3] ?? 1_000_000);
+const count = Number(process.argv[3] ?? 100_000);
 const bytes = readFileSync(new URL("goqlanis.wasm", folder));
 const goqlanis = await import(new URL("index.mjs", folder));
 const { number } = await import(new URL("memory.mjs", folder));
@@ -160,7 +160,7 @@ const thrown = traps(() => number("goq_mask", 0xfffffff0, 441, 16));
 note("the package goes on after a trap",
     thrown !== "" && `${goqlanis.encode(text).modules}` === wanted.encode, thrown);
 
-/* A million calls, and the memory as it was; each tenth call is refused. */
+/* Many calls, and the memory as it was; each tenth call is refused. */
 const code = goqlanis.encode("seat 12");
 const calls = [() => goqlanis.encode("seat 12"), () => code.svg(), () => code.mask,
     () => goqlanis.wifi({ ssid: "Guests", password: "secret" }), () => goqlanis.readSquare(code),
