@@ -54,7 +54,8 @@ function gs1Options({ level, version, mask }) {
 
 /** Returns the label of a field: "Work phone" for workPhone. */
 const words = (name) => (SHORT.includes(name) ? name.toUpperCase()
-    : name.replace(/[A-Z]/g, (it) => ` ${it.toLowerCase()}`).replace(/^./, (it) => it.toUpperCase()));
+    : name.replace(/[A-Z]/g, (it) => ` ${it.toLowerCase()}`)
+        .replace(/^./, (it) => it.toUpperCase()));
 
 /** Returns the element of a field, with its label, hint and place for an error. */
 export function fieldOf(name, hint) {

@@ -139,16 +139,17 @@ function aboutOf({ version, level, mask, width, quietZone }) {
     const { scale, quietZone: zone } = drawOptions("png");
     const across = width + 2 * (zone ?? quietZone), pixels = across * scale, dots = whole("dpi");
     const wide = (count, perInch) => `${(count * 25.4 / perInch).toFixed(1)} mm`;
-    return `Version ${version}, level ${level}, mask ${mask}: ${width} modules a side, ${across} with `
-        + `the quiet zone.\nPNG: ${pixels} pixels a side${dots ? `, ${wide(pixels, dots)}` : ""}. `
+    return `Version ${version}, level ${level}, mask ${mask}: ${width} modules a side, ${across} `
+        + `with the quiet zone.\nPNG: ${pixels} pixels a side${dots ? `, ${wide(pixels, dots)}` : ""}. `
         + `PDF and EPS: ${wide(pixels, 72)}.${logo === null ? "" : `\n${areaOf()}`}`;
 }
 
 /** Says which area the logo takes, and what that leaves. */
 function areaOf() {
     const { area } = code.logo, { least, allowed } = code.reserve(area);
-    return `The logo has ${area.width} by ${area.height} modules. It is proved that the code decodes `
-        + `whatever these show; of ${allowed} codewords of a block that may be wrong, ${least} are left.`;
+    return `The logo has ${area.width} by ${area.height} modules. It is proved that the code `
+        + `decodes whatever these show; of ${allowed} codewords of a block that may be wrong, `
+        + `${least} are left.`;
 }
 
 function warningsOf(made) {
@@ -156,10 +157,10 @@ function warningsOf(made) {
         return [];
     const { dark, light, quietZone } = drawOptions("svg");
     return [
-        ...(areClose(dark, light) ? ["Many readers cannot tell these colours apart: take a much darker "
-            + "colour for the dark modules."] : []),
-        ...(quietZone !== null && quietZone < made.quietZone ? [`The quiet zone is narrower than the `
-            + `${made.quietZone} modules that the standard wants.`] : []),
+        ...(areClose(dark, light) ? ["Many readers cannot tell these colours apart: take a much "
+            + "darker colour for the dark modules."] : []),
+        ...(quietZone !== null && quietZone < made.quietZone ? [`The quiet zone is narrower than `
+            + `the ${made.quietZone} modules that the standard wants.`] : []),
         ...(logo === null ? [] : ["Only SVG shows the logo; other files leave its area light."]),
     ];
 }

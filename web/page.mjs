@@ -27,7 +27,8 @@ document.querySelector("[role=tablist]").addEventListener("keydown", (event) => 
         return;
     event.preventDefault();
     const now = TABS.findIndex((it) => !at(it).hidden);
-    show({ Home: TABS[0], End: TABS[TABS.length - 1] }[event.key] ?? TABS[(now + step) % TABS.length], true);
+    const ends = { Home: TABS[0], End: TABS[TABS.length - 1] };
+    show(ends[event.key] ?? TABS[(now + step) % TABS.length], true);
 });
 
 /* A dropped picture is a logo where a code is made, and is read elsewhere. */

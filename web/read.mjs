@@ -39,7 +39,7 @@ async function pictureOf(file) {
             return bytes;
         } catch (error) {
             if (error.name !== "BrokenPicture")
-                return bytes; /* the library says what is wrong; the browser helps if it is broken */
+                return bytes; /* the library says what is wrong */
         }
     return pixelsOf(file);
 }
@@ -75,7 +75,8 @@ function readingOf(picture) {
     }
     if (failure !== null && checks.length === 0)
         throw failure;
-    const said = failure !== null ? `No code was read: ${failure.message}. What it shows was checked:`
+    const said = failure !== null
+        ? `No code was read: ${failure.message}. What it shows was checked:`
         : found.length === 1 ? "1 code:" : `${found.length} codes:`;
     return { said, codes: checks.map((it, index) => itemOf(found[index], it)) };
 }
@@ -92,14 +93,16 @@ function itemOf(code, checked) {
         item.append(made("h2", isLink ? "Link" : code.text === null ? "Data" : "Text"));
         if (isLink) {
             const line = document.createElement("p");
-            line.append(made("a", text, { href: text, rel: "noopener noreferrer", target: "_blank" }));
+            const how = { href: text, rel: "noopener noreferrer", target: "_blank" };
+            line.append(made("a", text, how));
             item.append(line);
         } else {
             item.append(made("pre", text));
         }
         const turned = [code.position, ...(code.isInverted ? ["inverted"] : [])].join(", ");
         item.append(made("p", `Version ${code.version}, level ${code.level}, mask ${code.mask}; `
-            + `${turned}; ${code.wrong} codewords corrected. ${code.parts.map(partOf).join("; ")}.`));
+            + `${turned}; ${code.wrong} codewords corrected. `
+            + `${code.parts.map(partOf).join("; ")}.`));
     }
     item.append(made("h2", checked.isStandard ? "Check: as the standard says"
         : "Check: it departs from the standard"), made("pre", `${checked}`));

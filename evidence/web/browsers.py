@@ -125,8 +125,8 @@ class Firefox(Browser):
         self.profile = Path(folder) / "profile"
         self.profile.mkdir()
         prefs = {"browser.download.folderList": 2, "browser.download.dir": str(folder),
-                 "browser.helperApps.neverAsk.saveToDisk": "image/svg+xml,image/png,application/pdf,"
-                 "application/postscript,text/plain", "pdfjs.disabled": True,
+                 "browser.helperApps.neverAsk.saveToDisk": "image/svg+xml,image/png,"
+                 "application/pdf,application/postscript,text/plain", "pdfjs.disabled": True,
                  "browser.download.always_ask_before_handling_new_types": False,
                  "browser.download.open_pdf_attachments_inline": False,
                  "browser.shell.checkDefaultBrowser": False, "marionette.port": 2829,

@@ -1,14 +1,17 @@
 /* Looks at the page as an accessibility checker does, and returns what is wrong as texts. */
 const wrong = [];
-const shown = (it) => it.checkVisibility({ checkVisibilityCSS: true }) && it.getClientRects().length > 0;
+const shown = (it) => it.checkVisibility({ checkVisibilityCSS: true })
+    && it.getClientRects().length > 0;
 const about = (it) => `${it.localName}${it.id ? `#${it.id}` : ""}`;
-const textOf = (ids) => ids.split(/\s+/).map((id) => document.getElementById(id)?.textContent ?? "").join(" ");
+const textOf = (ids) => ids.split(/\s+/)
+    .map((id) => document.getElementById(id)?.textContent ?? "").join(" ");
 const nameOf = (it) => it.getAttribute("aria-label")
     || (it.hasAttribute("aria-labelledby") && textOf(it.getAttribute("aria-labelledby")))
     || [...(it.labels ?? [])].map((label) => label.textContent).join(" ")
     || (["button", "a", "summary"].includes(it.localName) ? it.textContent : "") || it.title;
 
-const controls = [...document.querySelectorAll("button, input, select, textarea, summary, a[href], [role=tablist], [role=group]")].filter(shown);
+const CONTROLS = "button, input, select, textarea, summary, a[href], [role=tablist], [role=group]";
+const controls = [...document.querySelectorAll(CONTROLS)].filter(shown);
 for (const it of controls) {
     if (nameOf(it).trim() === "")
         wrong.push(`${about(it)} has no name`);
@@ -16,8 +19,9 @@ for (const it of controls) {
     if (it.localName !== "a" && (width < 24 || height < 24))
         wrong.push(`${about(it)} is ${width} by ${height} pixels`);
 }
-for (const it of document.querySelectorAll("[aria-controls], [aria-labelledby], [aria-describedby]"))
-    for (const name of ["aria-controls", "aria-labelledby", "aria-describedby"])
+const NAMING = ["aria-controls", "aria-labelledby", "aria-describedby"];
+for (const it of document.querySelectorAll(NAMING.map((name) => `[${name}]`).join()))
+    for (const name of NAMING)
         for (const id of (it.getAttribute(name) ?? "").split(/\s+/).filter((each) => each !== ""))
             if (document.getElementById(id) === null)
                 wrong.push(`${about(it)}: ${name} names ${id}, which is not there`);
@@ -27,7 +31,8 @@ for (const it of [...document.images].filter(shown))
 const ids = [...document.querySelectorAll("[id]")].map((it) => it.id);
 for (const id of new Set(ids.filter((it, at) => ids.indexOf(it) !== at)))
     wrong.push(`two elements have the id ${id}`);
-const levels = [...document.querySelectorAll("h1, h2, h3")].filter(shown).map((it) => Number(it.localName[1]));
+const levels = [...document.querySelectorAll("h1, h2, h3")].filter(shown)
+    .map((it) => Number(it.localName[1]));
 if (levels[0] !== 1 || levels.some((it, at) => at > 0 && it > levels[at - 1] + 1))
     wrong.push(`headings have the levels ${levels}`);
 if (document.documentElement.lang === "" || document.title === "")
@@ -37,8 +42,9 @@ if (document.scrollingElement.scrollWidth > innerWidth)
 
 /* Contrast, as WCAG 2 reckons it. */
 const channels = (colour) => colour.match(/[\d.]+/g).map(Number);
-const linear = (it) => (it / 255 <= 0.04045 ? it / 255 / 12.92 : ((it / 255 + 0.055) / 1.055) ** 2.4);
-const bright = ([red, green, blue]) => 0.2126 * linear(red) + 0.7152 * linear(green) + 0.0722 * linear(blue);
+const linear = (it) => (it <= 0.04045 ? it / 12.92 : ((it + 0.055) / 1.055) ** 2.4);
+const bright = (colour) => [0.2126, 0.7152, 0.0722]
+    .reduce((sum, part, at) => sum + part * linear(colour[at] / 255), 0);
 function behind(it) {
     for (let at = it; at !== null; at = at.parentElement) {
         const colour = channels(getComputedStyle(at).backgroundColor);

@@ -71,8 +71,8 @@ function tooLarge(version, level, rectangles) {
         }
     };
     const higher = [1, 2, 3].find(fits);
-    return refusal("AREA_BLOCK", `the area touches ${touched[worst]} codewords of block ${worst + 1}, `
-        + `of which ${allowed} may be lost: take `
+    return refusal("AREA_BLOCK", `the area touches ${touched[worst]} codewords of block `
+        + `${worst + 1}, of which ${allowed} may be lost: take `
         + (higher === undefined ? "a smaller area" : `level ${LEVELS[higher]}, or a smaller area`));
 }
 

@@ -30,8 +30,8 @@ export function options(call, given, defaults) {
             `${call}: the options are an object, as {level: 'H'}, not ${shown(given)}`);
     for (const name of Object.keys(given))
         if (!Object.keys(defaults).includes(name))
-            throw new TypeError(`${call} has no option '${name}': ` + (Object.keys(OTHERS).includes(name)
-                ? `take ${OTHERS[name]}` : `it takes ${Object.keys(defaults).join(", ")}`));
+            throw new TypeError(`${call} has no option '${name}': `
+                + (Object.keys(OTHERS).includes(name) ? `take ${OTHERS[name]}` : `it takes ${Object.keys(defaults).join(", ")}`));
     const defined = Object.entries(given).filter(([, value]) => value !== undefined);
     return { ...defaults, ...Object.fromEntries(defined) };
 }

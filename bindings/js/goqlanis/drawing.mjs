@@ -28,8 +28,8 @@ export function drawn(code, format, given) {
     const { dark, light, dpi } = inkOf(look, format);
     const side = across * scale, most = SIDES[kind.number] ?? side;
     if (side > most)
-        throw new QrError("NoSuchSize", `a side of ${grouped(side)} pixels: this format has at most `
-            + `${grouped(most)}: take ` + (across > most ? "a smaller quietZone"
+        throw new QrError("NoSuchSize", `a side of ${grouped(side)} pixels: this format has at `
+            + `most ${grouped(most)}: take ` + (across > most ? "a smaller quietZone"
                 : `scale: ${Math.floor(most / across)} or less`));
     return within((buffers) => {
         const drawing = { format: kind.number, zone, scale, dark, light, dpi };
@@ -67,8 +67,8 @@ function scaleOf({ scale, size, dpi }, format, across) {
     const dots = format === "eps" || format === "pdf" ? 72 : dpi;
     const millimetres = /^([0-9]{1,9}([.][0-9]{1,9})?)mm$/.exec(size);
     if (millimetres !== null && dots === null)
-        throw new RangeError(`size: '${size}': how many pixels are these? Take PNG and dpi: 300, or `
-            + "EPS or PDF, in points");
+        throw new RangeError(`size: '${size}': how many pixels are these? Take PNG and dpi: 300, `
+            + "or EPS or PDF, in points");
     const pixels = checks.whole("size in pixels, or as '30mm',", millimetres === null ? size
         : Math.floor(Number(millimetres[1]) * checks.whole("dpi", dots, 1, MOST_SIDE) * 10 / 254),
         1, MOST_SIDE, "NoSuchSize");
@@ -122,8 +122,8 @@ function colour(name, value) {
         return numberOf([...parts, 255]);
     }
     if (typeof value !== "string")
-        throw new TypeError(`${name} is a colour, not ${shown(value)}: take a name, '#rgb', '#rrggbb', `
-            + "'#rrggbbaa', [red, green, blue], or null for transparent");
+        throw new TypeError(`${name} is a colour, not ${shown(value)}: take a name, '#rgb', `
+            + "'#rrggbb', '#rrggbbaa', [red, green, blue], or null for transparent");
     const digits = NAMES.get(word) ?? word.replace(/^#/, "");
     if (!/^([0-9a-f]{3,4}|[0-9a-f]{6}|[0-9a-f]{8})$/.test(digits))
         throw new RangeError(

@@ -12,8 +12,8 @@ import { LEVELS, shown, versionName } from "./checks.mjs";
 const PARTS = [...Object.keys(KINDS), "oneOfSeveral"];
 /* The ECI numbers of UTF-8, and of ASCII, which is part of it. */
 const UTF_8 = [26, 27, 170];
-const HEADED = "the data begins with a header, of several symbols, GS1 or a character set other than "
-    + "UTF-8: join reads several; read(code.png()) reads the others";
+const HEADED = "the data begins with a header, of several symbols, GS1 or a character set other "
+    + "than UTF-8: join reads several; read(code.png()) reads the others";
 const JOINS = { NOT_SEVERAL: "square # has no header of one of several symbols",
     STRANGER: "square # belongs to other data than the first", MISSING: "part # is missing",
     TWICE: "part # is there twice",
@@ -28,7 +28,8 @@ export function read(picture) {
         const said = answer("goq_read_picture", ...file, codes, most, parts, most * PARTS_MAX,
             bytes, most * BYTES_MAX, scan);
         if (said === "NO_SUCH_SIDE")
-            throw refusal(said, "the picture shows no code: what it shows is not the size of a code");
+            throw refusal(said,
+                "the picture shows no code: what it shows is not the size of a code");
         let part = 0, at = bytes;
         const count = () => ({ length: buffers.struct("goq_scan", scan).codes });
         return [said, () => Array.from(count(), (_, code) => {
@@ -219,7 +220,8 @@ export class Check {
         const lines = [`version ${this.version}, level ${this.level}, mask ${this.mask}`,
             `wrong codewords in each block: ${this.wrongByBlock.join(", ")}; the standard allows `
                 + `${this.allowedByBlock}`,
-            `unused error correction: ${Math.round(this.unusedCorrection * 100)} %, grade ${this.grade}`,
+            `unused error correction: ${Math.round(this.unusedCorrection * 100)} %, `
+                + `grade ${this.grade}`,
             `wrong modules outside the data: ${modules.map((it) => it.join(" ")).join(", ")}`,
             ...(this.segments ? [`data: ${bits}`, `wrong bits after the data: terminator `
                 + `${this.wrongTerminator}, padding ${this.wrongPadding}`,
