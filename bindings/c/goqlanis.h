@@ -270,7 +270,14 @@ enum {
     GOQ_BILL_FIELDS
 };
 
-enum { GOQ_MAIL_ADDRESS, GOQ_MAIL_SUBJECT, GOQ_MAIL_BODY, GOQ_MAIL_FIELDS };
+enum {
+    GOQ_MAIL_ADDRESS, /* one address, or several with commas between */
+    GOQ_MAIL_SUBJECT,
+    GOQ_MAIL_BODY,
+    GOQ_MAIL_CC, /* addresses that get a copy */
+    GOQ_MAIL_BCC, /* addresses that get a copy, unseen by the others */
+    GOQ_MAIL_FIELDS
+};
 
 /* Degrees north of the equator and east of Greenwich, such as "-33.8568", with at most six
    decimals. */

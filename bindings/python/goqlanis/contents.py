@@ -146,13 +146,14 @@ def _party(who: str, party: Any) -> Iterable[Tuple[str, str]]:
     return ((f"{who}.{name}", value) for name, value in zip(Party._fields, party))
 
 
-def mail(address: str, subject: str = "", body: str = "") -> str:
-    """Returns a link that writes an e-mail.
+def mail(address: str, subject: str = "", body: str = "", cc: str = "", bcc: str = "") -> str:
+    """Returns a link that writes an e-mail. Commas separate several addresses.
 
     >>> mail("infobot@example.com", body="send current-issue\\nsend index")
     'mailto:infobot@example.com?body=send%20current-issue%0D%0Asend%20index'
     """
-    return text_of(goq.MAIL, [("address", address), ("subject", subject), ("body", body)])
+    return text_of(goq.MAIL, [("address", address), ("subject", subject), ("body", body),
+                              ("cc", cc), ("bcc", bcc)])
 
 
 def geo(latitude: Number, longitude: Number) -> str:

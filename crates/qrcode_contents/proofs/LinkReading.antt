@@ -7,7 +7,7 @@ use Rattle.std.proofs.lemmas.List.Elements.{All-nil, All-cons}
 use Rattle.std.proofs.lemmas.List.Folds.{list_any-append}
 use Rattle.std.proofs.lemmas.List.Splits.{slice_split_none, slice_split_at}
 use Rattle.qrcode_contents.specs.declared.fields.links.Part.{Part}
-use Rattle.qrcode_contents.specs.declared.fields.links.Part.TheVariants.{Path, Value}
+use Rattle.qrcode_contents.specs.declared.fields.links.Part.TheVariants.{Path, Addresses, Value}
 use Rattle.qrcode_contents.specs.fields.Characters.{is_control, is_other_control, before}
 use Rattle.qrcode_contents.specs.fields.Entries.{Entry, single, is_filled, filled, value_of}
 use Rattle.qrcode_contents.specs.fields.EntryTests.{are_distinct}
@@ -47,12 +47,24 @@ HasNo-path_byte : (c b : ℕ) (at : Bool) → (b == 64) ≡ at → is_mark c ≡
 HasNo-path_byte c b true is mark = rw is (mark_at c mark)
 HasNo-path_byte c b false is mark = rw is (HasNo-encoded_byte c b (is_unreserved b) refl mark)
 
+mark_comma : (c : ℕ) → is_mark c ≡ true → HasNo c (44 ∷ [])
+mark_comma c mark = grind (arith, nat_tests)
+
+HasNo-other_byte : (c b : ℕ) (comma : Bool) → (b == 44) ≡ comma → (b == 64) ≡ false → is_mark c ≡ true → HasNo c (part_byte Addresses b)
+HasNo-other_byte c b true is other mark = rw (other, is) (mark_comma c mark)
+HasNo-other_byte c b false is other mark = rw (other, is) (HasNo-encoded_byte c b (is_unreserved b) refl mark)
+
+HasNo-address_byte : (c b : ℕ) (at : Bool) → (b == 64) ≡ at → is_mark c ≡ true → HasNo c (part_byte Addresses b)
+HasNo-address_byte c b true is mark = rw is (mark_at c mark)
+HasNo-address_byte c b false is mark = HasNo-other_byte c b (b == 44) refl is mark
+
 HasNo-value_byte : (c b : ℕ) (feed : Bool) → (b == 10) ≡ feed → is_mark c ≡ true → HasNo c (part_byte Value b)
 HasNo-value_byte c b true is mark = rw is (mark_break c mark)
 HasNo-value_byte c b false is mark = rw is (HasNo-encoded_byte c b (is_unreserved b) refl mark)
 
 HasNo-part_byte : (c : ℕ) (part : Part) (b : ℕ) → is_mark c ≡ true → HasNo c (part_byte part b)
 HasNo-part_byte c Path b mark = HasNo-path_byte c b (b == 64) refl mark
+HasNo-part_byte c Addresses b mark = HasNo-address_byte c b (b == 64) refl mark
 HasNo-part_byte c Value b mark = HasNo-value_byte c b (b == 10) refl mark
 
 -- an encoded part has none of these characters
@@ -79,6 +91,27 @@ decoded-path (b ∷ bytes) rest =
 pub path_decoded : (bytes : List ℕ) → decoded (part_text Path bytes) ≡ bytes
 unfolding decoded
 path_decoded bytes = ap decoded (sym (append-nil (part_text Path bytes))) ∙ decoded-path bytes [] ∙ append-nil bytes
+
+other_byte : (b : ℕ) (rest : List ℕ) (comma : Bool) → (b == 44) ≡ comma → (b == 64) ≡ false → decoded (part_byte Addresses b ++ rest) ≡ b ∷ decoded rest
+other_byte b rest true is other = let same : b ≡ 44 = grind (arith, nat_tests) in rw (other, is, same) (kept_byte 44 rest refl)
+other_byte b rest false is other = rw (other, is) (decoded_byte b rest (is_unreserved b) refl)
+
+address_byte : (b : ℕ) (rest : List ℕ) (at : Bool) → (b == 64) ≡ at → decoded (part_byte Addresses b ++ rest) ≡ b ∷ decoded rest
+address_byte b rest true is = let same : b ≡ 64 = grind (arith, nat_tests) in rw (is, same) (kept_byte 64 rest refl)
+address_byte b rest false is = other_byte b rest (b == 44) refl is
+
+decoded-addresses : (bytes rest : List ℕ) → decoded (part_text Addresses bytes ++ rest) ≡ bytes ++ decoded rest
+unfolding part_text
+decoded-addresses [] rest = refl
+decoded-addresses (b ∷ bytes) rest =
+    ap decoded (append_assoc (part_byte Addresses b) (part_text Addresses bytes) rest)
+    ∙ address_byte b (part_text Addresses bytes ++ rest) (b == 64) refl
+    ∙ ap (λ xs. b ∷ xs) (decoded-addresses bytes rest)
+
+-- addresses are decoded
+pub addresses_decoded : (bytes : List ℕ) → decoded (part_text Addresses bytes) ≡ bytes
+unfolding decoded
+addresses_decoded bytes = ap decoded (sym (append-nil (part_text Addresses bytes))) ∙ decoded-addresses bytes [] ∙ append-nil bytes
 
 -- a byte that is kept: no carriage return
 abbrev pub is_kept : ℕ → Bool

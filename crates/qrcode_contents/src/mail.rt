@@ -2,24 +2,35 @@
 
 ghost use Rattle.std.specs.Prelude.{◌≡◌, Some, IfOk, IsOkUnless, string_bytes};
 ghost use Rattle.qrcode_contents.specs.declared.fields.errors.ContentError.TheVariants.{OutOfMemory};
-ghost use Rattle.qrcode_contents.specs.Mail.{mail_fields, mail_refusal, mail_text, read_mail};
+ghost use Rattle.qrcode_contents.specs.Mail.{are_none, mail_fields, mail_refusal, mail_text, read_mail};
 ghost use Rattle.qrcode_contents.specs.fields.Refusals.{Answers, checked};
 
-use crate::fields::characters::has_one_at;
+use crate::fields::characters::are_addresses;
 use crate::fields::errors::{Cause, ContentResult, Field};
 use crate::fields::links::{Part, push_parameters, push_part};
 use crate::fields::refusals::{controls, other_controls, refuse_first};
 use std::alloc::Global;
 
-/// An e-mail to be written. `subject` and `body` may be empty.
+/// An e-mail to be written. Only `address` must be given. Commas separate several addresses.
 #[derive(Copy, Clone, PartialEq, Eq, Debug)]
 pub struct Mail<'a> {
-    /// The recipient's address, with one `@`.
+    /// The recipients' addresses, each with one `@`.
     pub address: &'a str,
+    /// The addresses that get a copy.
+    pub cc: &'a str,
+    /// The addresses that get a copy, unseen by the others.
+    pub bcc: &'a str,
     /// The subject.
     pub subject: &'a str,
     /// The text; a line feed separates lines.
     pub body: &'a str,
+}
+
+// Whether a text is given, but is no addresses.
+fn are_none(text: &str) -> bool
+    ensures { result ≡ are_none text.now }
+{
+    !text.is_empty() && !are_addresses(text)
 }
 
 impl Mail<'_> {
@@ -31,7 +42,11 @@ impl Mail<'_> {
         refuse_first(&[
             (self.address.is_empty(), Field::Email, Cause::Empty),
             controls(Field::Email, self.address),
-            (!has_one_at(self.address), Field::Email, Cause::Character),
+            (!are_addresses(self.address), Field::Email, Cause::Character),
+            controls(Field::Cc, self.cc),
+            (are_none(self.cc), Field::Cc, Cause::Character),
+            controls(Field::Bcc, self.bcc),
+            (are_none(self.bcc), Field::Bcc, Cause::Character),
             controls(Field::Subject, self.subject),
             other_controls(Field::Message, self.body),
         ])
@@ -43,8 +58,13 @@ impl Mail<'_> {
         ensures memory { IsOkUnless result OutOfMemory }
     {
         let mut text = String::from_str(alloc, "mailto:")?;
-        push_part(&mut text, Part::Path, self.address)?;
-        let query = [("subject", self.subject), ("body", self.body)];
+        push_part(&mut text, Part::Addresses, self.address)?;
+        let query = [
+            ("cc", self.cc),
+            ("bcc", self.bcc),
+            ("subject", self.subject),
+            ("body", self.body),
+        ];
         push_parameters(&mut text, false, &query)?;
         Ok(text)
     }

@@ -16,7 +16,7 @@ use Rattle.qrcode_contents.specs.declared.fields.errors.Cause.TheVariants.{Chara
 use Rattle.qrcode_contents.specs.declared.fields.errors.ContentError.{ContentError}
 use Rattle.qrcode_contents.specs.declared.fields.errors.ContentError.TheVariants.{Refused}
 use Rattle.qrcode_contents.specs.declared.fields.errors.Field.{Field}
-use Rattle.qrcode_contents.specs.declared.fields.errors.Field.TheVariants.{Account, Algorithm, Amount, Begin, Bic, Birthday, Category, City, Counter, Country, Currency, DebtorCity, DebtorCountry, DebtorName, DebtorNumber, DebtorPostalCode, DebtorStreet, Description, Digits, Email, End, Family, Given, Hidden, HomePhone, Iban, Information, Issuer, Latitude, Location, Longitude, Message, Mobile, Name, Note, Number, Organisation, Password, Payee, Period, Phone, PostalCode, Purpose, Reference, Region, Secret, Security, Ssid, Stamp, Street, Subject, Summary, Title, Uid, Url, WorkPhone}
+use Rattle.qrcode_contents.specs.declared.fields.errors.Field.TheVariants.{Account, Algorithm, Amount, Bcc, Begin, Bic, Birthday, Category, Cc, City, Counter, Country, Currency, DebtorCity, DebtorCountry, DebtorName, DebtorNumber, DebtorPostalCode, DebtorStreet, Description, Digits, Email, End, Family, Given, Hidden, HomePhone, Iban, Information, Issuer, Latitude, Location, Longitude, Message, Mobile, Name, Note, Number, Organisation, Password, Payee, Period, Phone, PostalCode, Purpose, Reference, Region, Secret, Security, Ssid, Stamp, Street, Subject, Summary, Title, Uid, Url, WorkPhone}
 use Rattle.qrcode_contents.specs.declared.geo.Place.{Place}
 use Rattle.qrcode_contents.specs.declared.one_time.Algorithm as algorithms
 use Rattle.qrcode_contents.specs.declared.one_time.Algorithm.TheVariants.{Sha1}
@@ -173,7 +173,7 @@ invoice_in g = with_value (open_amount_in (plain_amount (g Amount))) (λ cents. 
 })))
 
 abbrev pub letter_in : (Field → List ℕ) → Letter  -- an e-mail
-letter_in g = record { address = g Email; subject = g Subject; body = g Message }
+letter_in g = record { address = g Email; cc = g Cc; bcc = g Bcc; subject = g Subject; body = g Message }
 
 abbrev pub degrees_in : List ℕ → Field → Result ℤ ContentError  -- degrees, in millionths
 degrees_in text field = said (degrees_of text) field (degrees_cause text)

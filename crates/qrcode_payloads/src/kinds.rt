@@ -137,7 +137,13 @@ pub static BILL: [Field; 17] = [
 ];
 
 /// The fields of [`Kind::Mail`].
-pub static MAIL: [Field; 3] = [Field::Email, Field::Subject, Field::Message];
+pub static MAIL: [Field; 5] = [
+    Field::Email,
+    Field::Subject,
+    Field::Message,
+    Field::Cc,
+    Field::Bcc,
+];
 
 /// The fields of [`Kind::Geo`].
 pub static GEO: [Field; 2] = [Field::Latitude, Field::Longitude];

@@ -190,6 +190,8 @@ fn mail_text<G: Given>(alloc: Global, given: &G) -> ContentResult<String>
 {
     let mail = mail::Mail {
         address: given.text(Field::Email),
+        cc: given.text(Field::Cc),
+        bcc: given.text(Field::Bcc),
         subject: given.text(Field::Subject),
         body: given.text(Field::Message),
     };

@@ -439,12 +439,16 @@ impl Bill<'_> {
 payload! {
     /// A link that writes an e-mail. Empty fields are left out.
     Mail of GOQ_MAIL {
-        /// The address of the recipient.
+        /// The address of the recipient, or several with commas between.
         address: &'a str,
         /// The subject.
         subject: &'a str,
         /// The text.
         body: &'a str,
+        /// The addresses that get a copy.
+        cc: &'a str,
+        /// The addresses that get a copy, unseen by the others.
+        bcc: &'a str,
     }
     /// Returns the text, to be encoded by `QrCode::of_text`.
     fn text

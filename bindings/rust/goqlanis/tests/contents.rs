@@ -9,7 +9,7 @@ fn links_are_the_printed_ones() {
     assert_eq!(phone.tel().unwrap(), "tel:+15105550101");
     assert_eq!(phone.sms().unwrap(), "sms:+15105550101");
     assert_eq!(phone.message("hello there").unwrap(), "sms:+15105550101?body=hello%20there");
-    let mail = Mail { address: "infobot@example.com", subject: "current-issue", body: "" };
+    let mail = Mail { address: "infobot@example.com", subject: "current-issue", ..Mail::default() };
     assert_eq!(mail.text().unwrap(), "mailto:infobot@example.com?subject=current-issue");
     assert_eq!(Place { latitude: 90_000_000, longitude: -22_430_000 }.text().unwrap(), "geo:90,-22.43");
     assert_eq!(Place { latitude: 0, longitude: i32::MIN }.text(), Err(ContentError::Refused("longitude", Cause::Range)));

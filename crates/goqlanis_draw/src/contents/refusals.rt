@@ -43,7 +43,8 @@ fn what_is_wrong(kind: Kind, field: Field, cause: Cause) -> &'static str {
         (Kind::Pix, Field::Name | Field::City | Field::Description, Cause::Character) =>
             "it may only have ASCII characters: write a for \u{e3}, c for \u{e7}",
         (_, Field::Reference, Cause::Unused) => "it does not go with this account",
-        (Kind::Mail, Field::Email, Cause::Character) => "it has no @, or more than one",
+        (Kind::Mail, Field::Email | Field::Cc | Field::Bcc, Cause::Character) =>
+            "an address has no @, or more than one",
         (Kind::Promptpay, Field::Payee, Cause::Character) =>
             "it may only have digits, and a phone number begins with 0, without a country code",
         (Kind::Pix, Field::Payee, Cause::CheckDigits) =>

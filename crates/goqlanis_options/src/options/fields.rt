@@ -85,6 +85,8 @@ static FIELDS: &[Entry] = &[
     entry!("payee", Text("ADDRESS"), "Payee"),
     entry!("category", Text("CODE"),
         "Merchant category code, four digits, e.g. 5411"),
+    entry!("cc", Text("ADDRESSES"), "Addresses that get a copy"),
+    entry!("bcc", Text("ADDRESSES"), "Addresses that get a copy, unseen by the others"),
     entry!("", Nothing, ""),
 ];
 

@@ -118,6 +118,7 @@ static OWN_HELP: &[(Kind, Field, &str, &str)] = &[
     (Kind::Bill, Field::Country, "CODE", "Payee's country, two letters, e.g. CH"),
     (Kind::Bill, Field::Reference, "TEXT", "Reference: 27 digits with a QR-IBAN, otherwise RF.. or none"),
     (Kind::Bill, Field::Message, "TEXT", "Message, up to 140 characters"),
+    (Kind::Mail, Field::Email, "ADDRESSES", "Recipient's address, or several with commas between"),
     (Kind::Upi, Field::Payee, "ADDRESS", "Payee's UPI address (VPA), e.g. name@bank"),
     (Kind::Upi, Field::Name, "NAME", "Payee's name"),
     (Kind::Pix, Field::Payee, "KEY",

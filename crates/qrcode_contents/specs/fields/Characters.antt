@@ -1,5 +1,5 @@
 -- Tests of the characters in a field.
-use Rattle.std.specs.Prelude.{ℕ, nat_lt, ◌==◌, ◌&&◌, ◌||◌, not, Bool, List, [], ◌∷◌, map, Option, if◌then◌else◌}
+use Rattle.std.specs.Prelude.{ℕ, nat_lt, ◌+◌, ◌==◌, count_by, ◌&&◌, ◌||◌, not, Bool, List, [], ◌∷◌, map, Option, if◌then◌else◌}
 use Rattle.std.specs.List.{list_any}
 use Rattle.qrcode_contents.specs.declared.fields.errors.ContentError.{ContentError}
 use Rattle.qrcode_contents.specs.declared.fields.errors.Field.{Field}
@@ -29,6 +29,10 @@ is_other_control b = is_control b && not (b == 9) && not (b == 10)
 
 abbrev pub is_unicode_break : ℕ → Bool  -- a line break outside ASCII: NEL, LS or PS
 is_unicode_break c = c == 133 || c == 8232 || c == 8233
+
+-- as many @ as addresses that commas separate
+abbrev pub are_addresses : List ℕ → Bool
+are_addresses text = count_by (λ b. b == 64) text == count_by (λ b. b == 44) text + 1
 
 abbrev pub before : ℕ → List ℕ → List ℕ  -- the bytes before the first byte c; all if there is none
 before c [] = []

@@ -3,7 +3,7 @@
 ghost use Rattle.std.specs.Prelude.{◌≡◌, ◌<◌, ◌==◌, length, count_by};
 ghost use Rattle.std.specs.List.{after_first, before_first, list_all, list_any};
 ghost use Rattle.std.specs.Str.{chars};
-ghost use Rattle.qrcode_contents.specs.fields.Characters.{is_base32, is_capital, is_capital_or_digit, is_control, is_dialled, is_digit, is_other_control, is_unicode_break};
+ghost use Rattle.qrcode_contents.specs.fields.Characters.{are_addresses, is_base32, is_capital, is_capital_or_digit, is_control, is_dialled, is_digit, is_other_control, is_unicode_break};
 
 /// Returns whether all bytes are letters A to Z.
 pub fn are_capitals(bytes: &[u8]) -> bool
@@ -53,6 +53,16 @@ pub fn has_one_at(text: &str) -> bool
 {
     let bytes = text.as_bytes();
     bytes.iter().filter(|byte| **byte == b'@').count() == 1
+}
+
+/// Returns whether `text` has an `@` for each of the addresses that commas separate.
+pub fn are_addresses(text: &str) -> bool
+    ensures { result ≡ are_addresses text.now }
+{
+    let bytes = text.as_bytes();
+    let signs = bytes.iter().filter(|byte| **byte == b'@').count();
+    let commas = bytes.iter().filter(|byte| **byte == b',').count();
+    signs != 0 && signs - 1 == commas
 }
 
 /// Returns whether `text` has an ASCII control character, such as a line break.

@@ -122,6 +122,10 @@ pub enum Field {
     Payee,
     /// The category of a merchant.
     Category,
+    /// Addresses that get a copy of an e-mail.
+    Cc,
+    /// Addresses that get a copy of an e-mail, unseen by the others.
+    Bcc,
     /// The whole text.
     Whole,
 }

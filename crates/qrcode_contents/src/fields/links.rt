@@ -12,6 +12,8 @@ use crate::fields::percents::push_byte;
 pub enum Part {
     /// A path, in which `@` is not encoded.
     Path,
+    /// A path of addresses, in which neither `@` nor `,` is encoded.
+    Addresses,
     /// The value of a parameter, in which a line feed becomes CR LF (`%0D%0A`).
     Value,
 }
@@ -23,7 +25,8 @@ fn push_part_byte(text: &mut String, part: Part, byte: u8) -> ContentResult<()>
     ensures memory { IsOkUnless result OutOfMemory }
 {
     match (part, byte) {
-        (Part::Path, b'@') => text.push_str("@")?,
+        (Part::Path | Part::Addresses, b'@') => text.push_str("@")?,
+        (Part::Addresses, b',') => text.push_str(",")?,
         (Part::Value, b'\n') => text.push_str("%0D%0A")?,
         _ => push_byte(text, byte)?,
     }
