@@ -234,6 +234,8 @@ enum {
     GOQ_VCARD_MOBILE, /* more telephone numbers, next to GOQ_VCARD_PHONE */
     GOQ_VCARD_WORK_PHONE,
     GOQ_VCARD_HOME_PHONE,
+    GOQ_VCARD_NICKNAME,
+    GOQ_VCARD_FAX,
     GOQ_VCARD_FIELDS
 };
 

@@ -159,13 +159,14 @@ def _lengths(identifier: bytes) -> str:
 _NUMBER = "write digits, after + for an international number"
 _DEGREES = "write degrees as -33.8568"
 _TIME = "write it with its zone, as 2026-11-28T14:00Z or +01:00, or begin and end as days"
+_ADDRESSES = "write addresses with one @ each, with commas between"
 _FORMS = {"iban": "write it as DE89 3704 0044 0532 0130 00",
           "bic": "it has 8 or 11 letters and digits",
           "creditor.country": "write two letters, e.g. CH",
           "debtor.country": "write two letters, e.g. CH", "birthday": "write it as 1970-01-31",
           "phone": _NUMBER, "number": _NUMBER, "mobile": _NUMBER, "work_phone": _NUMBER,
-          "home_phone": _NUMBER, "email": "write one address with one @",
-          "address": "write one address with one @", "secret": "write A to Z and 2 to 7",
+          "home_phone": _NUMBER, "fax": _NUMBER, "email": "write one address with one @",
+          "address": _ADDRESSES, "cc": _ADDRESSES, "bcc": _ADDRESSES, "secret": "write A to Z and 2 to 7",
           "purpose": "write up to four letters and digits", "issuer": "write it without a colon",
           "account": "write it without a colon", "amount": "write it as 12 or 12.30",
           "latitude": _DEGREES, "longitude": _DEGREES, "period": "write a whole number",

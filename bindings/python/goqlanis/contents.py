@@ -73,7 +73,8 @@ def mecard(family: str, given: str = "", phone: str = "", email: str = "", url: 
 def vcard(name: str, family: str, given: str = "", organisation: str = "", phone: str = "",
           email: str = "", url: str = "", street: str = "", city: str = "", region: str = "",
           code: str = "", country: str = "", note: str = "", title: str = "", birthday: str = "",
-          mobile: str = "", work_phone: str = "", home_phone: str = "") -> str:
+          mobile: str = "", work_phone: str = "", home_phone: str = "", nickname: str = "",
+          fax: str = "") -> str:
     """Returns the text of a contact as vCard 3.0.
 
     `name` is the full name, as it is displayed, `birthday` a day, e.g. "1970-01-31", and `code` the
@@ -87,7 +88,8 @@ def vcard(name: str, family: str, given: str = "", organisation: str = "", phone
                                ("url", url), ("street", street), ("city", city), ("region", region),
                                ("code", code), ("country", country), ("note", note),
                                ("title", title), ("birthday", birthday), ("mobile", mobile),
-                               ("work_phone", work_phone), ("home_phone", home_phone)])
+                               ("work_phone", work_phone), ("home_phone", home_phone),
+                               ("nickname", nickname), ("fax", fax)])
 
 
 def payment(name: str, iban: str, amount: Number, bic: str = "", purpose: str = "",

@@ -1,7 +1,7 @@
 -- The option of each payload field.
 use Rattle.std.specs.Prelude.{ℕ, List, [], codes}
 use Rattle.qrcode_contents.specs.declared.fields.errors.Field.{Field}
-use Rattle.qrcode_contents.specs.declared.fields.errors.Field.TheVariants.{Account, Algorithm, Amount, Bcc, Begin, Bic, Birthday, Category, Cc, City, Counter, Country, Currency, DebtorCity, DebtorCountry, DebtorName, DebtorNumber, DebtorPostalCode, DebtorStreet, Description, Digits, Email, End, Family, Given, Hidden, HomePhone, Iban, Information, Issuer, Latitude, Location, Longitude, Message, Mobile, Name, Note, Number, Organisation, Password, Payee, Period, Phone, PostalCode, Purpose, Reference, Region, Secret, Security, Ssid, Stamp, Street, Subject, Summary, Title, Uid, Url, Whole, WorkPhone}
+use Rattle.qrcode_contents.specs.declared.fields.errors.Field.TheVariants.{Account, Algorithm, Amount, Bcc, Begin, Bic, Birthday, Category, Cc, City, Counter, Country, Currency, DebtorCity, DebtorCountry, DebtorName, DebtorNumber, DebtorPostalCode, DebtorStreet, Description, Digits, Email, End, Family, Fax, Given, Hidden, HomePhone, Iban, Information, Issuer, Latitude, Location, Longitude, Message, Mobile, Name, Nickname, Note, Number, Organisation, Password, Payee, Period, Phone, PostalCode, Purpose, Reference, Region, Secret, Security, Ssid, Stamp, Street, Subject, Summary, Title, Uid, Url, Whole, WorkPhone}
 
 abbrev pub name_of : Field → List ℕ  -- the name of the option that gives a field; empty for the whole text
 name_of Ssid = codes "ssid"
@@ -62,4 +62,6 @@ name_of Payee = codes "payee"
 name_of Category = codes "category"
 name_of Cc = codes "cc"
 name_of Bcc = codes "bcc"
+name_of Nickname = codes "nickname"
+name_of Fax = codes "fax"
 name_of Whole = []

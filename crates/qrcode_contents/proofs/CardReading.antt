@@ -95,7 +95,7 @@ card_content c are =
     let names = are.first.1 in
     let texts : HaveNoReturns (map (λ text. text.1) (first_texts c)) =
     let phones = are.numbers in
-    (are.first.0, (names.1.1.0, (names.1.1.1.0, (phones.0, (phones.1.0, (phones.1.1.0, (phones.1.1.1.0, (are.last.0, tt)))))))) in (
+    (are.first.0, (names.1.1.1.1.0, (names.1.1.0, (names.1.1.1.0, (phones.0, (phones.1.0, (phones.1.1.0, (phones.1.1.1.0, (phones.1.1.1.1.0, (are.last.0, tt)))))))))) in (
       line_with (codes "BEGIN") (codes "VCARD") refl refl refl refl word_plain,
       (
         line_with (codes "VERSION") (codes "3.0") refl refl refl refl version_plain,
@@ -107,10 +107,10 @@ card_content c are =
       ),
     )
 
-same_card : (c : CardFields) (name family given organisation title phone mobile work_phone home_phone email street city region code country note : List ℕ) → name ≡ c.name → family ≡ c.contact.family → given ≡ c.contact.given → organisation ≡ c.organisation → title ≡ c.title → phone ≡ c.contact.phone → mobile ≡ c.mobile → work_phone ≡ c.work_phone → home_phone ≡ c.home_phone → email ≡ c.contact.email → street ≡ c.contact.street → city ≡ c.contact.city → region ≡ c.contact.region → code ≡ c.contact.code → country ≡ c.contact.country → note ≡ c.contact.note
-    → (let d : CardFields = record { contact = record { family = family; given = given; phone = phone; email = email; url = c.contact.url; birthday = c.contact.birthday; note = note; street = street; city = city; region = region; code = code; country = country }; name = name; organisation = organisation; title = title; mobile = mobile; work_phone = work_phone; home_phone = home_phone } in d) ≡ c
-same_card c name family given organisation title phone mobile work_phone home_phone email street city region code country note h₁ h₂ h₃ h₄ h₅ h₆ h₇ h₈ h₉ h₁₀ h₁₁ h₁₂ h₁₃ h₁₄ h₁₅ h₁₆ =
-    rw (h₁, h₂, h₃, h₄, h₅, h₆, h₇, h₈, h₉, h₁₀, h₁₁, h₁₂, h₁₃, h₁₄, h₁₅, h₁₆) refl
+same_card : (c : CardFields) (name family given organisation title phone mobile work_phone home_phone nickname fax email street city region code country note : List ℕ) → name ≡ c.name → family ≡ c.contact.family → given ≡ c.contact.given → organisation ≡ c.organisation → title ≡ c.title → phone ≡ c.contact.phone → mobile ≡ c.mobile → work_phone ≡ c.work_phone → home_phone ≡ c.home_phone → nickname ≡ c.nickname → fax ≡ c.fax → email ≡ c.contact.email → street ≡ c.contact.street → city ≡ c.contact.city → region ≡ c.contact.region → code ≡ c.contact.code → country ≡ c.contact.country → note ≡ c.contact.note
+    → (let d : CardFields = record { contact = record { family = family; given = given; phone = phone; email = email; url = c.contact.url; birthday = c.contact.birthday; note = note; street = street; city = city; region = region; code = code; country = country }; name = name; organisation = organisation; title = title; mobile = mobile; work_phone = work_phone; home_phone = home_phone; nickname = nickname; fax = fax } in d) ≡ c
+same_card c name family given organisation title phone mobile work_phone home_phone nickname fax email street city region code country note h₁ h₂ h₃ h₄ h₅ h₆ h₇ h₈ h₉ h₁₀ h₁₁ h₁₂ h₁₃ h₁₄ h₁₅ h₁₆ h₁₇ h₁₈ =
+    rw (h₁, h₂, h₃, h₄, h₅, h₆, h₇, h₈, h₉, h₁₀, h₁₁, h₁₂, h₁₃, h₁₄, h₁₅, h₁₆, h₁₇, h₁₈) refl
 
 -- lines with the values of the card's lines
 abbrev Says : CardFields → List Entry → Type 0
@@ -121,9 +121,9 @@ with_said : (c : CardFields) (lines : List Entry) → Says c lines → card_with
 with_said c lines says =
     let address : List (List ℕ) = [] ∷ c.contact.street ∷ c.contact.city ∷ c.contact.region ∷ c.contact.code ∷ c.contact.country ∷ [] in
     let names : List (List ℕ) = c.contact.given ∷ [] ∷ [] ∷ [] ∷ [] in
-    rw (says (codes "N") refl, says (codes "FN") refl, says (codes "ORG") refl, says (codes "TITLE") refl, says (codes "TEL") refl, says (codes "TEL;TYPE=CELL") refl, says (codes "TEL;TYPE=WORK") refl, says (codes "TEL;TYPE=HOME") refl, says (codes "EMAIL") refl, says (codes "URL") refl, says (codes "ADR") refl, says (codes "NOTE") refl)
-    (same_card c _ _ _ _ _ _ _ _ _ _ _ _ _ _ _ _
-    (part_read 0 c.name []) (part_read 0 c.contact.family names) (part_read 1 c.contact.family names) (part_read 0 c.organisation []) (part_read 0 c.title []) (part_read 0 c.contact.phone []) (part_read 0 c.mobile []) (part_read 0 c.work_phone []) (part_read 0 c.home_phone []) (part_read 0 c.contact.email [])
+    rw (says (codes "N") refl, says (codes "FN") refl, says (codes "ORG") refl, says (codes "TITLE") refl, says (codes "TEL") refl, says (codes "TEL;TYPE=CELL") refl, says (codes "TEL;TYPE=WORK") refl, says (codes "TEL;TYPE=HOME") refl, says (codes "NICKNAME") refl, says (codes "TEL;TYPE=FAX") refl, says (codes "EMAIL") refl, says (codes "URL") refl, says (codes "ADR") refl, says (codes "NOTE") refl)
+    (same_card c _ _ _ _ _ _ _ _ _ _ _ _ _ _ _ _ _ _
+    (part_read 0 c.name []) (part_read 0 c.contact.family names) (part_read 1 c.contact.family names) (part_read 0 c.organisation []) (part_read 0 c.title []) (part_read 0 c.contact.phone []) (part_read 0 c.mobile []) (part_read 0 c.work_phone []) (part_read 0 c.home_phone []) (part_read 0 c.nickname []) (part_read 0 c.fax []) (part_read 0 c.contact.email [])
     (part_read 2 [] address) (part_read 3 [] address) (part_read 4 [] address) (part_read 5 [] address) (part_read 6 [] address) (part_read 0 c.contact.note []))
 
 lines_said : (c : CardFields) (lines : List Entry) → Says c lines → wrong_day c.contact.birthday ≡ false → card_in lines ≡ Some c

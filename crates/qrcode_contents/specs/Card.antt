@@ -7,7 +7,7 @@ use Rattle.qrcode_contents.specs.Contact.{ContactFields, contact_of}
 use Rattle.qrcode_contents.specs.declared.card.Card.{Card}
 use Rattle.qrcode_contents.specs.declared.fields.errors.ContentError.{ContentError}
 use Rattle.qrcode_contents.specs.declared.fields.errors.Field.{Field}
-use Rattle.qrcode_contents.specs.declared.fields.errors.Field.TheVariants.{Name, Family, Given, Organisation, Title, Phone, Mobile, WorkPhone, HomePhone, Email, Url, Birthday, Street, City, Region, PostalCode, Country, Note}
+use Rattle.qrcode_contents.specs.declared.fields.errors.Field.TheVariants.{Name, Family, Given, Organisation, Title, Phone, Mobile, WorkPhone, HomePhone, Nickname, Fax, Email, Url, Birthday, Street, City, Region, PostalCode, Country, Note}
 use Rattle.qrcode_contents.specs.declared.fields.errors.Cause.TheVariants.{Empty, ControlCharacter, Character, Range}
 use Rattle.qrcode_contents.specs.declared.times.Day.{Day}
 use Rattle.qrcode_contents.specs.fields.Characters.{is_control, other_control_checks}
@@ -27,6 +27,8 @@ pub record CardFields : Type 0 where  -- the fields of a card, with texts as byt
   pub mobile : List ℕ
   pub work_phone : List ℕ
   pub home_phone : List ℕ
+  pub nickname : List ℕ
+  pub fax : List ℕ
 
 abbrev pub card_of : Card → CardFields  -- the fields of a `Card`
 card_of c = record {
@@ -37,18 +39,20 @@ card_of c = record {
   mobile = c.mobile.now;
   work_phone = c.work_phone.now;
   home_phone = c.home_phone.now;
+  nickname = c.nickname.now;
+  fax = c.fax.now;
 }
 
 abbrev pub first_fields : CardFields → List (Field × List ℕ)  -- texts that may have tabs and line feeds
 first_fields c =
-    (Name, c.name) ∷ (Family, c.contact.family) ∷ (Given, c.contact.given) ∷ (Organisation, c.organisation) ∷ (Title, c.title) ∷ []
+    (Name, c.name) ∷ (Family, c.contact.family) ∷ (Given, c.contact.given) ∷ (Organisation, c.organisation) ∷ (Title, c.title) ∷ (Nickname, c.nickname) ∷ []
 
 abbrev pub last_fields : CardFields → List (Field × List ℕ)  -- more texts that may have tabs and line feeds
 last_fields c =
     (Email, c.contact.email) ∷ (Note, c.contact.note) ∷ (Street, c.contact.street) ∷ (City, c.contact.city) ∷ (Region, c.contact.region) ∷ (PostalCode, c.contact.code) ∷ (Country, c.contact.country) ∷ []
 
 abbrev pub numbers_of : CardFields → List (Field × List ℕ)  -- the telephone numbers
-numbers_of c = (Phone, c.contact.phone) ∷ (Mobile, c.mobile) ∷ (WorkPhone, c.work_phone) ∷ (HomePhone, c.home_phone) ∷ []
+numbers_of c = (Phone, c.contact.phone) ∷ (Mobile, c.mobile) ∷ (WorkPhone, c.work_phone) ∷ (HomePhone, c.home_phone) ∷ (Fax, c.fax) ∷ []
 
 abbrev pub number_checks : List (Field × List ℕ) → List (Option ContentError)  -- for each field, the check that it is empty or a telephone number
 number_checks fields = map (λ field. refused_if (is_no_number field.1) field.0 Character) fields
@@ -78,8 +82,9 @@ card_refusal c = first_refusal (first_refused c ∷ numbers_refused c ∷ last_r
 -- lines of one text before the addresses (URL, ADR); a telephone number may be mobile, at work or at home
 abbrev pub first_texts : CardFields → List Parameter
 first_texts c =
-    (codes "FN", c.name) ∷ (codes "ORG", c.organisation) ∷ (codes "TITLE", c.title) ∷ (codes "TEL", c.contact.phone)
+    (codes "FN", c.name) ∷ (codes "NICKNAME", c.nickname) ∷ (codes "ORG", c.organisation) ∷ (codes "TITLE", c.title) ∷ (codes "TEL", c.contact.phone)
     ∷ (codes "TEL;TYPE=CELL", c.mobile) ∷ (codes "TEL;TYPE=WORK", c.work_phone) ∷ (codes "TEL;TYPE=HOME", c.home_phone)
+    ∷ (codes "TEL;TYPE=FAX", c.fax)
     ∷ (codes "EMAIL", c.contact.email) ∷ []
 
 abbrev pub last_texts : CardFields → List Parameter  -- lines of one text after the addresses
@@ -124,6 +129,8 @@ card_with lines birthday = record {
   mobile = text_in (codes "TEL;TYPE=CELL") lines;
   work_phone = text_in (codes "TEL;TYPE=WORK") lines;
   home_phone = text_in (codes "TEL;TYPE=HOME") lines;
+  nickname = text_in (codes "NICKNAME") lines;
+  fax = text_in (codes "TEL;TYPE=FAX") lines;
 }
 
 abbrev pub card_in : List Entry → Option CardFields  -- the contact of these lines; None if they are no vCard 3.0, or the birthday cannot be read
@@ -158,6 +165,8 @@ printed_card : read_card (codes "BEGIN:VCARD\r\nVERSION:3.0\r\nN:Public;John;Qui
       mobile = [];
       work_phone = codes "+1-213-555-1234";
       home_phone = [];
+      nickname = [];
+      fax = [];
     } in c)
 unfolding read_card read_content unfolded read_date read_day unescaped_from pieces_from
 printed_card = refl

@@ -32,6 +32,10 @@ pub struct Card<'a> {
     pub work_phone: &'a str,
     /// The telephone number at home.
     pub home_phone: &'a str,
+    /// The nickname.
+    pub nickname: &'a str,
+    /// The fax number.
+    pub fax: &'a str,
 }
 
 impl Card<'_> {
@@ -48,6 +52,7 @@ impl Card<'_> {
             other_controls(Field::Given, self.contact.given),
             other_controls(Field::Organisation, self.organisation),
             other_controls(Field::Title, self.title),
+            other_controls(Field::Nickname, self.nickname),
         ])
     }
 
@@ -61,6 +66,7 @@ impl Card<'_> {
             no_number(Field::Mobile, self.mobile),
             no_number(Field::WorkPhone, self.work_phone),
             no_number(Field::HomePhone, self.home_phone),
+            no_number(Field::Fax, self.fax),
         ])
     }
 
@@ -105,12 +111,14 @@ impl Card<'_> {
         push_content(alloc, text, "N", &name)?;
         let texts = [
             ("FN", self.name),
+            ("NICKNAME", self.nickname),
             ("ORG", self.organisation),
             ("TITLE", self.title),
             ("TEL", self.contact.phone),
             ("TEL;TYPE=CELL", self.mobile),
             ("TEL;TYPE=WORK", self.work_phone),
             ("TEL;TYPE=HOME", self.home_phone),
+            ("TEL;TYPE=FAX", self.fax),
             ("EMAIL", self.contact.email),
         ];
         push_texts(alloc, text, &texts)

@@ -16,7 +16,7 @@ use Rattle.qrcode_contents.specs.declared.fields.errors.Cause.TheVariants.{Chara
 use Rattle.qrcode_contents.specs.declared.fields.errors.ContentError.{ContentError}
 use Rattle.qrcode_contents.specs.declared.fields.errors.ContentError.TheVariants.{Refused}
 use Rattle.qrcode_contents.specs.declared.fields.errors.Field.{Field}
-use Rattle.qrcode_contents.specs.declared.fields.errors.Field.TheVariants.{Account, Algorithm, Amount, Bcc, Begin, Bic, Birthday, Category, Cc, City, Counter, Country, Currency, DebtorCity, DebtorCountry, DebtorName, DebtorNumber, DebtorPostalCode, DebtorStreet, Description, Digits, Email, End, Family, Given, Hidden, HomePhone, Iban, Information, Issuer, Latitude, Location, Longitude, Message, Mobile, Name, Note, Number, Organisation, Password, Payee, Period, Phone, PostalCode, Purpose, Reference, Region, Secret, Security, Ssid, Stamp, Street, Subject, Summary, Title, Uid, Url, WorkPhone}
+use Rattle.qrcode_contents.specs.declared.fields.errors.Field.TheVariants.{Account, Algorithm, Amount, Bcc, Begin, Bic, Birthday, Category, Cc, City, Counter, Country, Currency, DebtorCity, DebtorCountry, DebtorName, DebtorNumber, DebtorPostalCode, DebtorStreet, Description, Digits, Email, End, Family, Fax, Given, Hidden, HomePhone, Iban, Information, Issuer, Latitude, Location, Longitude, Message, Mobile, Name, Nickname, Note, Number, Organisation, Password, Payee, Period, Phone, PostalCode, Purpose, Reference, Region, Secret, Security, Ssid, Stamp, Street, Subject, Summary, Title, Uid, Url, WorkPhone}
 use Rattle.qrcode_contents.specs.declared.geo.Place.{Place}
 use Rattle.qrcode_contents.specs.declared.one_time.Algorithm as algorithms
 use Rattle.qrcode_contents.specs.declared.one_time.Algorithm.TheVariants.{Sha1}
@@ -126,6 +126,8 @@ card_in g = with_value (birthday_in (plain_day (g Birthday))) (λ birthday. Ok (
   mobile = phone_number (g Mobile);
   work_phone = phone_number (g WorkPhone);
   home_phone = phone_number (g HomePhone);
+  nickname = g Nickname;
+  fax = phone_number (g Fax);
 }))
 
 abbrev pub transfer_in : (Field → List ℕ) → Result Transfer ContentError  -- a SEPA credit transfer

@@ -82,7 +82,7 @@ pub static MECARD: [Field; 12] = [
 ];
 
 /// The fields of [`Kind::Vcard`].
-pub static VCARD: [Field; 18] = [
+pub static VCARD: [Field; 20] = [
     Field::Name,
     Field::Family,
     Field::Given,
@@ -101,6 +101,8 @@ pub static VCARD: [Field; 18] = [
     Field::Mobile,
     Field::WorkPhone,
     Field::HomePhone,
+    Field::Nickname,
+    Field::Fax,
 ];
 
 /// The fields of [`Kind::Payment`].

@@ -120,6 +120,7 @@ fn vcard_text<G: Given>(alloc: Global, given: &G) -> ContentResult<String>
     let mobile = phone_number(alloc, given.text(Field::Mobile))?;
     let work_phone = phone_number(alloc, given.text(Field::WorkPhone))?;
     let home_phone = phone_number(alloc, given.text(Field::HomePhone))?;
+    let fax = phone_number(alloc, given.text(Field::Fax))?;
     let birthday = values::birthday(day.as_str())?;
     let card = Card {
         contact: contact(given, phone.as_str(), birthday),
@@ -129,6 +130,8 @@ fn vcard_text<G: Given>(alloc: Global, given: &G) -> ContentResult<String>
         mobile: mobile.as_str(),
         work_phone: work_phone.as_str(),
         home_phone: home_phone.as_str(),
+        nickname: given.text(Field::Nickname),
+        fax: fax.as_str(),
     };
     card.text(alloc)
 }

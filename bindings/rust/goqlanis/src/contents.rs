@@ -349,6 +349,10 @@ payload! {
         work_phone: &'a str,
         /// The number at home.
         home_phone: &'a str,
+        /// The nickname.
+        nickname: &'a str,
+        /// The fax number.
+        fax: &'a str,
     }
     /// Returns the text, to be encoded by `QrCode::of_text`.
     fn text

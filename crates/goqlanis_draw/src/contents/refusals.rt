@@ -52,8 +52,11 @@ fn what_is_wrong(kind: Kind, field: Field, cause: Cause) -> &'static str {
         (Kind::Pix, Field::Payee, Cause::Character) => "it is none of the keys that Pix has",
         (Kind::Upi, Field::Payee, Cause::Character) =>
             "it may only have letters, digits and -._ around one @",
-        (_, Field::Phone | Field::Mobile | Field::WorkPhone | Field::HomePhone, Cause::Character) =>
-            "it may only have digits, spaces and -.(), with + in front",
+        (
+            _,
+            Field::Phone | Field::Mobile | Field::WorkPhone | Field::HomePhone | Field::Fax,
+            Cause::Character,
+        ) => "it may only have digits, spaces and -.(), with + in front",
         (_, Field::Begin | Field::End | Field::Stamp, Cause::TooShort) =>
             "it has no time zone: add that of the place and day, e.g. +02:00, or Z for UTC",
         (_, Field::Begin | Field::Stamp, Cause::Character) => "it is not written as a day or time",

@@ -87,6 +87,8 @@ static FIELDS: &[Entry] = &[
         "Merchant category code, four digits, e.g. 5411"),
     entry!("cc", Text("ADDRESSES"), "Addresses that get a copy"),
     entry!("bcc", Text("ADDRESSES"), "Addresses that get a copy, unseen by the others"),
+    entry!("nickname", Text("NAME"), "Nickname"),
+    entry!("fax", Text("NUMBER"), "Fax number"),
     entry!("", Nothing, ""),
 ];
 

@@ -126,6 +126,10 @@ pub enum Field {
     Cc,
     /// Addresses that get a copy of an e-mail, unseen by the others.
     Bcc,
+    /// The nickname of a contact.
+    Nickname,
+    /// A fax number.
+    Fax,
     /// The whole text.
     Whole,
 }
