@@ -8,17 +8,18 @@ use Rattle.std.proofs.lemmas.Nat.{row_fits_turned}
 use Rattle.qrcode_types.specs.declared.types.Color.{Color}
 use Rattle.qrcode_formats.specs.declared.Format.{Format}
 use Rattle.qrcode_formats.specs.declared.Format.TheVariants.{EscPos, Grey, Pbm, Pgm, Ppm, Tspl, Xbm}
-use Rattle.goqlanis_core.specs.Formats.{rgb, IsDrawnIn}
+use Rattle.goqlanis_core.specs.Formats.{IsDrawn as IsSheetIn}
+use Rattle.goqlanis_core.specs.Sheets.{rgb}
 use Rattle.goqlanis_buffers.specs.Asking.{escpos_length, pbm_length, pgm_length, ppm_length, side_of, tspl_length, xbm_length, HasLength, IsDrawable}
 use Rattle.goqlanis_buffers.specs.Colours.{colour_shade}
-use Rattle.goqlanis_buffers.specs.Drawings.{view}
+use Rattle.goqlanis_buffers.specs.Drawings.{sheet}
 use Rattle.std.proofs.Math.Nat.{zero-mul}
 use Rattle.goqlanis_buffers.specs.declared.pictures.Asked.{Asked}
 use Rattle.qrcode_render.specs.Bitmap.{row_of}
 use Rattle.qrcode_render.specs.Files.{inked, packed, pbm_file, pgm_file, ppm_file}
 use Rattle.qrcode_render.specs.Layout.{Layout, layout, pixels_across, pixels_down}
 use Rattle.qrcode_render.specs.Picture.{picture}
-use Rattle.qrcode_render.specs.Printers.{bytes_across, escpos_file, escpos_head, hex_pair, packed_file, tspl_file, tspl_head, tspl_row, tspl_tail, turned, xbm_file, xbm_head, xbm_row, xbm_tail}
+use Rattle.qrcode_render.specs.Printers.{bytes_across, escpos_file, escpos_head, hex_pair, packed_file, tspl_file_at, tspl_head_at, tspl_row, tspl_tail, turned, xbm_file, xbm_head, xbm_row, xbm_tail}
 use Rattle.qrcode_render.specs.Shades.{colors_of}
 use Rattle.qrcode_render.specs.Texts.{marks_text, raw_bytes}
 
@@ -121,7 +122,7 @@ at_of a = layout a.width a.drawing.now.zone a.drawing.now.scale a.drawing.now.sc
 
 -- a drawing in the requested format has the length that is computed
 drawn_length : (a : Asked) (f g : Format) (bytes : List ℕ) (count total : ℕ) → f ≡ g → IsDrawable a f
-    → IsDrawnIn g (view a.drawing.now) (at_of a) (colors_of a.modules.now) bytes → length bytes ≡ total → count ≡ total → HasLength a count
+    → IsSheetIn g (sheet a.modules.now a.width a.drawing.now) bytes → length bytes ≡ total → count ≡ total → HasLength a count
 drawn_length a f g bytes count total is asked drawn long same =
     let h = subst (IsDrawable a) is asked in
     (bytes, (record { named = g; asked = h.asked; sized = h.sized; drawn = (h.sayable, drawn) }, same ∙ sym long))
@@ -164,8 +165,8 @@ pub of_tspl : (a : Asked) (f : Format) (side count : ℕ) → f ≡ Tspl → IsD
 of_tspl a f side count is h at same =
     let s = colors_of a.modules.now in
     let row = bytes_across (pixels_across (at_of a)) in
-    drawn_length a f Tspl (tspl_file true false (picture (at_of a) s)) count _ is h refl
-    (length_of_file tspl_head tspl_row tspl_tail true false (at_of a) s row (λ bytes long. length-map bytes _ ∙ long)) (same ∙ ap tspl_length at)
+    drawn_length a f Tspl (tspl_file_at (0, 0) true false (picture (at_of a) s)) count _ is h refl
+    (length_of_file (tspl_head_at (0, 0)) tspl_row tspl_tail true false (at_of a) s row (λ bytes long. length-map bytes _ ∙ long)) (same ∙ ap tspl_length at)
 
 pub of_xbm : (a : Asked) (f : Format) (side count : ℕ) → f ≡ Xbm → IsDrawable a f → side ≡ side_of a → count ≡ xbm_length side → HasLength a count
 of_xbm a f side count is h at same =

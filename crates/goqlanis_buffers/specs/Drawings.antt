@@ -1,8 +1,11 @@
 -- What the calls for C draw.
-use Rattle.std.specs.Prelude.{ℕ, ◌==◌, nat_le, ◌&&◌, Bool, false, List, IsTrue, Option, None, Some, if◌then◌else◌}
+use Rattle.std.specs.Prelude.{ℕ, ◌==◌, nat_le, ◌&&◌, Bool, false, List, [], IsTrue, Option, None, Some, pos, if◌then◌else◌}
+use Rattle.qrcode_types.specs.declared.types.Version.TheVariants.{Normal}
 use Rattle.qrcode_render.specs.Layout.{layout}
+use Rattle.qrcode_render.specs.Paths.{plain}
 use Rattle.qrcode_render.specs.Shades.{colors_of}
-use Rattle.goqlanis_core.specs.Formats.{View, IsDrawnIn}
+use Rattle.goqlanis_core.specs.Formats.{IsDrawn as IsSheetIn}
+use Rattle.goqlanis_core.specs.Sheets.{Sheet}
 use Rattle.qrcode_formats.specs.Formats.{row}
 use Rattle.qrcode_formats.specs.declared.Density.{Density}
 use Rattle.qrcode_formats.specs.declared.Density.TheVariants.{Stored}
@@ -13,8 +16,24 @@ use Rattle.goqlanis_buffers.specs.declared.pictures.Drawing.{Drawing}
 abbrev pub density : ℕ → Option ℕ  -- the dots per inch; none for 0
 density dpi = if dpi == 0 then None else Some dpi
 
-abbrev pub view : Drawing → View  -- how a drawing looks
-view d = record { dark = colour_shade d.dark; light = colour_shade d.light; is_inverted = false; dpi = density d.dpi; ends_lines = false }
+-- modules of a width as a drawing shows them, with nothing over them
+abbrev pub sheet : List ℕ → ℕ → Drawing → Sheet
+sheet modules width d = record {
+  modules = colors_of modules;
+  at = layout width d.zone d.scale d.scale;
+  dark = colour_shade d.dark;
+  light = colour_shade d.light;
+  is_inverted = false;
+  dpi = density d.dpi;
+  ends_lines = false;
+  dots = None;
+  place = (0, 0);
+  frame = plain;
+  version = Normal (pos 1);
+  parts = [];
+  over = [];
+  inset = None;
+}
 
 abbrev pub most_dpi : Density → ℕ  -- the most dots per inch that a format stores
 most_dpi Stored = 65535
@@ -28,7 +47,7 @@ is_sayable f d = has_density f d.dpi && has_colours f d.dark d.light
 
 -- the bytes are the picture of modules of a width, in a format that supports its colours and dots per inch
 abbrev pub IsDrawn : Format → List ℕ → ℕ → Drawing → List ℕ → Type 0
-IsDrawn f modules width d bytes = IsTrue (is_sayable f d) × IsDrawnIn f (view d) (layout width d.zone d.scale d.scale) (colors_of modules) bytes
+IsDrawn f modules width d bytes = IsTrue (is_sayable f d) × IsSheetIn f (sheet modules width d) bytes
 
 abbrev pub has_side : Format → ℕ → Bool  -- a picture in the format may have this many pixels a side
 has_side f side = nat_le (row f).least side && nat_le side (row f).most

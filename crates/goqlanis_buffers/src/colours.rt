@@ -3,10 +3,10 @@
 
 ghost use Rattle.std.specs.Prelude.{◌≡◌, ◌++◌, string_bytes, IfOk, OnOk, IsOkUnless};
 ghost use Rattle.qrcode_types.specs.declared.types.QrError.TheVariants.{OutOfMemory};
-ghost use Rattle.goqlanis_core.specs.Formats.{shade_of};
+ghost use Rattle.goqlanis_core.specs.Sheets.{shade_of};
 ghost use Rattle.goqlanis_buffers.specs.Colours.{blue_of, colour_name, colour_shade, green_of, has_colours, hex_text, opacity_of, red_of};
 
-use goqlanis_core::picture::Ink;
+use goqlanis_core::sheet::Ink;
 use qrcode::types::QrResult;
 use qrcode_formats::{Colours, Format};
 use std::alloc::Global;

@@ -1,9 +1,8 @@
 //! Theorems that no other call states, as contracts of functions that do nothing.
 
 ghost use Rattle.std.specs.Prelude.{◌≡◌, ◌≢◌, ◌↔◌, ℕ, List, IsTrue};
-ghost use Rattle.qrcode_types.specs.declared.types.Color.{Color};
-ghost use Rattle.qrcode_render.specs.Layout.{Layout};
-ghost use Rattle.goqlanis_core.specs.Formats.{View, IsDrawnIn};
+ghost use Rattle.goqlanis_core.specs.Formats.{IsDrawn};
+ghost use Rattle.goqlanis_core.specs.Sheets.{Sheet};
 ghost use Rattle.qrcode_formats.specs.declared.Format.{Format};
 ghost use Rattle.qrcode_formats.specs.declared.Format.TheVariants.{Pdf, Png, SvgPath, Zpl};
 ghost use Rattle.goqlanis_buffers.specs.declared.answers.Refusal.{Refusal};
@@ -23,7 +22,6 @@ pub fn equality()
 /// path, which are defined by what they show. So its length is the same whichever call draws it.
 #[tactic(auto, using(crate::proofs::OnePicture::one_picture))]
 pub fn pictures()
-    ensures one { (f : Format) (v : View) (at : Layout) (s : List Color) (a b : List ℕ)
-        → f ≢ Png → f ≢ SvgPath → f ≢ Pdf → f ≢ Zpl → IsDrawnIn f v at s a → IsDrawnIn f v at s b
-        → a ≡ b }
+    ensures one { (f : Format) (t : Sheet) (a b : List ℕ) → f ≢ Png → f ≢ SvgPath → f ≢ Pdf
+        → f ≢ Zpl → IsDrawn f t a → IsDrawn f t b → a ≡ b }
 {}

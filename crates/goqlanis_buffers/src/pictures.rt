@@ -14,9 +14,10 @@ use crate::answers::Refusal;
 use crate::colours::{has_colours, ink_of, name_of};
 use crate::lengths::known_length;
 use crate::symbols::{colors_of, fill};
-use goqlanis_core::picture::Picture;
-use goqlanis_core::render::draw_in;
-use qrcode::types::{Color, QrResult};
+use goqlanis_core::render::draw;
+use goqlanis_core::sheet::Sheet;
+use qrcode::render::svg::Frame;
+use qrcode::types::{Color, QrResult, Version};
 use qrcode_formats::{Density, Format, format_numbered};
 use std::alloc::Global;
 
@@ -193,7 +194,7 @@ fn draw_named<'a>(
     let drawing = asked.drawing;
     let dark = ink_of(names.0, drawing.dark);
     let light = ink_of(names.1, drawing.light);
-    let picture = Picture {
+    let sheet = Sheet {
         modules,
         width: asked.width,
         zone: drawing.zone,
@@ -203,8 +204,15 @@ fn draw_named<'a>(
         is_inverted: false,
         dpi: density(drawing.dpi),
         ends_lines: false,
+        dots: None,
+        place: (0, 0),
+        frame: Frame::plain(),
+        version: Version::Normal(1),
+        parts: &[],
+        over: &[],
+        inset: None,
     };
-    draw_in(alloc, format, &picture)
+    draw(alloc, format, &sheet)
 }
 
 // The dots per inch; `None` for 0.

@@ -3,7 +3,6 @@ mod Choices
 mod Held
 mod Layered
 mod Marked
-mod Overlaid
 mod Partition
 mod Pieces
 mod Plain

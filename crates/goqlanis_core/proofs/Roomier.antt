@@ -1,5 +1,5 @@
 -- Logo areas at other levels and in other versions.
-use Rattle.std.proofs.Common.{◌≡◌, ℕ, ◌+◌, refl, arith, pos, subst, inl, inr}
+use Rattle.std.proofs.Common.{◌≡◌, ℕ, ◌+◌, Bool, refl, arith, pos, subst, inl, inr}
 use Rattle.std.specs.Prelude.{Option, None, Some}
 use Rattle.std.proofs.lemmas.Bool.{cases_lt}
 use Rattle.qrcode_types.specs.Versions.{level_number}
@@ -11,7 +11,7 @@ use Rattle.qrcode_area.specs.Areas.{MayShowAnything}
 use Rattle.qrcode_area.specs.Rectangles.{only, Fits, LeavesPatterns}
 use Rattle.qrcode_area.specs.declared.areas.Rectangle.{Rectangle}
 use Rattle.qrcode_area.proofs.Bounds.{excess_is_not, leaves_may}
-use Rattle.goqlanis_core.specs.Areas.{half_wish, middle, HasArea, IsAreaOf, IsRefusedAt, IsRefusedOf, IsSized, NoHigher, NoLarger}
+use Rattle.goqlanis_core.specs.Areas.{half_wish, middle, wish_for, HasArea, IsAreaOf, IsRefusedAt, IsRefusedOf, IsSized, NoHigher, NoLarger}
 use Rattle.goqlanis_core.specs.declared.areas.LogoError.{LogoError}
 use Rattle.goqlanis_core.specs.declared.areas.LogoError.TheVariants.{Outside, Patterns, Excess, NoRoom, OutOfMemory}
 use Rattle.goqlanis_core.specs.declared.areas.LogoWish.{LogoWish}
@@ -63,3 +63,10 @@ none_larger v u l w n is none not_here k above below = elim (cases_lt k n) [
   | inl smaller ↦ none k above smaller
   | inr same ↦ subst (λ (k : ℕ). ¬ HasArea (Normal (pos k)) l w) (let e : n ≡ k = omega (arith, same, below) in e) (subst (λ (u : Version). ¬ HasArea u l w) is not_here)
 ]
+
+-- an area whose content can be corrected and which leaves the patterns alone fits the wish without a reserve
+pub fits_plainly : (v : Version) (l : EcLevel) (w : LogoWish) (area : ℕ → ℕ → Bool) → MayShowAnything v l area → LeavesPatterns w.kept v area → Fits v l (wish_for w 0) area
+fits_plainly v l w area may patterns = record {
+  leaves = record { blocks = λ b below. omega (arith, may.blocks b below); format = may.format };
+  patterns = patterns;
+}

@@ -12,6 +12,7 @@ pub mod Overlays
 pub mod Parts
 pub mod Scans
 pub mod Segments
+pub mod Sheets
 pub mod Symbols
 pub mod Terminal
 pub mod Pasted

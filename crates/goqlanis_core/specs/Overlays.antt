@@ -1,5 +1,5 @@
 -- The area in the middle of a drawing, and what is in it.
-use Rattle.std.specs.Prelude.{◌≡◌, ℕ, ◌+◌, ◌*◌, ◌/◌, ◌%◌, ◌<◌, ◌≤◌, ◌&&◌, not, nat_le, nat_lt, Bool, List, [], ◌++◌, codes, decimal, if◌then◌else◌}
+use Rattle.std.specs.Prelude.{◌≡◌, ℕ, ◌+◌, ◌*◌, ◌/◌, ◌%◌, ◌<◌, ◌≤◌, ◌&&◌, not, nat_le, nat_lt, Bool, List, [], ◌++◌, Option, None, Some, codes, decimal, if◌then◌else◌}
 use Rattle.qrcode_types.specs.Versions.{side}
 use Rattle.qrcode_types.specs.declared.types.Color.{Color}
 use Rattle.qrcode_types.specs.declared.types.Version.{Version}
@@ -9,13 +9,14 @@ use Rattle.qrcode_area.specs.Covered.{IsLightInside}
 use Rattle.qrcode_area.specs.Rectangles.{only}
 use Rattle.qrcode_area.specs.declared.areas.Rectangle.{Rectangle}
 use Rattle.qrcode_png.specs.Image.{Shade, grey_shade}
-use Rattle.goqlanis_core.specs.Drawings.{layout_for, sheet_for, unit_for, view_for, zone_for}
-use Rattle.goqlanis_core.specs.Layers.{IsPaintedIn}
+use Rattle.goqlanis_core.specs.Drawings.{sheet_for, unit_for, zone_for}
+use Rattle.goqlanis_core.specs.Formats.{IsDrawn}
 use Rattle.goqlanis_core.specs.Masks.{AreUnder}
 use Rattle.qrcode_formats.specs.declared.Format.{Format}
 use Rattle.qrcode_formats.specs.declared.Format.TheVariants.{Eps, Pdf}
 use Rattle.goqlanis_core.specs.declared.overlays.Inside.{Inside}
-use Rattle.goqlanis_core.specs.declared.overlays.Inside.TheVariants.{Nothing, Cross, Element}
+use Rattle.goqlanis_core.specs.declared.overlays.Inside.TheVariants.{Nothing, Cross, Element, Pixels}
+use Rattle.goqlanis_core.specs.declared.pasting.Inset.{Inset}
 use Rattle.goqlanis_core.specs.Places.{place_in, HasRoom}
 use Rattle.goqlanis_core.specs.declared.places.Place.{Place}
 use Rattle.goqlanis_core.specs.declared.request.Request.{Request}
@@ -63,17 +64,23 @@ abbrev pub element_for : Request → Version → Rectangle → Inside → List �
 element_for r v area Nothing = []
 element_for r v area Cross = cross_for r v
 element_for r v area (Element margin rest) = svg_element (place_in r v area margin) rest.now
+element_for r v area (Pixels n) = []
+
+abbrev pub inset_for : Rectangle → Inside → Option (Rectangle × Inset)  -- the picture to draw over the area, if there is one
+inset_for area (Pixels n) = Some (area, n)
+inset_for area inside = None
 
 abbrev pub LacksRoom : Version → Rectangle → Inside → Type 0  -- an element that has no room in the area
 LacksRoom v area Nothing = ⊥
 LacksRoom v area Cross = ⊥
 LacksRoom v area (Element margin rest) = ¬ HasRoom v area margin
+LacksRoom v area (Pixels n) = ⊥
 
 -- bytes draw the symbol as requested, with the modules of the area light and what is in it on top of everything
 abbrev pub IsShownWith : Request → Code → Rectangle → Inside → List ℕ → Type 0
 IsShownWith r code area inside bytes =
     (light : List Color) × (AreBeside r code area light
-    × IsPaintedIn r.format (sheet_for r code.version) (view_for r) (layout_for r code.version) code.version r.parts.now (element_for r code.version area inside) light bytes)
+    × IsDrawn r.format (sheet_for r code.version light (element_for r code.version area inside) (inset_for area inside)) bytes)
 
 abbrev pub lies_between : ℕ → ℕ → ℕ → Bool  -- n is at least `from` and below `to`
 lies_between from to n = nat_le from n && nat_lt n to

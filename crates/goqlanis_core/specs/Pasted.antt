@@ -1,17 +1,11 @@
 -- A picture in the middle of a symbol, pixel by pixel.
-use Rattle.std.specs.Prelude.{ℕ, ◌+◌, ◌-◌, ◌*◌, ◌/◌, ◌==◌, ◌&&◌, nat_le, Bool, List, Option, Some, None, slice_get, if◌then◌else◌}
-use Rattle.qrcode_types.specs.declared.types.Color.{Color}
-use Rattle.qrcode.specs.Code.{Code}
+use Rattle.std.specs.Prelude.{ℕ, ◌+◌, ◌-◌, ◌*◌, ◌/◌, ◌==◌, ◌&&◌, nat_le, nat_lt, Bool, List, Option, Some, None, slice_get, if◌then◌else◌}
 use Rattle.qrcode_area.specs.Rectangles.{only}
 use Rattle.qrcode_area.specs.declared.areas.Rectangle.{Rectangle}
 use Rattle.qrcode_png.specs.Image.{Shade, rgba}
 use Rattle.qrcode_render.specs.Layout.{Layout}
-use Rattle.goqlanis_core.specs.Drawings.{view_for, layout_for}
-use Rattle.goqlanis_core.specs.Layers.{IsPaintedFile}
-use Rattle.goqlanis_core.specs.Overlays.{AreBeside}
-use Rattle.goqlanis_core.specs.Places.{is_in_place}
 use Rattle.goqlanis_core.specs.declared.pasting.Inset.{Inset}
-use Rattle.goqlanis_core.specs.declared.request.Request.{Request}
+use Rattle.goqlanis_core.specs.declared.places.Place.{Place}
 
 -- the weighted mean of two levels, rounded to the nearest
 abbrev pub mean : ℕ → ℕ → ℕ → ℕ → ℕ
@@ -33,6 +27,9 @@ over under s =
 -- an index below `count` scaled to one below `size`: the pixel at the middle of this one
 abbrev pub scaled : ℕ → ℕ → ℕ → ℕ
 scaled place count size = (2 * place + 1) * size / (2 * count)
+
+abbrev pub is_in_place : Place → ℕ → ℕ → Bool  -- the pixel in column x and row y is in the place
+is_in_place p x y = nat_le p.left x && nat_lt x (p.left + p.width) && nat_le p.top y && nat_lt y (p.top + p.height)
 
 -- the pixel of the picture that is shown at column x and row y of the drawing, if any
 abbrev pub logo_at : Inset → ℕ → ℕ → Option (List ℕ)
@@ -56,9 +53,3 @@ inset_shade at area n x y own = if in_area at area x y then over_if own (logo_at
 abbrev pub shade_with : Layout → Option (Rectangle × Inset) → ℕ → ℕ → Shade → Shade
 shade_with at None x y own = own
 shade_with at (Some middle) x y own = inset_shade at middle.0 middle.1 x y own
-
--- the file shows the symbol as requested, with the modules of the area light and the picture over them; outside the area each pixel is that of its module
-abbrev pub IsPasted : Request → Code → Rectangle → Inset → List ℕ → Type 0
-IsPasted r code area n file =
-    let at = layout_for r code.version in
-    (light : List Color) × (AreBeside r code area light × IsPaintedFile (view_for r) at code.version r.parts.now (inset_shade at area n) light file)

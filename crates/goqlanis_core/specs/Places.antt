@@ -1,5 +1,5 @@
 -- Rectangles in a drawing.
-use Rattle.std.specs.Prelude.{ℕ, ◌+◌, ◌-◌, ◌*◌, ◌/◌, ◌%◌, ◌<◌, ◌≤◌, ◌^◌, ◌&&◌, nat_le, nat_lt, max, min, Bool}
+use Rattle.std.specs.Prelude.{ℕ, ◌+◌, ◌-◌, ◌*◌, ◌/◌, ◌%◌, ◌<◌, ◌≤◌, ◌^◌, max, min}
 use Rattle.qrcode_types.specs.Versions.{side}
 use Rattle.qrcode_types.specs.declared.types.Version.{Version}
 use Rattle.qrcode_area.specs.declared.areas.Rectangle.{Rectangle}
@@ -13,9 +13,6 @@ pub record HasPixels (p : Place) : Type 0 where
   pub down : 1 ≤ p.height
   pub right : p.left + p.width < 2 ^ 32
   pub bottom : p.top + p.height < 2 ^ 32
-
-abbrev pub is_in_place : Place → ℕ → ℕ → Bool  -- the pixel in column x and row y is in the place
-is_in_place p x y = nat_le p.left x && nat_lt x (p.left + p.width) && nat_le p.top y && nat_lt y (p.top + p.height)
 
 -- the area lies in the symbol, and a margin on each side leaves some of its modules
 pub record HasRoom (v : Version) (area : Rectangle) (margin : ℕ) : Type 0 where

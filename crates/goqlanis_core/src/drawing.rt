@@ -1,24 +1,24 @@
 //! Makes symbols, and draws them as requested.
 
-ghost use Rattle.std.specs.Prelude.{◌≡◌, ◌≤◌, ◌⊎◌, length, unwrap_or, IfOk, IfErr, IsOkUnless};
+ghost use Rattle.std.specs.Prelude.{◌≡◌, ◌≤◌, ◌⊎◌, length, unwrap_or, IfOk, IfErr};
 ghost use Rattle.qrcode_types.specs.declared.types.QrError.TheVariants.{InvalidVersion, OutOfMemory};
-ghost use Rattle.qrcode_types.specs.Versions.{side};
 ghost use Rattle.qrcode.specs.Pictures.{quiet_zone};
-ghost use Rattle.goqlanis_core.specs.Drawings.{IsShownIn, dots_for, layout_for, scale_for, sheet_for, unit_for, view_for};
-ghost use Rattle.goqlanis_core.specs.Formats.{layout_of, sheet_of, view_of};
-ghost use Rattle.goqlanis_core.specs.Layers.{IsPaintedIn};
+ghost use Rattle.goqlanis_core.specs.Drawings.{IsShownIn, dots_for, scale_for, sheet_for, unit_for};
 ghost use Rattle.goqlanis_core.specs.Masks.{LacksMask};
+ghost use Rattle.goqlanis_core.specs.Sheets.{sheet_of};
 ghost use Rattle.goqlanis_core.specs.Symbols.{IsSymbolIn, IsRefusedFor};
 
-use crate::formats::units;
-use crate::layers::painted;
+use crate::layers::units;
 use crate::masking::modules_under;
-use crate::picture::{Picture, Sheet};
+use crate::pasting::Inset;
+use crate::render::draw;
 use crate::request::{Choice, Request};
+use crate::sheet::Sheet;
 use qrcode::QrCode;
 use qrcode::bits::Manner;
 use qrcode::render::svg::{Frame, Size};
 use qrcode::types::{Color, EcLevel, QrResult};
+use qrcode_area::areas::Rectangle;
 use std::alloc::Global;
 
 /// A symbol and its picture.
@@ -54,7 +54,7 @@ pub fn symbol_in(
 /// Draws `code` as requested, under the requested mask.
 ///
 /// Errors: `InvalidVersion` if the version of `code` lacks that mask; `OutOfMemory` if memory runs
-/// out, or if the picture is larger than its format allows, as `draw_in` says.
+/// out, or if the picture is larger than its format allows, as `draw` says.
 pub fn drawing_of(alloc: Global, request: &Request<'_>, code: QrCode) -> QrResult<Drawing>
     ensures symbol { IfOk result (λ drawing. drawing.code ≡ code) }
     ensures shown { IfOk result (IsShownIn request.now) }
@@ -62,43 +62,30 @@ pub fn drawing_of(alloc: Global, request: &Request<'_>, code: QrCode) -> QrResul
         ⊎ ((e ≡ InvalidVersion) × LacksMask request.now.mask code.version)) }
 {
     let modules = modules_under(alloc, &code, request.mask)?;
-    let bytes = modules_drawn(alloc, request, &code, &modules, &[])?;
+    let nothing = Vec::new(alloc);
+    let sheet = sheet(request, &code, &modules, &nothing, None);
+    let bytes = draw(alloc, request.format, &sheet)?;
     Ok(Drawing { code, bytes })
 }
 
-/// Draws these modules of a symbol as requested. In SVG, EPS and PDF, draws `over` on top of them.
-pub(crate) fn modules_drawn(
-    alloc: Global,
-    request: &Request<'_>,
-    code: &QrCode,
-    modules: &[Color],
-    over: &[u8],
-) -> QrResult<Vec<u8>>
-    requires { length modules.now ≡ length code.now.modules }
-    ensures drawn { IfOk result (λ bytes. IsPaintedIn request.now.format
-        (sheet_for request.now code.now.version) (view_for request.now)
-        (layout_for request.now code.now.version) code.now.version request.now.parts.now
-        over.now modules.now bytes.items) }
-    ensures memory { IsOkUnless result OutOfMemory }
-{
-    let picture = picture_of(request, code, modules);
-    let sheet = sheet(request, code, over);
-    painted(alloc, request.format, code.version(), &picture, &sheet)
-}
-
-/// Returns these modules of a symbol as the picture that is requested.
-pub(crate) fn picture_of<'a>(
+/// Returns the sheet for these modules of a symbol, with `over` or a picture over them.
+pub(crate) fn sheet<'a>(
     request: &Request<'a>,
     code: &QrCode,
     modules: &'a [Color],
-) -> Picture<'a>
+    over: &'a [u8],
+    inset: Option<(Rectangle, Inset<'a>)>,
+) -> Sheet<'a>
     requires { length modules.now ≡ length code.now.modules }
-    ensures modules { result.modules.now ≡ modules.entry.now }
-    ensures width { result.width ≡ side code.now.version }
-    ensures layout { layout_of result ≡ layout_for request.now code.now.version }
-    ensures view { view_of result ≡ view_for request.now }
+    ensures value { sheet_of result ≡ sheet_for request.now code.now.version modules.entry.now
+        over.entry.now inset.entry }
 {
-    Picture {
+    let dots = dots(request, code);
+    let size = match dots {
+        Some(dots) => Size::Dots(dots),
+        None => request.frame.size,
+    };
+    Sheet {
         modules,
         width: code.width() as u32,
         zone: quiet_zone(request, code),
@@ -108,29 +95,16 @@ pub(crate) fn picture_of<'a>(
         is_inverted: request.is_inverted,
         dpi: request.dpi,
         ends_lines: true,
-    }
-}
-
-// The sheet for a symbol, with `over` on top of the modules.
-fn sheet<'a>(request: &Request<'a>, code: &QrCode, over: &'a [u8]) -> Sheet<'a>
-    ensures sheet { sheet_of result ≡ sheet_for request.now code.now.version }
-    ensures parts { result.parts.now ≡ request.now.parts.now }
-    ensures over { result.over.now ≡ over.entry.now }
-{
-    let dots = dots(request, code);
-    let size = match dots {
-        Some(dots) => Size::Dots(dots),
-        None => request.frame.size,
-    };
-    Sheet {
         dots,
         place: request.place,
         frame: Frame {
             size,
             ..request.frame
         },
+        version: code.version(),
         parts: request.parts,
         over,
+        inset,
     }
 }
 

@@ -8,13 +8,11 @@ mod codes;
 pub mod colours;
 mod drawing;
 mod elements;
-mod formats;
 mod layers;
 pub mod masking;
 pub mod overlays;
 pub mod parts;
 pub mod pasting;
-pub mod picture;
 pub mod places;
 mod refusal;
 pub mod render;
@@ -22,6 +20,7 @@ mod request;
 mod scanning;
 mod segments;
 mod shades;
+pub mod sheet;
 mod terminal;
 
 pub use checking::{Checks, check_codes};
@@ -30,7 +29,6 @@ pub use drawing::{Drawing, dots, drawing_of, quiet_zone, scale, symbol_in};
 pub use elements::{symbol_for_application, symbol_of_elements};
 pub use layers::PartInk;
 pub use parts::Part;
-pub use picture::Ink;
 pub use refusal::{
     Grouped, VersionName, application_refusal_text, elements_refusal_text, refusal_text,
     segments_refusal_text,
@@ -39,3 +37,4 @@ pub use request::{Choice, Length, Request, manner_of};
 pub use scanning::{Scan, Unread};
 pub use segments::{Segment, symbol_of, unwritable};
 pub use shades::GREATEST_PAINTED;
+pub use sheet::Ink;

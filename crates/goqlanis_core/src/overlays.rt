@@ -7,11 +7,13 @@ ghost use Rattle.std.specs.List.{range_with_len};
 ghost use Rattle.qrcode_png.specs.Image.{grey_shade, rgba};
 ghost use Rattle.goqlanis_core.specs.Drawings.{scale_for};
 ghost use Rattle.goqlanis_core.specs.Masks.{LacksMask};
-ghost use Rattle.goqlanis_core.specs.Overlays.{AreBeside, IsCrossSize, IsCrossWidth, IsShownWith, LacksRoom, cross_for, cross_shade, cross_text, element_for, is_black_unit, is_in_bar, lies_between, svg_element};
+ghost use Rattle.goqlanis_core.specs.Overlays.{AreBeside, IsCrossSize, IsCrossWidth, IsShownWith, LacksRoom, cross_for, cross_shade, cross_text, element_for, inset_for, is_black_unit, is_in_bar, lies_between, svg_element};
 
-use crate::drawing::{modules_drawn, quiet_zone, scale, unit};
+use crate::drawing::{quiet_zone, scale, sheet, unit};
 use crate::masking::modules_under;
+use crate::pasting::Inset;
 use crate::places::{Place, place_in};
+use crate::render::draw;
 use crate::request::Request;
 use qrcode::QrCode;
 use qrcode::types::{Color, QrResult};
@@ -154,6 +156,8 @@ pub enum Inside<'a> {
     /// An `svg` element: the margin in modules on each side, and everything after its position and
     /// size.
     Element(u8, &'a str),
+    /// A picture, in PNG.
+    Pixels(Inset<'a>),
 }
 
 /// Draws `code` as requested, with the modules of `area` light and `inside` on top of everything.
@@ -161,7 +165,7 @@ pub enum Inside<'a> {
 /// the symbol.
 ///
 /// Errors: `InvalidVersion` if the version of `code` lacks the requested mask; `OutOfMemory` if
-/// memory runs out, or if the picture is larger than its format allows, as `draw_in` says.
+/// memory runs out, or if the picture is larger than its format allows, as `draw` says.
 pub fn with_logo(
     alloc: Global,
     request: &Request<'_>,
@@ -180,8 +184,19 @@ pub fn with_logo(
         return Ok(None);
     };
     let light = modules_beside(alloc, request, code, area)?;
-    let bytes = modules_drawn(alloc, request, code, &light, element.as_bytes())?;
-    Ok(Some(bytes))
+    let inset = inset_in(area, inside);
+    let sheet = sheet(request, code, &light, element.as_bytes(), inset);
+    Ok(Some(draw(alloc, request.format, &sheet)?))
+}
+
+// The picture to draw over the area, if there is one.
+fn inset_in<'a>(area: Rectangle, inside: Inside<'a>) -> Option<(Rectangle, Inset<'a>)>
+    ensures { result ≡ inset_for area inside.entry }
+{
+    match inside {
+        Inside::Pixels(inset) => Some((area, inset)),
+        _ => None,
+    }
 }
 
 // The text to draw on top, or `None` if it has no room.
@@ -198,7 +213,7 @@ fn element(
         (LacksRoom code.now.version area inside.entry)) }
 {
     match inside {
-        Inside::Nothing => Ok(Some(String::new(alloc))),
+        Inside::Nothing | Inside::Pixels(_) => Ok(Some(String::new(alloc))),
         Inside::Cross => Ok(Some(cross(alloc, request, code)?)),
         Inside::Element(margin, rest) => match place_in(request, code, area, margin) {
             Some(place) => Ok(Some(svg_element(alloc, place, rest)?)),
@@ -207,11 +222,11 @@ fn element(
     }
 }
 
-/// Returns the modules of `code` under the requested mask, with those of `area` light.
-///
-/// Errors: `InvalidVersion` if the version of `code` lacks that mask; `OutOfMemory` if memory runs
-/// out.
-pub(crate) fn modules_beside(
+// Returns the modules of `code` under the requested mask, with those of `area` light.
+//
+// Errors: `InvalidVersion` if the version of `code` lacks that mask; `OutOfMemory` if memory runs
+// out.
+fn modules_beside(
     alloc: Global,
     request: &Request<'_>,
     code: &QrCode,

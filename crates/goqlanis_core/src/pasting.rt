@@ -1,24 +1,13 @@
-//! Draws a picture in the middle of a symbol, as a PNG file in full colour.
+//! A picture over the modules of an area, in a PNG file in full colour.
 
-ghost use Rattle.std.specs.Prelude.{◌≡◌, ◌⊎◌, ◌+◌, ◌<◌, ◌≤◌, ◌^◌, length, Some, IfOk, IfErr, IsOkUnless};
+ghost use Rattle.std.specs.Prelude.{◌≡◌, ◌+◌, ◌<◌, ◌≤◌, ◌^◌};
 ghost use Rattle.qrcode_png.specs.Image.{rgba};
-ghost use Rattle.qrcode_types.specs.declared.types.QrError.TheVariants.{InvalidVersion, OutOfMemory};
-ghost use Rattle.goqlanis_core.specs.Drawings.{layout_for, view_for};
-ghost use Rattle.goqlanis_core.specs.Formats.{layout_of};
-ghost use Rattle.goqlanis_core.specs.Layers.{IsPaintedFile};
-ghost use Rattle.goqlanis_core.specs.Masks.{LacksMask};
-ghost use Rattle.goqlanis_core.specs.Pasted.{in_area, logo_at, mean, over, scaled, shade_with, IsPasted};
+ghost use Rattle.goqlanis_core.specs.Pasted.{in_area, logo_at, mean, over, scaled, shade_with};
+ghost use Rattle.goqlanis_core.specs.Sheets.{sheet_of};
 
-use crate::drawing::picture_of;
-use crate::overlays::modules_beside;
-use crate::picture::Picture;
 use crate::places::Place;
-use crate::request::Request;
-use crate::shades::png_file;
-use qrcode::QrCode;
-use qrcode::types::{Color, QrResult};
+use crate::sheet::Sheet;
 use qrcode_area::areas::{Area, Rectangle};
-use std::alloc::Global;
 
 /// A picture, as red, green, blue and opacity of each pixel, row by row; and the place in the
 /// drawing where it is shown.
@@ -30,62 +19,15 @@ pub struct Inset<'a> {
     pub place: Place,
 }
 
-/// Draws `code` as requested, as a PNG file, with the modules of `area` light and the picture over
-/// them. A pixel of the drawing shows the pixel of the picture that is at its middle.
-///
-/// Errors: `InvalidVersion` if the version of `code` lacks the requested mask; `OutOfMemory` if
-/// memory runs out, or a side has more than `GREATEST_PAINTED` pixels; that is tested before memory
-/// for pixels is requested.
-pub fn pasted(
-    alloc: Global,
-    request: &Request<'_>,
-    code: &QrCode,
-    area: Rectangle,
-    inset: &Inset<'_>,
-) -> QrResult<Vec<u8>>
-    ensures shown { IfOk result (λ file.
-        IsPasted request.now code.now area inset.now file.items) }
-    ensures causes { IfErr result (λ e. (e ≡ OutOfMemory)
-        ⊎ ((e ≡ InvalidVersion) × LacksMask request.now.mask code.now.version)) }
+/// Returns the pixel in column `x` and row `y` of a drawing: `own`, with the sheet's picture over it
+/// if there is one and the pixel's module is in its area.
+pub(crate) fn with_inset(sheet: &Sheet<'_>, x: usize, y: usize, own: [u8; 4]) -> [u8; 4]
+    ensures { rgba result ≡ shade_with (sheet_of sheet.now).at sheet.now.inset x y (rgba own) }
 {
-    let modules = modules_beside(alloc, request, code, area)?;
-    drawn(alloc, request, code, &modules, (area, *inset))
-}
-
-// Draws these modules of a symbol, with a picture over those of an area.
-fn drawn(
-    alloc: Global,
-    request: &Request<'_>,
-    code: &QrCode,
-    modules: &[Color],
-    middle: (Rectangle, Inset<'_>),
-) -> QrResult<Vec<u8>>
-    requires { length modules.now ≡ length code.now.modules }
-    ensures shows { IfOk result (λ file. IsPaintedFile (view_for request.now)
-        (layout_for request.now code.now.version) code.now.version request.now.parts.now
-        (shade_with (layout_for request.now code.now.version) (Some middle.entry))
-        modules.now file.items) }
-    ensures memory { IsOkUnless result OutOfMemory }
-{
-    let shown = picture_of(request, code, modules);
-    png_file(alloc, code.version(), &shown, request.parts, Some(middle))
-}
-
-/// Returns the pixel in column `x` and row `y` of a drawing: `own`, with the picture over it if
-/// there is one and the pixel's module is in its area.
-pub(crate) fn with_middle(
-    shown: &Picture<'_>,
-    middle: Option<(Rectangle, Inset<'_>)>,
-    x: usize,
-    y: usize,
-    own: [u8; 4],
-) -> [u8; 4]
-    ensures { rgba result ≡ shade_with (layout_of shown.now) middle.entry x y (rgba own) }
-{
-    let Some((area, inset)) = middle else {
+    let Some((area, inset)) = sheet.inset else {
         return own;
     };
-    if !is_in_area(shown, area, x, y) {
+    if !is_in_area(sheet, area, x, y) {
         return own;
     }
     match inset.at(x, y) {
@@ -95,10 +37,10 @@ pub(crate) fn with_middle(
 }
 
 // Whether a pixel's module is in the area.
-fn is_in_area(shown: &Picture<'_>, area: Rectangle, x: usize, y: usize) -> bool
-    ensures { result ≡ in_area (layout_of shown.now) area x y }
+fn is_in_area(sheet: &Sheet<'_>, area: Rectangle, x: usize, y: usize) -> bool
+    ensures { result ≡ in_area (sheet_of sheet.now).at area x y }
 {
-    let (zone, scale) = (shown.zone as usize, shown.scale as usize);
+    let (zone, scale) = (sheet.zone as usize, sheet.scale as usize);
     let (column, row) = (x / scale, y / scale);
     let rectangles = [area];
     zone <= column && zone <= row && Area::of(&rectangles).has(column - zone, row - zone)

@@ -1,7 +1,8 @@
 //! Rectangles in a drawing.
 
 ghost use Rattle.std.specs.Prelude.{◌≡◌, ◌↔◌, ◌+◌, ◌<◌, ◌≤◌, IsTrue, IfNone, IfSome};
-ghost use Rattle.goqlanis_core.specs.Places.{fitted, is_in_place, place_in, square, HasPixels, HasRoom};
+ghost use Rattle.goqlanis_core.specs.Pasted.{is_in_place};
+ghost use Rattle.goqlanis_core.specs.Places.{fitted, place_in, square, HasPixels, HasRoom};
 
 use crate::drawing::{quiet_zone, unit};
 use crate::request::Request;

@@ -1,16 +1,18 @@
-//! Draws a picture in each format.
+//! Draws a sheet in each format.
 
 ghost use Rattle.std.specs.Prelude.{◌≡◌, ◌^◌, ◌<◌, true, false, string_bytes, IsTrue, IfOk, IsOkUnless};
 ghost use Rattle.std.specs.Option.{option_or};
 ghost use Rattle.qrcode_types.specs.declared.types.QrError.TheVariants.{OutOfMemory};
-ghost use Rattle.qrcode_render.specs.Paths.{frame_of};
 ghost use Rattle.qrcode_render.specs.Picture.{picture};
 ghost use Rattle.qrcode_render.specs.Printers.{packed_file};
 ghost use Rattle.qrcode_render.specs.Setting.{fits};
-ghost use Rattle.goqlanis_core.specs.Formats.{IsDrawnIn, IsDrawnOn, IsFramed, IsPdfOn, IsZplAt, dark_of, ended, eps_ink, eps_on, half_block_text, layout_of, light_of, per_metre, png_ink, rgb, setting_of, shade_of, sheet_of, view_of};
-ghost use Rattle.qrcode_formats.specs.declared.Format.TheVariants.{Png, Tspl};
+ghost use Rattle.goqlanis_core.specs.Formats.{IsDrawn, IsOver, IsPng, IsShapes, ended, eps_text, half_block_text, has_layers};
+ghost use Rattle.goqlanis_core.specs.Sheets.{dark_of, eps_ink, light_of, per_metre, png_ink, rgb, setting_of, shade_of, sheet_of};
+ghost use Rattle.qrcode_formats.specs.declared.Format.TheVariants.{Pdf, Png, SvgPath, Tspl, Zpl};
 
-use crate::picture::{Ink, Picture, Sheet};
+use crate::layers::over;
+use crate::shades::png_file;
+use crate::sheet::{Ink, Sheet};
 use crate::terminal::coloured;
 use qrcode::render::image::Luma;
 use qrcode::render::packed::{Dot, Packing};
@@ -24,208 +26,196 @@ use qrcode_formats::Format;
 use qrcode_png::with_density;
 use std::alloc::Global;
 
-/// Draws a picture in a format.
+/// Draws a sheet in a format.
 ///
 /// Errors: only `OutOfMemory`, if memory runs out or the picture is too large: a PNG or ESC/POS
-/// picture of more than 65,535 pixels a side, or a PNG file without pixels.
-pub fn draw_in(alloc: Global, format: Format, picture: &Picture<'_>) -> QrResult<Vec<u8>>
-    ensures drawing { IfOk result (λ drawing. IsDrawnIn format (view_of picture.now)
-        (layout_of picture.now) picture.now.modules.now drawing.items) }
+/// picture of more than 65,535 pixels a side, or a PNG file with colours of parts or a picture of
+/// more than `GREATEST_PAINTED`, or a PNG file without pixels.
+pub fn draw(alloc: Global, format: Format, sheet: &Sheet<'_>) -> QrResult<Vec<u8>>
+    ensures drawing { IfOk result (λ file. IsDrawn format (sheet_of sheet.now) file.items) }
     ensures memory { IsOkUnless result OutOfMemory }
 {
-    let (dark, light) = (picture.dark, picture.light);
+    let (dark, light) = (sheet.dark, sheet.light);
     match format {
-        Format::HalfBlocks => lines(picture, half_blocks(alloc, picture)?),
+        Format::HalfBlocks => lines(sheet, half_blocks(alloc, sheet)?),
         Format::LightHalfBlocks => {
-            let text = drawn(alloc, picture, Dense1x2::Light, Dense1x2::Dark)?;
-            lines(picture, text)
+            lines(sheet, drawn(alloc, sheet, Dense1x2::Light, Dense1x2::Dark)?)
         }
-        Format::Terminal => coloured(alloc, &half_blocks(alloc, picture)?),
-        Format::Chars => lines(picture, drawn(alloc, picture, '\u{2588}', ' ')?),
-        Format::Ascii => lines(picture, drawn(alloc, picture, Str("##"), Str("  "))?),
-        Format::Png => png(alloc, picture),
+        Format::Terminal => coloured(alloc, &half_blocks(alloc, sheet)?),
+        Format::Chars => lines(sheet, drawn(alloc, sheet, '\u{2588}', ' ')?),
+        Format::Ascii => lines(sheet, drawn(alloc, sheet, Str("##"), Str("  "))?),
+        Format::Png => png(alloc, sheet),
         Format::Svg => {
             let (dark, light) = (svg::Color(dark.name), svg::Color(light.name));
-            Ok(drawn(alloc, picture, dark, light)?.into_bytes())
+            Ok(drawn(alloc, sheet, dark, light)?.into_bytes())
         }
-        Format::SvgPath => path(alloc, picture, &svg::Frame::plain()),
-        Format::Eps => eps(alloc, picture, None),
-        Format::Pic => Ok(drawn(alloc, picture, pic::Color, pic::Color)?.into_bytes()),
-        Format::Pbm => drawn(alloc, picture, Bit::Black, Bit::White),
-        Format::Pgm => drawn(alloc, picture, pgm::Grey(0), pgm::Grey(255)),
-        Format::Grey => Ok(drawn(alloc, picture, Luma([0]), Luma([255]))?.into_raw()),
-        Format::Pdf => pdf_file(alloc, picture, None, &[], ""),
-        Format::Ppm => drawn(
-            alloc,
-            picture,
-            ppm::Color(rgb(dark)),
-            ppm::Color(rgb(light)),
-        ),
-        Format::Zpl => zpl(alloc, picture, (0, 0)),
-        Format::Tspl => bits::<tspl::Bitmap>(alloc, picture),
-        Format::EscPos => bits::<escpos::Raster>(alloc, picture),
-        Format::Xbm => bits::<xbm::Text>(alloc, picture),
-    }
-}
-
-/// Draws a picture in a format, with the position, size and title that a sheet gives.
-///
-/// Errors: those of `draw_in`.
-pub fn draw_on(
-    alloc: Global,
-    format: Format,
-    picture: &Picture<'_>,
-    sheet: &Sheet<'_>,
-) -> QrResult<Vec<u8>>
-    ensures drawing { IfOk result (λ drawing. IsDrawnOn format (sheet_of sheet.now)
-        (view_of picture.now) (layout_of picture.now) picture.now.modules.now drawing.items) }
-    ensures memory { IsOkUnless result OutOfMemory }
-{
-    match format {
-        Format::SvgPath => path(alloc, picture, &sheet.frame),
-        Format::Eps => eps(alloc, picture, sheet.dots),
-        Format::Pdf => pdf_file(alloc, picture, sheet.dots, &[], sheet.frame.title),
-        Format::Zpl => zpl(alloc, picture, sheet.place),
-        Format::Tspl => tspl(alloc, picture, sheet),
-        _ => draw_in(alloc, format, picture),
+        Format::SvgPath => shapes(alloc, Format::SvgPath, sheet),
+        Format::Eps => shapes(alloc, Format::Eps, sheet),
+        Format::Pic => Ok(drawn(alloc, sheet, pic::Color, pic::Color)?.into_bytes()),
+        Format::Pbm => drawn(alloc, sheet, Bit::Black, Bit::White),
+        Format::Pgm => drawn(alloc, sheet, pgm::Grey(0), pgm::Grey(255)),
+        Format::Grey => Ok(drawn(alloc, sheet, Luma([0]), Luma([255]))?.into_raw()),
+        Format::Pdf => shapes(alloc, Format::Pdf, sheet),
+        Format::Ppm => drawn(alloc, sheet, ppm::Color(rgb(dark)), ppm::Color(rgb(light))),
+        Format::Zpl => zpl(alloc, sheet),
+        Format::Tspl => tspl(alloc, sheet),
+        Format::EscPos => bits::<escpos::Raster>(alloc, sheet),
+        Format::Xbm => bits::<xbm::Text>(alloc, sheet),
     }
 }
 
 // Draws black and white pixels, eight in a byte.
-fn bits<F: Packing>(alloc: Global, shown: &Picture<'_>) -> QrResult<Vec<u8>>
+fn bits<F: Packing>(alloc: Global, sheet: &Sheet<'_>) -> QrResult<Vec<u8>>
     ensures picture { IfOk result (λ file. file.items ≡ packed_file F.before F.row_of F.behind
-        (dark_of (view_of shown.now) true false) (light_of (view_of shown.now) true false)
-        (picture (layout_of shown.now) shown.now.modules.now)) }
+        (dark_of (sheet_of sheet.now) true false) (light_of (sheet_of sheet.now) true false)
+        (picture (sheet_of sheet.now).at sheet.now.modules.now)) }
     ensures memory { IsOkUnless result OutOfMemory }
 {
     drawn(
         alloc,
-        shown,
+        sheet,
         Dot::<F>::of(Bit::Black),
         Dot::<F>::of(Bit::White),
     )
 }
 
-/// Draws a picture with these values for dark and light modules, exchanged if it is inverted.
+/// Draws the modules of a sheet with these values for dark and light, exchanged if it is inverted.
 pub(crate) fn drawn<P: Pixel>(
     alloc: Global,
-    picture: &Picture<'_>,
+    sheet: &Sheet<'_>,
     dark: P,
     light: P,
 ) -> QrResult<P::Image>
-    ensures picture { IfOk result (P.Canvas.is_picture (setting_of picture.now dark light)) }
+    ensures picture { IfOk result (P.Canvas.is_picture (setting_of sheet.now dark light)) }
     ensures memory { IsOkUnless result OutOfMemory }
 {
-    renderer(picture, dark, light).build(alloc)
+    renderer(sheet, dark, light).build(alloc)
 }
 
-/// Returns the renderer of a picture, with these values for dark and light modules.
-pub(crate) fn renderer<'a, P: Pixel>(picture: &Picture<'a>, dark: P, light: P) -> Renderer<'a, P>
-    ensures value { result ≡ setting_of picture.now dark light }
+/// Returns the renderer of a sheet's modules, with these values for dark and light.
+pub(crate) fn renderer<'a, P: Pixel>(sheet: &Sheet<'a>, dark: P, light: P) -> Renderer<'a, P>
+    ensures value { result ≡ setting_of sheet.now dark light }
     ensures fits { IsTrue (fits result) }
 {
-    let (dark, light) = if picture.is_inverted {
+    let (dark, light) = if sheet.is_inverted {
         (light, dark)
     } else {
         (dark, light)
     };
-    let mut renderer = Renderer::new(picture.modules, picture.width as usize, picture.zone);
+    let mut renderer = Renderer::new(sheet.modules, sheet.width as usize, sheet.zone);
     renderer.dark_color(dark);
     renderer.light_color(light);
-    renderer.module_size(picture.scale);
+    renderer.module_size(sheet.scale);
     renderer
 }
 
 // Half blocks that are drawn where pixels are dark.
-fn half_blocks(alloc: Global, picture: &Picture<'_>) -> QrResult<String>
-    ensures value { IfOk result (λ text. string_bytes text ≡ half_block_text
-        (view_of picture.now) true false (layout_of picture.now) picture.now.modules.now) }
+fn half_blocks(alloc: Global, sheet: &Sheet<'_>) -> QrResult<String>
+    ensures value { IfOk result (λ text.
+        string_bytes text ≡ half_block_text (sheet_of sheet.now) true false) }
     ensures memory { IsOkUnless result OutOfMemory }
 {
-    drawn(alloc, picture, Dense1x2::Dark, Dense1x2::Light)
+    drawn(alloc, sheet, Dense1x2::Dark, Dense1x2::Light)
+}
+
+// A PNG file.
+fn png(alloc: Global, sheet: &Sheet<'_>) -> QrResult<Vec<u8>>
+    ensures shows { IfOk result (λ file. IsDrawn Png (sheet_of sheet.now) file.items) }
+    ensures memory { IsOkUnless result OutOfMemory }
+{
+    if has_layers(sheet) {
+        return png_file(alloc, sheet);
+    }
+    two_colours(alloc, sheet)
+}
+
+// Whether parts have their own colours, or a picture lies over the modules.
+fn has_layers(sheet: &Sheet<'_>) -> bool
+    ensures { result ≡ has_layers (sheet_of sheet.now) }
+{
+    !sheet.parts.is_empty() || sheet.inset.is_some()
 }
 
 // A PNG file in two colours.
-fn png(alloc: Global, picture: &Picture<'_>) -> QrResult<Vec<u8>>
-    ensures shows { IfOk result (λ file. IsDrawnIn Png (view_of picture.now)
-        (layout_of picture.now) picture.now.modules.now file.items) }
+fn two_colours(alloc: Global, sheet: &Sheet<'_>) -> QrResult<Vec<u8>>
+    ensures shows { IfOk result (λ file. IsPng false (sheet_of sheet.now) file.items) }
     ensures memory { IsOkUnless result OutOfMemory }
 {
-    let renderer = renderer(picture, png_ink(picture.dark), png_ink(picture.light));
-    match picture.dpi {
+    let renderer = renderer(sheet, png_ink(sheet.dark), png_ink(sheet.light));
+    match sheet.dpi {
         None => renderer.build(alloc),
         Some(dpi) => with_density(alloc, &renderer, per_metre(dpi)),
     }
 }
 
-// The pixels per inch: `given`, or those of the picture.
-fn dots_of(picture: &Picture<'_>, given: Option<u32>) -> Option<u32>
-    ensures { result ≡ option_or given picture.now.dpi }
+// The pixels per inch of EPS and PDF, if they are given.
+fn dots_of(sheet: &Sheet<'_>) -> Option<u32>
+    ensures { result ≡ option_or sheet.now.dots sheet.now.dpi }
 {
-    given.or(picture.dpi.map(|dpi| dpi as u32))
+    sheet.dots.or(sheet.dpi.map(|dpi| dpi as u32))
 }
 
-// An SVG file with one path, with the size and title of a frame.
-fn path(alloc: Global, picture: &Picture<'_>, frame: &svg::Frame<'_>) -> QrResult<Vec<u8>>
-    ensures shows { IfOk result (λ text. IsFramed (frame_of frame.now) (view_of picture.now)
-        (layout_of picture.now) picture.now.modules.now text.items) }
+// An SVG, EPS or PDF file, with the colours of parts and what lies over the modules.
+fn shapes(alloc: Global, format: Format, sheet: &Sheet<'_>) -> QrResult<Vec<u8>>
+    ensures shows { IfOk result (λ file. IsOver format (sheet_of sheet.now) file.items) }
     ensures memory { IsOkUnless result OutOfMemory }
 {
-    let (dark, light) = (picture.dark, picture.light);
-    let renderer = renderer(picture, svg::Path(dark.name), svg::Path(light.name));
-    svg::framed(alloc, &renderer, frame, &[])
+    let over = over(alloc, format, sheet)?;
+    match format {
+        Format::Eps => eps(alloc, sheet, &over),
+        Format::Pdf => pdf_file(alloc, sheet, &over),
+        _ => path(alloc, sheet, &over),
+    }
 }
 
-// ZPL II, with the picture at a place on the label.
-fn zpl(alloc: Global, picture: &Picture<'_>, place: (u32, u32)) -> QrResult<Vec<u8>>
-    ensures shows { IfOk result (λ file. IsZplAt place (view_of picture.now)
-        (layout_of picture.now) picture.now.modules.now file.items) }
+// An SVG file with one path, with the size and title of the sheet's frame.
+fn path(alloc: Global, sheet: &Sheet<'_>, over: &[u8]) -> QrResult<Vec<u8>>
+    ensures shows { IfOk result (λ text.
+        IsShapes SvgPath (sheet_of sheet.now) over.now text.items) }
+    ensures memory { IsOkUnless result OutOfMemory }
+{
+    let (dark, light) = (svg::Path(sheet.dark.name), svg::Path(sheet.light.name));
+    svg::framed(alloc, &renderer(sheet, dark, light), &sheet.frame, over)
+}
+
+// ZPL II, with the picture at the sheet's place on the label.
+fn zpl(alloc: Global, sheet: &Sheet<'_>) -> QrResult<Vec<u8>>
+    ensures shows { IfOk result (λ file. IsDrawn Zpl (sheet_of sheet.now) file.items) }
     ensures memory { IsOkUnless result OutOfMemory }
 {
     let (dark, light) = (zpl::Dot::of(Bit::Black), zpl::Dot::of(Bit::White));
-    zpl::at_place(alloc, &renderer(picture, dark, light), place)
+    zpl::at_place(alloc, &renderer(sheet, dark, light), sheet.place)
 }
 
 // TSPL, with the picture at the sheet's place on the label.
-fn tspl(alloc: Global, picture: &Picture<'_>, sheet: &Sheet<'_>) -> QrResult<Vec<u8>>
-    ensures value { IfOk result (λ file. IsDrawnOn Tspl (sheet_of sheet.now)
-        (view_of picture.now) (layout_of picture.now) picture.now.modules.now file.items) }
+fn tspl(alloc: Global, sheet: &Sheet<'_>) -> QrResult<Vec<u8>>
+    ensures value { IfOk result (λ file. IsDrawn Tspl (sheet_of sheet.now) file.items) }
     ensures memory { IsOkUnless result OutOfMemory }
 {
     let (dark, light) = (tspl::Dot::of(Bit::Black), tspl::Dot::of(Bit::White));
-    tspl::at_place(alloc, &renderer(picture, dark, light), sheet.place)
+    tspl::at_place(alloc, &renderer(sheet, dark, light), sheet.place)
 }
 
-// An EPS file; the pixels per inch are `given` or the picture's, else a pixel is a point.
-fn eps(alloc: Global, picture: &Picture<'_>, given: Option<u32>) -> QrResult<Vec<u8>>
-    ensures text { IfOk result (λ text. text.items ≡ eps_on given (view_of picture.now)
-        (layout_of picture.now) picture.now.modules.now) }
+// An EPS file. Without pixels per inch, a pixel is a point.
+fn eps(alloc: Global, sheet: &Sheet<'_>, over: &[u8]) -> QrResult<Vec<u8>>
+    ensures text { IfOk result (λ file. file.items ≡ eps_text (sheet_of sheet.now) over.now) }
     ensures memory { IsOkUnless result OutOfMemory }
 {
-    let renderer = renderer(picture, eps_ink(picture.dark), eps_ink(picture.light));
-    eps::with_extras(alloc, &renderer, dots_of(picture, given), &[])
+    let renderer = renderer(sheet, eps_ink(sheet.dark), eps_ink(sheet.light));
+    eps::with_extras(alloc, &renderer, dots_of(sheet), over)
 }
 
-/// Draws a PDF file with operators over the modules, and a title unless it is empty. The pixels per
-/// inch are `given` or the picture's, else a pixel is a point.
-pub(crate) fn pdf_file(
-    alloc: Global,
-    picture: &Picture<'_>,
-    given: Option<u32>,
-    over: &[u8],
-    title: &str,
-) -> QrResult<Vec<u8>>
-    ensures shows { IfOk result (λ file. IsPdfOn given title.now (view_of picture.now)
-        (layout_of picture.now) picture.now.modules.now over.now file.items) }
+// A PDF file with the title of the sheet's frame, unless it is empty. Without pixels per inch, a
+// pixel is a point.
+fn pdf_file(alloc: Global, sheet: &Sheet<'_>, over: &[u8]) -> QrResult<Vec<u8>>
+    ensures shows { IfOk result (λ file. IsShapes Pdf (sheet_of sheet.now) over.now file.items) }
     ensures memory { IsOkUnless result OutOfMemory }
 {
-    let (dark, light) = (
-        pdf::Color(rgb(picture.dark)),
-        pdf::Color(rgb(picture.light)),
-    );
-    let dots = dots_of(picture, given).unwrap_or(72).max(1);
+    let (dark, light) = (pdf::Color(rgb(sheet.dark)), pdf::Color(rgb(sheet.light)));
+    let title = sheet.frame.title;
+    let dots = dots_of(sheet).unwrap_or(72).max(1);
     let extras = Extras { dots, over, title };
-    pdf::with_extras(alloc, &renderer(picture, dark, light), extras)
+    pdf::with_extras(alloc, &renderer(sheet, dark, light), extras)
 }
 
 /// Returns red, green and blue.
@@ -243,13 +233,13 @@ pub(crate) fn per_metre(dpi: u16) -> u32
     (10000 * dpi as u32 + 127) / 254
 }
 
-// The bytes of a text, with a newline at the end if the picture asks for one.
-fn lines(picture: &Picture<'_>, mut text: String) -> QrResult<Vec<u8>>
+// The bytes of a text, with a newline at the end if the sheet asks for one.
+fn lines(sheet: &Sheet<'_>, mut text: String) -> QrResult<Vec<u8>>
     ensures value { IfOk result (λ lines.
-        lines.items ≡ ended (view_of picture.now) (string_bytes text)) }
+        lines.items ≡ ended (sheet_of sheet.now) (string_bytes text)) }
     ensures memory { IsOkUnless result OutOfMemory }
 {
-    if picture.ends_lines {
+    if sheet.ends_lines {
         text.push('\n')?;
     }
     Ok(text.into_bytes())

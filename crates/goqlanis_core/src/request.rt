@@ -4,7 +4,7 @@ ghost use Rattle.std.specs.Prelude.{◌≡◌, IsUtf8};
 ghost use Rattle.qrcode_bits.specs.declared.bits.manner.Manner.TheVariants.{Bytes, Text};
 
 use crate::layers::PartInk;
-use crate::picture::Ink;
+use crate::sheet::Ink;
 use qrcode::bits::Manner;
 use qrcode::render::svg::Frame;
 use qrcode::types::{EcLevel, Version};

@@ -9,7 +9,7 @@ use goqlanis_core::areas::{LogoError, LogoSize, LogoWish, logo_area, roomier};
 use goqlanis_core::overlays::{
     CROSS_UNITS, Inside, cross_pixels, cross_size, cross_width, with_logo,
 };
-use goqlanis_core::pasting::{Inset, pasted};
+use goqlanis_core::pasting::Inset;
 use goqlanis_core::places::{Place, place_in};
 use goqlanis_core::{Request, VersionName};
 use goqlanis_files::failure::Failure;
@@ -152,9 +152,9 @@ fn draw_logo(
                 down,
                 ..logo
             };
-            draw_inset(alloc, request, code, area, &small)
+            draw_inside(alloc, request, code, area, Inside::Pixels(small))
         }
-        _ => draw_inset(alloc, request, code, area, &logo),
+        _ => draw_inside(alloc, request, code, area, Inside::Pixels(logo)),
     }
 }
 
@@ -173,21 +173,10 @@ fn draw_cross(
         down: CROSS_UNITS,
         place: place.square(cross_width(request, code)),
     };
-    draw_inset(alloc, request, code, area, &inset)
+    draw_inside(alloc, request, code, area, Inside::Pixels(inset))
 }
 
-// Draws a code with a picture in its area, as a PNG file.
-fn draw_inset(
-    alloc: Global,
-    request: &Request<'_>,
-    code: &QrCode,
-    area: Rectangle,
-    inset: &Inset<'_>,
-) -> Result<Vec<u8>, Failure> {
-    pasted(alloc, request, code, area, inset).map_err(|_| Failure::OutOfMemory)
-}
-
-// Draws a code with something other than pixels in its area.
+// Draws a code with something in its area.
 fn draw_inside(
     alloc: Global,
     request: &Request<'_>,

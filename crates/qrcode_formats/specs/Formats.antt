@@ -82,7 +82,7 @@ row Png = record (pixels Png) {
   parts = colours.Any;
   middle = middle.Pixels;
 }
-row Svg = record (shapes Svg) { number = Some 2; density = density.Nothing; is_exact = false; colours = colours.Any; middle = middle.Element }
+row Svg = record (pixels Svg) { number = Some 2; is_text = true; is_whole = false; density = density.Nothing; colours = colours.Any }
 row SvgPath = record (shapes SvgPath) {
   name = Some (codes "svg");
   ending = Some (codes "svg");

@@ -178,7 +178,7 @@ pub static FORMATS: &[Row] = &[
     Row { format: Chars, name: Some("text"), ..LINES },
     Row { format: Png, name: Some("png"), ending: Some("png"), number: Some(5), least: 1, most: 65_535, is_whole: false,
         density: Density::Stored, colours: Colours::Any, parts: Colours::Any, middle: Middle::Pixels, ..PIXELS },
-    Row { format: Svg, number: Some(2), density: Density::Nothing, is_exact: false, colours: Colours::Any, middle: Middle::Element, ..SHAPES },
+    Row { format: Svg, number: Some(2), is_text: true, is_whole: false, density: Density::Nothing, colours: Colours::Any, ..PIXELS },
     Row { format: SvgPath, name: Some("svg"), ending: Some("svg"), number: Some(8), density: Density::Nothing,
         colours: Colours::Any, middle: Middle::Element, ..SHAPES },
     Row { format: Eps, name: Some("eps"), ending: Some("eps"), number: Some(6), ..SHAPES },

@@ -4,7 +4,7 @@ use Rattle.qrcode_area.specs.Rectangles.{centred, only, Fits}
 use Rattle.qrcode_area.specs.Reserves.{IsItsExcess}
 use Rattle.qrcode_area.specs.declared.rectangles.Wish.{Wish}
 use Rattle.goqlanis_core.specs.Areas.{wish_for}
-use Rattle.goqlanis_core.proofs.Overlaid.{fits_plainly}
+use Rattle.goqlanis_core.proofs.Roomier.{fits_plainly}
 use Rattle.goqlanis_core.proofs.areas.sized_area.Goals as goal
 
 pub returns-in-Ok-clause-area : goal.returns-in-Ok-clause-area

@@ -1,7 +1,7 @@
 use Rattle.std.proofs.Common.{take}
-use Rattle.goqlanis_core.specs.Formats.{layout_of}
-use Rattle.goqlanis_core.specs.Layers.{unit_layout, AreLayers}
+use Rattle.goqlanis_core.specs.Layers.{AreLayers}
+use Rattle.goqlanis_core.specs.Sheets.{sheet_of}
 use Rattle.goqlanis_core.proofs.layers.over.Given as goal
 
 abbrev pub invariant-loop-ink : goal.invariant-loop-ink
-invariant-loop-ink l = AreLayers l.format (unit_layout l.format (layout_of l.shown)) l.version l.shown.modules.now (take l.ink-index l.sheet.parts.now) l.text.items
+invariant-loop-ink l = AreLayers l.format (sheet_of l.sheet) (take l.ink-index l.sheet.parts.now) l.text.items

@@ -1,15 +1,14 @@
 use Rattle.std.proofs.Common.{◌++◌, ◌∷◌, [], List, ℕ, ap, ◌∙◌, arith}
-use Rattle.goqlanis_core.specs.Formats.{view_of}
-use Rattle.goqlanis_core.specs.Layers.{module_shade, shade_bytes}
+use Rattle.goqlanis_core.specs.Layers.{module_shade}
+use Rattle.goqlanis_core.specs.Sheets.{shade_bytes, sheet_of}
 use Rattle.goqlanis_core.proofs.Layered.{one_more, modules_whole}
 use Rattle.goqlanis_core.proofs.shades.module_colors.Goals as goal
 
 pub loop-index-preserved : goal.loop-index-preserved
 loop-index-preserved c =
-    let shown = c.args.shown.now in
     c.in_ok-push.ensures.items
     ∙ ap (λ (xs : List (List ℕ)). xs ++ c.module_color.result ∷ []) c.loop-index.invariant
-    ∙ one_more (λ i. shade_bytes (module_shade (view_of shown) c.args.version c.args.inks.now shown.modules.now i)) c.loop-index.index c.module_color.result c.module_color.ensures
+    ∙ one_more (λ i. shade_bytes (module_shade (sheet_of c.args.sheet.now) i)) c.loop-index.index c.module_color.result c.module_color.ensures
 
 pub returns : goal.returns
-returns c = c.loop-index.invariant ∙ modules_whole (view_of c.args.shown.now) c.args.version c.args.inks.now c.args.shown.now.modules.now c.loop-index.index (omega arith)
+returns c = c.loop-index.invariant ∙ modules_whole (sheet_of c.args.sheet.now) c.loop-index.index (omega arith)

@@ -1,14 +1,11 @@
 use Rattle.std.proofs.Common.{ap, length, map, sym, ◌∙◌}
 use Rattle.std.proofs.lemmas.List.{length-map}
 use Rattle.qrcode_png.specs.Image.{rgba}
-use Rattle.goqlanis_core.specs.Formats.{layout_of, view_of}
-use Rattle.goqlanis_core.specs.Pasted.{shade_with}
+use Rattle.goqlanis_core.specs.Sheets.{sheet_of}
 use Rattle.goqlanis_core.proofs.Layered.{length_pixels}
 use Rattle.goqlanis_core.proofs.shades.png_file.Goals as goal
 
 pub full_color-requires-clause-square : goal.full_color-requires-clause-square
 full_color-requires-clause-square c =
-    let shown = c.args.shown.now in
-    let at = layout_of shown in
     sym (length-map c.deref.result.now rgba) ∙ ap (λ p. length (map rgba p)) c.deref.ensures.value ∙ ap length c.in_ok-pixels.ensures
-    ∙ length_pixels (view_of shown) at c.args.version c.args.inks.now (shade_with at c.args.middle) shown.modules.now _
+    ∙ length_pixels (sheet_of c.args.sheet.now) _
