@@ -6,8 +6,8 @@ use Rattle.std.specs.Prelude.{ℕ}
 use Rattle.qrcode_types.specs.declared.types.Color.{Color}
 use Rattle.qrcode_check.specs.Checks.{IsCheck}
 use Rattle.qrcode_check.specs.declared.checking.Check.{Check}
-use Rattle.goqlanis_core.specs.Checked.{AreChecksOf, IsCheckOfScan}
-use Rattle.goqlanis_core.specs.declared.scanning.Scan.{Scan}
+use Rattle.qrcode_scan.specs.Checked.{AreChecksOf, IsCheckOfScan}
+use Rattle.qrcode_scan.specs.declared.scanning.Scan.{Scan}
 use Rattle.goqlanis_buffers.specs.Checking.{HasLevel}
 
 -- the version of a check has the level

@@ -3,8 +3,8 @@ use Rattle.std.proofs.Common.{ℕ, List}
 use Rattle.std.specs.Prelude.{All, IsTrue}
 use Rattle.std.proofs.lemmas.List.Elements.{All-weaker}
 use Rattle.qrcode_types.specs.Versions.{has_level}
-use Rattle.goqlanis_core.specs.Scans.{IsReadAs, IsScanOf}
-use Rattle.goqlanis_core.specs.declared.scanning.Scan.{Scan}
+use Rattle.qrcode_scan.specs.Scans.{IsReadAs, IsScanOf}
+use Rattle.qrcode_scan.specs.declared.scanning.Scan.{Scan}
 
 -- the version has the level
 pub read_existing : (scan : Scan) → IsReadAs scan → IsTrue (has_level scan.any.reading.version scan.any.reading.ec_level)

@@ -11,8 +11,8 @@ use Rattle.qrcode_check.specs.declared.checking.Content.{Content}
 use Rattle.qrcode_check.specs.declared.correction.Grade.{Grade}
 use Rattle.qrcode_check.specs.declared.correction.Grade.TheVariants.{A, B, C, D, F}
 use Rattle.qrcode_check.specs.declared.segments.Taken.{Taken}
-use Rattle.goqlanis_core.specs.Checked.{AreChecksOf, IsUncheckedPicture}
-use Rattle.goqlanis_core.specs.declared.scanning.Scan.{Scan}
+use Rattle.qrcode_scan.specs.Checked.{AreChecksOf, IsUncheckedPicture}
+use Rattle.qrcode_scan.specs.declared.scanning.Scan.{Scan}
 use Rattle.goqlanis_buffers.specs.Calls.{Writes}
 use Rattle.goqlanis_buffers.specs.Names.{level_named, version_named}
 use Rattle.goqlanis_buffers.specs.Outputs.{IsFilled}

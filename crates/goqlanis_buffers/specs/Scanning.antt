@@ -4,15 +4,15 @@ use Rattle.std.specs.List.{AllZip}
 use Rattle.qrcode_types.specs.declared.types.Mode.{Mode}
 use Rattle.qrcode_types.specs.declared.types.Mode.TheVariants.{Numeric, Alphanumeric, Byte, Kanji}
 use Rattle.qrcode_reader.specs.declared.refusals.Unread as square
-use Rattle.qrcode_reader.specs.declared.scan.pixels.Unscanned as pixels
+use Rattle.qrcode_scan.specs.declared.pixels.Unscanned as pixels
 use Rattle.qrcode_reader.specs.declared.spell.headers.Header.TheVariants.{Eci, Fnc1First, Fnc1Second, StructuredAppend}
 use Rattle.qrcode_reader.specs.declared.spell.parts.Part as piece
 use Rattle.qrcode_reader.specs.declared.spell.parts.Part.TheVariants.{Front, Bytes}
 use Rattle.qrcode_png.specs.declared.reading.Unread as png
-use Rattle.goqlanis_core.specs.Scans.{IsScanOf, IsUnreadPicture}
-use Rattle.goqlanis_core.specs.declared.scanning.Scan as found
-use Rattle.goqlanis_core.specs.declared.scanning.Unread.{Unread}
-use Rattle.goqlanis_core.specs.declared.scanning.Unread.TheVariants.{Unscanned, Png, Jpeg, NoSquare, NoSymbol, OutOfMemory}
+use Rattle.qrcode_scan.specs.Scans.{IsScanOf, IsUnreadPicture}
+use Rattle.qrcode_scan.specs.declared.scanning.Scan as found
+use Rattle.qrcode_scan.specs.declared.scanning.Unread.{Unread}
+use Rattle.qrcode_scan.specs.declared.scanning.Unread.TheVariants.{Unscanned, Png, Jpeg, NoSquare, NoSymbol, OutOfMemory}
 use Rattle.goqlanis_buffers.specs.Outputs.{IsFilled}
 use Rattle.goqlanis_buffers.specs.Readings.{position_number, IsReported}
 use Rattle.goqlanis_buffers.specs.declared.answers.Refusal.{Refusal}

@@ -9,13 +9,13 @@ use crate::names::{level_number, version_number};
 use crate::reading::mask_number;
 use crate::scanning::{MOST, picture_refusal};
 use crate::symbols::{colors_of, fill};
-use goqlanis_core::check_codes;
 use qrcode_check::correction::{Grade, grade_of};
 use qrcode_check::masks::Rank;
 use qrcode_check::modules::WrongModules;
 use qrcode_check::segments::Taken;
 use qrcode_check::{Check, Content, check_square};
 use qrcode_reader::{Unread, version_of};
+use qrcode_scan::check_codes;
 use std::alloc::{AllocError, Global};
 
 /// The findings on a code, besides the wrong codewords of its blocks.

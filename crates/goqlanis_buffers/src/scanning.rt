@@ -1,16 +1,15 @@
 //! Decodes the codes in pictures.
 
 ghost use Rattle.std.specs.Prelude.{◌≡◌, ◌++◌, All, flat_map, length, map, IfErr, IfNone, IfOk, IfSome, OnOk};
-ghost use Rattle.goqlanis_core.specs.Scans.{IsReadAs};
+ghost use Rattle.qrcode_scan.specs.Scans.{IsReadAs};
 ghost use Rattle.goqlanis_buffers.specs.Scanning.{bytes_in, differ, mode_kind, parts_in, picture_refusal, told_part, AreCodesOf, ExceedsRoom, IsPut, IsToldOf, IsToldIn, IsUnreadFor};
 
 use crate::answers::Refusal;
 use crate::reading::{Reading, position_number, reported};
 use crate::symbols::fill;
-use goqlanis_core::{Scan as Found, Unread, read_codes};
 use qrcode::types::Mode;
-use qrcode_reader::scan::Unscanned;
 use qrcode_reader::spell::{Header, Part as Piece};
+use qrcode_scan::{Scan as Found, Unread, Unscanned, read_codes};
 use std::alloc::{AllocError, Global};
 
 /// How many items have been written to the start of each buffer.

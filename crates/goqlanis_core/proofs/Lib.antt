@@ -1,15 +1,8 @@
-mod Checked
 mod Choices
 mod Held
 mod Layered
-mod Marked
 mod Partition
 mod Pieces
-mod Plain
-mod Read
 mod Roomier
-mod Sampled
-mod Seen
 mod Segmented
-mod WhyUnread
 mod Placed

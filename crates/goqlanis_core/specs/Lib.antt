@@ -1,16 +1,12 @@
 pub mod Areas
-pub mod Checked
-pub mod Codes
 pub mod Colours
 pub mod Drawings
 pub mod Elements
 pub mod Formats
-pub mod HandedOn
 pub mod Layers
 pub mod Masks
 pub mod Overlays
 pub mod Parts
-pub mod Scans
 pub mod Segments
 pub mod Sheets
 pub mod Symbols

@@ -1,10 +1,8 @@
-//! What the program `goqlanis` and the C library share: symbols and their pictures as requested,
-//! codes read from pictures, and why either fails.
+//! What the program `goqlanis` and the C library share: symbols and their pictures as requested, and
+//! why they fail.
 #![tactic(auto)]
 
 pub mod areas;
-mod checking;
-mod codes;
 pub mod colours;
 mod drawing;
 mod elements;
@@ -17,14 +15,11 @@ pub mod places;
 mod refusal;
 pub mod render;
 mod request;
-mod scanning;
 mod segments;
 mod shades;
 pub mod sheet;
 mod terminal;
 
-pub use checking::{Checks, check_codes};
-pub use codes::{Codes, Missed, read_codes};
 pub use drawing::{Drawing, dots, drawing_of, quiet_zone, scale, symbol_in};
 pub use elements::{symbol_for_application, symbol_of_elements};
 pub use layers::PartInk;
@@ -34,7 +29,6 @@ pub use refusal::{
     segments_refusal_text,
 };
 pub use request::{Choice, Length, Request, manner_of};
-pub use scanning::{Scan, Unread};
 pub use segments::{Segment, symbol_of, unwritable};
 pub use shades::GREATEST_PAINTED;
 pub use sheet::Ink;

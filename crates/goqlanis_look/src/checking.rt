@@ -3,7 +3,7 @@
 use crate::pictures::{picture_name, pictures_in};
 use crate::reading::{picture_of, reported, status_of, warn_of_missed};
 use crate::reports::{push_file, push_heading};
-use goqlanis_core::{Unread, VersionName, check_codes};
+use goqlanis_core::VersionName;
 use goqlanis_files::failure::{Failure, warn_of_more};
 use goqlanis_files::refused;
 use goqlanis_files::streams::print;
@@ -15,6 +15,7 @@ use qrcode_check::correction::grade_of;
 use qrcode_check::modules::WrongModules;
 use qrcode_check::segments::Taken;
 use qrcode_check::{Check, Content};
+use qrcode_scan::{Unread, check_codes};
 use std::alloc::{AllocError, Global};
 use std::process::ExitCode;
 

@@ -1,7 +1,7 @@
 //! `goqlanis join`: joins the data of the codes that `split` made.
 
 use crate::reading::push_scans;
-use goqlanis_core::{Grouped, Scan};
+use goqlanis_core::Grouped;
 use goqlanis_files::failure::Failure;
 use goqlanis_files::refused;
 use goqlanis_files::streams::write_data;
@@ -9,6 +9,7 @@ use goqlanis_options::pictures::{Pictures, STANDARD_INPUT};
 use qrcode_append::errors::JoinError;
 use qrcode_append::{Part, join};
 use qrcode_reader::spell::{self, Header};
+use qrcode_scan::Scan;
 use std::alloc::{AllocError, Global};
 use std::process::ExitCode;
 

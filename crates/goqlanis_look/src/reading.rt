@@ -2,13 +2,13 @@
 
 use crate::pictures::{picture_name, pictures_in};
 use crate::reports::{object_of, other_set, report};
-use goqlanis_core::{Codes, Scan, Unread, read_codes};
 use goqlanis_files::failure::{Failure, warn_of_more};
 use goqlanis_files::streams::{MOST_PICTURE, read_file, read_standard_input, shown, write_data};
 use goqlanis_files::{refused, warning};
 use goqlanis_options::asked::Report;
 use goqlanis_options::pictures::{Pictures, STANDARD_INPUT};
 use qrcode::types::Version;
+use qrcode_scan::{Codes, Scan, Unread, read_codes};
 use std::alloc::Global;
 use std::process::ExitCode;
 

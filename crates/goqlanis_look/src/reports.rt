@@ -1,6 +1,6 @@
 //! Reports on decoded codes, as text or JSON.
 
-use goqlanis_core::{Scan, VersionName};
+use goqlanis_core::VersionName;
 use goqlanis_files::streams::is_unseen;
 use goqlanis_options::modes::mode_name;
 use goqlanis_options::push_either;
@@ -8,6 +8,7 @@ use qrcode::types::Mode;
 use qrcode_check::masks::place_of;
 use qrcode_reader::spell::{Header, Part};
 use qrcode_reader::{Position, WrongCodeword};
+use qrcode_scan::Scan;
 use std::alloc::{AllocError, Global};
 use std::fmt;
 

@@ -7,12 +7,6 @@ pub mod Positioned
 pub mod Refused
 pub mod ShownTexts
 pub mod Walked
-mod Digits
-mod Framed
-mod HalfBlocks
-mod Pieces
-mod Rasters
-mod ShownSquares
 pub mod Fronts
 pub mod Groups
 pub mod Letters

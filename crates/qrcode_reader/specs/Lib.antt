@@ -6,6 +6,5 @@ pub mod Positions
 pub mod Readings
 pub mod Refusals
 pub mod Streams
-pub mod scan
 pub mod spell
 pub mod correct

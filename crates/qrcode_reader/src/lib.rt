@@ -13,7 +13,6 @@ mod parts;
 mod positions;
 mod reading;
 mod refusals;
-pub mod scan;
 mod sizes;
 pub mod spell;
 mod texts;

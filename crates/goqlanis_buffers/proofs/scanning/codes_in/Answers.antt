@@ -1,6 +1,6 @@
 use Rattle.std.proofs.Common.{◌≡◌, ◌+◌, List, [], ◌∷◌, ◌++◌, take, sym, subst, arith}
 use Rattle.std.proofs.lemmas.Grind.{common_steps}
-use Rattle.goqlanis_core.specs.declared.scanning.Scan.{Scan}
+use Rattle.qrcode_scan.specs.declared.scanning.Scan.{Scan}
 use Rattle.goqlanis_buffers.specs.Scanning.{AreCodesOf, IsToldOf}
 use Rattle.goqlanis_buffers.specs.declared.scanning.Code.{Code}
 use Rattle.goqlanis_buffers.proofs.Squares.{zip_taken}

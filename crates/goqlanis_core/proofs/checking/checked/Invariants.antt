@@ -1,7 +1,0 @@
-use Rattle.std.proofs.Common.{take}
-use Rattle.std.specs.List.{AllZip}
-use Rattle.goqlanis_core.specs.Checked.{IsCheckOfScan}
-use Rattle.goqlanis_core.proofs.checking.checked.Given as goal
-
-abbrev pub invariant-loop-scan : goal.invariant-loop-scan
-invariant-loop-scan l = AllZip IsCheckOfScan (take l.scan-index l.fn.codes.scans.items) l.checks.items

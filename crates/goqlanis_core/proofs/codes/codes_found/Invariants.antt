@@ -1,5 +1,0 @@
-use Rattle.goqlanis_core.specs.Codes.{AreCodesIn}
-use Rattle.goqlanis_core.proofs.codes.codes_found.Given as goal
-
-abbrev pub invariant-loop-grid : goal.invariant-loop-grid
-invariant-loop-grid l = AreCodesIn l.pixels l.is_inverted l.codes

@@ -1,5 +1,0 @@
-use Rattle.qrcode_reader.proofs.HalfBlocks.{row_on}
-use Rattle.qrcode_reader.proofs.scan.halves.push_row.Goals as goal
-
-pub loop-x-preserved : goal.loop-x-preserved
-loop-x-preserved c = row_on _ _ _ c.args.row.now c.loop-x.x _ c.in_ok-push.ensures.items c.loop-x.invariant c.mark_of.ensures

@@ -1,7 +1,0 @@
-use Rattle.std.proofs.Common.{ℕ, ◌<◌}
-use Rattle.qrcode_render.specs.Layout.{layout}
-use Rattle.qrcode_reader.specs.scan.Squares.{IsRowOf}
-use Rattle.qrcode_reader.proofs.scan.squares.is_shown.Given as goal
-
-abbrev pub invariant-loop-y : goal.invariant-loop-y
-invariant-loop-y l = (k : ℕ) → k < l.y → IsRowOf l.marks (layout l.square.count l.square.zone l.square.scale l.square.scale) l.square.modules.items k

@@ -1,0 +1,13 @@
+mod Checked
+mod Digits
+mod Framed
+mod HalfBlocks
+mod Marked
+mod Pieces
+mod Plain
+mod Rasters
+mod Read
+mod Sampled
+mod Seen
+mod ShownSquares
+mod WhyUnread

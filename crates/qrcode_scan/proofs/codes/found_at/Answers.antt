@@ -1,0 +1,60 @@
+use Rattle.std.proofs.Common.{◌≡◌, ◌∙◌, ◌*◌, ◌⊎◌, ℕ, List, length, sym, ap, subst, inr, rules}
+use Rattle.qrcode_types.specs.declared.types.Color.{Color}
+use Rattle.qrcode_scan.specs.Grids.{IsSampled}
+use Rattle.qrcode_scan.specs.declared.squares.Square.{Square}
+use Rattle.qrcode_reader.specs.Positions.{IsFirstPartsReading}
+use Rattle.qrcode_reader.specs.Readings.{IsPartsCause}
+use Rattle.qrcode_reader.specs.declared.refusals.Unread as reading
+use Rattle.qrcode_scan.proofs.Read.{missed_code}
+use Rattle.qrcode_scan.proofs.Sampled.{sampled_length}
+use Rattle.qrcode_scan.proofs.WhyUnread.{HasNone}
+use Rattle.qrcode_scan.proofs.codes.found_at.Goals as goal
+
+pub scan_of-requires : goal.scan_of-requires
+scan_of-requires c =
+    let g = c.args.grid.now in
+    let any = c.in-Ok.any in
+    let sampled : IsSampled c.args.pixels.now g c.in-Some.modules.items = search rules in
+    let same : c.deref.result.now ≡ c.in-Some.modules.items = search rules in
+    subst
+    (λ (m : List Color). IsFirstPartsReading g.count m any.position any.is_inverted any.reading.version any.reading.ec_level any.reading.mask any.reading.parts.bytes.items
+    any.reading.parts.parts.items any.reading.wrong.items)
+    same (c.in-Ok.ensures.value g.count (sampled_length c.args.pixels.now g c.in-Some.modules.items sampled ∙ ap length (sym same)))
+
+pub returns-in-Err : goal.returns-in-Err
+returns-in-Err c =
+    let g = c.args.grid.now in
+    let e = c.in-Err.cause in
+    let sampled : IsSampled c.args.pixels.now g c.in-Some.modules.items = search rules in
+    let same : c.deref.result.now ≡ c.in-Some.modules.items = search rules in
+    let other : ¬ (e ≡ reading.TheVariants.OutOfMemory) = search rules in
+    missed_code c.args.pixels.now g c.in-Some.modules.items e sampled other
+    (subst (λ (m : List Color). (e ≡ reading.TheVariants.OutOfMemory) ⊎ (IsPartsCause m e × ((side : ℕ) → side * side ≡ length m → HasNone side m))) same c.in-Err.ensures.causes)
+
+pub returns : goal.returns
+returns c =
+    let b = c.args.pixels.now in
+    let g = c.args.grid.now in
+    let sampled : IsSampled b g c.in-Some.modules.items = search rules in
+    let scan = c.in_ok-scan_of.ensures.square in
+    record {
+      inverted = c.in_ok-scan_of.ensures.inverted;
+      square = record {
+        found = inr (
+          (
+            g,
+            (
+              scan.1,
+              record {
+                count = ap (λ (s : Square). s.count) scan.0;
+                zone = ap (λ (s : Square). s.zone) scan.0;
+                scale = ap (λ (s : Square). s.scale) scan.0;
+                sampled = subst (λ (s : Square). IsSampled b g s.modules.items) (sym scan.0) sampled;
+              },
+            ),
+          ),
+          c.requires,
+        );
+      };
+      read = c.in_ok-scan_of.ensures.read;
+    }

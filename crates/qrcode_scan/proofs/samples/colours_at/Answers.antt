@@ -1,0 +1,16 @@
+use Rattle.std.proofs.Common.{◌/◌, ◌%◌, List, [], ◌∷◌, ◌++◌, sym, ap, ap₂, ◌∙◌, arith}
+use Rattle.std.proofs.lemmas.List.FromFn.{map-range_with_len_more}
+use Rattle.qrcode_types.specs.Colors.{color_of}
+use Rattle.qrcode_types.specs.declared.types.Color.{Color}
+use Rattle.qrcode_scan.specs.Squares.{mark_at}
+use Rattle.qrcode_scan.specs.Grids.{column_at, row_at}
+use Rattle.qrcode_scan.proofs.samples.colours_at.Goals as goal
+
+pub loop-i-preserved : goal.loop-i-preserved
+loop-i-preserved c =
+    let p = c.args.pixels.now in
+    let g = c.args.grid.now in
+    let i = c.loop-i.i in
+    c.in_ok-push.ensures.items
+    ∙ ap₂ (λ (xs : List Color) (x : Color). xs ++ x ∷ []) c.loop-i.invariant (c.color_of.ensures ∙ ap color_of c.mark_in.ensures)
+    ∙ sym (map-range_with_len_more (λ k. color_of (mark_at p (column_at g (k % g.count)) (row_at g (k / g.count)))) 0 i i (omega arith))

@@ -1,0 +1,25 @@
+use Rattle.std.proofs.Common.{◌+◌, ◌*◌, ◌/◌, ◌%◌, List, [], ◌∷◌, ◌++◌, length, sym, ap, ap₂, ◌∙◌, arith}
+use Rattle.std.proofs.lemmas.List.FromFn.{length-map-range_with_len, map-range_with_len_more}
+use Rattle.qrcode_types.specs.Colors.{color_of}
+use Rattle.qrcode_types.specs.declared.types.Color.{Color}
+use Rattle.qrcode_scan.specs.Squares.{mark_at}
+use Rattle.qrcode_scan.proofs.squares.sampled.Goals as goal
+
+pub loop-i-preserved : goal.loop-i-preserved
+loop-i-preserved c =
+    let p = c.args.pixels.now in
+    let i = c.loop-i.i in
+    c.in_ok-push.ensures.items
+    ∙ ap₂ (λ (xs : List Color) (x : Color). xs ++ x ∷ []) c.loop-i.invariant (c.color_of.ensures ∙ ap color_of c.mark_at.ensures)
+    ∙ sym (map-range_with_len_more (λ k. color_of (mark_at p (c.args.margin + k % c.args.count * c.args.scale) (c.args.margin + k / c.args.count * c.args.scale))) 0 i i (omega arith))
+
+pub returns-clause-square : goal.returns-clause-square
+returns-clause-square c =
+    let p = c.args.pixels.now in
+    omega (
+      arith,
+      ap length c.loop-i.invariant,
+      length-map-range_with_len (λ k. color_of (mark_at p (c.args.margin + k % c.args.count * c.args.scale) (c.args.margin + k / c.args.count * c.args.scale))) 0 c.loop-i.i,
+      c.loop-i-test.false,
+      c.loop-i.auto.i-end,
+    )

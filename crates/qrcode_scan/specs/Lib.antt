@@ -1,0 +1,10 @@
+pub mod Checked
+pub mod Codes
+pub mod Files
+pub mod Grids
+pub mod Halves
+pub mod HandedOn
+pub mod Heads
+pub mod Scans
+pub mod Shades
+pub mod Squares

@@ -1,0 +1,279 @@
+//! Finds and decodes all codes of a picture.
+
+ghost use Rattle.std.specs.Prelude.{◌≡◌, ◌≤◌, ◌⊎◌, ◌++◌, ◌∷◌, [], ℕ, All, insert, length, IsTrue, IfOk, IfErr, OnOk};
+ghost use Rattle.qrcode_reader.specs.declared.refusals.Unread.TheVariants.{OutOfMemory};
+ghost use Rattle.qrcode_scan.specs.Codes.{AreCodesIn, IsFoundAs, IsMissedOf};
+ghost use Rattle.qrcode_scan.specs.Scans.{IsNotClean, IsScanOf, IsUnreadPicture, IsUnreadIn, has_more};
+
+use crate::grids::{Grid, grids_of};
+use crate::pixels::Pixels;
+use crate::samples::sampled_at;
+use crate::scanning::{self, Scan, read_clean, scan_of, seen_in};
+use crate::squares::Square;
+use qrcode_ec::max_allowed_errors;
+use qrcode_reader::{AnyPartsReading, Unread, read_any_parts};
+use std::alloc::{AllocError, Global};
+
+/// A square that was found by its finder patterns but does not decode.
+#[derive(Clone, Copy)]
+pub struct Missed {
+    /// The position of its modules.
+    pub grid: Grid,
+    /// Why it does not decode as it is. Rotated, mirrored or inverted it does not decode either.
+    pub cause: Unread,
+}
+
+impl Missed {
+    /// Returns the pixel column and row of its upper left corner.
+    pub fn corner(&self) -> (usize, usize) {
+        let place = place_of(&self.grid);
+        (place.left, place.top)
+    }
+}
+
+// What a grid turns out to be.
+#[derive(Drop)]
+enum Found {
+    Nothing,
+    Code(Scan),
+    Missed(Missed),
+}
+
+// The pixels that a square takes: from `left` to before `right`, and from `top` to before `bottom`.
+#[derive(Clone, Copy)]
+struct Place {
+    left: usize,
+    top: usize,
+    right: usize,
+    bottom: usize,
+}
+
+/// The codes of a picture.
+#[derive(Drop)]
+pub struct Codes {
+    /// The decoded codes, from top to bottom, and from left to right where they are side by side.
+    pub scans: Vec<Scan>,
+    /// Squares that look like codes but do not decode.
+    pub missed: Vec<Missed>,
+    /// Whether a PNG file has more than the picture, which is ignored.
+    pub has_more: bool,
+}
+
+/// Decodes the codes of a picture: the square in a plain margin, or else the squares that are found
+/// by their finder patterns. Among the latter, Micro symbols with more wrong codewords than the
+/// standard allows are ignored.
+///
+/// Errors: why nothing decodes; so without an error there is at least one code.
+#[tactic(auto, using(crate::proofs::WhyUnread::unread_picture, crate::proofs::WhyUnread::unseen_picture, crate::proofs::Read::scans_of, crate::proofs::Read::missed_of))]
+pub fn read_codes(alloc: Global, bytes: &[u8]) -> Result<Codes, scanning::Unread>
+    ensures value { IfOk result (λ codes. All (IsScanOf bytes.now) codes.scans.items) }
+    ensures some { IfOk result (λ codes. 1 ≤ length codes.scans.items) }
+    ensures missed { IfOk result (λ codes. All (IsMissedOf bytes.now) codes.missed.items) }
+    ensures more { IfOk result (λ codes. codes.has_more ≡ has_more bytes.now) }
+    ensures causes { IfErr result (IsUnreadPicture bytes.now) }
+{
+    let seen = match seen_in(alloc, bytes) {
+        Ok(seen) => seen,
+        Err(cause) => return Err(cause),
+    };
+    match codes_in(alloc, &seen.pixels, seen.is_inverted) {
+        Ok(codes) => {
+            let mut codes = codes;
+            codes.has_more = seen.has_more;
+            Ok(codes)
+        }
+        Err(cause) => Err(cause),
+    }
+}
+
+// Decodes the codes in pixels whose dark and light may have been exchanged.
+#[tactic(auto, using(crate::proofs::Read::only_code, crate::proofs::WhyUnread::not_clean))]
+fn codes_in(alloc: Global, pixels: &Pixels, is_inverted: bool) -> Result<Codes, scanning::Unread>
+    ensures codes { IfOk result (AreCodesIn pixels.now is_inverted) }
+    ensures some { IfOk result (λ codes. 1 ≤ length codes.scans.items) }
+    ensures causes { IfErr result (IsUnreadIn pixels.now) }
+{
+    let cause = match read_clean(alloc, pixels, is_inverted) {
+        Ok(scan) => return Ok(only(alloc, scan)?),
+        Err(cause) => cause,
+    };
+    match cause {
+        scanning::Unread::OutOfMemory => Err(cause),
+        _ => {
+            let codes = codes_found(alloc, pixels, is_inverted)?;
+            if codes.scans.is_empty() {
+                Err(cause)
+            } else {
+                Ok(codes)
+            }
+        }
+    }
+}
+
+// A single code.
+fn only(alloc: Global, scan: Scan) -> Result<Codes, AllocError>
+    ensures scans { IfOk result (λ codes. codes.scans.items ≡ scan ∷ []) }
+    ensures missed { IfOk result (λ codes. codes.missed.items ≡ []) }
+{
+    Ok(Codes {
+        scans: vec![in alloc; scan]?,
+        missed: Vec::new(alloc),
+        has_more: false,
+    })
+}
+
+// Decodes the codes that are found by their finder patterns.
+#[tactic(auto, using(crate::proofs::Read::no_code))]
+fn codes_found(alloc: Global, pixels: &Pixels, is_inverted: bool) -> Result<Codes, AllocError>
+    requires { IsNotClean pixels.now }
+    ensures { IfOk result (AreCodesIn pixels.now is_inverted) }
+{
+    let mut codes = Codes {
+        scans: Vec::new(alloc),
+        missed: Vec::new(alloc),
+        has_more: false,
+    };
+    for grid in &grids_of(alloc, pixels)? {
+        add(&mut codes, alloc, pixels, grid, is_inverted)?;
+    }
+    Ok(codes)
+}
+
+// Adds what is in a grid, unless a decoded code overlaps it. Nor is a Micro symbol found where a
+// square that does not decode overlaps it: the modules there are those of the square.
+fn add(
+    codes: &mut Codes,
+    alloc: Global,
+    pixels: &Pixels,
+    grid: &Grid,
+    is_inverted: bool,
+) -> Result<(), AllocError>
+    requires clean { IsNotClean pixels.now }
+    requires codes { AreCodesIn pixels.now is_inverted codes.old }
+    ensures { OnOk result (AreCodesIn pixels.now is_inverted codes.new) }
+{
+    if codes.has_read(grid) || (grid.count < 21 && is_among(&codes.missed, grid)) {
+        return Ok(());
+    }
+    match found_at(alloc, pixels, grid, is_inverted)? {
+        Found::Code(scan) => insert_code(&mut codes.scans, scan, grid)?,
+        Found::Missed(missed) => push_missed(&mut codes.missed, missed)?,
+        Found::Nothing => {}
+    }
+    Ok(())
+}
+
+// Decodes what is in a grid.
+fn found_at(
+    alloc: Global,
+    pixels: &Pixels,
+    grid: &Grid,
+    is_inverted: bool,
+) -> Result<Found, AllocError>
+    requires { IsNotClean pixels.now }
+    ensures { IfOk result (IsFoundAs pixels.now is_inverted) }
+{
+    let Some(modules) = sampled_at(alloc, pixels, grid)? else {
+        return Ok(Found::Nothing);
+    };
+    let any = match read_any_parts(alloc, &modules) {
+        Ok(any) if is_doubtful(&any) => return Ok(Found::Nothing),
+        Ok(any) => any,
+        Err(Unread::OutOfMemory) => return Err(AllocError),
+        Err(cause) if is_likely(cause) => {
+            return Ok(Found::Missed(Missed { grid: *grid, cause }));
+        }
+        Err(_) => return Ok(Found::Nothing),
+    };
+    let square = Square {
+        count: grid.count,
+        zone: 0,
+        scale: grid.across / grid.parts,
+        modules,
+    };
+    Ok(Found::Code(scan_of(alloc, square, Some(*grid), is_inverted, any)?))
+}
+
+// Whether a Micro symbol has more wrong codewords than the standard allows (ISO/IEC 18004:2006,
+// 6.5.1). With one finder pattern and little error correction, such symbols appear in noise.
+fn is_doubtful(any: &AnyPartsReading) -> bool {
+    let read = &any.reading;
+    match max_allowed_errors(read.version, read.ec_level) {
+        Ok(allowed) => read.version.is_micro() && allowed < read.wrong.len(),
+        Err(_) => false,
+    }
+}
+
+// Whether a square that does not decode is probably a code: it has format words.
+fn is_likely(cause: Unread) -> bool
+    ensures { IsTrue result → ¬ (cause ≡ OutOfMemory) }
+{
+    matches!(cause, Unread::Damaged(_) | Unread::NotSpelled)
+}
+
+// Inserts a code before the first one that it precedes.
+fn insert_code(scans: &mut Vec<Scan>, scan: Scan, grid: &Grid) -> Result<(), AllocError>
+    ensures { OnOk result ((n : ℕ) × (scans.new.items ≡ insert scans.old.items n scan)) }
+{
+    let place = place_of(grid);
+    let number = scans
+        .iter()
+        .position(|other| other
+            .grid
+            .is_some_and(|other| precedes(place, place_of(&other))))
+        .unwrap_or(scans.len());
+    scans.insert(number, scan)?;
+    Ok(())
+}
+
+// Appends a square that does not decode, unless it overlaps another one.
+fn push_missed(all: &mut Vec<Missed>, missed: Missed) -> Result<(), AllocError>
+    ensures { OnOk result ((all.new.items ≡ all.old.items)
+        ⊎ (all.new.items ≡ all.old.items ++ missed ∷ [])) }
+{
+    if !is_among(all, &missed.grid) {
+        all.push(missed)?;
+    }
+    Ok(())
+}
+
+// Whether one of these squares overlaps the grid.
+fn is_among(all: &[Missed], grid: &Grid) -> bool {
+    let place = place_of(grid);
+    all.iter()
+        .any(|other| overlap(place, place_of(&other.grid)))
+}
+
+impl Codes {
+    /// Whether a decoded code overlaps the grid.
+    pub fn has_read(&self, grid: &Grid) -> bool {
+        let place = place_of(grid);
+        self.scans.iter().any(|scan| scan
+            .grid
+            .is_some_and(|other| overlap(place, place_of(&other))))
+    }
+}
+
+// The pixels that a grid's modules take.
+fn place_of(grid: &Grid) -> Place {
+    let parts = grid.parts.max(1);
+    Place {
+        left: grid.left / parts,
+        top: grid.top / parts,
+        right: (grid.left + grid.count * grid.across) / parts,
+        bottom: (grid.top + grid.count * grid.down) / parts,
+    }
+}
+
+// Whether two squares have pixels in common.
+fn overlap(one: Place, other: Place) -> bool {
+    one.left < other.right
+        && other.left < one.right
+        && one.top < other.bottom
+        && other.top < one.bottom
+}
+
+// Whether a square is above another, or next to it on the left.
+fn precedes(one: Place, other: Place) -> bool {
+    one.bottom <= other.top || (one.top < other.bottom && one.left < other.left)
+}

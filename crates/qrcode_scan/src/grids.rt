@@ -1,0 +1,252 @@
+//! Finds squares of modules by their finder patterns, also in pictures that show other things.
+
+ghost use Rattle.std.specs.Prelude.{◌≡◌, ◌^◌, ◌<◌, ◌≤◌, IfSome};
+
+use crate::finders::{Finder, finders};
+use crate::micro::push_micro;
+use crate::pixels::Pixels;
+use crate::samples::mark_in;
+use std::alloc::{AllocError, Global};
+
+// The most grids of a picture. Bounds memory and time.
+const MOST_GRIDS: usize = 1024;
+
+// How many finder patterns on each side of another are paired with it, nearest first: between those
+// of one symbol there is nothing but the symbol. Bounds time.
+const MOST_NEAR: usize = 4;
+
+/// Where the modules of a square are in pixels: the centre of the first module, and the distances
+/// of columns and of rows, in fractions of a pixel.
+#[derive(Clone, Copy)]
+pub struct Grid {
+    /// Modules along a side.
+    pub count: usize,
+    /// The column of the first module's centre, in fractions of a pixel.
+    pub left: usize,
+    /// The row of the first module's centre, likewise.
+    pub top: usize,
+    /// From one column of modules to the next, likewise.
+    pub across: usize,
+    /// From one row of modules to the next, likewise.
+    pub down: usize,
+    /// How many such fractions make a pixel.
+    pub parts: usize,
+    pub ghost fits: { (count ≤ 177) × (left < 2 ^ 28) × (top < 2 ^ 28) × (across < 2 ^ 18)
+        × (down < 2 ^ 18) },
+}
+
+// Three finder patterns: one in the corner, one left or right of it, one above or below it.
+#[derive(Clone, Copy)]
+struct Corner {
+    corner: Finder,
+    beside: Finder,
+    below: Finder,
+}
+
+/// Guesses where squares of modules are in a picture, by the finder patterns in three of their
+/// corners, or by the single one of Micro: first dark modules on light, then light on dark; at most
+/// 1,024.
+///
+/// Errors: only `AllocError`, if memory runs out.
+pub fn grids_of(alloc: Global, pixels: &Pixels) -> Result<Vec<Grid>, AllocError> {
+    let mut grids = Vec::new(alloc);
+    push_grids(alloc, &mut grids, pixels)?;
+    push_grids(alloc, &mut grids, &pixels.inverted(alloc)?)?;
+    Ok(grids)
+}
+
+// Appends the grids of dark modules: first those of three finder patterns, then those of Micro.
+fn push_grids(alloc: Global, grids: &mut Vec<Grid>, pixels: &Pixels) -> Result<(), AllocError> {
+    let found = finders(alloc, pixels)?;
+    for corner in &found {
+        push_corners(alloc, grids, pixels, &found, *corner)?;
+    }
+    for finder in &found {
+        push_micro(grids, pixels, *finder)?;
+    }
+    Ok(())
+}
+
+// Appends the grids with this finder pattern in the corner.
+fn push_corners(
+    alloc: Global,
+    grids: &mut Vec<Grid>,
+    pixels: &Pixels,
+    found: &[Finder],
+    corner: Finder,
+) -> Result<(), AllocError> {
+    let besides: Vec<Finder> = found
+        .iter()
+        .filter(|it| is_beside(corner, **it))
+        .copied()
+        .collect(alloc)?;
+    let belows: Vec<Finder> = found
+        .iter()
+        .filter(|it| is_below(corner, **it))
+        .copied()
+        .collect(alloc)?;
+    let belows = nearest(alloc, &belows, corner)?;
+    for beside in &nearest(alloc, &besides, corner)? {
+        push_below(grids, pixels, &belows, corner, *beside)?;
+    }
+    Ok(())
+}
+
+// Returns the finder patterns of a line that are nearest to `corner`, on both sides.
+fn nearest(alloc: Global, line: &[Finder], corner: Finder) -> Result<Vec<Finder>, AllocError> {
+    let (mut before, mut behind) = (Vec::new(alloc), Vec::new(alloc));
+    for other in line {
+        if place(*other) < place(corner) {
+            push_near(&mut before, corner, *other)?;
+        } else {
+            push_near(&mut behind, corner, *other)?;
+        }
+    }
+    before.extend_from_slice(&behind)?;
+    Ok(before)
+}
+
+// Inserts a finder pattern before the first that is further away, unless four are nearer.
+fn push_near(near: &mut Vec<Finder>, corner: Finder, other: Finder) -> Result<(), AllocError> {
+    let apart = place(corner).abs_diff(place(other));
+    let number = near
+        .iter()
+        .position(|it| apart < place(corner).abs_diff(place(*it)))
+        .unwrap_or(near.len());
+    if number < MOST_NEAR {
+        near.insert(number, other)?;
+        near.truncate(MOST_NEAR);
+    }
+    Ok(())
+}
+
+// Returns a number that orders finder patterns of one line, across or down.
+fn place(finder: Finder) -> usize {
+    finder.x + finder.y
+}
+
+// Appends the grids of two finder patterns and each third one above or below the corner.
+fn push_below(
+    grids: &mut Vec<Grid>,
+    pixels: &Pixels,
+    belows: &[Finder],
+    corner: Finder,
+    beside: Finder,
+) -> Result<(), AllocError> {
+    for below in belows {
+        let corner = Corner {
+            corner,
+            beside,
+            below: *below,
+        };
+        push_grid(grids, grid_of(pixels, &corner))?;
+    }
+    Ok(())
+}
+
+// Appends a grid, unless there are too many.
+pub(crate) fn push_grid(grids: &mut Vec<Grid>, grid: Option<Grid>) -> Result<(), AllocError> {
+    match grid {
+        Some(grid) if grids.len() < MOST_GRIDS => grids.push(grid)?,
+        _ => {}
+    }
+    Ok(())
+}
+
+// Whether `other` is left or right of `corner`, of about the same size: within a module and a pixel
+// of the same row, and more than one and a half widths away.
+fn is_beside(corner: Finder, other: Finder) -> bool {
+    7 * corner.y.abs_diff(other.y) <= 2 * corner.height + 14
+        && corner.x.abs_diff(other.x) > 3 * corner.width
+        && is_same_size(corner, other)
+}
+
+// Whether `other` is above or below `corner`, of about the same size: within a module and a pixel
+// of the same column, and more than one and a half heights away.
+fn is_below(corner: Finder, other: Finder) -> bool {
+    7 * corner.x.abs_diff(other.x) <= 2 * corner.width + 14
+        && corner.y.abs_diff(other.y) > 3 * corner.height
+        && is_same_size(corner, other)
+}
+
+// Whether the sides of two finder patterns differ by at most a third.
+fn is_same_size(finder: Finder, other: Finder) -> bool {
+    3 * finder.width.abs_diff(other.width) <= finder.width
+        && 3 * finder.height.abs_diff(other.height) <= finder.height
+}
+
+// Returns the grid between three finder patterns whose timing patterns fit best; at most a quarter
+// of their modules may be wrong.
+fn grid_of(pixels: &Pixels, corner: &Corner) -> Option<Grid> {
+    let (mut best, mut least) = (None, 251);
+    for version in 1..41 {
+        let count = 17 + 4 * version;
+        let Some(grid) = likely_grid(corner, count) else {
+            continue;
+        };
+        let wrong = 500 * wrong_timing(pixels, corner, &grid) / (count - 16);
+        if wrong < least {
+            least = wrong;
+            best = Some(grid);
+        }
+    }
+    best
+}
+
+// Returns the grid of `count` modules a side between three finder patterns, if their distances fit
+// their sizes, within a fifth.
+fn likely_grid(corner: &Corner, count: usize) -> Option<Grid>
+    requires { (21 ≤ count) × (count ≤ 177) }
+    ensures { IfSome result (λ grid. (grid.count ≡ count) × (1 ≤ grid.parts)) }
+{
+    let Corner {
+        corner,
+        beside,
+        below,
+    } = *corner;
+    let (across, down) = (corner.x.abs_diff(beside.x), corner.y.abs_diff(below.y));
+    if !is_size(across, corner.width, count) || !is_size(down, corner.height, count) {
+        return None;
+    }
+    Some(Grid {
+        count,
+        left: (corner.x.min(beside.x) * (count - 7)).saturating_sub(3 * across),
+        top: (corner.y.min(below.y) * (count - 7)).saturating_sub(3 * down),
+        across,
+        down,
+        parts: 2 * (count - 7),
+    })
+}
+
+// Whether two finder patterns in a square of `count` modules a side, seven modules having `seven`
+// pixels, are `apart` half pixels apart, within a fifth.
+fn is_size(apart: usize, seven: usize, count: usize) -> bool
+    requires modules { (21 ≤ count) × (count ≤ 177) }
+    requires pixels { (apart ≤ 131070) × (seven ≤ 65535) }
+{
+    let wanted = 2 * seven * (count - 7);
+    5 * (7 * apart).abs_diff(wanted) <= wanted
+}
+
+// Counts the wrong modules of the two timing patterns.
+fn wrong_timing(pixels: &Pixels, corner: &Corner, grid: &Grid) -> usize
+    requires { (21 ≤ grid.now.count) × (1 ≤ grid.now.parts) }
+    ensures { result ≤ 354 }
+{
+    let row = timing_line(corner.corner.y < corner.below.y, grid.count);
+    let column = timing_line(corner.corner.x < corner.beside.x, grid.count);
+    let mut wrong = 0;
+    for i in 8..grid.count - 8 {
+        wrong += usize::from(mark_in(pixels, grid, i, row) != (i % 2 == 0));
+        wrong += usize::from(mark_in(pixels, grid, column, i) != (i % 2 == 0));
+    }
+    wrong
+}
+
+// Returns the row or column of a timing pattern.
+fn timing_line(is_first: bool, count: usize) -> usize
+    requires { (21 ≤ count) × (count ≤ 177) }
+    ensures { result ≤ 177 }
+{
+    if is_first { 6 } else { count - 7 }
+}

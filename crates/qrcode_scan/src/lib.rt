@@ -1,0 +1,27 @@
+//! Finds, decodes and checks the codes in pictures: PNG, PBM and PGM files, half blocks, colours.
+#![tactic(auto)]
+
+mod checking;
+mod codes;
+mod files;
+mod finders;
+mod grids;
+mod halves;
+mod heads;
+pub mod laws;
+mod micro;
+mod pixels;
+mod samples;
+mod scanning;
+mod shades;
+mod squares;
+
+pub use checking::{Checks, check_codes};
+pub use codes::{Codes, Missed, read_codes};
+pub use files::pixels_of;
+pub use grids::{Grid, grids_of};
+pub use pixels::{Pixels, Unscanned};
+pub use samples::sampled_at;
+pub use scanning::{Scan, Unread};
+pub use shades::pixels_of_colours;
+pub use squares::{Square, square_of};

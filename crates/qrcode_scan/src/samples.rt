@@ -1,0 +1,78 @@
+//! Samples the modules of a grid.
+
+ghost use Rattle.std.specs.Prelude.{◌≡◌, ◌-◌, ◌<◌, ◌≤◌, IsTrue, IfOk, IfSome};
+ghost use Rattle.qrcode_scan.specs.Grids.{IsSampled, column_at, row_at, colours_at};
+ghost use Rattle.qrcode_scan.specs.Squares.{mark_at};
+
+use crate::grids::Grid;
+use crate::pixels::Pixels;
+use crate::squares::{color_of, mark_at};
+use qrcode_types::types::Color;
+use std::alloc::{AllocError, Global};
+
+/// Returns the modules of a grid, row by row: each has the colour of the pixel at its centre.
+/// `None` if the grid is empty or a centre is not in the picture.
+///
+/// Errors: only `AllocError`, if memory runs out.
+pub fn sampled_at(
+    alloc: Global,
+    pixels: &Pixels,
+    grid: &Grid,
+) -> Result<Option<Vec<Color>>, AllocError>
+    ensures { IfOk result (λ found. IfSome found (λ modules.
+        IsSampled pixels.now grid.now modules.items)) }
+{
+    if grid.count == 0 || grid.parts == 0 || !is_inside(pixels, grid) {
+        return Ok(None);
+    }
+    Ok(Some(colours_at(alloc, pixels, grid)?))
+}
+
+// Whether the centre of the last module is in the picture.
+fn is_inside(pixels: &Pixels, grid: &Grid) -> bool
+    requires { (1 ≤ grid.now.count) × (1 ≤ grid.now.parts) }
+    ensures { IsTrue result → (column_at grid.now (grid.now.count - 1) < pixels.now.across)
+        × (row_at grid.now (grid.now.count - 1) < pixels.now.down) }
+{
+    let (across, down) = pixels.sides();
+    column_at(grid, grid.count - 1) < across && row_at(grid, grid.count - 1) < down
+}
+
+// Returns the colours of the pixels at the centres of modules.
+fn colours_at(alloc: Global, pixels: &Pixels, grid: &Grid) -> Result<Vec<Color>, AllocError>
+    requires { (1 ≤ grid.now.count) × (1 ≤ grid.now.parts) }
+    ensures { IfOk result (λ modules. modules.items ≡ colours_at pixels.now grid.now) }
+{
+    let count = grid.count;
+    let mut modules = Vec::with_capacity(alloc, count * count)?;
+    for i in 0..count * count {
+        modules.push(color_of(mark_in(pixels, grid, i % count, i / count)))?;
+    }
+    Ok(modules)
+}
+
+// Whether the pixel at the centre of a module is dark.
+pub(crate) fn mark_in(pixels: &Pixels, grid: &Grid, column: usize, row: usize) -> bool
+    requires { (column ≤ 177) × (row ≤ 177) × (1 ≤ grid.now.parts) }
+    ensures { result ≡ mark_at pixels.now (column_at grid.now column) (row_at grid.now row) }
+{
+    mark_at(pixels, column_at(grid, column), row_at(grid, row))
+}
+
+// Returns the column of pixels with the centres of a column of modules.
+fn column_at(grid: &Grid, column: usize) -> usize
+    requires { (column ≤ 177) × (1 ≤ grid.now.parts) }
+    ensures value { result ≡ column_at grid.now column }
+    ensures at_most { result < 1000000000 }
+{
+    (grid.left + column * grid.across) / grid.parts
+}
+
+// Returns the row of pixels with the centres of a row of modules.
+fn row_at(grid: &Grid, row: usize) -> usize
+    requires { (row ≤ 177) × (1 ≤ grid.now.parts) }
+    ensures value { result ≡ row_at grid.now row }
+    ensures at_most { result < 1000000000 }
+{
+    (grid.top + row * grid.down) / grid.parts
+}
