@@ -10,11 +10,11 @@ ghost use Rattle.qrcode_render.specs.Eps.{begun_points, eps_boxes, eps_end, eps_
 ghost use Rattle.qrcode_render.specs.Paths.{thousandths};
 ghost use Rattle.qrcode_render.specs.Setting.{fits, layout_of};
 
+use crate::backwards::Backwards;
 use crate::strokes::{Plot, Strokes};
 use crate::{Pixel, Renderer};
 use qrcode_types::types::{Color as ModuleColor, QrResult};
 use std::alloc::Global;
-use std::fmt::Write;
 
 /// A colour of PostScript: red, green and blue.
 #[derive(Copy, Clone, PartialEq, Eq)]
@@ -82,8 +82,16 @@ impl Strokes<Color> for Boxes {
     }
 
     fn push_rect(text: &mut String, left: u32, top: u32, width: u32, height: u32) -> QrResult<()> {
-        write!(text, "{left} {top} {width} {height} rectfill\n")?;
-        Ok(())
+        let mut line = Backwards::new();
+        line.word(" rectfill\n");
+        line.number(height as u64);
+        line.word(" ");
+        line.number(width as u64);
+        line.word(" ");
+        line.number(top as u64);
+        line.word(" ");
+        line.number(left as u64);
+        line.append_to(text)
     }
 }
 

@@ -15,6 +15,7 @@ use qrcode_types::types::{Color, QrResult};
 use std::alloc::Global;
 use std::marker::Model;
 
+mod backwards;
 mod cells;
 pub mod eps;
 pub mod escpos;

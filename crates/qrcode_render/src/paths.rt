@@ -1,12 +1,12 @@
 //! Writes runs of dark cells as the subpaths of an SVG path.
 
-ghost use Rattle.std.specs.Prelude.{◌≡◌, ◌++◌, string_bytes, OnOk, IsOkUnless};
+ghost use Rattle.std.specs.Prelude.{◌≡◌, ◌+◌, ◌≤◌, ◌++◌, length, string_bytes, OnOk, IsOkUnless};
 ghost use Rattle.qrcode_types.specs.declared.types.QrError.TheVariants.{OutOfMemory};
 ghost use Rattle.qrcode_render.specs.Paths.{path_text, run_text, step_text};
 
+use crate::backwards::Backwards;
 use crate::runs::Run;
 use qrcode_types::types::QrResult;
-use std::fmt::Write;
 
 /// The pen's position: the upper left corner of the cell in this column and row.
 #[derive(Copy, Clone)]
@@ -15,18 +15,22 @@ pub struct Pen {
     pub row: u64,
 }
 
-// Appends the distance from `from` to `to`, after `forward` or, if `to` is smaller, after `back`.
-fn push_step(text: &mut String, forward: &str, back: &str, from: u64, to: u64) -> QrResult<()>
-    ensures appends { OnOk result (string_bytes text.new
-        ≡ string_bytes text.old ++ step_text forward.now back.now from to) }
-    ensures memory { IsOkUnless result OutOfMemory }
+// Writes the distance from `from` to `to` before `text`, after `forward` or, if `to` is smaller, after
+// `back`. They have one or two bytes.
+fn step(text: &mut Backwards, forward: &str, back: &str, from: u64, to: u64)
+    requires forward { length forward.now ≤ 2 }
+    requires back { length back.now ≤ 2 }
+    requires room { length text.old + 22 ≤ 128 }
+    ensures value { text.new ≡ step_text forward.now back.now from to ++ text.old }
+    ensures length { length text.new ≤ length text.old + 22 }
 {
     if from <= to {
-        write!(text, "{forward}{}", to - from)?;
+        text.number(to - from);
+        text.word(forward);
     } else {
-        write!(text, "{back}{}", from - to)?;
+        text.number(from - to);
+        text.word(back);
     }
-    Ok(())
 }
 
 // Appends the subpath of a run.
@@ -35,11 +39,14 @@ fn push_run(text: &mut String, pen: Pen, run: Run) -> QrResult<()>
         (string_bytes text.new ≡ string_bytes text.old ++ run_text pen run) }
     ensures memory { IsOkUnless result OutOfMemory }
 {
-    let width = run.width;
-    push_step(text, "m", "m-", pen.column, run.left as u64)?;
-    push_step(text, " ", "-", pen.row, run.top as u64)?;
-    write!(text, "h{width}v1h-{width}")?;
-    Ok(())
+    let mut subpath = Backwards::new();
+    subpath.number(run.width as u64);
+    subpath.word("v1h-");
+    subpath.number(run.width as u64);
+    subpath.word("h");
+    step(&mut subpath, " ", "-", pen.row, run.top as u64);
+    step(&mut subpath, "m", "m-", pen.column, run.left as u64);
+    subpath.append_to(text)
 }
 
 /// Appends the subpaths of `runs`.

@@ -4,10 +4,10 @@ ghost use Rattle.std.proofs.Common.{rules};
 ghost use Rattle.qrcode_render.specs.Pic.{pic_start, pic_rect, pic_end};
 
 use crate::Pixel;
+use crate::backwards::Backwards;
 use crate::strokes::{Plot, Strokes};
 use qrcode_types::types::QrResult;
 use std::alloc::Global;
-use std::fmt::Write;
 
 /// The only colour of PIC: dark modules are filled boxes, and light ones are not drawn.
 #[derive(Copy, Clone, Default, PartialEq, Eq, PartialOrd, Ord, Hash)]
@@ -60,7 +60,16 @@ impl Strokes<Color> for Boxes {
     }
 
     fn push_rect(text: &mut String, left: u32, top: u32, width: u32, height: u32) -> QrResult<()> {
-        write!(text, "p({left},{top},{width},{height})\n")?;
-        Ok(())
+        let mut line = Backwards::new();
+        line.word(")\n");
+        line.number(height as u64);
+        line.word(",");
+        line.number(width as u64);
+        line.word(",");
+        line.number(top as u64);
+        line.word(",");
+        line.number(left as u64);
+        line.word("p(");
+        line.append_to(text)
     }
 }

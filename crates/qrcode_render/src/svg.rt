@@ -7,11 +7,11 @@ ghost use Rattle.qrcode_types.specs.Colors.{select_of};
 ghost use Rattle.qrcode_render.specs.Svg.{svg_start, svg_rect, svg_end};
 
 use crate::Pixel;
+use crate::backwards::Backwards;
 use crate::strokes::{Plot, Strokes};
 pub use crate::svg_path::{Frame, Path, PathElement, Size, framed};
 use qrcode_types::types::{Color as ModuleColor, QrResult};
 use std::alloc::Global;
-use std::fmt::Write;
 
 /// A colour of SVG. It is written as it is, without escapes.
 #[derive(Copy, Clone, Default, PartialEq, Eq, PartialOrd, Ord, Hash)]
@@ -82,7 +82,19 @@ impl<'a> Strokes<Color<'a>> for Paths {
             (string_bytes text.new ≡ svg_rect left top width height (string_bytes text.old)) }
         ensures memory { IsOkUnless result OutOfMemory }
     {
-        write!(text, "M{left} {top}h{width}v{height}H{left}V{top}")?;
-        Ok(())
+        let mut subpath = Backwards::new();
+        subpath.number(top as u64);
+        subpath.word("V");
+        subpath.number(left as u64);
+        subpath.word("H");
+        subpath.number(height as u64);
+        subpath.word("v");
+        subpath.number(width as u64);
+        subpath.word("h");
+        subpath.number(top as u64);
+        subpath.word(" ");
+        subpath.number(left as u64);
+        subpath.word("M");
+        subpath.append_to(text)
     }
 }
