@@ -1,5 +1,5 @@
-//! What the program `goqlanis` and the C library share: symbols and their pictures as requested, and
-//! why they fail.
+//! What the program `goqlanis` and the C library share: symbols and their pictures as requested,
+//! and why they fail.
 #![tactic(auto)]
 
 pub mod areas;

@@ -19,8 +19,8 @@ pub struct Inset<'a> {
     pub place: Place,
 }
 
-/// Returns the pixel in column `x` and row `y` of a drawing: `own`, with the sheet's picture over it
-/// if there is one and the pixel's module is in its area.
+/// Returns the pixel in column `x` and row `y` of a drawing: `own`, with the sheet's picture over
+/// it if there is one and the pixel's module is in its area.
 pub(crate) fn with_inset(sheet: &Sheet<'_>, x: usize, y: usize, own: [u8; 4]) -> [u8; 4]
     ensures { rgba result ≡ shade_with (sheet_of sheet.now).at sheet.now.inset x y (rgba own) }
 {

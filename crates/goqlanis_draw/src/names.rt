@@ -94,8 +94,8 @@ pub(crate) fn check_made(
     refused!(rt.alloc(); "{name} is {what}; each code gets its own file")
 }
 
-/// Returns the file name for a line: `path` with its placeholders filled in, or else with the number
-/// of the line before the file extension.
+/// Returns the file name for a line: `path` with its placeholders filled in, or else with the
+/// number of the line before the file extension.
 ///
 /// Errors: `Refused` if the line lacks a field, or the name is none that a file may have;
 /// `OutOfMemory`.
@@ -116,8 +116,8 @@ pub(crate) fn name_of(
     Ok(name)
 }
 
-// Checks the file name of a generated path: not too long, not empty, not `.` or `..`, and not hidden
-// unless the pattern says so, since a field was empty.
+// Checks the file name of a generated path: not too long, not empty, not `.` or `..`, and not
+// hidden unless the pattern says so, since a field was empty.
 fn check_name(alloc: Global, pattern: &str, path: &str) -> Result<(), Failure> {
     let name = file_name(path);
     let is_hidden = name.starts_with('.') && !file_name(pattern).starts_with('.');

@@ -105,8 +105,8 @@ fn push_objects(
     Ok(())
 }
 
-/// Reports a refusal on standard error if it is of one of several pictures; returns whether there is
-/// none, and everything went well.
+/// Reports a refusal on standard error if it is of one of several pictures; returns whether there
+/// is none, and everything went well.
 pub(crate) fn reported(
     rt: &HostRuntime,
     is_many: bool,
@@ -131,8 +131,9 @@ pub(crate) fn status_of(is_whole: bool) -> ExitCode {
     }
 }
 
-/// Decodes the pictures in the file at `path`, or in standard input for `-`, and appends their codes
-/// in order. Of several pictures, one that cannot be read is reported. Returns whether all are read.
+/// Decodes the pictures in the file at `path`, or in standard input for `-`, and appends their
+/// codes in order. Of several pictures, one that cannot be read is reported. Returns whether all
+/// are read.
 pub(crate) fn push_scans(
     rt: &HostRuntime,
     path: &str,

@@ -88,8 +88,8 @@ impl Check {
     }
 
     /// Returns whether nothing departs from the standard. The mask may have the lowest penalty by
-    /// any reading of it. Segments that take more bits than needed do not count, nor do guesses, nor
-    /// which headers come where: the standard leaves these to the encoder.
+    /// any reading of it. Segments that take more bits than needed do not count, nor do guesses,
+    /// nor which headers come where: the standard leaves these to the encoder.
     pub fn is_standard(&self) -> bool
         ensures { result ≡ is_standard self.now }
     {

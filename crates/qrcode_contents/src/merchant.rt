@@ -19,8 +19,8 @@ use std::alloc::Global;
 /// A payment by Pix, in ASCII. `reference` and `description` may be empty.
 #[derive(Copy, Clone, PartialEq, Eq, Debug)]
 pub struct Pix<'a> {
-    /// The payee's key, up to 77 characters: a CPF or CNPJ with its check digits, a telephone number
-    /// with its country code such as +5561912345678, an e-mail address, or a random key.
+    /// The payee's key, up to 77 characters: a CPF or CNPJ with its check digits, a telephone
+    /// number with its country code such as +5561912345678, an e-mail address, or a random key.
     pub key: &'a str,
     /// The payee's name, up to 25 characters.
     pub name: &'a str,

@@ -82,7 +82,8 @@ impl Backwards {
     ///
     /// Errors: only `OutOfMemory`.
     pub fn append_to(&self, whole: &mut String) -> QrResult<()>
-        ensures appends { OnOk result (string_bytes whole.new ≡ string_bytes whole.old ++ self.now) }
+        ensures appends { OnOk result
+            (string_bytes whole.new ≡ string_bytes whole.old ++ self.now) }
         ensures memory { IsOkUnless result OutOfMemory }
     {
         // It is put together of UTF-8 texts.

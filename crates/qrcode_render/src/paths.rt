@@ -15,8 +15,8 @@ pub struct Pen {
     pub row: u64,
 }
 
-// Writes the distance from `from` to `to` before `text`, after `forward` or, if `to` is smaller, after
-// `back`. They have one or two bytes.
+// Writes the distance from `from` to `to` before `text`, after `forward` or, if `to` is smaller,
+// after `back`. They have one or two bytes.
 fn step(text: &mut Backwards, forward: &str, back: &str, from: u64, to: u64)
     requires forward { length forward.now ≤ 2 }
     requires back { length back.now ≤ 2 }

@@ -174,8 +174,8 @@ fn with_bracket(mut value: String) -> Result<String, Failure>
     Ok(value)
 }
 
-/// Returns `text` with identifiers in round brackets: where it starts with a square bracket, all its
-/// identifiers stand in square ones, and `(` needs no backslash in a value.
+/// Returns `text` with identifiers in round brackets: where it starts with a square bracket, all
+/// its identifiers stand in square ones, and `(` needs no backslash in a value.
 ///
 /// Errors: only `AllocError`.
 pub(crate) fn with_round_brackets(alloc: Global, text: &str) -> Result<String, AllocError> {
