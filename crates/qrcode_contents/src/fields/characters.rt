@@ -1,6 +1,6 @@
 //! Tests of the characters in a field.
 
-ghost use Rattle.std.specs.Prelude.{◌≡◌, ◌<◌, length};
+ghost use Rattle.std.specs.Prelude.{◌≡◌, ◌<◌, ◌==◌, length};
 ghost use Rattle.std.specs.List.{after_first, before_first, list_all, list_any};
 ghost use Rattle.std.specs.Str.{chars};
 ghost use Rattle.qrcode_contents.specs.fields.Characters.{are_addresses, has_one_at, is_base32, is_capital, is_capital_or_digit, is_control, is_dialled, is_digit, is_other_control, is_unicode_break};
