@@ -8,6 +8,7 @@ use Rattle.qrcode_reader.specs.declared.refusals.Unread as reading
 use Rattle.qrcode_scan.proofs.Read.{missed_code}
 use Rattle.qrcode_scan.proofs.Sampled.{sampled_length}
 use Rattle.qrcode_scan.proofs.WhyUnread.{HasNone}
+use Rattle.qrcode_scan.proofs.WholeCodes.{code_of, grid_inside, many_modules, reads_some}
 use Rattle.qrcode_scan.proofs.codes.found_at.Goals as goal
 
 pub scan_of-requires : goal.scan_of-requires
@@ -21,8 +22,8 @@ scan_of-requires c =
     any.reading.parts.parts.items any.reading.wrong.items)
     same (c.in-Ok.ensures.value g.count (sampled_length c.args.pixels.now g c.in-Some.modules.items sampled ∙ ap length (sym same)))
 
-pub returns-in-Err : goal.returns-in-Err
-returns-in-Err c =
+pub returns-in-Err-clause-found : goal.returns-in-Err-clause-found
+returns-in-Err-clause-found c =
     let g = c.args.grid.now in
     let e = c.in-Err.cause in
     let sampled : IsSampled c.args.pixels.now g c.in-Some.modules.items = search rules in
@@ -31,8 +32,20 @@ returns-in-Err c =
     missed_code c.args.pixels.now g c.in-Some.modules.items e sampled other
     (subst (λ (m : List Color). (e ≡ reading.TheVariants.OutOfMemory) ⊎ (IsPartsCause m e × ((side : ℕ) → side * side ≡ length m → HasNone side m))) same c.in-Err.ensures.causes)
 
-pub returns : goal.returns
-returns c =
+pub returns-in-Err-clause-whole : goal.returns-in-Err-clause-whole
+returns-in-Err-clause-whole c =
+    let g = c.args.grid.now in
+    let e = c.in-Err.cause in
+    let sampled : IsSampled c.args.pixels.now g c.in-Some.modules.items = search rules in
+    let same : c.deref.result.now ≡ c.in-Some.modules.items = search rules in
+    let other : ¬ (e ≡ reading.TheVariants.OutOfMemory) = search rules in
+    λ w shows at.
+    reads_some c.args.pixels.now w g c.in-Some.modules.items e sampled other
+    (subst (λ (m : List Color). (e ≡ reading.TheVariants.OutOfMemory) ⊎ (IsPartsCause m e × ((side : ℕ) → side * side ≡ length m → HasNone side m))) same c.in-Err.ensures.causes)
+    shows at
+
+pub returns-clause-found : goal.returns-clause-found
+returns-clause-found c =
     let b = c.args.pixels.now in
     let g = c.args.grid.now in
     let sampled : IsSampled b g c.in-Some.modules.items = search rules in
@@ -58,3 +71,11 @@ returns c =
       };
       read = c.in_ok-scan_of.ensures.read;
     }
+
+pub returns-clause-whole : goal.returns-clause-whole
+returns-clause-whole c =
+    let b = c.args.pixels.now in
+    let g = c.args.grid.now in
+    let sampled : IsSampled b g c.in-Some.modules.items = search rules in
+    let scan = c.in_ok-scan_of.ensures.square in
+    λ w shows at. code_of b w g _ shows at scan.1 (subst (λ (s : Square). IsSampled b g s.modules.items) (sym scan.0) sampled)

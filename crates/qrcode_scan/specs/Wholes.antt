@@ -1,0 +1,121 @@
+-- Squares of modules in whole pixels, and the finder patterns by which they are found.
+use Rattle.std.specs.Prelude.{◌≡◌, ◌⊎◌, ◌++◌, ◌∷◌, [], ℕ, ◌+◌, ◌-◌, ◌*◌, ◌/◌, ◌≤◌, ◌<◌, not, Bool, List, Option, Some, None, length, slice_index_or, All, AllPairs, Any, if◌then◌else◌}
+use Rattle.qrcode_types.specs.Colors.{is_dark}
+use Rattle.qrcode_types.specs.declared.types.Color.{Color}
+use Rattle.qrcode_types.specs.declared.types.Color.TheVariants.{Light}
+use Rattle.qrcode_layout.specs.Figures.{square, is_dark_by_rule}
+use Rattle.qrcode_render.specs.Bitmap.{Bitmap}
+use Rattle.qrcode_render.specs.Layout.{layout}
+use Rattle.qrcode_render.specs.Picture.{is_dark_pixel}
+use Rattle.qrcode_reader.specs.Positions.{seen}
+use Rattle.qrcode_reader.specs.Readings.{ReadsParts}
+use Rattle.qrcode_reader.specs.declared.positions.Position.{Position}
+use Rattle.qrcode_reader.specs.declared.spell.parts.Part.{Part}
+use Rattle.qrcode_scan.specs.Grids.{column_at, row_at}
+use Rattle.qrcode_scan.specs.Squares.{mark_at}
+use Rattle.qrcode_scan.specs.declared.grids.Grid.{Grid}
+
+abbrev pub finder_dark : ℕ → ℕ → Bool  -- the module in column i and row j of a finder pattern is dark
+finder_dark i j = is_dark_by_rule 0 (square 0 0 7) i j
+
+-- a finder pattern begins in this column and row (mark i j says whether the module in column i and row j is dark)
+abbrev pub HasFinder : (ℕ → ℕ → Bool) → ℕ → ℕ → Type 0
+HasFinder mark column row = (i j : ℕ) → i < 7 → j < 7 → mark (column + i) (row + j) ≡ finder_dark i j
+
+-- where a finder pattern in a corner begins, across or down: with the first module, or seven before the end
+abbrev pub corner_start : Bool → ℕ → ℕ
+corner_start is_last count = if is_last then count - 7 else 0
+
+-- a square with `count` modules a side has finder patterns in three corners: in this one and in the two next to it
+pub record HasFinders (mark : ℕ → ℕ → Bool) (count : ℕ) (is_right is_lower : Bool) : Type 0 where
+  pub corner : HasFinder mark (corner_start is_right count) (corner_start is_lower count)
+  pub beside : HasFinder mark (corner_start (not is_right) count) (corner_start is_lower count)
+  pub below : HasFinder mark (corner_start is_right count) (corner_start (not is_lower) count)
+
+-- A square of modules in a picture: its first pixel, the pixels of a module across and down, the modules along a side, and the modules row by row.
+pub record Whole : Type 0 where
+  pub left : ℕ
+  pub top : ℕ
+  pub scale : ℕ
+  pub count : ℕ
+  pub modules : List Color
+
+abbrev pub dark_in : Whole → ℕ → ℕ → Bool  -- the module in column i and row j is dark
+dark_in w i j = is_dark (slice_index_or w.modules (j * w.count + i) Light)
+
+-- The pixels show the square: from its first pixel on they are the picture of its modules without a quiet zone. It has the side of a Normal version
+-- and finder patterns in three corners. Whatever other pixels show is free.
+pub record IsWholeIn (b : Bitmap) (w : Whole) : Type 0 where
+  pub at_least : 1 ≤ w.scale
+  pub square : length w.modules ≡ w.count * w.count
+  pub across : w.left + w.count * w.scale ≤ b.across
+  pub down : w.top + w.count * w.scale ≤ b.down
+  pub shown : (x y : ℕ) → x < w.count * w.scale → y < w.count * w.scale
+      → mark_at b (w.left + x) (w.top + y) ≡ is_dark_pixel (layout w.count 0 w.scale w.scale) w.modules x y
+  pub version : ℕ
+  pub exists : (1 ≤ version) × (version ≤ 40)
+  pub side : w.count ≡ 17 + 4 * version
+  pub is_right : Bool
+  pub is_lower : Bool
+  pub finders : HasFinders (dark_in w) w.count is_right is_lower
+
+-- the grid of the square: the middle of its modules
+pub record IsGridOf (w : Whole) (g : Grid) : Type 0 where
+  pub count : g.count ≡ w.count
+  pub left : g.left ≡ w.left + w.scale / 2
+  pub top : g.top ≡ w.top + w.scale / 2
+  pub across : g.across ≡ w.scale
+  pub down : g.down ≡ w.scale
+  pub parts : g.parts ≡ 1
+
+abbrev pub marked : Bitmap → Grid → ℕ → ℕ → Bool  -- the pixel at the centre of the module in column i and row j of a grid is dark
+marked b g i j = mark_at b (column_at g i) (row_at g j)
+
+-- a grid in the pixels has finder patterns in three corners, as the centres of its modules show
+pub record HasPatterns (b : Bitmap) (g : Grid) : Type 0 where
+  pub across : column_at g (g.count - 1) < b.across
+  pub down : row_at g (g.count - 1) < b.down
+  pub is_right : Bool
+  pub is_lower : Bool
+  pub finders : HasFinders (marked b g) g.count is_right is_lower
+
+-- two grids have the same modules
+pub record AreSame (g h : Grid) : Type 0 where
+  pub count : g.count ≡ h.count
+  pub left : g.left ≡ h.left
+  pub top : g.top ≡ h.top
+  pub across : g.across ≡ h.across
+  pub down : g.down ≡ h.down
+  pub parts : g.parts ≡ h.parts
+
+-- different grids, all with finder patterns in three corners
+pub record ArePatterned (b : Bitmap) (grids : List Grid) : Type 0 where
+  pub patterned : All (HasPatterns b) grids
+  pub different : AllPairs (λ g h. ¬ AreSame g h) grids
+
+abbrev pub HasMany : Bitmap → Type 0  -- 1,024 or more grids in the pixels have finder patterns in three corners
+HasMany b = (grids : List Grid) × (1024 ≤ length grids) × ArePatterned b grids
+
+-- the pixels show a square that decodes in some position
+pub record ShowsCode (b : Bitmap) (w : Whole) : Type 0 where
+  pub whole : IsWholeIn b w
+  pub position : Position
+  pub is_inverted : Bool
+  pub bytes : List ℕ
+  pub parts : List Part
+  pub read : ReadsParts (seen w.count position is_inverted w.modules) bytes parts
+
+abbrev pub IsTriedIn : List Grid → Whole → Type 0  -- the square's grid is one of these, unless there are already 1,024
+IsTriedIn grids w = (1024 ≤ length grids) ⊎ Any (IsGridOf w) grids
+
+-- the square's finder pattern in its corner has the first light module with this first pixel
+pub record BeginsAt (b : Bitmap) (w : Whole) (x y : ℕ) : Type 0 where
+  pub whole : IsWholeIn b w
+  pub column : w.left + (corner_start whole.is_right w.count + 1) * w.scale ≡ x
+  pub row : w.top + (corner_start whole.is_lower w.count + 1) * w.scale ≡ y
+
+-- what a push does to a list of grids: nothing if there is no grid, if it is known, or if there are 1,024; else it is the last one
+abbrev pub IsPushed : List Grid → Option Grid → List Grid → Type 0
+IsPushed old None new = new ≡ old
+IsPushed old (Some g) new =
+    ((new ≡ old) × ((1024 ≤ length old) ⊎ Any (λ h. AreSame h g) old)) ⊎ ((new ≡ old ++ g ∷ []) × All (λ h. ¬ AreSame h g) old)

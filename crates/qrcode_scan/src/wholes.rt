@@ -1,0 +1,260 @@
+//! Finds the squares of modules in whole pixels that have finder patterns in three corners.
+
+ghost use Rattle.std.specs.Prelude.{◌≡◌, ◌⊎◌, ◌*◌, ◌+◌, ◌-◌, ◌/◌, ◌%◌, ◌==◌, ◌<◌, ◌≤◌, ◌++◌, ◌∷◌, [], ℕ, List, All, Any, true, false, length, if◌then◌else◌, IsTrue, IsFalse, IfOk, IfSome, IfNone, OnOk};
+ghost use Rattle.qrcode_scan.specs.Squares.{mark_at};
+ghost use Rattle.qrcode_scan.specs.Wholes.{finder_dark, corner_start, marked, AreSame, ArePatterned, BeginsAt, HasFinder, HasMany, HasPatterns, IsTriedIn, IsGridOf, IsPushed, IsWholeIn, Whole};
+
+use crate::grids::Grid;
+use crate::pixels::Pixels;
+use crate::samples::{is_inside, mark_in};
+use crate::squares::mark_at;
+use std::alloc::{AllocError, Global};
+
+// The most grids. Bounds memory and time.
+const MOST_GRIDS: usize = 1024;
+
+// A finder pattern: its first pixel, and the pixels of a module.
+#[derive(Clone, Copy)]
+struct Finder {
+    x: usize,
+    y: usize,
+    scale: usize,
+    ghost fits: { (x ≤ 65535) × (y ≤ 65535) × (scale ≤ 65535) },
+}
+
+// The corner of a square whose finder pattern has others left or right of it, and above or below.
+#[derive(Clone, Copy)]
+struct Corner {
+    is_right: bool,
+    is_lower: bool,
+}
+
+/// Returns the grids of the squares in whole pixels that have finder patterns in three corners, at
+/// most 1,024.
+///
+/// Errors: only `AllocError`, if memory runs out.
+pub(crate) fn whole_grids(alloc: Global, pixels: &Pixels) -> Result<Vec<Grid>, AllocError>
+    ensures { IfOk result (λ grids. (w : Whole) → IsWholeIn pixels.now w
+        → HasMany pixels.now ⊎ Any (IsGridOf w) grids.items) }
+{
+    let mut grids = Vec::new(alloc);
+    for y in 0..pixels.sides().1 {
+        push_row(&mut grids, pixels, y)?;
+    }
+    Ok(grids)
+}
+
+// Appends the grids of the squares whose finder pattern has its first light pixel in row `y`.
+fn push_row(grids: &mut Vec<Grid>, pixels: &Pixels, y: usize) -> Result<(), AllocError>
+    requires row { (y < pixels.now.down) × (y ≤ 65535) }
+    requires patterned { ArePatterned pixels.now grids.old.items }
+    ensures patterned { OnOk result (ArePatterned pixels.now grids.new.items) }
+    ensures kept { OnOk result ((w : Whole) → IsTriedIn grids.old.items w
+        → IsTriedIn grids.new.items w) }
+    ensures found { OnOk result ((w : Whole) (x : ℕ) → BeginsAt pixels.now w x y
+        → IsTriedIn grids.new.items w) }
+{
+    for x in 0..pixels.sides().0 {
+        match finder_at(pixels, x, y) {
+            Some(finder) => push_sizes(grids, pixels, finder)?,
+            None => {}
+        }
+    }
+    Ok(())
+}
+
+// Returns the finder pattern whose first light pixel this is: it has five light modules in a row.
+fn finder_at(pixels: &Pixels, x: usize, y: usize) -> Option<Finder>
+    requires inside { (x < pixels.now.across) × (y < pixels.now.down) }
+    requires at_most { (x ≤ 65535) × (y ≤ 65535) }
+    ensures value { IfSome result (λ finder. (w : Whole) → BeginsAt pixels.now w x y
+        → (finder.scale ≡ w.scale) × (finder.x + w.scale ≡ x) × (finder.y + w.scale ≡ y)) }
+    ensures none { IfNone result ((w : Whole) → ¬ BeginsAt pixels.now w x y) }
+{
+    if !is_first_light(pixels, x, y) {
+        return None;
+    }
+    let five = light_run(pixels, x, y);
+    let scale = five / 5;
+    if scale * 5 != five || x < scale || y < scale {
+        return None;
+    }
+    Some(Finder {
+        x: x - scale,
+        y: y - scale,
+        scale,
+    })
+}
+
+// Whether a pixel is light, and those before and above it are dark.
+fn is_first_light(pixels: &Pixels, x: usize, y: usize) -> bool
+    requires { (x ≤ 65535) × (y ≤ 65535) }
+    ensures { IsFalse result → (w : Whole) → ¬ BeginsAt pixels.now w x y }
+{
+    0 < x
+        && 0 < y
+        && !mark_at(pixels, x, y)
+        && mark_at(pixels, x - 1, y)
+        && mark_at(pixels, x, y - 1)
+}
+
+// Counts the light pixels from a place to the right.
+fn light_run(pixels: &Pixels, x: usize, y: usize) -> usize
+    requires inside { (x < pixels.now.across) × (y ≤ 65535) }
+    ensures at_most { x + result ≤ pixels.now.across }
+    ensures light { (k : ℕ) → k < result → mark_at pixels.now (x + k) y ≡ false }
+    ensures end { x + result < pixels.now.across → mark_at pixels.now (x + result) y ≡ true }
+{
+    let across = pixels.sides().0;
+    for count in 0..across - x {
+        if mark_at(pixels, x + count, y) {
+            return count;
+        }
+    }
+    across - x
+}
+
+// Appends the grids of squares of each size that have this finder pattern in each of their corners.
+fn push_sizes(grids: &mut Vec<Grid>, pixels: &Pixels, finder: Finder) -> Result<(), AllocError>
+    requires { ArePatterned pixels.now grids.old.items }
+    ensures patterned { OnOk result (ArePatterned pixels.now grids.new.items) }
+    ensures kept { OnOk result ((w : Whole) → IsTriedIn grids.old.items w
+        → IsTriedIn grids.new.items w) }
+    ensures found { OnOk result ((w : Whole)
+        → BeginsAt pixels.now w (finder.x + finder.scale) (finder.y + finder.scale)
+        → w.scale ≡ finder.scale → IsTriedIn grids.new.items w) }
+{
+    for i in 0..160 {
+        let corner = Corner {
+            is_right: i % 2 == 1,
+            is_lower: i / 2 % 2 == 1,
+        };
+        push_new(grids, whole_grid(pixels, finder, 1 + i / 4, corner))?;
+    }
+    Ok(())
+}
+
+// Appends a grid, unless it is known or there are too many.
+fn push_new(grids: &mut Vec<Grid>, grid: Option<Grid>) -> Result<(), AllocError>
+    ensures { OnOk result (IsPushed grids.old.items grid grids.new.items) }
+{
+    let Some(grid) = grid else {
+        return Ok(());
+    };
+    if grids.len() < MOST_GRIDS && !is_known(grids, &grid) {
+        grids.push(grid)?;
+    }
+    Ok(())
+}
+
+// Whether a grid is one of these.
+fn is_known(grids: &[Grid], grid: &Grid) -> bool
+    ensures known { IsTrue result → Any (λ other. AreSame other grid.now) grids.now }
+    ensures new { IsFalse result → All (λ other. ¬ AreSame other grid.now) grids.now }
+{
+    for other in grids {
+        if is_same(other, grid) {
+            return true;
+        }
+    }
+    false
+}
+
+// Whether two grids have the same modules.
+fn is_same(one: &Grid, other: &Grid) -> bool
+    ensures same { IsTrue result → AreSame one.now other.now }
+    ensures other { IsFalse result → ¬ AreSame one.now other.now }
+{
+    one.count == other.count
+        && one.left == other.left
+        && one.top == other.top
+        && one.across == other.across
+        && one.down == other.down
+        && one.parts == other.parts
+}
+
+// Returns the grid of a square of this version with the finder pattern in a corner, if it has the
+// two others.
+fn whole_grid(pixels: &Pixels, finder: Finder, version: usize, corner: Corner) -> Option<Grid>
+    requires { (1 ≤ version) × (version ≤ 40) }
+    ensures patterned { IfSome result (HasPatterns pixels.now) }
+    ensures value { IfSome result (λ grid. (w : Whole)
+        → (at : BeginsAt pixels.now w (finder.x + finder.scale) (finder.y + finder.scale))
+        → w.scale ≡ finder.scale → at.whole.version ≡ version
+        → at.whole.is_right ≡ corner.is_right → at.whole.is_lower ≡ corner.is_lower
+        → IsGridOf w grid) }
+    ensures none { IfNone result ((w : Whole)
+        → (at : BeginsAt pixels.now w (finder.x + finder.scale) (finder.y + finder.scale))
+        → w.scale ≡ finder.scale → at.whole.version ≡ version
+        → at.whole.is_right ≡ corner.is_right → at.whole.is_lower ≡ corner.is_lower → ⊥) }
+{
+    let count = 17 + 4 * version;
+    let far = (count - 7) * finder.scale;
+    let left = start(finder.x, far, corner.is_right)?;
+    let top = start(finder.y, far, corner.is_lower)?;
+    let grid = Grid {
+        count,
+        left: left + finder.scale / 2,
+        top: top + finder.scale / 2,
+        across: finder.scale,
+        down: finder.scale,
+        parts: 1,
+    };
+    if has_patterns(pixels, &grid, corner) {
+        Some(grid)
+    } else {
+        None
+    }
+}
+
+// Returns where a square begins whose finder pattern begins at `place`: there, or `far` before.
+fn start(place: usize, far: usize, is_last: bool) -> Option<usize>
+    ensures value { IfSome result (λ start. start + (if is_last then far else 0) ≡ place) }
+    ensures none { IfNone result (place < (if is_last then far else 0)) }
+{
+    if is_last {
+        place.checked_sub(far)
+    } else {
+        Some(place)
+    }
+}
+
+// Whether a grid lies in the pixels and has finder patterns in this corner and those next to it.
+fn has_patterns(pixels: &Pixels, grid: &Grid, corner: Corner) -> bool
+    requires { (21 ≤ grid.now.count) × (1 ≤ grid.now.parts) }
+    ensures all { IsTrue result → HasPatterns pixels.now grid.now }
+    ensures none { IsFalse result → (at : HasPatterns pixels.now grid.now)
+        → at.is_right ≡ corner.is_right → at.is_lower ≡ corner.is_lower → ⊥ }
+{
+    let last = grid.count - 7;
+    let (x, y) = (
+        if corner.is_right { last } else { 0 },
+        if corner.is_lower { last } else { 0 },
+    );
+    is_inside(pixels, grid)
+        && has_finder(pixels, grid, x, y)
+        && has_finder(pixels, grid, last - x, y)
+        && has_finder(pixels, grid, x, last - y)
+}
+
+// Whether a grid has a finder pattern that begins in this column and row.
+fn has_finder(pixels: &Pixels, grid: &Grid, column: usize, row: usize) -> bool
+    requires { (column ≤ 170) × (row ≤ 170) × (1 ≤ grid.now.parts) }
+    ensures all { IsTrue result → HasFinder (marked pixels.now grid.now) column row }
+    ensures none { IsFalse result → ¬ HasFinder (marked pixels.now grid.now) column row }
+{
+    for i in 0..49 {
+        if mark_in(pixels, grid, column + i % 7, row + i / 7) != finder_dark(i % 7, i / 7) {
+            return false;
+        }
+    }
+    true
+}
+
+// Whether a module of a finder pattern is dark.
+fn finder_dark(column: usize, row: usize) -> bool
+    requires { (column < 7) × (row < 7) }
+    ensures { result ≡ finder_dark column row }
+{
+    column.min(6 - column).min(row.min(6 - row)) != 1
+}
