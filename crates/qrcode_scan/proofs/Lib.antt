@@ -11,5 +11,6 @@ mod Read
 mod Sampled
 mod Seen
 mod ShownSquares
+mod Tried
 mod WholeCodes
 mod WhyUnread

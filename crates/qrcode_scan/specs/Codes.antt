@@ -36,7 +36,8 @@ pub record IsMissedOf (bytes : List ℕ) (m : missed.Missed) : Type 0 where
   pub seen : IsSeenAs bytes pixels is_inverted
   pub missed : IsMissedIn pixels m
 
--- the pixels of a grid: the first column and row, and those behind the last
+-- The place of a grid in pixels: a square as large as that of its modules, which begins at the centre of the first one. Its first column and row, and
+-- those behind the last.
 abbrev pub left_of : Grid → ℕ
 left_of g = g.left / max g.parts 1
 
@@ -49,11 +50,11 @@ right_of g = (g.left + g.count * g.across) / max g.parts 1
 abbrev pub bottom_of : Grid → ℕ
 bottom_of g = (g.top + g.count * g.down) / max g.parts 1
 
--- two grids have no pixel in common: one ends before the other begins, across or down
+-- the places of two grids have no pixel in common: one ends before the other begins, across or down
 abbrev pub AreApart : Grid → Grid → Type 0
 AreApart g h = (right_of g ≤ left_of h) ⊎ ((right_of h ≤ left_of g) ⊎ ((bottom_of g ≤ top_of h) ⊎ (bottom_of h ≤ top_of g)))
 
--- two codes that were found by their finder patterns have no pixel in common; so no code is found twice
+-- the places of two codes that were found by their finder patterns have no pixel in common; so no code is found twice
 abbrev pub AreTwo : Scan → Scan → Type 0
 AreTwo one other = (g h : Grid) → one.grid ≡ Some g → other.grid ≡ Some h → AreApart g h
 
@@ -64,7 +65,7 @@ pub record IsCodeOf (w : Whole) (scan : Scan) : Type 0 where
   pub place : IsGridOf w grid
   pub modules : scan.square.modules.items ≡ w.modules
 
--- the code has pixels in common with this square
+-- the code's place has pixels in common with that of this square
 pub record SharesPixels (w : Whole) (scan : Scan) : Type 0 where
   pub grid : Grid
   pub found : scan.grid ≡ Some grid
@@ -72,7 +73,7 @@ pub record SharesPixels (w : Whole) (scan : Scan) : Type 0 where
   pub place : IsGridOf w other
   pub shared : ¬ AreApart grid other
 
--- the code is the one in this square; or it is in its way: it has pixels in common with it, or all dark pixels since its margin is plain
+-- the code is the one in this square; or it is in its way: it overlaps the square, or it has all dark pixels, since its margin is plain
 abbrev pub IsFoundBy : Whole → Scan → Type 0
 IsFoundBy w scan = IsCodeOf w scan ⊎ (SharesPixels w scan ⊎ (scan.grid ≡ None))
 

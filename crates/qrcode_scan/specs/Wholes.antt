@@ -32,52 +32,67 @@ pub record HasFinders (mark : ℕ → ℕ → Bool) (count : ℕ) (is_right is_l
   pub beside : HasFinder mark (corner_start (not is_right) count) (corner_start is_lower count)
   pub below : HasFinder mark (corner_start is_right count) (corner_start (not is_lower) count)
 
--- A square of modules in a picture: its first pixel, the pixels of a module across and down, the modules along a side, and the modules row by row.
+-- A square of modules in a picture: its first pixel, the pixels of a module across and down, its version, the corner whose finder pattern has others
+-- beside and above or below it, and the modules row by row.
 pub record Whole : Type 0 where
   pub left : ℕ
   pub top : ℕ
   pub scale : ℕ
-  pub count : ℕ
-  pub modules : List Color
-
-abbrev pub dark_in : Whole → ℕ → ℕ → Bool  -- the module in column i and row j is dark
-dark_in w i j = is_dark (slice_index_or w.modules (j * w.count + i) Light)
-
--- The pixels show the square: from its first pixel on they are the picture of its modules without a quiet zone. It has the side of a Normal version
--- and finder patterns in three corners. Whatever other pixels show is free.
-pub record IsWholeIn (b : Bitmap) (w : Whole) : Type 0 where
-  pub at_least : 1 ≤ w.scale
-  pub square : length w.modules ≡ w.count * w.count
-  pub across : w.left + w.count * w.scale ≤ b.across
-  pub down : w.top + w.count * w.scale ≤ b.down
-  pub shown : (x y : ℕ) → x < w.count * w.scale → y < w.count * w.scale
-      → mark_at b (w.left + x) (w.top + y) ≡ is_dark_pixel (layout w.count 0 w.scale w.scale) w.modules x y
   pub version : ℕ
-  pub exists : (1 ≤ version) × (version ≤ 40)
-  pub side : w.count ≡ 17 + 4 * version
   pub is_right : Bool
   pub is_lower : Bool
-  pub finders : HasFinders (dark_in w) w.count is_right is_lower
+  pub modules : List Color
 
--- the grid of the square: the middle of its modules
-pub record IsGridOf (w : Whole) (g : Grid) : Type 0 where
-  pub count : g.count ≡ w.count
-  pub left : g.left ≡ w.left + w.scale / 2
-  pub top : g.top ≡ w.top + w.scale / 2
-  pub across : g.across ≡ w.scale
-  pub down : g.down ≡ w.scale
+abbrev pub count_of : Whole → ℕ  -- the modules along a side of a Normal symbol
+count_of w = 17 + 4 * w.version
+
+abbrev pub dark_in : Whole → ℕ → ℕ → Bool  -- the module in column i and row j is dark
+dark_in w i j = is_dark (slice_index_or w.modules (j * count_of w + i) Light)
+
+-- The pixels show the square: from its first pixel on they are the picture of its modules without a quiet zone. It has finder patterns in three
+-- corners. Whatever other pixels show is free.
+pub record IsWholeIn (b : Bitmap) (w : Whole) : Type 0 where
+  pub version : (1 ≤ w.version) × (w.version ≤ 40)
+  pub at_least : 1 ≤ w.scale
+  pub square : length w.modules ≡ count_of w * count_of w
+  pub across : w.left + count_of w * w.scale ≤ b.across
+  pub down : w.top + count_of w * w.scale ≤ b.down
+  pub shown : (x y : ℕ) → x < count_of w * w.scale → y < count_of w * w.scale
+      → mark_at b (w.left + x) (w.top + y) ≡ is_dark_pixel (layout (count_of w) 0 w.scale w.scale) w.modules x y
+  pub finders : HasFinders (dark_in w) (count_of w) w.is_right w.is_lower
+
+-- the pixels show a square that decodes in some position
+pub record ShowsCode (b : Bitmap) (w : Whole) : Type 0 where
+  pub whole : IsWholeIn b w
+  pub position : Position
+  pub is_inverted : Bool
+  pub bytes : List ℕ
+  pub parts : List Part
+  pub read : ReadsParts (seen (count_of w) position is_inverted w.modules) bytes parts
+
+-- the grid of a square from pixel x y on, with `scale` pixels per module and `count` modules a side: the middle of its modules
+pub record IsGridAt (x y scale count : ℕ) (g : Grid) : Type 0 where
+  pub count : g.count ≡ count
+  pub left : g.left ≡ x + scale / 2
+  pub top : g.top ≡ y + scale / 2
+  pub across : g.across ≡ scale
+  pub down : g.down ≡ scale
   pub parts : g.parts ≡ 1
+
+abbrev pub IsGridOf : Whole → Grid → Type 0  -- the grid of a square in whole pixels
+IsGridOf w g = IsGridAt w.left w.top w.scale (count_of w) g
 
 abbrev pub marked : Bitmap → Grid → ℕ → ℕ → Bool  -- the pixel at the centre of the module in column i and row j of a grid is dark
 marked b g i j = mark_at b (column_at g i) (row_at g j)
 
--- a grid in the pixels has finder patterns in three corners, as the centres of its modules show
-pub record HasPatterns (b : Bitmap) (g : Grid) : Type 0 where
+-- a grid in the pixels has finder patterns in this corner and the two next to it, as the centres of its modules show
+pub record HasPatterns (b : Bitmap) (g : Grid) (is_right is_lower : Bool) : Type 0 where
   pub across : column_at g (g.count - 1) < b.across
   pub down : row_at g (g.count - 1) < b.down
-  pub is_right : Bool
-  pub is_lower : Bool
   pub finders : HasFinders (marked b g) g.count is_right is_lower
+
+abbrev pub IsPatterned : Bitmap → Grid → Type 0  -- it has them in some corner
+IsPatterned b g = (is_right : Bool) × ((is_lower : Bool) × HasPatterns b g is_right is_lower)
 
 -- two grids have the same modules
 pub record AreSame (g h : Grid) : Type 0 where
@@ -90,29 +105,27 @@ pub record AreSame (g h : Grid) : Type 0 where
 
 -- different grids, all with finder patterns in three corners
 pub record ArePatterned (b : Bitmap) (grids : List Grid) : Type 0 where
-  pub patterned : All (HasPatterns b) grids
+  pub patterned : All (IsPatterned b) grids
   pub different : AllPairs (λ g h. ¬ AreSame g h) grids
 
 abbrev pub HasMany : Bitmap → Type 0  -- 1,024 or more grids in the pixels have finder patterns in three corners
-HasMany b = (grids : List Grid) × (1024 ≤ length grids) × ArePatterned b grids
-
--- the pixels show a square that decodes in some position
-pub record ShowsCode (b : Bitmap) (w : Whole) : Type 0 where
-  pub whole : IsWholeIn b w
-  pub position : Position
-  pub is_inverted : Bool
-  pub bytes : List ℕ
-  pub parts : List Part
-  pub read : ReadsParts (seen w.count position is_inverted w.modules) bytes parts
+HasMany b = (grids : List Grid) × ((1024 ≤ length grids) × ArePatterned b grids)
 
 abbrev pub IsTriedIn : List Grid → Whole → Type 0  -- the square's grid is one of these, unless there are already 1,024
 IsTriedIn grids w = (1024 ≤ length grids) ⊎ Any (IsGridOf w) grids
 
--- the square's finder pattern in its corner has the first light module with this first pixel
+-- the first light pixel of the finder pattern in the square's corner: column and row
+abbrev pub light_column : Whole → ℕ
+light_column w = w.left + (corner_start w.is_right (count_of w) * w.scale + w.scale)
+
+abbrev pub light_row : Whole → ℕ
+light_row w = w.top + (corner_start w.is_lower (count_of w) * w.scale + w.scale)
+
+-- the pixels show the square, and the finder pattern in its corner has this first light pixel
 pub record BeginsAt (b : Bitmap) (w : Whole) (x y : ℕ) : Type 0 where
   pub whole : IsWholeIn b w
-  pub column : w.left + (corner_start whole.is_right w.count + 1) * w.scale ≡ x
-  pub row : w.top + (corner_start whole.is_lower w.count + 1) * w.scale ≡ y
+  pub column : light_column w ≡ x
+  pub row : light_row w ≡ y
 
 -- what a push does to a list of grids: nothing if there is no grid, if it is known, or if there are 1,024; else it is the last one
 abbrev pub IsPushed : List Grid → Option Grid → List Grid → Type 0

@@ -1,8 +1,8 @@
 //! Finds the squares of modules in whole pixels that have finder patterns in three corners.
 
-ghost use Rattle.std.specs.Prelude.{◌≡◌, ◌⊎◌, ◌*◌, ◌+◌, ◌-◌, ◌/◌, ◌%◌, ◌==◌, ◌<◌, ◌≤◌, ◌++◌, ◌∷◌, [], ℕ, List, All, Any, true, false, length, if◌then◌else◌, IsTrue, IsFalse, IfOk, IfSome, IfNone, OnOk};
+ghost use Rattle.std.specs.Prelude.{◌≡◌, ◌⊎◌, ◌*◌, ◌+◌, ◌-◌, ◌/◌, ◌%◌, ◌==◌, ◌<◌, ◌≤◌, ◌++◌, ◌∷◌, [], ℕ, List, All, Any, true, false, not, length, if◌then◌else◌, IsTrue, IsFalse, IfOk, IfSome, IfNone, OnOk};
 ghost use Rattle.qrcode_scan.specs.Squares.{mark_at};
-ghost use Rattle.qrcode_scan.specs.Wholes.{finder_dark, corner_start, marked, AreSame, ArePatterned, BeginsAt, HasFinder, HasMany, HasPatterns, IsTriedIn, IsGridOf, IsPushed, IsWholeIn, Whole};
+ghost use Rattle.qrcode_scan.specs.Wholes.{count_of, finder_dark, corner_start, marked, AreSame, ArePatterned, BeginsAt, HasFinder, HasMany, HasPatterns, IsGridAt, IsGridOf, IsPatterned, IsPushed, IsTriedIn, IsWholeIn, Whole};
 
 use crate::grids::Grid;
 use crate::pixels::Pixels;
@@ -39,6 +39,9 @@ pub(crate) fn whole_grids(alloc: Global, pixels: &Pixels) -> Result<Vec<Grid>, A
 {
     let mut grids = Vec::new(alloc);
     for y in 0..pixels.sides().1 {
+        if MOST_GRIDS <= grids.len() {
+            return Ok(grids);
+        }
         push_row(&mut grids, pixels, y)?;
     }
     Ok(grids)
@@ -63,12 +66,14 @@ fn push_row(grids: &mut Vec<Grid>, pixels: &Pixels, y: usize) -> Result<(), Allo
     Ok(())
 }
 
-// Returns the finder pattern whose first light pixel this is: it has five light modules in a row.
+// Returns the finder pattern whose first light pixel this is: the first of five light modules.
 fn finder_at(pixels: &Pixels, x: usize, y: usize) -> Option<Finder>
     requires inside { (x < pixels.now.across) × (y < pixels.now.down) }
     requires at_most { (x ≤ 65535) × (y ≤ 65535) }
-    ensures value { IfSome result (λ finder. (w : Whole) → BeginsAt pixels.now w x y
-        → (finder.scale ≡ w.scale) × (finder.x + w.scale ≡ x) × (finder.y + w.scale ≡ y)) }
+    ensures place { IfSome result (λ finder. (finder.x + finder.scale ≡ x)
+        × (finder.y + finder.scale ≡ y)) }
+    ensures scale { IfSome result (λ finder. (w : Whole) → BeginsAt pixels.now w x y
+        → w.scale ≡ finder.scale) }
     ensures none { IfNone result ((w : Whole) → ¬ BeginsAt pixels.now w x y) }
 {
     if !is_first_light(pixels, x, y) {
@@ -79,11 +84,32 @@ fn finder_at(pixels: &Pixels, x: usize, y: usize) -> Option<Finder>
     if scale * 5 != five || x < scale || y < scale {
         return None;
     }
-    Some(Finder {
+    let finder = Finder {
         x: x - scale,
         y: y - scale,
         scale,
-    })
+    };
+    let grid = grid_at(finder.x, finder.y, scale, 21);
+    if has_finder(pixels, &grid, 0, 0) {
+        Some(finder)
+    } else {
+        None
+    }
+}
+
+// Returns the grid of `count` modules a side, of `scale` pixels each, from this pixel on.
+fn grid_at(x: usize, y: usize, scale: usize, count: usize) -> Grid
+    requires { (x ≤ 65535) × (y ≤ 65535) × (scale ≤ 65535) × (count ≤ 177) }
+    ensures { IsGridAt x y scale count result }
+{
+    Grid {
+        count,
+        left: x + scale / 2,
+        top: y + scale / 2,
+        across: scale,
+        down: scale,
+        parts: 1,
+    }
 }
 
 // Whether a pixel is light, and those before and above it are dark.
@@ -105,13 +131,13 @@ fn light_run(pixels: &Pixels, x: usize, y: usize) -> usize
     ensures light { (k : ℕ) → k < result → mark_at pixels.now (x + k) y ≡ false }
     ensures end { x + result < pixels.now.across → mark_at pixels.now (x + result) y ≡ true }
 {
-    let across = pixels.sides().0;
-    for count in 0..across - x {
+    let rest = pixels.sides().0 - x;
+    for count in 0..rest {
         if mark_at(pixels, x + count, y) {
             return count;
         }
     }
-    across - x
+    rest
 }
 
 // Appends the grids of squares of each size that have this finder pattern in each of their corners.
@@ -177,29 +203,23 @@ fn is_same(one: &Grid, other: &Grid) -> bool
 // two others.
 fn whole_grid(pixels: &Pixels, finder: Finder, version: usize, corner: Corner) -> Option<Grid>
     requires { (1 ≤ version) × (version ≤ 40) }
-    ensures patterned { IfSome result (HasPatterns pixels.now) }
+    ensures patterned { IfSome result (IsPatterned pixels.now) }
     ensures value { IfSome result (λ grid. (w : Whole)
-        → (at : BeginsAt pixels.now w (finder.x + finder.scale) (finder.y + finder.scale))
-        → w.scale ≡ finder.scale → at.whole.version ≡ version
-        → at.whole.is_right ≡ corner.is_right → at.whole.is_lower ≡ corner.is_lower
-        → IsGridOf w grid) }
+        → BeginsAt pixels.now w (finder.x + finder.scale) (finder.y + finder.scale)
+        → w.scale ≡ finder.scale → w.version ≡ version → w.is_right ≡ corner.is_right
+        → w.is_lower ≡ corner.is_lower → IsGridOf w grid) }
     ensures none { IfNone result ((w : Whole)
-        → (at : BeginsAt pixels.now w (finder.x + finder.scale) (finder.y + finder.scale))
-        → w.scale ≡ finder.scale → at.whole.version ≡ version
-        → at.whole.is_right ≡ corner.is_right → at.whole.is_lower ≡ corner.is_lower → ⊥) }
+        → BeginsAt pixels.now w (finder.x + finder.scale) (finder.y + finder.scale)
+        → w.scale ≡ finder.scale → w.version ≡ version → w.is_right ≡ corner.is_right
+        → w.is_lower ≡ corner.is_lower → ⊥) }
 {
     let count = 17 + 4 * version;
-    let far = (count - 7) * finder.scale;
-    let left = start(finder.x, far, corner.is_right)?;
-    let top = start(finder.y, far, corner.is_lower)?;
-    let grid = Grid {
-        count,
-        left: left + finder.scale / 2,
-        top: top + finder.scale / 2,
-        across: finder.scale,
-        down: finder.scale,
-        parts: 1,
-    };
+    let column = corner_start(corner.is_right, count) * finder.scale;
+    let row = corner_start(corner.is_lower, count) * finder.scale;
+    if finder.x < column || finder.y < row {
+        return None;
+    }
+    let grid = grid_at(finder.x - column, finder.y - row, finder.scale, count);
     if has_patterns(pixels, &grid, corner) {
         Some(grid)
     } else {
@@ -207,34 +227,31 @@ fn whole_grid(pixels: &Pixels, finder: Finder, version: usize, corner: Corner) -
     }
 }
 
-// Returns where a square begins whose finder pattern begins at `place`: there, or `far` before.
-fn start(place: usize, far: usize, is_last: bool) -> Option<usize>
-    ensures value { IfSome result (λ start. start + (if is_last then far else 0) ≡ place) }
-    ensures none { IfNone result (place < (if is_last then far else 0)) }
+// Returns the first column or row of a finder pattern in a corner of `count` modules a side.
+fn corner_start(is_last: bool, count: usize) -> usize
+    requires { (7 ≤ count) × (count ≤ 177) }
+    ensures value { result ≡ corner_start is_last count }
+    ensures at_most { result ≤ 170 }
 {
-    if is_last {
-        place.checked_sub(far)
-    } else {
-        Some(place)
-    }
+    if is_last { count - 7 } else { 0 }
 }
 
 // Whether a grid lies in the pixels and has finder patterns in this corner and those next to it.
 fn has_patterns(pixels: &Pixels, grid: &Grid, corner: Corner) -> bool
     requires { (21 ≤ grid.now.count) × (1 ≤ grid.now.parts) }
-    ensures all { IsTrue result → HasPatterns pixels.now grid.now }
-    ensures none { IsFalse result → (at : HasPatterns pixels.now grid.now)
-        → at.is_right ≡ corner.is_right → at.is_lower ≡ corner.is_lower → ⊥ }
+    ensures all { IsTrue result
+        → HasPatterns pixels.now grid.now corner.is_right corner.is_lower }
+    ensures none { IsFalse result
+        → ¬ HasPatterns pixels.now grid.now corner.is_right corner.is_lower }
 {
-    let last = grid.count - 7;
-    let (x, y) = (
-        if corner.is_right { last } else { 0 },
-        if corner.is_lower { last } else { 0 },
-    );
+    let x = corner_start(corner.is_right, grid.count);
+    let y = corner_start(corner.is_lower, grid.count);
+    let beside = corner_start(!corner.is_right, grid.count);
+    let below = corner_start(!corner.is_lower, grid.count);
     is_inside(pixels, grid)
         && has_finder(pixels, grid, x, y)
-        && has_finder(pixels, grid, last - x, y)
-        && has_finder(pixels, grid, x, last - y)
+        && has_finder(pixels, grid, beside, y)
+        && has_finder(pixels, grid, x, below)
 }
 
 // Whether a grid has a finder pattern that begins in this column and row.

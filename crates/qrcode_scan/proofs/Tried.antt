@@ -1,0 +1,131 @@
+-- Lists of grids that are tried: what pushes do to them, and the squares that they have.
+use Rattle.std.proofs.Common.{◌≡◌, ◌⊎◌, ◌*◌, ℕ, ◌+◌, ◌-◌, ◌/◌, ◌%◌, ◌==◌, ◌<◌, ◌≤◌, ◌++◌, ◌∷◌, [], inl, inr, Bool, true, false, List, Option, Some, None, length, ap, ap₂, refl, sym, subst, ◌∙◌, arith, length-append, if◌then◌else◌}
+use Rattle.std.specs.Prelude.{AllPairs, Any, IfSome}
+use Rattle.std.proofs.lemmas.List.{get_or_append_left}
+use Rattle.std.proofs.lemmas.List.Elements.{All-push}
+use Rattle.std.proofs.lemmas.List.Quantifiers.{Any-push, all_pairs_push}
+use Rattle.qrcode_render.specs.Bitmap.{Bitmap}
+use Rattle.qrcode_scan.specs.Wholes.{AreSame, ArePatterned, BeginsAt, HasMany, IsGridAt, IsGridOf, IsPatterned, IsPushed, IsTriedIn, IsWholeIn, Whole, corner_start, count_of, light_column, light_row}
+use Rattle.qrcode_scan.specs.declared.grids.Grid.{Grid}
+use Rattle.qrcode_scan.proofs.ExactSquares.{begins_above}
+
+-- where the finder pattern in a square's corner begins, in pixels from its first one on
+far_of : (w : Whole) (scale version far : ℕ) (last mine : Bool) → w.scale ≡ scale → w.version ≡ version → mine ≡ last → far ≡ corner_start last (17 + 4 * version) * scale
+    → corner_start mine (count_of w) * w.scale ≡ far
+far_of w scale version far last mine at_scale at_version same is =
+    ap₂ (λ (c s : ℕ). c * s) (ap₂ (λ (d : Bool) (v : ℕ). corner_start d (17 + 4 * v)) same at_version) at_scale ∙ sym is
+
+-- where a square begins, by the first light pixel of that finder pattern
+start_of : (mine product far scale own place : ℕ) → mine + (product + own) ≡ place + scale → product ≡ far → own ≡ scale → (far ≤ place) × (place - far ≡ mine)
+start_of mine product far scale own place e f g = (omega (arith, e, f, g), omega (arith, e, f, g))
+
+-- the square begins in the picture
+pub starts_inside : (b : Bitmap) (w : Whole) (x y scale version column row : ℕ) (r l : Bool) → column ≡ corner_start r (17 + 4 * version) * scale
+    → row ≡ corner_start l (17 + 4 * version) * scale → BeginsAt b w (x + scale) (y + scale) → w.scale ≡ scale → w.version ≡ version → w.is_right ≡ r → w.is_lower ≡ l
+    → ((column ≤ x) × (x - column ≡ w.left)) × ((row ≤ y) × (y - row ≡ w.top))
+starts_inside b w x y scale version column row r l across down begins at_scale at_version right lower = (
+  start_of w.left (corner_start w.is_right (count_of w) * w.scale) column scale w.scale x begins.column (far_of w scale version column r w.is_right at_scale at_version right across) at_scale,
+  start_of w.top (corner_start w.is_lower (count_of w) * w.scale) row scale w.scale y begins.row (far_of w scale version row l w.is_lower at_scale at_version lower down) at_scale,
+)
+
+-- and the grid from there on is that of the square
+pub grid_of : (b : Bitmap) (w : Whole) (g : Grid) (x y scale version column row : ℕ) (r l : Bool) → column ≡ corner_start r (17 + 4 * version) * scale
+    → row ≡ corner_start l (17 + 4 * version) * scale → IsGridAt (x - column) (y - row) scale (17 + 4 * version) g
+    → BeginsAt b w (x + scale) (y + scale) → w.scale ≡ scale → w.version ≡ version → w.is_right ≡ r → w.is_lower ≡ l → IsGridOf w g
+grid_of b w g x y scale version column row r l across down at begins at_scale at_version right lower =
+    let start = starts_inside b w x y scale version column row r l across down begins at_scale at_version right lower in
+    record {
+      count = at.count ∙ ap (λ (v : ℕ). 17 + 4 * v) (sym at_version);
+      left = at.left ∙ ap₂ (λ (m s : ℕ). m + s / 2) start.0.1 (sym at_scale);
+      top = at.top ∙ ap₂ (λ (m s : ℕ). m + s / 2) start.1.1 (sym at_scale);
+      across = at.across ∙ sym at_scale;
+      down = at.down ∙ sym at_scale;
+      parts = at.parts;
+    }
+
+-- an element of a list is one of a longer list
+pub any_left : {X : Type 0} (P : X → Type 0) (xs ys : List X) → Any P xs → Any P (xs ++ ys)
+any_left P xs ys any =
+    let k = any.0 in
+    let x = any.1 in
+    (k, x, omega (arith, any.2, length-append xs ys), get_or_append_left xs ys x k any.2 ∙ any.3, any.4)
+
+-- a longer list of grids has what it had
+found_left : (w : Whole) (xs ys : List Grid) → IsTriedIn xs w → IsTriedIn (xs ++ ys) w
+found_left w xs ys (inl many) = inl (omega (arith, many, length-append xs ys))
+found_left w xs ys (inr any) = inr (any_left (IsGridOf w) xs ys any)
+
+-- the same grid is that of the same square
+same_place : (w : Whole) (g h : Grid) → AreSame h g → IsGridOf w g → IsGridOf w h
+same_place w g h same at = record {
+  count = same.count ∙ at.count;
+  left = same.left ∙ at.left;
+  top = same.top ∙ at.top;
+  across = same.across ∙ at.across;
+  down = same.down ∙ at.down;
+  parts = same.parts ∙ at.parts;
+}
+
+-- a push keeps what is found
+pub push_keeps : (w : Whole) (old new : List Grid) (grid : Option Grid) → IsPushed old grid new → IsTriedIn old w → IsTriedIn new w
+push_keeps w old new None is found = subst (λ xs. IsTriedIn xs w) (sym is) found
+push_keeps w old new (Some g) (inl same) found = subst (λ xs. IsTriedIn xs w) (sym same.0) found
+push_keeps w old new (Some g) (inr more) found = subst (λ xs. IsTriedIn xs w) (sym more.0) (found_left w old (g ∷ []) found)
+
+-- and finds the square of its grid
+pub push_finds : (w : Whole) (old new : List Grid) (grid : Option Grid) → IsPushed old grid new → IfSome grid (IsGridOf w) → ¬ (grid ≡ None) → IsTriedIn new w
+push_finds w old new None is at some = absurd (some refl)
+push_finds w old new (Some g) (inl same) at some =
+    subst (λ xs. IsTriedIn xs w) (sym same.0) (elim same.1 [
+      | inl many ↦ inl many
+      | inr known ↦ inr (known.0, known.1, known.2, known.3, same_place w g known.1 known.4 at)
+    ])
+push_finds w old new (Some g) (inr more) at some = subst (λ xs. IsTriedIn xs w) (sym more.0) (inr (Any-push (IsGridOf w) old g at))
+
+-- all grids still have patterns, and are different
+pub push_patterned : (b : Bitmap) (old new : List Grid) (grid : Option Grid) → ArePatterned b old → IfSome grid (IsPatterned b) → IsPushed old grid new → ArePatterned b new
+push_patterned b old new None are has is = subst (ArePatterned b) (sym is) are
+push_patterned b old new (Some g) are has (inl same) = subst (ArePatterned b) (sym same.0) are
+push_patterned b old new (Some g) are has (inr more) =
+    subst (ArePatterned b) (sym more.0) (record {
+      patterned = All-push (IsPatterned b) old g are.patterned has;
+      different = all_pairs_push (λ (g h : Grid). ¬ AreSame g h) old g are.different (λ k d inside. more.1 k d inside);
+    })
+
+-- the number of a version and a corner, in the order of the search
+abbrev pub flag : Bool → ℕ
+flag b = if b then 1 else 0
+
+abbrev pub number_of : Whole → ℕ
+number_of w = 4 * (w.version - 1) + 2 * flag w.is_lower + flag w.is_right
+
+pub numbered : (v i : ℕ) (r l : Bool) → 1 ≤ v → 4 * (v - 1) + 2 * flag l + flag r ≡ i → (v ≡ 1 + i / 4) × (r ≡ (i % 2 == 1)) × (l ≡ (i / 2 % 2 == 1))
+numbered v i true true some is =
+    let odd : i % 2 ≡ 1 = omega (arith, is) in
+    let high : i / 2 % 2 ≡ 1 = omega (arith, is) in
+    (omega (arith, some, is), sym (ap (λ n. n == 1) odd), sym (ap (λ n. n == 1) high))
+numbered v i true false some is =
+    let odd : i % 2 ≡ 1 = omega (arith, is) in
+    let high : i / 2 % 2 ≡ 0 = omega (arith, is) in
+    (omega (arith, some, is), sym (ap (λ n. n == 1) odd), sym (ap (λ n. n == 1) high))
+numbered v i false true some is =
+    let odd : i % 2 ≡ 0 = omega (arith, is) in
+    let high : i / 2 % 2 ≡ 1 = omega (arith, is) in
+    (omega (arith, some, is), sym (ap (λ n. n == 1) odd), sym (ap (λ n. n == 1) high))
+numbered v i false false some is =
+    let odd : i % 2 ≡ 0 = omega (arith, is) in
+    let high : i / 2 % 2 ≡ 0 = omega (arith, is) in
+    (omega (arith, some, is), sym (ap (λ n. n == 1) odd), sym (ap (λ n. n == 1) high))
+
+-- no grids yet
+pub none_patterned : (b : Bitmap) (grids : List Grid) → grids ≡ [] → ArePatterned b grids
+none_patterned b grids none =
+    subst (ArePatterned b) (sym none) (record { patterned = λ k d inside. absurd (omega (arith, inside)); different = λ i j d lt within. absurd (omega (arith, lt, within)) })
+
+-- all squares are found
+pub all_found : (b : Bitmap) (grids : List Grid) → ArePatterned b grids → ((w : Whole) (j k : ℕ) → j < b.down → BeginsAt b w k j → IsTriedIn grids w)
+    → (w : Whole) → IsWholeIn b w → HasMany b ⊎ Any (IsGridOf w) grids
+all_found b grids are found w is = elim (found w (light_row w) (light_column w) (begins_above b w is) (record { whole = is; column = refl; row = refl })) [
+  | inl many ↦ inl (grids, (many, are))
+  | inr any ↦ inr any
+]
