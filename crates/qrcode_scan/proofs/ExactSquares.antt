@@ -153,6 +153,12 @@ ring_above b w x y at =
     ap₂ (mark_at b) (at_first w.left (corner_start w.is_right (count_of w)) w.scale x at.column) (at_last w.top (corner_start w.is_lower (count_of w)) w.scale y some at.row)
     ∙ ring_pixel b w 1 0 0 (w.scale - 1) at.whole (omega arith) (omega arith) some (omega (arith, some))
 
+pub first_light : (b : Bitmap) (w : Whole) (x y : ℕ) → BeginsAt b w x y
+    → (0 < x) × (0 < y) × (mark_at b x y ≡ false) × (mark_at b (x - 1) y ≡ true) × (mark_at b x (y - 1) ≡ true)
+first_light b w x y at =
+    let inside = ring_inside b w x y at in
+    (omega (arith, inside.0, inside.1), omega (arith, inside.0, inside.2), ring_light b w x y at, ring_before b w x y at, ring_above b w x y at)
+
 -- the second row of a finder pattern has five light modules
 second_row : (i : ℕ) → i < 5 → finder_dark (1 + i) 1 ≡ false
 second_row 0 low = refl

@@ -1,6 +1,7 @@
 -- Lists of grids that are tried: what pushes do to them, and the squares that they have.
 use Rattle.std.proofs.Common.{◌≡◌, ◌⊎◌, ◌*◌, ℕ, ◌+◌, ◌-◌, ◌/◌, ◌%◌, ◌==◌, ◌<◌, ◌≤◌, ◌++◌, ◌∷◌, [], inl, inr, Bool, true, false, List, Option, Some, None, length, ap, ap₂, refl, sym, subst, ◌∙◌, arith, length-append, if◌then◌else◌}
-use Rattle.std.specs.Prelude.{AllPairs, Any, IfSome}
+use Rattle.std.specs.Prelude.{AllPairs, Any, IfNone, IfSome}
+use Rattle.std.proofs.lemmas.Bool.{cases_lt}
 use Rattle.std.proofs.lemmas.List.{get_or_append_left}
 use Rattle.std.proofs.lemmas.List.Elements.{All-push}
 use Rattle.std.proofs.lemmas.List.Quantifiers.{Any-push, all_pairs_push}
@@ -73,14 +74,13 @@ push_keeps w old new (Some g) (inl same) found = subst (λ xs. IsTriedIn xs w) (
 push_keeps w old new (Some g) (inr more) found = subst (λ xs. IsTriedIn xs w) (sym more.0) (found_left w old (g ∷ []) found)
 
 -- and finds the square of its grid
-pub push_finds : (w : Whole) (old new : List Grid) (grid : Option Grid) → IsPushed old grid new → IfSome grid (IsGridOf w) → ¬ (grid ≡ None) → IsTriedIn new w
-push_finds w old new None is at some = absurd (some refl)
-push_finds w old new (Some g) (inl same) at some =
+push_finds : (w : Whole) (old new : List Grid) (g : Grid) → IsPushed old (Some g) new → IsGridOf w g → IsTriedIn new w
+push_finds w old new g (inl same) at =
     subst (λ xs. IsTriedIn xs w) (sym same.0) (elim same.1 [
       | inl many ↦ inl many
       | inr known ↦ inr (known.0, known.1, known.2, known.3, same_place w g known.1 known.4 at)
     ])
-push_finds w old new (Some g) (inr more) at some = subst (λ xs. IsTriedIn xs w) (sym more.0) (inr (Any-push (IsGridOf w) old g at))
+push_finds w old new g (inr more) at = subst (λ xs. IsTriedIn xs w) (sym more.0) (inr (Any-push (IsGridOf w) old g at))
 
 -- all grids still have patterns, and are different
 pub push_patterned : (b : Bitmap) (old new : List Grid) (grid : Option Grid) → ArePatterned b old → IfSome grid (IsPatterned b) → IsPushed old grid new → ArePatterned b new
@@ -117,6 +117,65 @@ numbered v i false false some is =
     let high : i / 2 % 2 ≡ 0 = omega (arith, is) in
     (omega (arith, some, is), sym (ap (λ n. n == 1) odd), sym (ap (λ n. n == 1) high))
 
+flag_small : (b : Bool) → flag b ≤ 1
+flag_small true = omega arith
+flag_small false = omega arith
+
+-- all numbers are below 160
+pub numbered_below : (b : Bitmap) (w : Whole) (x y : ℕ) → BeginsAt b w x y → number_of w < 160
+numbered_below b w x y at =
+    let most = at.whole.version in
+    let right = flag_small w.is_right in
+    let lower = flag_small w.is_lower in
+    omega (arith, most.0, most.1, right, lower)
+
+-- what a size and a corner of a finder pattern must do: if there is a grid, it is that of each such square; if not, there is none
+abbrev pub FindsSize : Bitmap → ℕ → ℕ → ℕ → ℕ → Bool → Bool → Option Grid → Type 0
+FindsSize b x y scale version r l None = (w : Whole) → BeginsAt b w x y → w.scale ≡ scale → w.version ≡ version → w.is_right ≡ r → w.is_lower ≡ l → ⊥
+FindsSize b x y scale version r l (Some g) = (w : Whole) → BeginsAt b w x y → w.scale ≡ scale → w.version ≡ version → w.is_right ≡ r → w.is_lower ≡ l → IsGridOf w g
+
+pub finds_size : (b : Bitmap) (x y scale version : ℕ) (r l : Bool) (grid : Option Grid)
+    → IfSome grid (λ g. (w : Whole) → BeginsAt b w x y → w.scale ≡ scale → w.version ≡ version → w.is_right ≡ r → w.is_lower ≡ l → IsGridOf w g)
+    → IfNone grid ((w : Whole) → BeginsAt b w x y → w.scale ≡ scale → w.version ≡ version → w.is_right ≡ r → w.is_lower ≡ l → ⊥) → FindsSize b x y scale version r l grid
+finds_size b x y scale version r l None value none = none
+finds_size b x y scale version r l (Some g) value none = value
+
+size_tried : (b : Bitmap) (old new : List Grid) (x y scale version : ℕ) (r l : Bool) (grid : Option Grid) (w : Whole) → IsPushed old grid new → FindsSize b x y scale version r l grid
+    → BeginsAt b w x y → w.scale ≡ scale → w.version ≡ version → w.is_right ≡ r → w.is_lower ≡ l → IsTriedIn new w
+size_tried b old new x y scale version r l None w pushed finds at same at_version right lower = absurd (finds w at same at_version right lower)
+size_tried b old new x y scale version r l (Some g) w pushed finds at same at_version right lower = push_finds w old new g pushed (finds w at same at_version right lower)
+
+-- one more size and corner
+pub sizes_more : (b : Bitmap) (old new : List Grid) (x y scale i : ℕ) (grid : Option Grid) → IsPushed old grid new → FindsSize b x y scale (1 + i / 4) (i % 2 == 1) (i / 2 % 2 == 1) grid
+    → ((w : Whole) → BeginsAt b w x y → w.scale ≡ scale → number_of w < i → IsTriedIn old w)
+    → (w : Whole) → BeginsAt b w x y → w.scale ≡ scale → number_of w < i + 1 → IsTriedIn new w
+sizes_more b old new x y scale i grid pushed finds before w at same below = elim (cases_lt (number_of w) i) [
+  | inl less ↦ push_keeps w old new grid pushed (before w at same less)
+  | inr late ↦
+      let n = numbered w.version i w.is_right w.is_lower at.whole.version.0 (omega (arith, below, late)) in
+      size_tried b old new x y scale (1 + i / 4) (i % 2 == 1) (i / 2 % 2 == 1) grid w pushed finds at same n.0 n.1 n.2
+]
+
+-- the same place, by other numbers
+pub begins_there : (b : Bitmap) (w : Whole) (x y p q : ℕ) → p ≡ x → q ≡ y → BeginsAt b w x y → BeginsAt b w p q
+begins_there b w x y p q e f at = record { whole = at.whole; column = at.column ∙ sym e; row = at.row ∙ sym f }
+
+-- one more pixel of a row
+pub row_more : (b : Bitmap) (old new : List Grid) (x y : ℕ) → ((w : Whole) → IsTriedIn old w → IsTriedIn new w) → ((w : Whole) → BeginsAt b w x y → IsTriedIn new w)
+    → ((w : Whole) (k : ℕ) → k < x → BeginsAt b w k y → IsTriedIn old w) → (w : Whole) (k : ℕ) → k < x + 1 → BeginsAt b w k y → IsTriedIn new w
+row_more b old new x y kept here before w k below at = elim (cases_lt k x) [
+  | inl less ↦ kept w (before w k less at)
+  | inr late ↦ here w (begins_there b w k y x y (omega (arith, below, late)) refl at)
+]
+
+-- one more row
+pub rows_more : (b : Bitmap) (old new : List Grid) (y : ℕ) → ((w : Whole) → IsTriedIn old w → IsTriedIn new w) → ((w : Whole) (k : ℕ) → BeginsAt b w k y → IsTriedIn new w)
+    → ((w : Whole) (j k : ℕ) → j < y → BeginsAt b w k j → IsTriedIn old w) → (w : Whole) (j k : ℕ) → j < y + 1 → BeginsAt b w k j → IsTriedIn new w
+rows_more b old new y kept here before w j k below at = elim (cases_lt j y) [
+  | inl less ↦ kept w (before w j k less at)
+  | inr late ↦ here w k (begins_there b w k j k y refl (omega (arith, below, late)) at)
+]
+
 -- no grids yet
 pub none_patterned : (b : Bitmap) (grids : List Grid) → grids ≡ [] → ArePatterned b grids
 none_patterned b grids none =
@@ -129,3 +188,7 @@ all_found b grids are found w is = elim (found w (light_row w) (light_column w) 
   | inl many ↦ inl (grids, (many, are))
   | inr any ↦ inr any
 ]
+
+-- or there are 1,024
+pub many_found : (b : Bitmap) (grids : List Grid) → ArePatterned b grids → 1024 ≤ length grids → (w : Whole) → IsWholeIn b w → HasMany b ⊎ Any (IsGridOf w) grids
+many_found b grids are many = λ w is. inl (grids, (many, are))

@@ -33,6 +33,7 @@ struct Corner {
 /// most 1,024.
 ///
 /// Errors: only `AllocError`, if memory runs out.
+#[tactic(auto, using(crate::proofs::Tried::none_patterned, crate::proofs::Tried::many_found, crate::proofs::Tried::all_found, crate::proofs::Tried::rows_more))]
 pub(crate) fn whole_grids(alloc: Global, pixels: &Pixels) -> Result<Vec<Grid>, AllocError>
     ensures { IfOk result (λ grids. (w : Whole) → IsWholeIn pixels.now w
         → HasMany pixels.now ⊎ Any (IsGridOf w) grids.items) }
@@ -113,6 +114,7 @@ fn grid_at(x: usize, y: usize, scale: usize, count: usize) -> Grid
 }
 
 // Whether a pixel is light, and those before and above it are dark.
+#[tactic(auto, using(crate::proofs::ExactSquares::first_light))]
 fn is_first_light(pixels: &Pixels, x: usize, y: usize) -> bool
     requires { (x ≤ 65535) × (y ≤ 65535) }
     ensures { IsFalse result → (w : Whole) → ¬ BeginsAt pixels.now w x y }
@@ -255,6 +257,7 @@ fn has_patterns(pixels: &Pixels, grid: &Grid, corner: Corner) -> bool
 }
 
 // Whether a grid has a finder pattern that begins in this column and row.
+#[tactic(auto, using(crate::proofs::ExactSquares::all_modules))]
 fn has_finder(pixels: &Pixels, grid: &Grid, column: usize, row: usize) -> bool
     requires { (column ≤ 170) × (row ≤ 170) × (1 ≤ grid.now.parts) }
     ensures all { IsTrue result → HasFinder (marked pixels.now grid.now) column row }
