@@ -1,5 +1,5 @@
 -- Squares of modules in whole pixels: what their pixels and their grids show.
-use Rattle.std.proofs.Common.{◌≡◌, ◌⊎◌, ◌*◌, ℕ, ◌+◌, ◌-◌, ◌/◌, ◌%◌, ◌<◌, ◌≤◌, suc, inl, inr, Bool, true, false, not, List, length, get_or, ap, ap₂, refl, sym, subst, ◌∙◌, arith, if◌then◌else◌}
+use Rattle.std.proofs.Common.{◌≡◌, ◌⊎◌, ◌*◌, ℕ, ◌+◌, ◌-◌, ◌/◌, ◌%◌, ◌<◌, ◌≤◌, zero, suc, inl, inr, Bool, true, false, not, List, length, get_or, ap, ap₂, refl, sym, subst, ◌∙◌, arith, if◌then◌else◌}
 use Rattle.std.proofs.Math.Nat.{mul-le-mul_right}
 use Rattle.std.proofs.lemmas.Nat.{div-add-mod', mod_below, div_below}
 use Rattle.std.proofs.lemmas.Bool.{cases_lt}
@@ -64,8 +64,10 @@ finder_seen b w g r l is at has =
 
 -- the middle of the last module lies in the square
 last_inside : (start count scale whole : ℕ) → 1 ≤ count → 1 ≤ scale → start + count * scale ≤ whole → start + ((count - 1) * scale + scale / 2) < whole
-last_inside start (suc n) scale whole some least fits = omega (arith, least, fits)
-last_inside start 0 scale whole some least fits = absurd (omega (arith, some))
+last_inside start count scale whole some least fits =
+    let more : count ≡ (count - 1) + 1 = omega (arith, some) in
+    let all : start + ((count - 1) + 1) * scale ≤ whole = subst (λ n. start + n * scale ≤ whole) more fits in
+    omega (arith, least, all)
 
 -- so it has patterns
 pub patterned : (b : Bitmap) (w : Whole) (g : Grid) → IsWholeIn b w → IsGridOf w g → HasPatterns b g w.is_right w.is_lower
@@ -161,11 +163,11 @@ first_light b w x y at =
 
 -- the second row of a finder pattern has five light modules
 second_row : (i : ℕ) → i < 5 → finder_dark (1 + i) 1 ≡ false
-second_row 0 low = refl
-second_row 1 low = refl
-second_row 2 low = refl
-second_row 3 low = refl
-second_row 4 low = refl
+second_row zero low = refl
+second_row (suc zero) low = refl
+second_row (suc (suc zero)) low = refl
+second_row (suc (suc (suc zero))) low = refl
+second_row (suc (suc (suc (suc zero)))) low = refl
 second_row (suc (suc (suc (suc (suc n))))) low = absurd (omega (arith, low))
 
 -- so there are five modules of light pixels, and then a dark one in the picture

@@ -70,9 +70,9 @@ pub record ShowsCode (b : Bitmap) (w : Whole) : Type 0 where
   pub parts : List Part
   pub read : ReadsParts (seen (count_of w) position is_inverted w.modules) bytes parts
 
--- the grid of a square from pixel x y on, with `scale` pixels per module and `count` modules a side: the middle of its modules
-pub record IsGridAt (x y scale count : ℕ) (g : Grid) : Type 0 where
-  pub count : g.count ≡ count
+-- the grid of a square from pixel x y on, with `scale` pixels per module and `side` modules a side: the middle of its modules
+pub record IsGridAt (x y scale side : ℕ) (g : Grid) : Type 0 where
+  pub count : g.count ≡ side
   pub left : g.left ≡ x + scale / 2
   pub top : g.top ≡ y + scale / 2
   pub across : g.across ≡ scale

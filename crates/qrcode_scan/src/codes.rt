@@ -8,11 +8,12 @@ ghost use Rattle.qrcode_scan.specs.Wholes.{IsGridOf, ShowsCode, Whole};
 ghost use Rattle.qrcode_scan.specs.declared.grids.Grid.{Grid};
 ghost use Rattle.qrcode_scan.specs.Scans.{has_more, HasNoWhole, IsNotClean, IsScanOf, IsUnreadPicture, IsUnreadIn};
 
-use crate::grids::{Grid, grids_of};
+use crate::grids::Grid;
 use crate::pixels::Pixels;
 use crate::samples::sampled_at;
 use crate::scanning::{self, Scan, read_clean, scan_of, seen_in};
 use crate::squares::Square;
+use crate::wholes::grids_of;
 use qrcode_ec::max_allowed_errors;
 use qrcode_reader::{AnyPartsReading, Unread, read_any_parts};
 use std::alloc::{AllocError, Global};

@@ -1,13 +1,11 @@
 //! Finds squares of modules by their finder patterns, also in pictures that show other things.
 
-ghost use Rattle.std.specs.Prelude.{◌≡◌, ◌⊎◌, ◌^◌, ◌<◌, ◌≤◌, Any, IfOk, IfSome};
-ghost use Rattle.qrcode_scan.specs.Wholes.{HasMany, IsGridOf, IsWholeIn, Whole};
+ghost use Rattle.std.specs.Prelude.{◌≡◌, ◌^◌, ◌<◌, ◌≤◌, IfSome};
 
 use crate::finders::{Finder, finders};
 use crate::micro::push_micro;
 use crate::pixels::Pixels;
 use crate::samples::mark_in;
-use crate::wholes::whole_grids;
 use std::alloc::{AllocError, Global};
 
 // The most grids of a picture. Bounds memory and time.
@@ -45,23 +43,12 @@ struct Corner {
     below: Finder,
 }
 
-/// Finds squares of modules in a picture. First come all squares of Normal versions whose modules
-/// are whole pixels, dark on light, with the finder patterns in three of their corners; at most
-/// 1,024. Then it guesses by less exact finder patterns in three corners, or by the single one of
-/// Micro: first dark modules on light, then light on dark; at most 1,024.
+/// Guesses where squares of modules are in a picture, by the finder patterns in three of their
+/// corners, or by the single one of Micro: first dark modules on light, then light on dark; at most
+/// 1,024.
 ///
 /// Errors: only `AllocError`, if memory runs out.
-pub fn grids_of(alloc: Global, pixels: &Pixels) -> Result<Vec<Grid>, AllocError>
-    ensures { IfOk result (λ grids. (w : Whole) → IsWholeIn pixels.now w
-        → HasMany pixels.now ⊎ Any (IsGridOf w) grids.items) }
-{
-    let mut grids = whole_grids(alloc, pixels)?;
-    grids.extend_from_slice(&guesses(alloc, pixels)?)?;
-    Ok(grids)
-}
-
-// Guesses where squares of modules are, at most 1,024.
-fn guesses(alloc: Global, pixels: &Pixels) -> Result<Vec<Grid>, AllocError> {
+pub(crate) fn guesses(alloc: Global, pixels: &Pixels) -> Result<Vec<Grid>, AllocError> {
     let mut grids = Vec::new(alloc);
     push_grids(alloc, &mut grids, pixels)?;
     push_grids(alloc, &mut grids, &pixels.inverted(alloc)?)?;

@@ -4,7 +4,7 @@ ghost use Rattle.std.specs.Prelude.{◌≡◌, ◌⊎◌, ◌*◌, ◌+◌, ◌-
 ghost use Rattle.qrcode_scan.specs.Squares.{mark_at};
 ghost use Rattle.qrcode_scan.specs.Wholes.{count_of, finder_dark, corner_start, marked, AreSame, ArePatterned, BeginsAt, HasFinder, HasMany, HasPatterns, IsGridAt, IsGridOf, IsPatterned, IsPushed, IsTriedIn, IsWholeIn, Whole};
 
-use crate::grids::Grid;
+use crate::grids::{Grid, guesses};
 use crate::pixels::Pixels;
 use crate::samples::{is_inside, mark_in};
 use crate::squares::mark_at;
@@ -29,12 +29,25 @@ struct Corner {
     is_lower: bool,
 }
 
-/// Returns the grids of the squares in whole pixels that have finder patterns in three corners, at
-/// most 1,024.
+/// Finds squares of modules in a picture. First come all squares of Normal versions in whole
+/// pixels, dark on light, that have finder patterns in three corners; at most 1,024. Then it
+/// guesses, by less exact finder patterns.
 ///
 /// Errors: only `AllocError`, if memory runs out.
+#[tactic(auto, using(crate::proofs::Tried::any_left))]
+pub fn grids_of(alloc: Global, pixels: &Pixels) -> Result<Vec<Grid>, AllocError>
+    ensures { IfOk result (λ grids. (w : Whole) → IsWholeIn pixels.now w
+        → HasMany pixels.now ⊎ Any (IsGridOf w) grids.items) }
+{
+    let mut grids = whole_grids(alloc, pixels)?;
+    grids.extend_from_slice(&guesses(alloc, pixels)?)?;
+    Ok(grids)
+}
+
+// Returns the grids of the squares in whole pixels that have finder patterns in three corners, at
+// most 1,024.
 #[tactic(auto, using(crate::proofs::Tried::none_patterned, crate::proofs::Tried::many_found, crate::proofs::Tried::all_found, crate::proofs::Tried::rows_more))]
-pub(crate) fn whole_grids(alloc: Global, pixels: &Pixels) -> Result<Vec<Grid>, AllocError>
+fn whole_grids(alloc: Global, pixels: &Pixels) -> Result<Vec<Grid>, AllocError>
     ensures { IfOk result (λ grids. (w : Whole) → IsWholeIn pixels.now w
         → HasMany pixels.now ⊎ Any (IsGridOf w) grids.items) }
 {
@@ -119,11 +132,13 @@ fn is_first_light(pixels: &Pixels, x: usize, y: usize) -> bool
     requires { (x ≤ 65535) × (y ≤ 65535) }
     ensures { IsFalse result → (w : Whole) → ¬ BeginsAt pixels.now w x y }
 {
-    0 < x
-        && 0 < y
-        && !mark_at(pixels, x, y)
-        && mark_at(pixels, x - 1, y)
-        && mark_at(pixels, x, y - 1)
+    if x == 0 || y == 0 || mark_at(pixels, x, y) {
+        return false;
+    }
+    if !mark_at(pixels, x - 1, y) {
+        return false;
+    }
+    mark_at(pixels, x, y - 1)
 }
 
 // Counts the light pixels from a place to the right.
@@ -257,7 +272,6 @@ fn has_patterns(pixels: &Pixels, grid: &Grid, corner: Corner) -> bool
 }
 
 // Whether a grid has a finder pattern that begins in this column and row.
-#[tactic(auto, using(crate::proofs::ExactSquares::all_modules))]
 fn has_finder(pixels: &Pixels, grid: &Grid, column: usize, row: usize) -> bool
     requires { (column ≤ 170) × (row ≤ 170) × (1 ≤ grid.now.parts) }
     ensures all { IsTrue result → HasFinder (marked pixels.now grid.now) column row }
