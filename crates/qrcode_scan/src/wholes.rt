@@ -34,7 +34,6 @@ struct Corner {
 /// guesses, by less exact finder patterns.
 ///
 /// Errors: only `AllocError`, if memory runs out.
-#[tactic(auto, using(crate::proofs::Tried::any_left))]
 pub fn grids_of(alloc: Global, pixels: &Pixels) -> Result<Vec<Grid>, AllocError>
     ensures { IfOk result (λ grids. (w : Whole) → IsWholeIn pixels.now w
         → HasMany pixels.now ⊎ Any (IsGridOf w) grids.items) }
@@ -46,7 +45,7 @@ pub fn grids_of(alloc: Global, pixels: &Pixels) -> Result<Vec<Grid>, AllocError>
 
 // Returns the grids of the squares in whole pixels that have finder patterns in three corners, at
 // most 1,024.
-#[tactic(auto, using(crate::proofs::Tried::none_patterned, crate::proofs::Tried::many_found, crate::proofs::Tried::all_found, crate::proofs::Tried::rows_more))]
+#[tactic(auto, using(crate::proofs::Tried::none_patterned, crate::proofs::Tried::many_found))]
 fn whole_grids(alloc: Global, pixels: &Pixels) -> Result<Vec<Grid>, AllocError>
     ensures { IfOk result (λ grids. (w : Whole) → IsWholeIn pixels.now w
         → HasMany pixels.now ⊎ Any (IsGridOf w) grids.items) }
