@@ -1,5 +1,5 @@
 -- The codes in a picture.
-use Rattle.std.proofs.Common.{◌≡◌, ◌*◌, ◌⊎◌, ◌+◌, ◌-◌, ◌<◌, ◌≤◌, ◌++◌, ◌∷◌, ◌∙◌, [], ℕ, zero, suc, Bool, List, Some, None, All, length, take, drop, get_or, ap, refl, sym, subst, inl, inr, arith}
+use Rattle.std.proofs.Common.{◌≡◌, ◌*◌, ◌⊎◌, ◌+◌, ◌-◌, ◌<◌, ◌≤◌, ◌++◌, ◌∷◌, ◌∙◌, [], ℕ, Bool, List, Some, None, All, length, take, drop, get_or, ap, refl, sym, subst, inl, inr, arith}
 use Rattle.std.proofs.lemmas.List.Elements.{All-append, All-cons, All-drop, All-nil, All-push, All-take, All-weaker}
 use Rattle.std.specs.Prelude.{AllPairs, Any, insert}
 use Rattle.qrcode_types.specs.declared.types.Color.{Color}
@@ -10,12 +10,14 @@ use Rattle.qrcode_scan.specs.declared.grids.Grid.{Grid}
 use Rattle.qrcode_reader.specs.declared.refusals.Unread as reading
 use Rattle.std.proofs.lemmas.List.Edits.{get_or-insert_at, get_or-insert_below, get_or-insert_above, length-insert}
 use Rattle.std.proofs.lemmas.Bool.{cases_lt}
-use Rattle.qrcode_scan.specs.Codes.{AreApart, AreTwo, AreCodesIn, FindsWholes, FindsWholesOf, IsCodeIn, IsCodeOf, IsFoundBy, IsMissedIn, IsMissedOf, SharesPixels}
+use Rattle.qrcode_scan.specs.Codes.{AreTwo, AreCodesIn, FindsWholes, FindsWholesOf, HasGrid, IsApartFrom, IsCodeIn, IsFoundAs, IsFoundBy, IsMissedIn, IsMissedOf, Overlaps}
 use Rattle.qrcode_scan.specs.Scans.{IsReadAs, HasNoWhole, IsScanOf, IsSeenAs, IsSquareOf}
 use Rattle.qrcode_scan.specs.Wholes.{HasMany, IsGridOf, ShowsCode, Whole}
 use Rattle.qrcode_scan.specs.declared.scanning.Scan.{Scan}
 use Rattle.qrcode_scan.specs.declared.codes.Codes.{Codes}
 use Rattle.qrcode_scan.specs.declared.codes.Missed.{Missed}
+use Rattle.qrcode_scan.specs.declared.codes.Found.{Found}
+use Rattle.qrcode_scan.specs.declared.codes.Found.TheVariants.{Nothing, Missed as MissedAt}
 use Rattle.qrcode_scan.proofs.Sampled.{sampled_length}
 use Rattle.qrcode_scan.proofs.WhyUnread.{HasNone}
 
@@ -55,8 +57,9 @@ pairs_insert {X} R swap xs n y fits h new i j d lt within =
       below k low = get_or-insert_below xs n y d k low fits
 
       above : (k : ℕ) → n < k → get_or (insert xs n y) k d ≡ get_or xs (k - 1) d
-      above zero low = omega (arith, low)
-      above (suc k) low = get_or-insert_above xs n y d k (omega (arith, low)) fits ∙ ap (λ m. get_or xs m d) (omega arith)
+      above k low =
+          let more : k ≡ (k - 1) + 1 = omega (arith, low) in
+          ap (λ m. get_or (insert xs n y) m d) more ∙ get_or-insert_above xs n y d (k - 1) (omega (arith, low)) fits
 
 -- an item that is put in is there, and so are the others
 pub any_inserted : {X : Type 0} (P : X → Type 0) (xs ys : List X) (y : X) → (n : ℕ) × (n ≤ length xs) × (ys ≡ insert xs n y) → P y → Any P ys
@@ -76,7 +79,7 @@ any_kept P xs ys y put any =
 
 -- two codes are two in either order
 two_swapped : (x y : Scan) → AreTwo x y → AreTwo y x
-two_swapped x y two g h is other = elim (two h g other is) [
+two_swapped x y two g is h other = elim (two h other g is) [
   | inl left ↦ inr (inl left)
   | inr rest ↦ elim rest [
     | inl right ↦ inl right
@@ -90,7 +93,7 @@ two_swapped x y two g h is other = elim (two h g other is) [
 -- no codes yet
 pub no_code : (b : Bitmap) (i : Bool) (codes : Codes) → codes.scans.items ≡ [] → codes.missed.items ≡ [] → AreCodesIn b i codes
 no_code b i codes none no_missed =
-    record { scans = subst (All (IsCodeIn b i)) (sym none) (All-nil (IsCodeIn b i)); missed = subst (All (IsMissedIn b)) (sym no_missed) (All-nil (IsMissedIn b)); once = subst (AllPairs AreTwo) (sym none) (λ i j d lt within. omega (arith, within)) }
+    record { scans = subst (All (IsCodeIn b i)) (sym none) (All-nil (IsCodeIn b i)); missed = subst (All (IsMissedIn b)) (sym no_missed) (All-nil (IsMissedIn b)); once = subst (AllPairs AreTwo) (sym none) (λ i j d lt within. absurd (omega (arith, within))) }
 
 -- only the code in a plain margin
 pub only_code : (b : Bitmap) (i : Bool) (codes : Codes) (scan : Scan) → codes.scans.items ≡ scan ∷ [] → codes.missed.items ≡ [] → IsSquareOf scan b → scan.grid ≡ None
@@ -99,12 +102,12 @@ only_code b i codes scan same no_missed square clean inverted read = record {
   scans = subst (All (IsCodeIn b i)) (sym same)
       (All-cons (IsCodeIn b i) scan [] (record { inverted = inverted; square = record { found = inl (clean, square) }; read = read }) (All-nil (IsCodeIn b i)));
   missed = subst (All (IsMissedIn b)) (sym no_missed) (All-nil (IsMissedIn b));
-  once = subst (AllPairs AreTwo) (sym same) (λ i j d lt within. omega (arith, lt, within));
+  once = subst (AllPairs AreTwo) (sym same) (λ i j d lt within. absurd (omega (arith, lt, within)));
 }
 
 -- one more code, decoded or not
 pub code_added : (b : Bitmap) (i : Bool) (old new : Codes) (x : Scan) (g : Grid) → (n : ℕ) × (n ≤ length old.scans.items) × (new.scans.items ≡ insert old.scans.items n x)
-    → new.missed.items ≡ old.missed.items → IsCodeIn b i x → x.grid ≡ Some g → All (λ (s : Scan). (h : Grid) → s.grid ≡ Some h → AreApart h g) old.scans.items
+    → new.missed.items ≡ old.missed.items → IsCodeIn b i x → x.grid ≡ Some g → All (IsApartFrom g) old.scans.items
     → AreCodesIn b i old → AreCodesIn b i new
 code_added b i old new x g same as_before code is apart are =
     let n = same.0 in
@@ -112,7 +115,7 @@ code_added b i old new x g same as_before code is apart are =
     record {
       once = subst (AllPairs AreTwo) (sym same.2)
           (pairs_insert AreTwo two_swapped xs n x same.1 are.once
-          (λ k d inside h other old_is new_is. subst (AreApart h) (some_same (sym is ∙ new_is)) (apart k d inside h old_is)));
+          (λ k d inside h new_is. subst (λ q. IsApartFrom q (get_or xs k d)) (some_same (sym is ∙ new_is)) (apart k d inside)));
       scans = subst (All (IsCodeIn b i)) (sym same.2)
           (All-append (IsCodeIn b i) (take n xs) (x ∷ drop n xs) (All-take (IsCodeIn b i) n xs are.scans)
           (All-cons (IsCodeIn b i) x (drop n xs) code (All-drop (IsCodeIn b i) n xs are.scans)));
@@ -138,6 +141,13 @@ pub missed_code : (b : Bitmap) (g : Grid) (modules : List Color) (e : reading.Un
 missed_code b g modules e sampled other why = elim why [
   | inl memory ↦ absurd (other memory)
   | inr both ↦ record { modules = modules; sampled = sampled; cause = both.0; none = both.1 g.count (sampled_length b g modules sampled) }
+]
+
+-- what is told of it
+pub missed_told : (b : Bitmap) (i : Bool) (g : Grid) (m : Missed) (found : Found) → IsMissedIn b m → (found ≡ Nothing) ⊎ (found ≡ MissedAt m) → IsFoundAs b i found × HasGrid g found
+missed_told b i g m found is told = elim told [
+  | inl e ↦ subst (λ f. IsFoundAs b i f × HasGrid g f) (sym e) (tt, tt)
+  | inr e ↦ subst (λ f. IsFoundAs b i f × HasGrid g f) (sym e) (is, tt)
 ]
 
 -- the codes of a picture's pixels are those of the picture
@@ -174,10 +184,8 @@ looked_at_all b grids scans tried all = λ w shows. elim (tried w shows) [
 ]
 
 -- a code that shares pixels with a square's grid is in its way
-pub shared_any : (w : Whole) (g : Grid) (scans : List Scan) → IsGridOf w g → Any (λ (s : Scan). (other : Grid) × ((s.grid ≡ Some other) × ¬ AreApart other g)) scans → Any (IsFoundBy w) scans
-shared_any w g scans at any =
-    let over = any.4 in
-    (any.0, any.1, any.2, any.3, inr (inl (record { grid = over.0; found = over.1.0; other = g; place = at; shared = over.1.1 })))
+pub shared_any : (w : Whole) (g : Grid) (scans : List Scan) → IsGridOf w g → Any (Overlaps g) scans → Any (IsFoundBy w) scans
+shared_any w g scans at any = (any.0, any.1, any.2, any.3, inr (inl (g, (at, any.4))))
 
 -- the codes of a picture's pixels are all that it shows in whole pixels
 pub wholes_of : (bytes : List ℕ) (b : Bitmap) (i : Bool) (scans : List Scan) → IsSeenAs bytes b i → FindsWholes b scans → FindsWholesOf bytes scans

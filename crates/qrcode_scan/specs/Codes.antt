@@ -12,6 +12,7 @@ use Rattle.qrcode_scan.specs.declared.scanning.Scan.{Scan}
 use Rattle.qrcode_scan.specs.Wholes.{HasMany, IsGridOf, ShowsCode, Whole}
 use Rattle.qrcode_scan.specs.declared.codes.Codes.{Codes}
 use Rattle.qrcode_scan.specs.declared.codes.Missed as missed
+use Rattle.qrcode_scan.specs.declared.codes.Place.{Place}
 use Rattle.qrcode_scan.specs.declared.codes.Found.{Found}
 use Rattle.qrcode_scan.specs.declared.grids.Grid.{Grid}
 use Rattle.qrcode_scan.specs.declared.codes.Found.TheVariants.{Nothing, Code, Missed}
@@ -36,27 +37,32 @@ pub record IsMissedOf (bytes : List ℕ) (m : missed.Missed) : Type 0 where
   pub seen : IsSeenAs bytes pixels is_inverted
   pub missed : IsMissedIn pixels m
 
--- The place of a grid in pixels: a square as large as that of its modules, which begins at the centre of the first one. Its first column and row, and
--- those behind the last.
-abbrev pub left_of : Grid → ℕ
-left_of g = g.left / max g.parts 1
+-- The place of a grid in pixels: a square as large as that of its modules, which begins at the centre of the first one.
+abbrev pub place_of : Grid → Place
+place_of g =
+    let parts = max g.parts 1 in
+    record {
+      left = g.left / parts;
+      top = g.top / parts;
+      right = (g.left + g.count * g.across) / parts;
+      bottom = (g.top + g.count * g.down) / parts;
+    }
 
-abbrev pub top_of : Grid → ℕ
-top_of g = g.top / max g.parts 1
+-- two places have no pixel in common: one ends before the other begins, across or down
+abbrev pub AreApart : Place → Place → Type 0
+AreApart p q = (p.right ≤ q.left) ⊎ ((q.right ≤ p.left) ⊎ ((p.bottom ≤ q.top) ⊎ (q.bottom ≤ p.top)))
 
-abbrev pub right_of : Grid → ℕ
-right_of g = (g.left + g.count * g.across) / max g.parts 1
+-- the code was not found by finder patterns, or its place has no pixel in common with that of this grid
+abbrev pub IsApartFrom : Grid → Scan → Type 0
+IsApartFrom g scan = (other : Grid) → scan.grid ≡ Some other → AreApart (place_of other) (place_of g)
 
-abbrev pub bottom_of : Grid → ℕ
-bottom_of g = (g.top + g.count * g.down) / max g.parts 1
+-- the code was found by finder patterns, and its place has pixels in common with that of this grid
+abbrev pub Overlaps : Grid → Scan → Type 0
+Overlaps g scan = (other : Grid) × ((scan.grid ≡ Some other) × ¬ AreApart (place_of other) (place_of g))
 
--- the places of two grids have no pixel in common: one ends before the other begins, across or down
-abbrev pub AreApart : Grid → Grid → Type 0
-AreApart g h = (right_of g ≤ left_of h) ⊎ ((right_of h ≤ left_of g) ⊎ ((bottom_of g ≤ top_of h) ⊎ (bottom_of h ≤ top_of g)))
-
--- the places of two codes that were found by their finder patterns have no pixel in common; so no code is found twice
+-- the places of two codes that were found by finder patterns have no pixel in common; so no code is found twice
 abbrev pub AreTwo : Scan → Scan → Type 0
-AreTwo one other = (g h : Grid) → one.grid ≡ Some g → other.grid ≡ Some h → AreApart g h
+AreTwo one other = (g : Grid) → other.grid ≡ Some g → IsApartFrom g one
 
 -- the code is the one in this square of whole pixels
 pub record IsCodeOf (w : Whole) (scan : Scan) : Type 0 where
@@ -65,17 +71,9 @@ pub record IsCodeOf (w : Whole) (scan : Scan) : Type 0 where
   pub place : IsGridOf w grid
   pub modules : scan.square.modules.items ≡ w.modules
 
--- the code's place has pixels in common with that of this square
-pub record SharesPixels (w : Whole) (scan : Scan) : Type 0 where
-  pub grid : Grid
-  pub found : scan.grid ≡ Some grid
-  pub other : Grid
-  pub place : IsGridOf w other
-  pub shared : ¬ AreApart grid other
-
 -- the code is the one in this square; or it is in its way: it overlaps the square, or it has all dark pixels, since its margin is plain
 abbrev pub IsFoundBy : Whole → Scan → Type 0
-IsFoundBy w scan = IsCodeOf w scan ⊎ (SharesPixels w scan ⊎ (scan.grid ≡ None))
+IsFoundBy w scan = IsCodeOf w scan ⊎ (((g : Grid) × (IsGridOf w g × Overlaps g scan)) ⊎ (scan.grid ≡ None))
 
 -- each square of whole pixels that decodes is among the codes, or one of them is in its way; unless 1,024 grids have finder patterns
 abbrev pub FindsWholes : Bitmap → List Scan → Type 0

@@ -3,9 +3,9 @@
 ghost use Rattle.std.specs.Prelude.{◌≡◌, ◌≤◌, ◌<◌, ◌⊎◌, ◌++◌, ◌∷◌, [], ℕ, Some, All, AllPairs, Any, insert, length, IsTrue, IsFalse, IfOk, IfErr, OnOk};
 ghost use Rattle.qrcode_reader.specs.declared.refusals.Unread.TheVariants.{OutOfMemory};
 ghost use Rattle.qrcode_scan.specs.declared.scanning.Unread.TheVariants.{OutOfMemory as NoMemory};
-ghost use Rattle.qrcode_scan.specs.Codes.{bottom_of, left_of, right_of, top_of, AreApart, AreCodesIn, AreTwo, FindsWholes, FindsWholesOf, HasGrid, IsCodeFound, IsFoundAs, IsFoundBy, IsMissedOf};
+ghost use Rattle.qrcode_scan.specs.Codes.{place_of, AreApart, AreCodesIn, AreTwo, FindsWholes, FindsWholesOf, HasGrid, IsApartFrom, IsCodeFound, IsFoundAs, IsFoundBy, IsMissedOf, Overlaps};
 ghost use Rattle.qrcode_scan.specs.Wholes.{IsGridOf, ShowsCode, Whole};
-ghost use Rattle.qrcode_scan.specs.declared.grids.Grid.{Grid};
+ghost use Rattle.qrcode_scan.specs.declared.codes.Found.TheVariants.{Nothing, Missed as MissedAt};
 ghost use Rattle.qrcode_scan.specs.Scans.{has_more, HasNoWhole, IsNotClean, IsScanOf, IsUnreadPicture, IsUnreadIn};
 
 use crate::grids::Grid;
@@ -194,14 +194,12 @@ fn found_at(
         return Ok(Found::Nothing);
     };
     let any = match read_any_parts(alloc, &modules) {
-        Ok(any) if is_doubtful(grid.count, &any) => return Ok(Found::Nothing),
         Ok(any) => any,
-        Err(Unread::OutOfMemory) => return Err(AllocError),
-        Err(cause) if is_likely(cause) => {
-            return Ok(Found::Missed(Missed { grid: *grid, cause }));
-        }
-        Err(_) => return Ok(Found::Nothing),
+        Err(cause) => return Ok(unread_at(grid, cause)?),
     };
+    if is_doubtful(grid.count, &any) {
+        return Ok(Found::Nothing);
+    }
     let square = Square {
         count: grid.count,
         zone: 0,
@@ -224,11 +222,17 @@ fn is_doubtful(count: usize, any: &AnyPartsReading) -> bool
     }
 }
 
-// Whether a square that does not decode is probably a code: it has format words.
-fn is_likely(cause: Unread) -> bool
-    ensures { IsTrue result → ¬ (cause ≡ OutOfMemory) }
+// Tells of a square that does not decode, if it is probably a code: it has format words.
+fn unread_at(grid: &Grid, cause: Unread) -> Result<Found, AllocError>
+    ensures memory { IfOk result (λ _. ¬ (cause ≡ OutOfMemory)) }
+    ensures missed { IfOk result (λ found. (found ≡ Nothing)
+        ⊎ (found ≡ MissedAt (record { grid = grid.now; cause = cause }))) }
 {
-    matches!(cause, Unread::Damaged(_) | Unread::NotSpelled)
+    match cause {
+        Unread::OutOfMemory => Err(AllocError),
+        Unread::Damaged(_) | Unread::NotSpelled => Ok(Found::Missed(Missed { grid: *grid, cause })),
+        Unread::NoSuchSide | Unread::NoFormat => Ok(Found::Nothing),
+    }
 }
 
 // Inserts a code before the first one that it precedes.
@@ -268,26 +272,32 @@ fn is_among(all: &[Missed], grid: &Grid) -> bool {
 impl Codes {
     /// Whether a decoded code overlaps the grid.
     pub fn has_read(&self, grid: &Grid) -> bool
-        ensures some { IsTrue result → Any (λ scan. (other : Grid)
-            × ((scan.grid ≡ Some other) × ¬ AreApart other grid.now)) self.now.scans.items }
-        ensures none { IsFalse result → All (λ scan. (other : Grid) → scan.grid ≡ Some other
-            → AreApart other grid.now) self.now.scans.items }
+        ensures some { IsTrue result → Any (Overlaps grid.now) self.now.scans.items }
+        ensures none { IsFalse result → All (IsApartFrom grid.now) self.now.scans.items }
     {
-        let place = place_of(grid);
         for scan in &self.scans {
-            match &scan.grid {
-                Some(other) if overlap(place_of(other), place) => return true,
-                _ => {}
+            if is_over(scan, grid) {
+                return true;
             }
         }
         false
     }
 }
 
+// Whether a code was found by its finder patterns and overlaps the grid.
+fn is_over(scan: &Scan, grid: &Grid) -> bool
+    ensures over { IsTrue result → Overlaps grid.now scan.now }
+    ensures apart { IsFalse result → IsApartFrom grid.now scan.now }
+{
+    match &scan.grid {
+        Some(other) => overlap(place_of(other), place_of(grid)),
+        None => false,
+    }
+}
+
 // The pixels that a grid's modules take.
 fn place_of(grid: &Grid) -> Place
-    ensures across { (result.left ≡ left_of grid.now) × (result.right ≡ right_of grid.now) }
-    ensures down { (result.top ≡ top_of grid.now) × (result.bottom ≡ bottom_of grid.now) }
+    ensures { result ≡ place_of grid.now }
 {
     let parts = grid.parts.max(1);
     Place {
@@ -300,10 +310,8 @@ fn place_of(grid: &Grid) -> Place
 
 // Whether two squares have pixels in common.
 fn overlap(one: Place, other: Place) -> bool
-    ensures apart { IsFalse result → (one.right ≤ other.left) ⊎ ((other.right ≤ one.left)
-        ⊎ ((one.bottom ≤ other.top) ⊎ (other.bottom ≤ one.top))) }
-    ensures together { IsTrue result → ¬ ((one.right ≤ other.left) ⊎ ((other.right ≤ one.left)
-        ⊎ ((one.bottom ≤ other.top) ⊎ (other.bottom ≤ one.top)))) }
+    ensures apart { IsFalse result → AreApart one other }
+    ensures together { IsTrue result → ¬ AreApart one other }
 {
     one.left < other.right
         && other.left < one.right
