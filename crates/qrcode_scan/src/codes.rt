@@ -166,7 +166,10 @@ fn add(
     ensures whole { OnOk result ((w : Whole) → ShowsCode pixels.now w → IsGridOf w grid.now
         → Any (IsFoundBy w) codes.new.scans.items) }
 {
-    if codes.has_read(grid) || (grid.count < 21 && is_among(&codes.missed, grid)) {
+    if codes.has_read(grid) {
+        return Ok(());
+    }
+    if grid.count < 21 && is_among(&codes.missed, grid) {
         return Ok(());
     }
     match found_at(alloc, pixels, grid, is_inverted)? {

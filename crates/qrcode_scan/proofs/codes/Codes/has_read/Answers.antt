@@ -9,7 +9,7 @@ use Rattle.qrcode_scan.proofs.codes.Codes.has_read.Goals as goal
 pub returns-then-is_over-clause-some : goal.returns-then-is_over-clause-some
 returns-then-is_over-clause-some c = λ is.
     let g = c.args.grid.now in
-    let over : Overlaps g c.scan-item.result = search rules in
+    let over = c.if-is_over.ensures.over is in
     subst (Any (Overlaps g)) c.deref-scan-items.ensures.value (c.loop-scan.scan-index, c.scan-item.result, c.loop-scan-test.true, sym c.scan-item.is, over)
 
 pub loop-scan-preserved : goal.loop-scan-preserved
