@@ -10,6 +10,7 @@ use Rattle.qrcode_scan.specs.declared.grids.Grid.{Grid}
 use Rattle.qrcode_reader.specs.declared.refusals.Unread as reading
 use Rattle.std.proofs.lemmas.List.Edits.{get_or-insert_at, get_or-insert_below, get_or-insert_above, length-insert}
 use Rattle.std.proofs.lemmas.Bool.{cases_lt}
+use Rattle.std.proofs.lemmas.List.{get_or_read}
 use Rattle.qrcode_scan.specs.Codes.{AreTwo, AreCodesIn, FindsWholes, FindsWholesOf, HasGrid, IsApartFrom, IsCodeIn, IsFoundAs, IsFoundBy, IsMissedIn, IsMissedOf, Overlaps}
 use Rattle.qrcode_scan.specs.Scans.{IsReadAs, HasNoWhole, IsScanOf, IsSeenAs, IsSquareOf}
 use Rattle.qrcode_scan.specs.Wholes.{HasMany, IsGridOf, ShowsCode, Whole}
@@ -165,15 +166,26 @@ pub clean_whole : (b : Bitmap) (scans : List Scan) (scan : Scan) → scans ≡ s
 clean_whole b scans scan same clean = λ w shows. inr (subst (Any (IsFoundBy w)) (sym same) (0, scan, omega arith, refl, inr (inr clean)))
 
 -- if there is no code, no square of whole pixels decodes
-pub whole_none : (b : Bitmap) (scans : List Scan) → scans ≡ [] → FindsWholes b scans → HasNoWhole b
+pub whole_none : (b : Bitmap) (scans : List Scan) → length scans ≡ 0 → FindsWholes b scans → HasNoWhole b
 whole_none b scans none finds = λ w shows. elim (finds w shows) [
   | inl many ↦ many
-  | inr any ↦ absurd (omega (arith, any.2, ap length none))
+  | inr any ↦ absurd (omega (arith, any.2, none))
 ]
 
 -- the grids of squares of whole pixels have been looked at, up to a number
 abbrev pub AreLookedAt : Bitmap → List Grid → List Scan → ℕ → Type 0
 AreLookedAt b grids scans n = (k : ℕ) → k < n → (d : Grid) (w : Whole) → ShowsCode b w → IsGridOf w (get_or grids k d) → Any (IsFoundBy w) scans
+
+-- one more of them
+pub looked_more : (b : Bitmap) (grids : List Grid) (old new : List Scan) (i : ℕ) (item : Grid) → i < length grids → item ≡ get_or grids i item
+    → ((w : Whole) → Any (IsFoundBy w) old → Any (IsFoundBy w) new) → ((w : Whole) → ShowsCode b w → IsGridOf w item → Any (IsFoundBy w) new) → AreLookedAt b grids old i
+    → AreLookedAt b grids new (i + 1)
+looked_more b grids old new i item inside is kept here before k low d w shows at = elim (cases_lt k i) [
+  | inl less ↦ kept w (before k less d w shows at)
+  | inr late ↦
+      let same : k ≡ i = omega (arith, low, late) in
+      here w shows (subst (IsGridOf w) (sym (get_or_read grids i item inside is d)) (subst (λ n. IsGridOf w (get_or grids n d)) same at))
+]
 
 -- all of them
 pub looked_at_all : (b : Bitmap) (grids : List Grid) (scans : List Scan) → ((w : Whole) → ShowsCode b w → HasMany b ⊎ Any (IsGridOf w) grids)
