@@ -11,7 +11,7 @@ use Rattle.qrcode_reader.specs.declared.refusals.Unread as reading
 use Rattle.std.proofs.lemmas.List.Edits.{get_or-insert_at, get_or-insert_below, get_or-insert_above, length-insert}
 use Rattle.std.proofs.lemmas.Bool.{cases_lt}
 use Rattle.std.proofs.lemmas.List.{get_or_read}
-use Rattle.qrcode_scan.specs.Codes.{AreTwo, AreCodesIn, FindsWholes, FindsWholesOf, HasGrid, IsApartFrom, IsCodeIn, IsFoundAs, IsFoundBy, IsMissedIn, IsMissedOf, Overlaps}
+use Rattle.qrcode_scan.specs.Codes.{AreTwo, AreCodesIn, FindsWholes, HasGrid, IsApartFrom, IsCodeIn, IsFoundAs, IsFoundBy, IsMissedIn, IsMissedOf, Overlaps}
 use Rattle.qrcode_scan.specs.Scans.{IsReadAs, HasNoWhole, IsScanOf, IsSeenAs, IsSquareOf}
 use Rattle.qrcode_scan.specs.Wholes.{HasMany, IsGridOf, ShowsCode, Whole}
 use Rattle.qrcode_scan.specs.declared.scanning.Scan.{Scan}
@@ -198,7 +198,3 @@ looked_at_all b grids scans tried all = λ w shows. elim (tried w shows) [
 -- a code that shares pixels with a square's grid is in its way
 pub shared_any : (w : Whole) (g : Grid) (scans : List Scan) → IsGridOf w g → Any (Overlaps g) scans → Any (IsFoundBy w) scans
 shared_any w g scans at any = (any.0, any.1, any.2, any.3, inr (inl (g, (at, any.4))))
-
--- the codes of a picture's pixels are all that it shows in whole pixels
-pub wholes_of : (bytes : List ℕ) (b : Bitmap) (i : Bool) (scans : List Scan) → IsSeenAs bytes b i → FindsWholes b scans → FindsWholesOf bytes scans
-wholes_of bytes b i scans seen finds = record { pixels = b; is_inverted = i; seen = seen; found = finds }

@@ -17,28 +17,22 @@ far_of w scale version far last mine at_scale at_version same is =
     ap₂ (λ (c s : ℕ). c * s) (ap₂ (λ (d : Bool) (v : ℕ). corner_start d (17 + 4 * v)) same at_version) at_scale ∙ sym is
 
 -- where a square begins, by the first light pixel of that finder pattern
-start_of : (mine product far scale own place : ℕ) → mine + (product + own) ≡ place + scale → product ≡ far → own ≡ scale → (far ≤ place) × (place - far ≡ mine)
-start_of mine product far scale own place e f g = (omega (arith, e, f, g), omega (arith, e, f, g))
+start_of : (mine product far scale own place : ℕ) → mine + (product + own) ≡ place + scale → product ≡ far → own ≡ scale → place - far ≡ mine
+start_of mine product far scale own place e f g = omega (arith, e, f, g)
 
--- the square begins in the picture
-pub starts_inside : (b : Bitmap) (w : Whole) (x y scale version column row : ℕ) (r l : Bool) → column ≡ corner_start r (17 + 4 * version) * scale
-    → row ≡ corner_start l (17 + 4 * version) * scale → BeginsAt b w (x + scale) (y + scale) → w.scale ≡ scale → w.version ≡ version → w.is_right ≡ r → w.is_lower ≡ l
-    → ((column ≤ x) × (x - column ≡ w.left)) × ((row ≤ y) × (y - row ≡ w.top))
-starts_inside b w x y scale version column row r l across down begins at_scale at_version right lower = (
-  start_of w.left (corner_start w.is_right (count_of w) * w.scale) column scale w.scale x begins.column (far_of w scale version column r w.is_right at_scale at_version right across) at_scale,
-  start_of w.top (corner_start w.is_lower (count_of w) * w.scale) row scale w.scale y begins.row (far_of w scale version row l w.is_lower at_scale at_version lower down) at_scale,
-)
-
--- and the grid from there on is that of the square
+-- the grid from there on is that of the square
 pub grid_of : (b : Bitmap) (w : Whole) (g : Grid) (x y scale version column row : ℕ) (r l : Bool) → column ≡ corner_start r (17 + 4 * version) * scale
     → row ≡ corner_start l (17 + 4 * version) * scale → IsGridAt (x - column) (y - row) scale (17 + 4 * version) g
     → BeginsAt b w (x + scale) (y + scale) → w.scale ≡ scale → w.version ≡ version → w.is_right ≡ r → w.is_lower ≡ l → IsGridOf w g
 grid_of b w g x y scale version column row r l across down at begins at_scale at_version right lower =
-    let start = starts_inside b w x y scale version column row r l across down begins at_scale at_version right lower in
+    let c = corner_start w.is_right (count_of w) * w.scale in
+    let d = corner_start w.is_lower (count_of w) * w.scale in
+    let left = start_of w.left c column scale w.scale x begins.column (far_of w scale version column r w.is_right at_scale at_version right across) at_scale in
+    let top = start_of w.top d row scale w.scale y begins.row (far_of w scale version row l w.is_lower at_scale at_version lower down) at_scale in
     record {
       count = at.count ∙ ap (λ (v : ℕ). 17 + 4 * v) (sym at_version);
-      left = at.left ∙ ap₂ (λ (m s : ℕ). m + s / 2) start.0.1 (sym at_scale);
-      top = at.top ∙ ap₂ (λ (m s : ℕ). m + s / 2) start.1.1 (sym at_scale);
+      left = at.left ∙ ap₂ (λ (m s : ℕ). m + s / 2) left (sym at_scale);
+      top = at.top ∙ ap₂ (λ (m s : ℕ). m + s / 2) top (sym at_scale);
       across = at.across ∙ sym at_scale;
       down = at.down ∙ sym at_scale;
       parts = at.parts;
@@ -99,27 +93,19 @@ flag b = if b then 1 else 0
 abbrev pub number_of : Whole → ℕ
 number_of w = 4 * (w.version - 1) + 2 * flag w.is_lower + flag w.is_right
 
-pub numbered : (v i : ℕ) (r l : Bool) → 1 ≤ v → 4 * (v - 1) + 2 * flag l + flag r ≡ i → (v ≡ 1 + i / 4) × (r ≡ (i % 2 == 1)) × (l ≡ (i / 2 % 2 == 1))
-numbered v i true true some is =
-    let odd : i % 2 ≡ 1 = omega (arith, is) in
-    let high : i / 2 % 2 ≡ 1 = omega (arith, is) in
-    (omega (arith, some, is), sym (ap (λ n. n == 1) odd), sym (ap (λ n. n == 1) high))
-numbered v i true false some is =
-    let odd : i % 2 ≡ 1 = omega (arith, is) in
-    let high : i / 2 % 2 ≡ 0 = omega (arith, is) in
-    (omega (arith, some, is), sym (ap (λ n. n == 1) odd), sym (ap (λ n. n == 1) high))
-numbered v i false true some is =
-    let odd : i % 2 ≡ 0 = omega (arith, is) in
-    let high : i / 2 % 2 ≡ 1 = omega (arith, is) in
-    (omega (arith, some, is), sym (ap (λ n. n == 1) odd), sym (ap (λ n. n == 1) high))
-numbered v i false false some is =
-    let odd : i % 2 ≡ 0 = omega (arith, is) in
-    let high : i / 2 % 2 ≡ 0 = omega (arith, is) in
-    (omega (arith, some, is), sym (ap (λ n. n == 1) odd), sym (ap (λ n. n == 1) high))
-
 flag_small : (b : Bool) → flag b ≤ 1
 flag_small true = omega arith
 flag_small false = omega arith
+
+flag_is : (b : Bool) (n : ℕ) → flag b ≡ n → b ≡ (n == 1)
+flag_is true n is = ap (λ k. k == 1) is
+flag_is false n is = ap (λ k. k == 1) is
+
+numbered : (v i : ℕ) (r l : Bool) → 1 ≤ v → 4 * (v - 1) + 2 * flag l + flag r ≡ i → (v ≡ 1 + i / 4) × (r ≡ (i % 2 == 1)) × (l ≡ (i / 2 % 2 == 1))
+numbered v i r l some is =
+    let right = flag_small r in
+    let lower = flag_small l in
+    (omega (arith, some, is, right, lower), flag_is r (i % 2) (omega (arith, is, right)), flag_is l (i / 2 % 2) (omega (arith, is, right, lower)))
 
 -- all numbers are below 160
 pub numbered_below : (b : Bitmap) (w : Whole) (x y : ℕ) → BeginsAt b w x y → number_of w < 160
