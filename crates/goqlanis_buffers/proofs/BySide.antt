@@ -4,6 +4,7 @@ use Rattle.std.specs.Prelude.{codes}
 use Rattle.std.specs.List.{range_with_len}
 use Rattle.std.proofs.lemmas.List.{length-map, length-take-le, length-drop}
 use Rattle.std.proofs.lemmas.List.FromFn.{length-map-range_with_len}
+use Rattle.std.proofs.lemmas.Fmt.{decimal_digit}
 use Rattle.std.proofs.lemmas.Nat.{row_fits_turned}
 use Rattle.qrcode_types.specs.declared.types.Color.{Color}
 use Rattle.qrcode_formats.specs.declared.Format.{Format}
@@ -19,7 +20,7 @@ use Rattle.qrcode_render.specs.Bitmap.{row_of}
 use Rattle.qrcode_render.specs.Files.{inked, packed, pbm_file, pgm_file, ppm_file}
 use Rattle.qrcode_render.specs.Layout.{Layout, layout, pixels_across, pixels_down}
 use Rattle.qrcode_render.specs.Picture.{picture}
-use Rattle.qrcode_render.specs.Printers.{bytes_across, escpos_file, escpos_head, hex_pair, packed_file, tspl_file_at, tspl_head_at, tspl_row, tspl_tail, turned, xbm_file, xbm_head, xbm_row, xbm_tail}
+use Rattle.qrcode_render.specs.Printers.{bytes_across, escpos_file, escpos_head, hex_pair, packed_file, tspl_file_at, tspl_head, tspl_head_at, tspl_row, tspl_tail, turned, xbm_file, xbm_head, xbm_row, xbm_tail}
 use Rattle.qrcode_render.specs.Shades.{colors_of}
 use Rattle.qrcode_render.specs.Texts.{marks_text, raw_bytes}
 
@@ -161,12 +162,21 @@ of_escpos a f side count is h at same =
     drawn_length a f EscPos (escpos_file true false (picture (at_of a) s)) count _ is h refl
     (length_of_file escpos_head (λ bytes. bytes) [] true false (at_of a) s row (λ bytes long. long)) (same ∙ ap escpos_length at)
 
+-- a picture at its corner makes a label of its own size
+at_corner : (w h : ℕ) → tspl_head_at (0, 0) w h ≡ tspl_head w h
+at_corner w h =
+    let across : 0 + w ≡ w = omega arith in
+    let down : 0 + h ≡ h = omega arith in
+    let corner : decimal 0 ≡ 48 ∷ [] = decimal_digit 0 (omega arith) in
+    rw (across, down, corner) refl
+
 pub of_tspl : (a : Asked) (f : Format) (side count : ℕ) → f ≡ Tspl → IsDrawable a f → side ≡ side_of a → count ≡ tspl_length side → HasLength a count
 of_tspl a f side count is h at same =
     let s = colors_of a.modules.now in
     let row = bytes_across (pixels_across (at_of a)) in
     drawn_length a f Tspl (tspl_file_at (0, 0) true false (picture (at_of a) s)) count _ is h refl
-    (length_of_file (tspl_head_at (0, 0)) tspl_row tspl_tail true false (at_of a) s row (λ bytes long. length-map bytes _ ∙ long)) (same ∙ ap tspl_length at)
+    (length_of_file (tspl_head_at (0, 0)) tspl_row tspl_tail true false (at_of a) s row (λ bytes long. length-map bytes _ ∙ long))
+    (same ∙ ap tspl_length at ∙ ap (λ head. length head + pixels_down (at_of a) * row + length tspl_tail) (sym (at_corner (pixels_across (at_of a)) (pixels_down (at_of a)))))
 
 pub of_xbm : (a : Asked) (f : Format) (side count : ℕ) → f ≡ Xbm → IsDrawable a f → side ≡ side_of a → count ≡ xbm_length side → HasLength a count
 of_xbm a f side count is h at same =

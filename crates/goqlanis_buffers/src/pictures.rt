@@ -14,6 +14,7 @@ use crate::answers::Refusal;
 use crate::colours::{has_colours, ink_of, name_of};
 use crate::lengths::known_length;
 use crate::symbols::{colors_of, fill};
+use goqlanis_core::PartInk;
 use goqlanis_core::render::draw;
 use goqlanis_core::sheet::Sheet;
 use qrcode::render::svg::Frame;
@@ -41,6 +42,9 @@ pub struct Drawing {
     /// The dots per inch to store in a PNG file, or 0 for none.
     pub dpi: u32,
 }
+
+// C gives no colours of parts.
+static NO_PARTS: [PartInk<'static>; 0] = [];
 
 // The size of a `Drawing` in bytes.
 const SIZE: u32 = 28;
@@ -208,7 +212,7 @@ fn draw_named<'a>(
         place: (0, 0),
         frame: Frame::plain(),
         version: Version::Normal(1),
-        parts: &[],
+        parts: &NO_PARTS,
         over: &[],
         inset: None,
     };

@@ -1,5 +1,5 @@
 -- Colours as people write them: CSS names and hexadecimal digits.
-use Rattle.std.specs.Prelude.{ℕ, ◌+◌, ◌*◌, ◌/◌, ◌%◌, ◌<◌, ◌||◌, ◌==◌, nat_lt, Bool, List, [], ◌∷◌, codes, Option, Some, None, map, unwrap_or, if◌then◌else◌}
+use Rattle.std.specs.Prelude.{ℕ, ◌+◌, ◌*◌, ◌/◌, ◌%◌, ◌||◌, ◌==◌, nat_lt, Bool, List, [], ◌∷◌, codes, Option, Some, None, if◌then◌else◌}
 use Rattle.std.specs.Borrow.{Bor}
 use Rattle.std.specs.Char.{digit_value}
 use Rattle.std.specs.Str.{str_eq_ignore_ascii_case}

@@ -1,8 +1,9 @@
 //! Makes symbols, and draws them as requested.
 
-ghost use Rattle.std.specs.Prelude.{◌≡◌, ◌≤◌, ◌⊎◌, length, unwrap_or, IfOk, IfErr};
+ghost use Rattle.std.specs.Prelude.{◌≡◌, ◌≤◌, ◌⊎◌, length, unwrap_or, IfOk, IfErr, IsOkUnless};
 ghost use Rattle.qrcode_types.specs.declared.types.QrError.TheVariants.{InvalidVersion, OutOfMemory};
 ghost use Rattle.qrcode.specs.Pictures.{quiet_zone};
+ghost use Rattle.goqlanis_core.specs.Formats.{IsDrawn};
 ghost use Rattle.goqlanis_core.specs.Drawings.{IsShownIn, dots_for, scale_for, sheet_for, unit_for};
 ghost use Rattle.goqlanis_core.specs.Masks.{LacksMask};
 ghost use Rattle.goqlanis_core.specs.Sheets.{sheet_of};
@@ -62,14 +63,32 @@ pub fn drawing_of(alloc: Global, request: &Request<'_>, code: QrCode) -> QrResul
         ⊎ ((e ≡ InvalidVersion) × LacksMask request.now.mask code.version)) }
 {
     let modules = modules_under(alloc, &code, request.mask)?;
-    let nothing = Vec::new(alloc);
-    let sheet = sheet(request, &code, &modules, &nothing, None);
-    let bytes = draw(alloc, request.format, &sheet)?;
+    let bytes = drawn(alloc, request, &code, &modules, &[], None)?;
     Ok(Drawing { code, bytes })
 }
 
-/// Returns the sheet for these modules of a symbol, with `over` or a picture over them.
-pub(crate) fn sheet<'a>(
+/// Draws these modules of a symbol as requested, with `over` or a picture over them.
+///
+/// Errors: only `OutOfMemory`, as `draw` says.
+pub(crate) fn drawn(
+    alloc: Global,
+    request: &Request<'_>,
+    code: &QrCode,
+    modules: &[Color],
+    over: &[u8],
+    inset: Option<(Rectangle, Inset<'_>)>,
+) -> QrResult<Vec<u8>>
+    requires { length modules.now ≡ length code.now.modules }
+    ensures shown { IfOk result (λ file. IsDrawn request.now.format (sheet_for request.now
+        code.now.version modules.now over.now inset.entry) file.items) }
+    ensures memory { IsOkUnless result OutOfMemory }
+{
+    let sheet = sheet(request, code, modules, over, inset);
+    draw(alloc, request.format, &sheet)
+}
+
+// Returns the sheet for these modules of a symbol, with `over` or a picture over them.
+fn sheet<'a>(
     request: &Request<'a>,
     code: &QrCode,
     modules: &'a [Color],

@@ -6,9 +6,9 @@ ghost use Rattle.qrcode_types.specs.declared.types.QrError.TheVariants.{OutOfMem
 ghost use Rattle.qrcode_render.specs.Picture.{picture};
 ghost use Rattle.qrcode_render.specs.Printers.{packed_file};
 ghost use Rattle.qrcode_render.specs.Setting.{fits};
-ghost use Rattle.goqlanis_core.specs.Formats.{IsDrawn, IsOver, IsPng, IsShapes, ended, eps_text, half_block_text, has_layers};
+ghost use Rattle.goqlanis_core.specs.Formats.{IsDrawn, IsPng, ended, half_block_text, has_layers};
 ghost use Rattle.goqlanis_core.specs.Sheets.{dark_of, eps_ink, light_of, per_metre, png_ink, rgb, setting_of, shade_of, sheet_of};
-ghost use Rattle.qrcode_formats.specs.declared.Format.TheVariants.{Pdf, Png, SvgPath, Tspl, Zpl};
+ghost use Rattle.qrcode_formats.specs.declared.Format.TheVariants.{Eps, Pdf, Png, SvgPath, Tspl, Zpl};
 
 use crate::layers::over;
 use crate::shades::png_file;
@@ -49,13 +49,13 @@ pub fn draw(alloc: Global, format: Format, sheet: &Sheet<'_>) -> QrResult<Vec<u8
             let (dark, light) = (svg::Color(dark.name), svg::Color(light.name));
             Ok(drawn(alloc, sheet, dark, light)?.into_bytes())
         }
-        Format::SvgPath => shapes(alloc, Format::SvgPath, sheet),
-        Format::Eps => shapes(alloc, Format::Eps, sheet),
+        Format::SvgPath => path(alloc, sheet),
+        Format::Eps => eps(alloc, sheet),
         Format::Pic => Ok(drawn(alloc, sheet, pic::Color, pic::Color)?.into_bytes()),
         Format::Pbm => drawn(alloc, sheet, Bit::Black, Bit::White),
         Format::Pgm => drawn(alloc, sheet, pgm::Grey(0), pgm::Grey(255)),
         Format::Grey => Ok(drawn(alloc, sheet, Luma([0]), Luma([255]))?.into_raw()),
-        Format::Pdf => shapes(alloc, Format::Pdf, sheet),
+        Format::Pdf => pdf_file(alloc, sheet),
         Format::Ppm => drawn(alloc, sheet, ppm::Color(rgb(dark)), ppm::Color(rgb(light))),
         Format::Zpl => zpl(alloc, sheet),
         Format::Tspl => tspl(alloc, sheet),
@@ -155,27 +155,14 @@ fn dots_of(sheet: &Sheet<'_>) -> Option<u32>
     sheet.dots.or(sheet.dpi.map(|dpi| dpi as u32))
 }
 
-// An SVG, EPS or PDF file, with the colours of parts and what lies over the modules.
-fn shapes(alloc: Global, format: Format, sheet: &Sheet<'_>) -> QrResult<Vec<u8>>
-    ensures shows { IfOk result (λ file. IsOver format (sheet_of sheet.now) file.items) }
-    ensures memory { IsOkUnless result OutOfMemory }
-{
-    let over = over(alloc, format, sheet)?;
-    match format {
-        Format::Eps => eps(alloc, sheet, &over),
-        Format::Pdf => pdf_file(alloc, sheet, &over),
-        _ => path(alloc, sheet, &over),
-    }
-}
-
 // An SVG file with one path, with the size and title of the sheet's frame.
-fn path(alloc: Global, sheet: &Sheet<'_>, over: &[u8]) -> QrResult<Vec<u8>>
-    ensures shows { IfOk result (λ text.
-        IsShapes SvgPath (sheet_of sheet.now) over.now text.items) }
+fn path(alloc: Global, sheet: &Sheet<'_>) -> QrResult<Vec<u8>>
+    ensures shows { IfOk result (λ file. IsDrawn SvgPath (sheet_of sheet.now) file.items) }
     ensures memory { IsOkUnless result OutOfMemory }
 {
+    let over = over(alloc, Format::SvgPath, sheet)?;
     let (dark, light) = (svg::Path(sheet.dark.name), svg::Path(sheet.light.name));
-    svg::framed(alloc, &renderer(sheet, dark, light), &sheet.frame, over)
+    svg::framed(alloc, &renderer(sheet, dark, light), &sheet.frame, &over)
 }
 
 // ZPL II, with the picture at the sheet's place on the label.
@@ -197,24 +184,30 @@ fn tspl(alloc: Global, sheet: &Sheet<'_>) -> QrResult<Vec<u8>>
 }
 
 // An EPS file. Without pixels per inch, a pixel is a point.
-fn eps(alloc: Global, sheet: &Sheet<'_>, over: &[u8]) -> QrResult<Vec<u8>>
-    ensures text { IfOk result (λ file. file.items ≡ eps_text (sheet_of sheet.now) over.now) }
+fn eps(alloc: Global, sheet: &Sheet<'_>) -> QrResult<Vec<u8>>
+    ensures shows { IfOk result (λ file. IsDrawn Eps (sheet_of sheet.now) file.items) }
     ensures memory { IsOkUnless result OutOfMemory }
 {
+    let over = over(alloc, Format::Eps, sheet)?;
     let renderer = renderer(sheet, eps_ink(sheet.dark), eps_ink(sheet.light));
-    eps::with_extras(alloc, &renderer, dots_of(sheet), over)
+    eps::with_extras(alloc, &renderer, dots_of(sheet), &over)
 }
 
 // A PDF file with the title of the sheet's frame, unless it is empty. Without pixels per inch, a
 // pixel is a point.
-fn pdf_file(alloc: Global, sheet: &Sheet<'_>, over: &[u8]) -> QrResult<Vec<u8>>
-    ensures shows { IfOk result (λ file. IsShapes Pdf (sheet_of sheet.now) over.now file.items) }
+fn pdf_file(alloc: Global, sheet: &Sheet<'_>) -> QrResult<Vec<u8>>
+    ensures shows { IfOk result (λ file. IsDrawn Pdf (sheet_of sheet.now) file.items) }
     ensures memory { IsOkUnless result OutOfMemory }
 {
+    let over = over(alloc, Format::Pdf, sheet)?;
     let (dark, light) = (pdf::Color(rgb(sheet.dark)), pdf::Color(rgb(sheet.light)));
     let title = sheet.frame.title;
     let dots = dots_of(sheet).unwrap_or(72).max(1);
-    let extras = Extras { dots, over, title };
+    let extras = Extras {
+        dots,
+        over: &over,
+        title,
+    };
     pdf::with_extras(alloc, &renderer(sheet, dark, light), extras)
 }
 

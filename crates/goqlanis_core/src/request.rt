@@ -22,8 +22,8 @@ pub enum Choice {
     At(Version),
 }
 
-/// A size in inches instead of pixels: the `scale` of the request counts dots, along a module or
-/// along the whole side.
+/// A physical size: the `scale` of the request is then a number of dots, of one module or of the
+/// whole side.
 #[derive(Clone, Copy)]
 pub struct Length {
     /// The dots per inch.
@@ -60,8 +60,8 @@ pub struct Request<'a> {
     /// The colours, in formats that have them.
     pub dark: Ink<'a>,
     pub light: Ink<'a>,
-    /// The colours of parts, in SVG, EPS, PDF and PNG. The last of several for the same modules
-    /// counts.
+    /// The colours of parts, in SVG, EPS, PDF and PNG. If several colour the same modules, the last
+    /// wins.
     pub parts: &'a [PartInk<'a>],
     /// Whether dark and light are exchanged; not in PIC, which draws no light modules.
     pub is_inverted: bool,

@@ -48,8 +48,8 @@ pub struct Sheet<'a> {
     pub frame: Frame<'a>,
     /// The version, by which modules belong to parts.
     pub version: Version,
-    /// The colours of parts, in `SvgPath`, EPS, PDF and PNG: a layer over the modules for each. The
-    /// last of several for the same modules counts.
+    /// The colours of parts, in `SvgPath`, EPS, PDF and PNG: a layer over the modules for each. If
+    /// several colour the same modules, the last wins.
     pub parts: &'a [PartInk<'a>],
     /// What is drawn over all modules in `SvgPath`, EPS and PDF: elements, PostScript or operators.
     pub over: &'a [u8],

@@ -116,8 +116,8 @@ pub(crate) fn name_of(
     Ok(name)
 }
 
-// Checks the file name of a generated path: not too long, not empty, not `.` or `..`, and not
-// hidden unless the pattern says so, since a field was empty.
+// Checks the file name of a generated path: not too long, not empty, not `.` or `..`, none that
+// Windows changes or reserves, and not hidden unless the pattern says so, since a field was empty.
 fn check_name(alloc: Global, pattern: &str, path: &str) -> Result<(), Failure> {
     let name = file_name(path);
     let is_hidden = name.starts_with('.') && !file_name(pattern).starts_with('.');
@@ -127,6 +127,8 @@ fn check_name(alloc: Global, pattern: &str, path: &str) -> Result<(), Failure> {
         refused!(alloc; "its file name would be empty, \".\" or \"..\"")
     } else if is_reserved(name) {
         refused!(alloc; "its file would be {name}, a name that Windows reserves")
+    } else if name.ends_with('.') || name.ends_with(' ') {
+        refused!(alloc; "its file name would end with a dot or a space, which Windows drops")
     } else if is_hidden {
         refused!(alloc; "its file name would begin with a dot, since the field is empty")
     } else {

@@ -1,6 +1,6 @@
 -- Tests of the characters in a field.
-use Rattle.std.specs.Prelude.{ℕ, nat_lt, ◌+◌, ◌==◌, count_by, ◌&&◌, ◌||◌, not, Bool, List, [], ◌∷◌, map, Option, if◌then◌else◌}
-use Rattle.std.specs.List.{list_any}
+use Rattle.std.specs.Prelude.{ℕ, nat_lt, ◌==◌, count_by, ◌&&◌, ◌||◌, not, Bool, List, [], ◌∷◌, map, Option, if◌then◌else◌}
+use Rattle.std.specs.List.{list_all, list_any, slice_split}
 use Rattle.qrcode_contents.specs.declared.fields.errors.ContentError.{ContentError}
 use Rattle.qrcode_contents.specs.declared.fields.errors.Field.{Field}
 use Rattle.qrcode_contents.specs.declared.fields.errors.Cause.TheVariants.{ControlCharacter}
@@ -30,9 +30,12 @@ is_other_control b = is_control b && not (b == 9) && not (b == 10)
 abbrev pub is_unicode_break : ℕ → Bool  -- a line break outside ASCII: NEL, LS or PS
 is_unicode_break c = c == 133 || c == 8232 || c == 8233
 
--- as many @ as addresses that commas separate
+abbrev pub has_one_at : List ℕ → Bool  -- exactly one @
+has_one_at bytes = count_by (λ b. b == 64) bytes == 1
+
+-- each of the addresses that commas separate has exactly one @
 abbrev pub are_addresses : List ℕ → Bool
-are_addresses text = count_by (λ b. b == 64) text == count_by (λ b. b == 44) text + 1
+are_addresses text = list_all has_one_at (slice_split (λ b. b == 44) text)
 
 abbrev pub before : ℕ → List ℕ → List ℕ  -- the bytes before the first byte c; all if there is none
 before c [] = []

@@ -1,9 +1,9 @@
 //! Tests of the characters in a field.
 
-ghost use Rattle.std.specs.Prelude.{◌≡◌, ◌<◌, ◌==◌, length, count_by};
+ghost use Rattle.std.specs.Prelude.{◌≡◌, ◌<◌, ◌==◌, length};
 ghost use Rattle.std.specs.List.{after_first, before_first, list_all, list_any};
 ghost use Rattle.std.specs.Str.{chars};
-ghost use Rattle.qrcode_contents.specs.fields.Characters.{are_addresses, is_base32, is_capital, is_capital_or_digit, is_control, is_dialled, is_digit, is_other_control, is_unicode_break};
+ghost use Rattle.qrcode_contents.specs.fields.Characters.{are_addresses, has_one_at, is_base32, is_capital, is_capital_or_digit, is_control, is_dialled, is_digit, is_other_control, is_unicode_break};
 
 /// Returns whether all bytes are letters A to Z.
 pub fn are_capitals(bytes: &[u8]) -> bool
@@ -49,20 +49,17 @@ pub fn is_in_base32(text: &str) -> bool
 
 /// Returns whether `text` has exactly one `@`.
 pub fn has_one_at(text: &str) -> bool
-    ensures { result ≡ (count_by (λ b. b == 64) text.now == 1) }
+    ensures { result ≡ has_one_at text.now }
 {
     let bytes = text.as_bytes();
     bytes.iter().filter(|byte| **byte == b'@').count() == 1
 }
 
-/// Returns whether `text` has an `@` for each of the addresses that commas separate.
+/// Returns whether each of the addresses that commas separate has exactly one `@`.
 pub fn are_addresses(text: &str) -> bool
     ensures { result ≡ are_addresses text.now }
 {
-    let bytes = text.as_bytes();
-    let signs = bytes.iter().filter(|byte| **byte == b'@').count();
-    let commas = bytes.iter().filter(|byte| **byte == b',').count();
-    signs != 0 && signs - 1 == commas
+    text.split(',').all(|address| has_one_at(address))
 }
 
 /// Returns whether `text` has an ASCII control character, such as a line break.

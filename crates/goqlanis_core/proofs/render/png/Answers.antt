@@ -1,4 +1,4 @@
-use Rattle.std.proofs.Common.{◌≡◌, Bool, sym, subst, ◌∙◌, IfOk}
+use Rattle.std.proofs.Common.{Bool, sym, subst, ◌∙◌, IfOk}
 use Rattle.goqlanis_core.specs.Formats.{IsPng}
 use Rattle.goqlanis_core.specs.Sheets.{sheet_of}
 use Rattle.goqlanis_core.proofs.render.png.Goals as goal
