@@ -6,7 +6,7 @@ use Rattle.std.proofs.lemmas.List.{get_or_append_left}
 use Rattle.std.proofs.lemmas.List.Elements.{All-push}
 use Rattle.std.proofs.lemmas.List.Quantifiers.{Any-push, all_pairs_push}
 use Rattle.qrcode_render.specs.Bitmap.{Bitmap}
-use Rattle.qrcode_scan.specs.Wholes.{AreSame, ArePatterned, BeginsAt, HasMany, IsGridAt, IsGridOf, IsPatterned, IsPushed, IsTriedIn, IsWholeIn, Whole, corner_start, count_of, light_column, light_row}
+use Rattle.qrcode_scan.specs.Wholes.{AreSame, ArePatterned, BeginsAt, HasMany, HasPatterns, IsGridAt, IsGridOf, IsPatterned, IsPushed, IsRing, IsTriedIn, IsWholeIn, Whole, corner_start, count_of, light_column, light_row, ring_start}
 use Rattle.qrcode_scan.specs.declared.grids.Grid.{Grid}
 use Rattle.qrcode_scan.proofs.ExactSquares.{begins_above}
 
@@ -85,6 +85,34 @@ push_patterned b old new (Some g) are has (inr more) =
       patterned = All-push (IsPatterned b) old g are.patterned has;
       different = all_pairs_push (λ (g h : Grid). ¬ AreSame g h) old g are.different (λ k d inside. more.1 k d inside);
     })
+
+-- the same ring, by other numbers
+pub ring_there : (b : Bitmap) (x y scale p q : ℕ) → p ≡ x → q ≡ y → IsRing b x y scale → IsRing b p q scale
+ring_there b x y scale p q e f ring = subst (λ (m : ℕ). IsRing b m q scale) (sym e) (subst (λ (m : ℕ). IsRing b x m scale) (sym f) ring)
+
+-- where the ring of a finder pattern begins, in a grid that begins so far before the pattern
+ring_place : (place far scale : ℕ) → far ≤ place → (place - far) + (far + scale) ≡ place + scale
+ring_place place far scale fits = omega (arith, fits)
+
+-- a grid with finder patterns, from the ring in one
+pub grid_patterned : (b : Bitmap) (g : Grid) (x y scale version column row : ℕ) (r l : Bool) → column ≡ corner_start r (17 + 4 * version) * scale
+    → row ≡ corner_start l (17 + 4 * version) * scale → column ≤ x → row ≤ y → IsGridAt (x - column) (y - row) scale (17 + 4 * version) g → HasPatterns b g r l
+    → IsRing b (x + scale) (y + scale) scale → IsPatterned b g
+grid_patterned b g x y scale version column row r l across down left top at has ring =
+    let far : (last : Bool) → corner_start last g.count * scale ≡ corner_start last (17 + 4 * version) * scale = λ last. ap (λ (n : ℕ). corner_start last n * scale) at.count in
+    record {
+      x = x - column;
+      y = y - row;
+      scale = scale;
+      is_right = r;
+      is_lower = l;
+      place = record { count = refl; left = at.left; top = at.top; across = at.across; down = at.down; parts = at.parts };
+      patterns = has;
+      ring =
+          ring_there b (x + scale) (y + scale) scale (ring_start (x - column) r g.count scale) (ring_start (y - row) l g.count scale)
+          (ap (λ (m : ℕ). (x - column) + (m + scale)) (far r ∙ sym across) ∙ ring_place x column scale left)
+          (ap (λ (m : ℕ). (y - row) + (m + scale)) (far l ∙ sym down) ∙ ring_place y row scale top) ring;
+    }
 
 -- the number of a version and a corner, in the order of the search
 abbrev pub flag : Bool → ℕ

@@ -1,5 +1,5 @@
 -- Squares of modules in whole pixels, and the finder patterns by which they are found.
-use Rattle.std.specs.Prelude.{◌≡◌, ◌⊎◌, ◌++◌, ◌∷◌, [], ℕ, ◌+◌, ◌-◌, ◌*◌, ◌/◌, ◌≤◌, ◌<◌, not, Bool, List, Option, Some, None, length, slice_index_or, All, AllPairs, Any, if◌then◌else◌}
+use Rattle.std.specs.Prelude.{◌≡◌, ◌⊎◌, ◌++◌, ◌∷◌, [], ℕ, ◌+◌, ◌-◌, ◌*◌, ◌/◌, ◌≤◌, ◌<◌, not, Bool, true, false, List, Option, Some, None, length, slice_index_or, All, AllPairs, Any, if◌then◌else◌}
 use Rattle.qrcode_types.specs.Colors.{is_dark}
 use Rattle.qrcode_types.specs.declared.types.Color.{Color}
 use Rattle.qrcode_types.specs.declared.types.Color.TheVariants.{Light}
@@ -91,8 +91,28 @@ pub record HasPatterns (b : Bitmap) (g : Grid) (is_right is_lower : Bool) : Type
   pub down : row_at g (g.count - 1) < b.down
   pub finders : HasFinders (marked b g) g.count is_right is_lower
 
-abbrev pub IsPatterned : Bitmap → Grid → Type 0  -- it has them in some corner
-IsPatterned b g = (is_right : Bool) × ((is_lower : Bool) × HasPatterns b g is_right is_lower)
+-- exactly five modules of `scale` light pixels begin in column x of row y, behind a dark pixel and below one: the ring in a finder pattern begins there
+pub record IsRing (b : Bitmap) (x y scale : ℕ) : Type 0 where
+  pub light : (k : ℕ) → k < 5 * scale → mark_at b (x + k) y ≡ false
+  pub end : x + 5 * scale < b.across → mark_at b (x + 5 * scale) y ≡ true
+  pub before : mark_at b (x - 1) y ≡ true
+  pub above : mark_at b x (y - 1) ≡ true
+
+-- where the ring of a finder pattern in a corner begins, across or down, in a square that begins at `start`
+abbrev pub ring_start : ℕ → Bool → ℕ → ℕ → ℕ
+ring_start start is_last count scale = start + (corner_start is_last count * scale + scale)
+
+-- A grid has whole pixels from this pixel on, and finder patterns in three corners. The ring of one begins where it should, so there is at most one such
+-- grid for each ring, corner and number of modules.
+pub record IsPatterned (b : Bitmap) (g : Grid) : Type 0 where
+  pub x : ℕ
+  pub y : ℕ
+  pub scale : ℕ
+  pub is_right : Bool
+  pub is_lower : Bool
+  pub place : IsGridAt x y scale g.count g
+  pub patterns : HasPatterns b g is_right is_lower
+  pub ring : IsRing b (ring_start x is_right g.count scale) (ring_start y is_lower g.count scale) scale
 
 -- two grids have the same modules
 pub record AreSame (g h : Grid) : Type 0 where
@@ -103,12 +123,12 @@ pub record AreSame (g h : Grid) : Type 0 where
   pub down : g.down ≡ h.down
   pub parts : g.parts ≡ h.parts
 
--- different grids, all with finder patterns in three corners
+-- different grids, all of whole pixels with finder patterns in three corners
 pub record ArePatterned (b : Bitmap) (grids : List Grid) : Type 0 where
   pub patterned : All (IsPatterned b) grids
   pub different : AllPairs (λ g h. ¬ AreSame g h) grids
 
-abbrev pub HasMany : Bitmap → Type 0  -- 1,024 or more grids in the pixels have finder patterns in three corners
+abbrev pub HasMany : Bitmap → Type 0  -- 1,024 or more grids of whole pixels have finder patterns in three corners
 HasMany b = (grids : List Grid) × ((1024 ≤ length grids) × ArePatterned b grids)
 
 abbrev pub IsTriedIn : List Grid → Whole → Type 0  -- the square's grid is one of these, unless there are already 1,024
@@ -116,10 +136,10 @@ IsTriedIn grids w = (1024 ≤ length grids) ⊎ Any (IsGridOf w) grids
 
 -- the first light pixel of the finder pattern in the square's corner: column and row
 abbrev pub light_column : Whole → ℕ
-light_column w = w.left + (corner_start w.is_right (count_of w) * w.scale + w.scale)
+light_column w = ring_start w.left w.is_right (count_of w) w.scale
 
 abbrev pub light_row : Whole → ℕ
-light_row w = w.top + (corner_start w.is_lower (count_of w) * w.scale + w.scale)
+light_row w = ring_start w.top w.is_lower (count_of w) w.scale
 
 -- the pixels show the square, and the finder pattern in its corner has this first light pixel
 pub record BeginsAt (b : Bitmap) (w : Whole) (x y : ℕ) : Type 0 where

@@ -2,7 +2,7 @@
 
 ghost use Rattle.std.specs.Prelude.{◌≡◌, ◌⊎◌, ◌*◌, ◌+◌, ◌-◌, ◌/◌, ◌%◌, ◌==◌, ◌<◌, ◌≤◌, ◌++◌, ◌∷◌, [], ℕ, List, All, Any, true, false, not, length, if◌then◌else◌, IsTrue, IsFalse, IfOk, IfSome, IfNone, OnOk};
 ghost use Rattle.qrcode_scan.specs.Squares.{mark_at};
-ghost use Rattle.qrcode_scan.specs.Wholes.{count_of, finder_dark, corner_start, marked, AreSame, ArePatterned, BeginsAt, HasFinder, HasMany, HasPatterns, IsGridAt, IsGridOf, IsPatterned, IsPushed, IsTriedIn, IsWholeIn, Whole};
+ghost use Rattle.qrcode_scan.specs.Wholes.{finder_dark, corner_start, marked, AreSame, ArePatterned, BeginsAt, HasFinder, HasMany, HasPatterns, IsGridAt, IsGridOf, IsPatterned, IsPushed, IsRing, IsTriedIn, IsWholeIn, Whole};
 
 use crate::grids::{Grid, guesses};
 use crate::pixels::Pixels;
@@ -85,6 +85,8 @@ fn finder_at(pixels: &Pixels, x: usize, y: usize) -> Option<Finder>
     requires at_most { (x ≤ 65535) × (y ≤ 65535) }
     ensures place { IfSome result (λ finder. (finder.x + finder.scale ≡ x)
         × (finder.y + finder.scale ≡ y)) }
+    ensures ring { IfSome result (λ finder. IsRing pixels.now (finder.x + finder.scale)
+        (finder.y + finder.scale) finder.scale) }
     ensures scale { IfSome result (λ finder. (w : Whole) → BeginsAt pixels.now w x y
         → w.scale ≡ finder.scale) }
     ensures none { IfNone result ((w : Whole) → ¬ BeginsAt pixels.now w x y) }
@@ -129,7 +131,9 @@ fn grid_at(x: usize, y: usize, scale: usize, count: usize) -> Grid
 #[tactic(auto, using(crate::proofs::ExactSquares::first_light))]
 fn is_first_light(pixels: &Pixels, x: usize, y: usize) -> bool
     requires { (x ≤ 65535) × (y ≤ 65535) }
-    ensures { IsFalse result → (w : Whole) → ¬ BeginsAt pixels.now w x y }
+    ensures all { IsTrue result → (mark_at pixels.now (x - 1) y ≡ true)
+        × (mark_at pixels.now x (y - 1) ≡ true) }
+    ensures none { IsFalse result → (w : Whole) → ¬ BeginsAt pixels.now w x y }
 {
     if x == 0 || y == 0 || mark_at(pixels, x, y) {
         return false;
@@ -158,7 +162,9 @@ fn light_run(pixels: &Pixels, x: usize, y: usize) -> usize
 
 // Appends the grids of squares of each size that have this finder pattern in each of their corners.
 fn push_sizes(grids: &mut Vec<Grid>, pixels: &Pixels, finder: Finder) -> Result<(), AllocError>
-    requires { ArePatterned pixels.now grids.old.items }
+    requires ring { IsRing pixels.now (finder.x + finder.scale) (finder.y + finder.scale)
+        finder.scale }
+    requires patterned { ArePatterned pixels.now grids.old.items }
     ensures patterned { OnOk result (ArePatterned pixels.now grids.new.items) }
     ensures kept { OnOk result ((w : Whole) → IsTriedIn grids.old.items w
         → IsTriedIn grids.new.items w) }
@@ -218,7 +224,9 @@ fn is_same(one: &Grid, other: &Grid) -> bool
 // Returns the grid of a square of this version with the finder pattern in a corner, if it has the
 // two others.
 fn whole_grid(pixels: &Pixels, finder: Finder, version: usize, corner: Corner) -> Option<Grid>
-    requires { (1 ≤ version) × (version ≤ 40) }
+    requires version { (1 ≤ version) × (version ≤ 40) }
+    requires ring { IsRing pixels.now (finder.x + finder.scale) (finder.y + finder.scale)
+        finder.scale }
     ensures patterned { IfSome result (IsPatterned pixels.now) }
     ensures value { IfSome result (λ grid. (w : Whole)
         → BeginsAt pixels.now w (finder.x + finder.scale) (finder.y + finder.scale)
