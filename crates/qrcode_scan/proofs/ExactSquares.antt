@@ -1,5 +1,5 @@
 -- Squares of modules in whole pixels: what their pixels and their grids show.
-use Rattle.std.proofs.Common.{◌≡◌, ◌⊎◌, ◌*◌, ℕ, ◌+◌, ◌-◌, ◌/◌, ◌%◌, ◌<◌, ◌≤◌, zero, suc, inl, inr, Bool, true, false, not, List, length, get_or, ap, ap₂, refl, sym, subst, ◌∙◌, arith, if◌then◌else◌}
+use Rattle.std.proofs.Common.{◌≡◌, ◌*◌, ℕ, ◌+◌, ◌-◌, ◌/◌, ◌%◌, ◌<◌, ◌≤◌, zero, suc, inl, inr, Bool, true, false, not, length, get_or, ap, ap₂, refl, sym, subst, ◌∙◌, arith}
 use Rattle.std.proofs.Math.Nat.{mul-le-mul_right}
 use Rattle.std.proofs.lemmas.Nat.{div-add-mod', mod_below, div_below}
 use Rattle.std.proofs.lemmas.Bool.{cases_lt}
@@ -10,7 +10,7 @@ use Rattle.qrcode_types.specs.declared.types.Color.TheVariants.{Light}
 use Rattle.qrcode_render.specs.Bitmap.{Bitmap}
 use Rattle.qrcode_scan.specs.Grids.{colours_at, column_at, row_at}
 use Rattle.qrcode_scan.specs.Squares.{mark_at}
-use Rattle.qrcode_scan.specs.Wholes.{BeginsAt, HasFinder, HasFinders, HasPatterns, IsGridAt, IsGridOf, IsWholeIn, Whole, corner_start, count_of, dark_in, finder_dark, light_column, light_row, marked}
+use Rattle.qrcode_scan.specs.Wholes.{BeginsAt, HasFinder, HasPatterns, IsGridAt, IsGridOf, IsWholeIn, Whole, corner_start, count_of, dark_in, finder_dark, light_row, marked}
 use Rattle.qrcode_scan.specs.declared.grids.Grid.{Grid}
 use Rattle.qrcode_scan.proofs.Framed.{color_of_is_dark, pixel_in, some_count}
 

@@ -1,6 +1,6 @@
 -- Lists of grids that are tried: what pushes do to them, and the squares that they have.
 use Rattle.std.proofs.Common.{◌≡◌, ◌⊎◌, ◌*◌, ℕ, ◌+◌, ◌-◌, ◌/◌, ◌%◌, ◌==◌, ◌<◌, ◌≤◌, ◌++◌, ◌∷◌, [], inl, inr, Bool, true, false, List, Option, Some, None, length, ap, ap₂, refl, sym, subst, ◌∙◌, arith, length-append, if◌then◌else◌}
-use Rattle.std.specs.Prelude.{AllPairs, Any, IfNone, IfSome}
+use Rattle.std.specs.Prelude.{Any, IfNone, IfSome}
 use Rattle.std.proofs.lemmas.Bool.{cases_lt}
 use Rattle.std.proofs.lemmas.List.{get_or_append_left}
 use Rattle.std.proofs.lemmas.List.Elements.{All-push}

@@ -8,7 +8,7 @@ use Rattle.qrcode_reader.specs.declared.refusals.Unread as reading
 use Rattle.qrcode_scan.proofs.Read.{missed_code, missed_told}
 use Rattle.qrcode_scan.proofs.Sampled.{sampled_length}
 use Rattle.qrcode_scan.proofs.WhyUnread.{HasNone}
-use Rattle.qrcode_scan.proofs.WholeCodes.{code_of, grid_inside, many_modules, reads_some}
+use Rattle.qrcode_scan.proofs.WholeCodes.{code_of, reads_some}
 use Rattle.qrcode_scan.proofs.codes.found_at.Goals as goal
 
 pub scan_of-requires : goal.scan_of-requires

@@ -1,5 +1,3 @@
-use Rattle.std.proofs.Common.{◌≡◌}
-use Rattle.qrcode_scan.specs.Codes.{AreApart, place_of}
 use Rattle.qrcode_scan.proofs.codes.is_over.Goals as goal
 
 pub returns-in-Some-clause-over : goal.returns-in-Some-clause-over

@@ -1,4 +1,4 @@
-use Rattle.std.proofs.Common.{◌<◌, ◌≡◌, length, take, sym, arith, rules, subst, All}
+use Rattle.std.proofs.Common.{◌≡◌, take, sym, arith, rules, subst, All}
 use Rattle.std.proofs.lemmas.List.{take_all}
 use Rattle.qrcode_scan.specs.Wholes.{AreSame}
 use Rattle.qrcode_scan.specs.declared.grids.Grid.{Grid}

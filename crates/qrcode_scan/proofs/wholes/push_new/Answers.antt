@@ -1,4 +1,4 @@
-use Rattle.std.proofs.Common.{◌≡◌, ◌⊎◌, ◌≤◌, inl, inr, refl, arith, rules, length, sym, subst, true}
+use Rattle.std.proofs.Common.{◌⊎◌, ◌≤◌, inl, inr, refl, arith, rules, length, sym, subst, true}
 use Rattle.std.specs.Prelude.{Any, IsTrue}
 use Rattle.qrcode_scan.specs.Wholes.{AreSame, IsPushed}
 use Rattle.qrcode_scan.specs.declared.grids.Grid.{Grid}
@@ -10,11 +10,11 @@ returns-else-len-lt-MOST_GRIDS c =
     let xs = c.args.grids.now.items in
     let g = c.in-Some.grid in
     let why : (1024 ≤ length xs) ⊎ Any (λ (h : Grid). AreSame h g) xs =
-        elim c.else-len-lt-MOST_GRIDS.branch [
-          | else-len-lt-MOST_GRIDS-via-then-len-lt-MOST_GRIDS+else-not-is_known w ↦
-              let t : IsTrue true = search rules in
-              inr (subst (Any (λ (h : Grid). AreSame h g)) w.deref.ensures.value (w.if-not-is_known.ensures.known t))
-          | else-len-lt-MOST_GRIDS-via-else-len-lt-MOST_GRIDS w ↦ inl (omega arith)
-        ]
+    elim c.else-len-lt-MOST_GRIDS.branch [
+      | else-len-lt-MOST_GRIDS-via-then-len-lt-MOST_GRIDS+else-not-is_known w ↦
+          let t : IsTrue true = search rules in
+          inr (subst (Any (λ (h : Grid). AreSame h g)) w.deref.ensures.value (w.if-not-is_known.ensures.known t))
+      | else-len-lt-MOST_GRIDS-via-else-len-lt-MOST_GRIDS w ↦ inl (omega arith)
+    ]
     in
     subst (λ o. IsPushed xs o xs) (sym c.in-Some.is) (inl (refl, why))
