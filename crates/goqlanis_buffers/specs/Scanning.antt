@@ -1,5 +1,5 @@
 -- What the calls for C read from pictures.
-use Rattle.std.specs.Prelude.{◌≡◌, ◌≢◌, ◌⊎◌, ◌+◌, ◌<◌, ◌≤◌, ⊤, ℕ, Bool, not, List, All, flat_map, length, map, if◌then◌else◌}
+use Rattle.std.specs.Prelude.{◌≡◌, ◌≢◌, ◌⊎◌, ◌+◌, ◌<◌, ◌≤◌, ⊤, ℕ, Bool, not, List, All, AllPairs, flat_map, length, map, if◌then◌else◌}
 use Rattle.std.specs.List.{AllZip}
 use Rattle.qrcode_types.specs.declared.types.Mode.{Mode}
 use Rattle.qrcode_types.specs.declared.types.Mode.TheVariants.{Numeric, Alphanumeric, Byte, Kanji}
@@ -9,6 +9,7 @@ use Rattle.qrcode_reader.specs.declared.spell.headers.Header.TheVariants.{Eci, F
 use Rattle.qrcode_reader.specs.declared.spell.parts.Part as piece
 use Rattle.qrcode_reader.specs.declared.spell.parts.Part.TheVariants.{Front, Bytes}
 use Rattle.qrcode_png.specs.declared.reading.Unread as png
+use Rattle.qrcode_scan.specs.Codes.{AreTwo, FindsWholesOf}
 use Rattle.qrcode_scan.specs.Scans.{IsScanOf, IsUnreadPicture}
 use Rattle.qrcode_scan.specs.declared.scanning.Scan as found
 use Rattle.qrcode_scan.specs.declared.scanning.Unread.{Unread}
@@ -70,6 +71,8 @@ pub record IsToldIn (picture : List ℕ) (size : ℕ) (told : Told) : Type 0 whe
   pub scans : List found.Scan
   pub read : All (IsScanOf picture) scans
   pub some : 1 ≤ length scans
+  pub once : AllPairs AreTwo scans
+  pub whole : FindsWholesOf picture scans
   pub codes : AreTold scans told
 
 -- the codes, parts and bytes are at the start of buffers, which are otherwise unchanged

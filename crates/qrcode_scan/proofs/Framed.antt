@@ -19,7 +19,7 @@ pub pixel_of : (at : Layout) (s : List Color) (k : ℕ) → k < pixels_across at
 pixel_of at s k inside = get_or-map-range_with_len _ 0 (pixels_across at * pixels_down at) k k false inside (omega arith)
 
 -- a square with a module has at least one module a side
-some_count : (count k : ℕ) → k < count * count → 0 < count
+pub some_count : (count k : ℕ) → k < count * count → 0 < count
 some_count zero k inside = omega (arith, inside)
 some_count (suc n) k inside = omega arith
 
@@ -71,6 +71,19 @@ module_pixel count zone scale s column row some left top =
     (at_most zone cy (omega (arith, y))) (below cy (zone + count) (omega (arith, y, top)))
     ∙ ap₂ (λ (i j : ℕ). is_dark (get_or s (i * count + j) Light)) (omega (arith, y)) (omega (arith, x))
 
+-- each pixel of a module has its colour, in a picture without a quiet zone
+pub pixel_in : (count scale : ℕ) (s : List Color) (i j x y : ℕ) → i < count → j < count → x < scale → y < scale
+    → is_dark_pixel (layout count 0 scale scale) s (i * scale + x) (j * scale + y) ≡ is_dark (get_or s (j * count + i) Light)
+pixel_in count scale s i j x y left top inside low =
+    let cx = (i * scale + x) / scale in
+    let cy = (j * scale + y) / scale in
+    let column : cx ≡ i = div-mul-add i scale x inside in
+    let row : cy ≡ j = div-mul-add j scale y low in
+    past_tests (nat_le 0 cx) (nat_lt cx (0 + count)) (nat_le 0 cy) (nat_lt cy (0 + count)) (is_dark (get_or s ((cy - 0) * count + (cx - 0)) Light))
+    (at_most 0 cx (omega arith)) (below cx (0 + count) (omega (arith, column, left)))
+    (at_most 0 cy (omega arith)) (below cy (0 + count) (omega (arith, row, top)))
+    ∙ ap₂ (λ (m n : ℕ). is_dark (get_or s (m * count + n) Light)) (omega (arith, row)) (omega (arith, column))
+
 -- a dark pixel lies below the quiet zone at the top
 pub behind_zone : (count zone scale : ℕ) (s : List Color) (x y : ℕ) → is_dark_pixel (layout count zone scale scale) s x y ≡ true → zone * scale ≤ y
 behind_zone count zone scale s x y dark =
@@ -111,7 +124,7 @@ rows_shown marks at s n k rows inside =
     ap (λ i. get_or marks i false) (sym (div-add-mod' k w)) ∙ rows (k / w) (div_below k w n some (omega (arith, inside))) (k % w) (mod_below k w some)
 
 -- the colour made from whether a colour is dark is that colour
-color_of_is_dark : (c : Color) → color_of (is_dark c) ≡ c
+pub color_of_is_dark : (c : Color) → color_of (is_dark c) ≡ c
 color_of_is_dark Dark = refl
 color_of_is_dark Light = refl
 

@@ -1,5 +1,6 @@
 mod Checked
 mod Digits
+mod ExactSquares
 mod Framed
 mod HalfBlocks
 mod Marked
@@ -10,4 +11,6 @@ mod Read
 mod Sampled
 mod Seen
 mod ShownSquares
+mod Tried
+mod WholeCodes
 mod WhyUnread

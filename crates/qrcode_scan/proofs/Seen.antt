@@ -1,5 +1,5 @@
 -- The pixels of a picture.
-use Rattle.std.proofs.Common.{◌≡◌, ℕ, Bool, true, false, List, Option, Some, map, length, sym, subst, ap, ◌∙◌, inr}
+use Rattle.std.proofs.Common.{◌≡◌, ℕ, true, false, List, Some, map, length, sym, subst, ap, ◌∙◌, inr}
 use Rattle.std.proofs.lemmas.List.{length-map}
 use Rattle.std.proofs.lemmas.Simd.{map-map}
 use Rattle.qrcode_render.specs.Bitmap.{Bitmap}

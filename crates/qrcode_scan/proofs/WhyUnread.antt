@@ -7,7 +7,7 @@ use Rattle.qrcode_reader.specs.Readings.{IsPartsCause, ReadsParts}
 use Rattle.qrcode_reader.specs.declared.positions.Position.{Position}
 use Rattle.qrcode_reader.specs.declared.spell.parts.Part.{Part}
 use Rattle.qrcode_reader.specs.declared.refusals.Unread as reading
-use Rattle.qrcode_scan.specs.Scans.{IsLeastSquareIn, IsNotClean, IsSeenAs, IsUnreadIn, IsUnreadPicture, IsUnseen, unread_as}
+use Rattle.qrcode_scan.specs.Scans.{IsLeastSquareIn, IsNotClean, IsSeenAs, IsUnreadIn, IsUnreadPicture, IsUnseen, HasNoWhole, unread_as}
 use Rattle.qrcode_scan.specs.declared.scanning.Unread.{Unread}
 use Rattle.qrcode_scan.specs.declared.scanning.Unread.TheVariants.{Unscanned, Png, Jpeg, NoSquare, NoSymbol, OutOfMemory}
 
@@ -28,14 +28,21 @@ unread_square b count zone scale modules e square why = elim why [
   caused reading.TheVariants.NotSpelled cause none = record { zone = zone; scale = scale; modules = modules; square = square; cause = cause; none = none }
   caused reading.TheVariants.OutOfMemory cause none = tt
 
+-- no square of whole pixels decodes, if memory did not run out
+no_whole : (b : Bitmap) (e : Unread) → ¬ (e ≡ OutOfMemory) → (e ≡ OutOfMemory) ⊎ HasNoWhole b → HasNoWhole b
+no_whole b e other (inl memory) = absurd (other memory)
+no_whole b e other (inr none) = none
+
 -- the pixels of a picture do not decode
-pub unread_picture : (bytes : List ℕ) (b : Bitmap) (i : Bool) (e : Unread) → IsSeenAs bytes b i → IsUnreadIn b e → IsUnreadPicture bytes e
-unread_picture bytes b i (Unscanned e) seen unread = absurd unread
-unread_picture bytes b i (Png e) seen unread = absurd unread
-unread_picture bytes b i Jpeg seen unread = absurd unread
-unread_picture bytes b i NoSquare seen unread = record { pixels = b; is_inverted = i; seen = seen; unread = unread }
-unread_picture bytes b i (NoSymbol count e) seen unread = record { pixels = b; is_inverted = i; seen = seen; unread = unread }
-unread_picture bytes b i OutOfMemory seen unread = tt
+pub unread_picture : (bytes : List ℕ) (b : Bitmap) (i : Bool) (e : Unread) → IsSeenAs bytes b i → IsUnreadIn b e → (e ≡ OutOfMemory) ⊎ HasNoWhole b → IsUnreadPicture bytes e
+unread_picture bytes b i (Unscanned e) seen unread none = absurd unread
+unread_picture bytes b i (Png e) seen unread none = absurd unread
+unread_picture bytes b i Jpeg seen unread none = absurd unread
+unread_picture bytes b i NoSquare seen unread none =
+    record { pixels = b; is_inverted = i; seen = seen; unread = unread; none = no_whole b NoSquare (λ e. cc) none }
+unread_picture bytes b i (NoSymbol count e) seen unread none =
+    record { pixels = b; is_inverted = i; seen = seen; unread = unread; none = no_whole b (NoSymbol count e) (λ e. cc) none }
+unread_picture bytes b i OutOfMemory seen unread none = tt
 
 -- no square in a plain margin decodes, unless memory ran out
 pub not_clean : (b : Bitmap) (e : Unread) → IsUnreadIn b e → ¬ (e ≡ OutOfMemory) → IsNotClean b

@@ -8,3 +8,4 @@ pub mod Heads
 pub mod Scans
 pub mod Shades
 pub mod Squares
+pub mod Wholes

@@ -22,6 +22,7 @@ use Rattle.qrcode_reader.specs.Readings.{IsPartsCause, ReadsParts}
 use Rattle.qrcode_reader.specs.declared.positions.Position.{Position}
 use Rattle.qrcode_reader.specs.declared.refusals.Unread as reading
 use Rattle.qrcode_scan.specs.HandedOn.{fnc1, handed_on}
+use Rattle.qrcode_scan.specs.Wholes.{HasMany, ShowsCode, Whole}
 use Rattle.qrcode_scan.specs.declared.scanning.Scan.{Scan}
 use Rattle.qrcode_scan.specs.declared.scanning.Unread.{Unread}
 use Rattle.qrcode_scan.specs.declared.scanning.Unread.TheVariants.{Unscanned, Png, Jpeg, NoSquare, NoSymbol, OutOfMemory}
@@ -148,12 +149,17 @@ unread_as count reading.TheVariants.NoFormat = NoSymbol count reading.TheVariant
 unread_as count (reading.TheVariants.Damaged b) = NoSymbol count (reading.TheVariants.Damaged b)
 unread_as count reading.TheVariants.NotSpelled = NoSymbol count reading.TheVariants.NotSpelled
 
--- the picture has pixels, and e is why they do not decode
+-- no square of whole pixels decodes, unless 1,024 grids have finder patterns
+abbrev pub HasNoWhole : Bitmap → Type 0
+HasNoWhole b = (w : Whole) → ShowsCode b w → HasMany b
+
+-- the picture has pixels, and e is why they do not decode; nor does a square of whole pixels in them
 pub record HasUnreadPixels (bytes : List ℕ) (e : Unread) : Type 0 where
   pub pixels : Bitmap
   pub is_inverted : Bool
   pub seen : IsSeenAs bytes pixels is_inverted
   pub unread : IsUnreadIn pixels e
+  pub none : HasNoWhole pixels
 
 abbrev pub IsUnreadPicture : List ℕ → Unread → Type 0  -- why a picture does not decode
 IsUnreadPicture bytes (Unscanned e) = IsUnseen bytes (Unscanned e)

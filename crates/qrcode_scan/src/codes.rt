@@ -1,15 +1,19 @@
 //! Finds and decodes all codes of a picture.
 
-ghost use Rattle.std.specs.Prelude.{◌≡◌, ◌≤◌, ◌⊎◌, ◌++◌, ◌∷◌, [], ℕ, All, insert, length, IsTrue, IfOk, IfErr, OnOk};
+ghost use Rattle.std.specs.Prelude.{◌≡◌, ◌≤◌, ◌<◌, ◌⊎◌, ◌++◌, ◌∷◌, [], ℕ, Some, All, AllPairs, Any, insert, length, IsTrue, IsFalse, IfOk, IfErr, OnOk};
 ghost use Rattle.qrcode_reader.specs.declared.refusals.Unread.TheVariants.{OutOfMemory};
-ghost use Rattle.qrcode_scan.specs.Codes.{AreCodesIn, IsFoundAs, IsMissedOf};
-ghost use Rattle.qrcode_scan.specs.Scans.{IsNotClean, IsScanOf, IsUnreadPicture, IsUnreadIn, has_more};
+ghost use Rattle.qrcode_scan.specs.declared.scanning.Unread.TheVariants.{OutOfMemory as NoMemory};
+ghost use Rattle.qrcode_scan.specs.Codes.{place_of, AreApart, AreCodesIn, AreTwo, FindsWholes, FindsWholesOf, HasGrid, IsApartFrom, IsCodeFound, IsFoundAs, IsFoundBy, IsMissedOf, Overlaps};
+ghost use Rattle.qrcode_scan.specs.Wholes.{IsGridOf, ShowsCode, Whole};
+ghost use Rattle.qrcode_scan.specs.declared.codes.Found.TheVariants.{Nothing, Missed as MissedAt};
+ghost use Rattle.qrcode_scan.specs.Scans.{has_more, HasNoWhole, IsNotClean, IsScanOf, IsUnreadPicture, IsUnreadIn};
 
-use crate::grids::{Grid, grids_of};
+use crate::grids::Grid;
 use crate::pixels::Pixels;
 use crate::samples::sampled_at;
 use crate::scanning::{self, Scan, read_clean, scan_of, seen_in};
 use crate::squares::Square;
+use crate::wholes::grids_of;
 use qrcode_ec::max_allowed_errors;
 use qrcode_reader::{AnyPartsReading, Unread, read_any_parts};
 use std::alloc::{AllocError, Global};
@@ -68,6 +72,8 @@ pub struct Codes {
 pub fn read_codes(alloc: Global, bytes: &[u8]) -> Result<Codes, scanning::Unread>
     ensures value { IfOk result (λ codes. All (IsScanOf bytes.now) codes.scans.items) }
     ensures some { IfOk result (λ codes. 1 ≤ length codes.scans.items) }
+    ensures once { IfOk result (λ codes. AllPairs AreTwo codes.scans.items) }
+    ensures whole { IfOk result (λ codes. FindsWholesOf bytes.now codes.scans.items) }
     ensures missed { IfOk result (λ codes. All (IsMissedOf bytes.now) codes.missed.items) }
     ensures more { IfOk result (λ codes. codes.has_more ≡ has_more bytes.now) }
     ensures causes { IfErr result (IsUnreadPicture bytes.now) }
@@ -91,7 +97,9 @@ pub fn read_codes(alloc: Global, bytes: &[u8]) -> Result<Codes, scanning::Unread
 fn codes_in(alloc: Global, pixels: &Pixels, is_inverted: bool) -> Result<Codes, scanning::Unread>
     ensures codes { IfOk result (AreCodesIn pixels.now is_inverted) }
     ensures some { IfOk result (λ codes. 1 ≤ length codes.scans.items) }
+    ensures whole { IfOk result (λ codes. FindsWholes pixels.now codes.scans.items) }
     ensures causes { IfErr result (IsUnreadIn pixels.now) }
+    ensures none { IfErr result (λ e. (e ≡ NoMemory) ⊎ HasNoWhole pixels.now) }
 {
     let cause = match read_clean(alloc, pixels, is_inverted) {
         Ok(scan) => return Ok(only(alloc, scan)?),
@@ -126,14 +134,16 @@ fn only(alloc: Global, scan: Scan) -> Result<Codes, AllocError>
 #[tactic(auto, using(crate::proofs::Read::no_code))]
 fn codes_found(alloc: Global, pixels: &Pixels, is_inverted: bool) -> Result<Codes, AllocError>
     requires { IsNotClean pixels.now }
-    ensures { IfOk result (AreCodesIn pixels.now is_inverted) }
+    ensures codes { IfOk result (AreCodesIn pixels.now is_inverted) }
+    ensures whole { IfOk result (λ codes. FindsWholes pixels.now codes.scans.items) }
 {
     let mut codes = Codes {
         scans: Vec::new(alloc),
         missed: Vec::new(alloc),
         has_more: false,
     };
-    for grid in &grids_of(alloc, pixels)? {
+    let grids = grids_of(alloc, pixels)?;
+    for grid in &grids {
         add(&mut codes, alloc, pixels, grid, is_inverted)?;
     }
     Ok(codes)
@@ -150,9 +160,16 @@ fn add(
 ) -> Result<(), AllocError>
     requires clean { IsNotClean pixels.now }
     requires codes { AreCodesIn pixels.now is_inverted codes.old }
-    ensures { OnOk result (AreCodesIn pixels.now is_inverted codes.new) }
+    ensures codes { OnOk result (AreCodesIn pixels.now is_inverted codes.new) }
+    ensures kept { OnOk result ((w : Whole) → Any (IsFoundBy w) codes.old.scans.items
+        → Any (IsFoundBy w) codes.new.scans.items) }
+    ensures whole { OnOk result ((w : Whole) → ShowsCode pixels.now w → IsGridOf w grid.now
+        → Any (IsFoundBy w) codes.new.scans.items) }
 {
-    if codes.has_read(grid) || (grid.count < 21 && is_among(&codes.missed, grid)) {
+    if codes.has_read(grid) {
+        return Ok(());
+    }
+    if grid.count < 21 && is_among(&codes.missed, grid) {
         return Ok(());
     }
     match found_at(alloc, pixels, grid, is_inverted)? {
@@ -171,20 +188,21 @@ fn found_at(
     is_inverted: bool,
 ) -> Result<Found, AllocError>
     requires { IsNotClean pixels.now }
-    ensures { IfOk result (IsFoundAs pixels.now is_inverted) }
+    ensures found { IfOk result (IsFoundAs pixels.now is_inverted) }
+    ensures grid { IfOk result (HasGrid grid.now) }
+    ensures whole { IfOk result (λ found. (w : Whole) → ShowsCode pixels.now w
+        → IsGridOf w grid.now → IsCodeFound w found) }
 {
     let Some(modules) = sampled_at(alloc, pixels, grid)? else {
         return Ok(Found::Nothing);
     };
     let any = match read_any_parts(alloc, &modules) {
-        Ok(any) if is_doubtful(&any) => return Ok(Found::Nothing),
         Ok(any) => any,
-        Err(Unread::OutOfMemory) => return Err(AllocError),
-        Err(cause) if is_likely(cause) => {
-            return Ok(Found::Missed(Missed { grid: *grid, cause }));
-        }
-        Err(_) => return Ok(Found::Nothing),
+        Err(cause) => return Ok(unread_at(grid, cause)?),
     };
+    if is_doubtful(grid.count, &any) {
+        return Ok(Found::Nothing);
+    }
     let square = Square {
         count: grid.count,
         zone: 0,
@@ -194,26 +212,36 @@ fn found_at(
     Ok(Found::Code(scan_of(alloc, square, Some(*grid), is_inverted, any)?))
 }
 
-// Whether a Micro symbol has more wrong codewords than the standard allows (ISO/IEC 18004:2006,
-// 6.5.1). With one finder pattern and little error correction, such symbols appear in noise.
-fn is_doubtful(any: &AnyPartsReading) -> bool {
+// Whether a symbol with `count` modules a side is a Micro symbol with more wrong codewords than the
+// standard allows (ISO/IEC 18004:2006, 6.5.1). With one finder pattern and little error correction,
+// such symbols appear in noise.
+fn is_doubtful(count: usize, any: &AnyPartsReading) -> bool
+    ensures { IsTrue result → count < 21 }
+{
     let read = &any.reading;
     match max_allowed_errors(read.version, read.ec_level) {
-        Ok(allowed) => read.version.is_micro() && allowed < read.wrong.len(),
+        Ok(allowed) => count < 21 && allowed < read.wrong.len(),
         Err(_) => false,
     }
 }
 
-// Whether a square that does not decode is probably a code: it has format words.
-fn is_likely(cause: Unread) -> bool
-    ensures { IsTrue result → ¬ (cause ≡ OutOfMemory) }
+// Tells of a square that does not decode, if it is probably a code: it has format words.
+fn unread_at(grid: &Grid, cause: Unread) -> Result<Found, AllocError>
+    ensures memory { IfOk result (λ _. ¬ (cause ≡ OutOfMemory)) }
+    ensures missed { IfOk result (λ found. (found ≡ Nothing)
+        ⊎ (found ≡ MissedAt (record { grid = grid.now; cause = cause }))) }
 {
-    matches!(cause, Unread::Damaged(_) | Unread::NotSpelled)
+    match cause {
+        Unread::OutOfMemory => Err(AllocError),
+        Unread::Damaged(_) | Unread::NotSpelled => Ok(Found::Missed(Missed { grid: *grid, cause })),
+        Unread::NoSuchSide | Unread::NoFormat => Ok(Found::Nothing),
+    }
 }
 
 // Inserts a code before the first one that it precedes.
 fn insert_code(scans: &mut Vec<Scan>, scan: Scan, grid: &Grid) -> Result<(), AllocError>
-    ensures { OnOk result ((n : ℕ) × (scans.new.items ≡ insert scans.old.items n scan)) }
+    ensures { OnOk result ((n : ℕ) × (n ≤ length scans.old.items)
+        × (scans.new.items ≡ insert scans.old.items n scan)) }
 {
     let place = place_of(grid);
     let number = scans
@@ -246,16 +274,34 @@ fn is_among(all: &[Missed], grid: &Grid) -> bool {
 
 impl Codes {
     /// Whether a decoded code overlaps the grid.
-    pub fn has_read(&self, grid: &Grid) -> bool {
-        let place = place_of(grid);
-        self.scans.iter().any(|scan| scan
-            .grid
-            .is_some_and(|other| overlap(place, place_of(&other))))
+    pub fn has_read(&self, grid: &Grid) -> bool
+        ensures some { IsTrue result → Any (Overlaps grid.now) self.now.scans.items }
+        ensures none { IsFalse result → All (IsApartFrom grid.now) self.now.scans.items }
+    {
+        for scan in &self.scans {
+            if is_over(scan, grid) {
+                return true;
+            }
+        }
+        false
+    }
+}
+
+// Whether a code was found by its finder patterns and overlaps the grid.
+fn is_over(scan: &Scan, grid: &Grid) -> bool
+    ensures over { IsTrue result → Overlaps grid.now scan.now }
+    ensures apart { IsFalse result → IsApartFrom grid.now scan.now }
+{
+    match &scan.grid {
+        Some(other) => overlap(place_of(other), place_of(grid)),
+        None => false,
     }
 }
 
 // The pixels that a grid's modules take.
-fn place_of(grid: &Grid) -> Place {
+fn place_of(grid: &Grid) -> Place
+    ensures { result ≡ place_of grid.now }
+{
     let parts = grid.parts.max(1);
     Place {
         left: grid.left / parts,
@@ -266,7 +312,10 @@ fn place_of(grid: &Grid) -> Place {
 }
 
 // Whether two squares have pixels in common.
-fn overlap(one: Place, other: Place) -> bool {
+fn overlap(one: Place, other: Place) -> bool
+    ensures apart { IsFalse result → AreApart one other }
+    ensures together { IsTrue result → ¬ AreApart one other }
+{
     one.left < other.right
         && other.left < one.right
         && one.top < other.bottom

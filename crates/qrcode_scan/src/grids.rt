@@ -48,7 +48,7 @@ struct Corner {
 /// 1,024.
 ///
 /// Errors: only `AllocError`, if memory runs out.
-pub fn grids_of(alloc: Global, pixels: &Pixels) -> Result<Vec<Grid>, AllocError> {
+pub(crate) fn guesses(alloc: Global, pixels: &Pixels) -> Result<Vec<Grid>, AllocError> {
     let mut grids = Vec::new(alloc);
     push_grids(alloc, &mut grids, pixels)?;
     push_grids(alloc, &mut grids, &pixels.inverted(alloc)?)?;

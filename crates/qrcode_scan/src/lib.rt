@@ -15,13 +15,15 @@ mod samples;
 mod scanning;
 mod shades;
 mod squares;
+mod wholes;
 
 pub use checking::{Checks, check_codes};
 pub use codes::{Codes, Missed, read_codes};
 pub use files::pixels_of;
-pub use grids::{Grid, grids_of};
+pub use grids::Grid;
 pub use pixels::{Pixels, Unscanned};
 pub use samples::sampled_at;
 pub use scanning::{Scan, Unread};
 pub use shades::pixels_of_colours;
 pub use squares::{Square, square_of};
+pub use wholes::grids_of;

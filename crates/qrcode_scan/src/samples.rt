@@ -1,6 +1,6 @@
 //! Samples the modules of a grid.
 
-ghost use Rattle.std.specs.Prelude.{◌≡◌, ◌-◌, ◌<◌, ◌≤◌, IsTrue, IfOk, IfSome};
+ghost use Rattle.std.specs.Prelude.{◌≡◌, ◌-◌, ◌<◌, ◌≤◌, IsTrue, IsFalse, IfOk, IfSome, IfNone};
 ghost use Rattle.qrcode_scan.specs.Grids.{IsSampled, column_at, row_at, colours_at};
 ghost use Rattle.qrcode_scan.specs.Squares.{mark_at};
 
@@ -19,8 +19,11 @@ pub fn sampled_at(
     pixels: &Pixels,
     grid: &Grid,
 ) -> Result<Option<Vec<Color>>, AllocError>
-    ensures { IfOk result (λ found. IfSome found (λ modules.
+    ensures some { IfOk result (λ found. IfSome found (λ modules.
         IsSampled pixels.now grid.now modules.items)) }
+    ensures none { IfOk result (λ found. IfNone found ((1 ≤ grid.now.count)
+        → (1 ≤ grid.now.parts) → (column_at grid.now (grid.now.count - 1) < pixels.now.across)
+        → (row_at grid.now (grid.now.count - 1) < pixels.now.down) → ⊥)) }
 {
     if grid.count == 0 || grid.parts == 0 || !is_inside(pixels, grid) {
         return Ok(None);
@@ -29,10 +32,12 @@ pub fn sampled_at(
 }
 
 // Whether the centre of the last module is in the picture.
-fn is_inside(pixels: &Pixels, grid: &Grid) -> bool
+pub(crate) fn is_inside(pixels: &Pixels, grid: &Grid) -> bool
     requires { (1 ≤ grid.now.count) × (1 ≤ grid.now.parts) }
-    ensures { IsTrue result → (column_at grid.now (grid.now.count - 1) < pixels.now.across)
+    ensures inside { IsTrue result → (column_at grid.now (grid.now.count - 1) < pixels.now.across)
         × (row_at grid.now (grid.now.count - 1) < pixels.now.down) }
+    ensures outside { IsFalse result → ¬ ((column_at grid.now (grid.now.count - 1)
+        < pixels.now.across) × (row_at grid.now (grid.now.count - 1) < pixels.now.down)) }
 {
     let (across, down) = pixels.sides();
     column_at(grid, grid.count - 1) < across && row_at(grid, grid.count - 1) < down

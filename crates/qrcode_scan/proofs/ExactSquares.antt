@@ -1,0 +1,235 @@
+-- Squares of modules in whole pixels: what their pixels and their grids show.
+use Rattle.std.proofs.Common.{◌≡◌, ◌*◌, ℕ, ◌+◌, ◌-◌, ◌/◌, ◌%◌, ◌<◌, ◌≤◌, zero, suc, inl, inr, Bool, true, false, not, length, get_or, ap, ap₂, refl, sym, subst, ◌∙◌, arith}
+use Rattle.std.proofs.Math.Nat.{mul-le-mul_right}
+use Rattle.std.proofs.lemmas.Nat.{div-add-mod', mod_below, div_below}
+use Rattle.std.proofs.lemmas.Bool.{cases_lt}
+use Rattle.std.proofs.lemmas.List.FromFn.{fill_by_all}
+use Rattle.qrcode_types.specs.Colors.{color_of}
+use Rattle.qrcode_types.specs.declared.types.Color.{Color}
+use Rattle.qrcode_types.specs.declared.types.Color.TheVariants.{Light}
+use Rattle.qrcode_render.specs.Bitmap.{Bitmap}
+use Rattle.qrcode_scan.specs.Grids.{colours_at, column_at, row_at}
+use Rattle.qrcode_scan.specs.Squares.{mark_at}
+use Rattle.qrcode_scan.specs.Wholes.{BeginsAt, HasFinder, HasPatterns, IsGridAt, IsGridOf, IsWholeIn, Whole, corner_start, count_of, dark_in, finder_dark, light_row, marked}
+use Rattle.qrcode_scan.specs.declared.grids.Grid.{Grid}
+use Rattle.qrcode_scan.proofs.Framed.{color_of_is_dark, pixel_in, some_count}
+
+-- where the centres of a grid's modules are
+column_of : (x y scale count : ℕ) (g : Grid) (i : ℕ) → IsGridAt x y scale count g → column_at g i ≡ x + (i * scale + scale / 2)
+column_of x y scale count g i at =
+    ap (λ p. (g.left + i * g.across) / p) at.parts
+    ∙ ap₂ (λ (l a : ℕ). (l + i * a) / 1) at.left at.across
+    ∙ omega arith
+
+row_of : (x y scale count : ℕ) (g : Grid) (i : ℕ) → IsGridAt x y scale count g → row_at g i ≡ y + (i * scale + scale / 2)
+row_of x y scale count g i at =
+    ap (λ p. (g.top + i * g.down) / p) at.parts
+    ∙ ap₂ (λ (l a : ℕ). (l + i * a) / 1) at.top at.down
+    ∙ omega arith
+
+-- a pixel of module i lies in the square
+in_square : (i x count scale : ℕ) → i < count → x < scale → i * scale + x < count * scale
+in_square i x count scale left inside =
+    let across = mul-le-mul_right scale left in
+    omega (arith, across, inside)
+
+-- each pixel of a module has its colour
+seen_module : (b : Bitmap) (w : Whole) (i j x y : ℕ) → IsWholeIn b w → i < count_of w → j < count_of w → x < w.scale → y < w.scale
+    → mark_at b (w.left + (i * w.scale + x)) (w.top + (j * w.scale + y)) ≡ dark_in w i j
+seen_module b w i j x y is left top inside low =
+    is.shown (i * w.scale + x) (j * w.scale + y) (in_square i x (count_of w) w.scale left inside) (in_square j y (count_of w) w.scale top low)
+    ∙ pixel_in (count_of w) w.scale w.modules i j x y left top inside low
+
+-- and so has the one at its centre
+centre_seen : (b : Bitmap) (w : Whole) (g : Grid) (i j : ℕ) → IsWholeIn b w → IsGridOf w g → i < count_of w → j < count_of w → marked b g i j ≡ dark_in w i j
+centre_seen b w g i j is at left top =
+    let some = is.at_least in
+    let half : w.scale / 2 < w.scale = omega (arith, some) in
+    ap₂ (mark_at b) (column_of w.left w.top w.scale (count_of w) g i at) (row_of w.left w.top w.scale (count_of w) g j at) ∙ seen_module b w i j (w.scale / 2) (w.scale / 2) is left top half half
+
+-- a finder pattern in a corner lies in the square
+corner_fits : (is_last : Bool) (count : ℕ) → 7 ≤ count → corner_start is_last count + 7 ≤ count
+corner_fits true count some = omega (arith, some)
+corner_fits false count some = omega (arith, some)
+
+corner_inside : (is_last : Bool) (w : Whole) (i : ℕ) → i < 7 → corner_start is_last (count_of w) + i < count_of w
+corner_inside is_last w i low = let fits = corner_fits is_last (count_of w) (omega arith) in omega (arith, fits, low)
+
+-- the grid of a square shows its finder patterns
+finder_seen : (b : Bitmap) (w : Whole) (g : Grid) (r l : Bool) → IsWholeIn b w → IsGridOf w g
+    → HasFinder (dark_in w) (corner_start r (count_of w)) (corner_start l (count_of w)) → HasFinder (marked b g) (corner_start r g.count) (corner_start l g.count)
+finder_seen b w g r l is at has =
+    subst (λ n. HasFinder (marked b g) (corner_start r n) (corner_start l n)) (sym at.count)
+    (λ i j left top. centre_seen b w g (corner_start r (count_of w) + i) (corner_start l (count_of w) + j) is at (corner_inside r w i left) (corner_inside l w j top) ∙ has i j left top)
+
+-- the middle of the last module lies in the square
+last_inside : (start count scale whole : ℕ) → 1 ≤ count → 1 ≤ scale → start + count * scale ≤ whole → start + ((count - 1) * scale + scale / 2) < whole
+last_inside start count scale whole some least fits =
+    let more : count ≡ (count - 1) + 1 = omega (arith, some) in
+    let all : start + ((count - 1) + 1) * scale ≤ whole = subst (λ n. start + n * scale ≤ whole) more fits in
+    omega (arith, least, all)
+
+-- so it has patterns
+pub patterned : (b : Bitmap) (w : Whole) (g : Grid) → IsWholeIn b w → IsGridOf w g → HasPatterns b g w.is_right w.is_lower
+patterned b w g is at =
+    let across = last_inside w.left (count_of w) w.scale b.across (omega arith) is.at_least is.across in
+    let down = last_inside w.top (count_of w) w.scale b.down (omega arith) is.at_least is.down in
+    record {
+      across = subst (λ n. column_at g (n - 1) < b.across) (sym at.count) (subst (λ n. n < b.across) (sym (column_of w.left w.top w.scale (count_of w) g (count_of w - 1) at)) across);
+      down = subst (λ n. row_at g (n - 1) < b.down) (sym at.count) (subst (λ n. n < b.down) (sym (row_of w.left w.top w.scale (count_of w) g (count_of w - 1) at)) down);
+      finders = record {
+        corner = finder_seen b w g w.is_right w.is_lower is at is.finders.corner;
+        beside = finder_seen b w g (not w.is_right) w.is_lower is at is.finders.beside;
+        below = finder_seen b w g w.is_right (not w.is_lower) is at is.finders.below;
+      };
+    }
+
+-- the modules sampled in the grid of a square are its modules
+pub sampled_whole : (b : Bitmap) (w : Whole) (g : Grid) → IsWholeIn b w → IsGridOf w g → colours_at b g ≡ w.modules
+sampled_whole b w g is at =
+    let n = g.count in
+    let f : ℕ → Color = λ i. color_of (marked b g (i % n) (i / n)) in
+    let all : length w.modules ≡ n * n = is.square ∙ ap (λ (k : ℕ). k * k) (sym at.count) in
+    sym (fill_by_all f w.modules (n * n) Light all (λ k inside.
+    let some : 0 < n = some_count n k inside in
+    let place : k / n * n + k % n ≡ k = div-add-mod' k n in
+    let column : k % n < count_of w = subst (λ m. k % n < m) at.count (mod_below k n some) in
+    let row : k / n < count_of w = subst (λ m. k / n < m) at.count (div_below k n n some inside) in
+    sym (
+    ap color_of (centre_seen b w g (k % n) (k / n) is at column row)
+    ∙ color_of_is_dark _
+    ∙ ap (λ m. get_or w.modules m Light) (ap (λ c. k / n * c + k % n) (sym at.count) ∙ place)
+    )))
+
+-- a pixel of the finder pattern in the corner
+ring_pixel : (b : Bitmap) (w : Whole) (i j x y : ℕ) → IsWholeIn b w → i < 7 → j < 7 → x < w.scale → y < w.scale
+    → mark_at b (w.left + ((corner_start w.is_right (count_of w) + i) * w.scale + x)) (w.top + ((corner_start w.is_lower (count_of w) + j) * w.scale + y)) ≡ finder_dark i j
+ring_pixel b w i j x y is left top inside low =
+    let r = corner_start w.is_right (count_of w) in
+    let l = corner_start w.is_lower (count_of w) in
+    seen_module b w (r + i) (l + j) x y is (corner_inside w.is_right w i left) (corner_inside w.is_lower w j top) inside low ∙ is.finders.corner i j left top
+
+-- pixels by the modules that they belong to, where the second module begins at x
+at_first : (left c scale x : ℕ) → left + (c * scale + scale) ≡ x → x ≡ left + ((c + 1) * scale + 0)
+at_first left c scale x is = omega (arith, is)
+
+at_last : (left c scale x : ℕ) → 1 ≤ scale → left + (c * scale + scale) ≡ x → x - 1 ≡ left + ((c + 0) * scale + (scale - 1))
+at_last left c scale x some is = omega (arith, some, is)
+
+at_run : (left c scale x k q r : ℕ) → left + (c * scale + scale) ≡ x → q * scale + r ≡ k → x + k ≡ left + ((c + (1 + q)) * scale + r)
+at_run left c scale x k q r is place = omega (arith, is, place)
+
+at_end : (left c scale x : ℕ) → left + (c * scale + scale) ≡ x → x + 5 * scale ≡ left + ((c + 6) * scale + 0)
+at_end left c scale x is = omega (arith, is)
+
+at_module : (left c scale x i half : ℕ) → left + (c * scale + scale) ≡ x + scale → x + ((0 + i) * scale + half) ≡ left + ((c + i) * scale + half)
+at_module left c scale x i half is = omega (arith, is)
+
+end_inside : (left c count scale x whole : ℕ) → 1 ≤ scale → c + 7 ≤ count → left + count * scale ≤ whole → left + (c * scale + scale) ≡ x → x + 5 * scale < whole
+end_inside left c count scale x whole some fits inside is =
+    let all = mul-le-mul_right scale fits in
+    omega (arith, some, all, inside, is)
+
+-- the first light pixel of the pattern, and the dark ones before it and above it
+pub ring_light : (b : Bitmap) (w : Whole) (x y : ℕ) → BeginsAt b w x y → mark_at b x y ≡ false
+ring_light b w x y at =
+    let some = at.whole.at_least in
+    ap₂ (mark_at b) (at_first w.left (corner_start w.is_right (count_of w)) w.scale x at.column) (at_first w.top (corner_start w.is_lower (count_of w)) w.scale y at.row)
+    ∙ ring_pixel b w 1 1 0 0 at.whole (omega arith) (omega arith) some some
+
+pub ring_inside : (b : Bitmap) (w : Whole) (x y : ℕ) → BeginsAt b w x y → (1 ≤ w.scale) × (w.scale ≤ x) × (w.scale ≤ y)
+ring_inside b w x y at =
+    let across = at.column in
+    let down = at.row in
+    (at.whole.at_least, omega (arith, across), omega (arith, down))
+
+pub ring_before : (b : Bitmap) (w : Whole) (x y : ℕ) → BeginsAt b w x y → mark_at b (x - 1) y ≡ true
+ring_before b w x y at =
+    let some = at.whole.at_least in
+    ap₂ (mark_at b) (at_last w.left (corner_start w.is_right (count_of w)) w.scale x some at.column) (at_first w.top (corner_start w.is_lower (count_of w)) w.scale y at.row)
+    ∙ ring_pixel b w 0 1 (w.scale - 1) 0 at.whole (omega arith) (omega arith) (omega (arith, some)) some
+
+pub ring_above : (b : Bitmap) (w : Whole) (x y : ℕ) → BeginsAt b w x y → mark_at b x (y - 1) ≡ true
+ring_above b w x y at =
+    let some = at.whole.at_least in
+    ap₂ (mark_at b) (at_first w.left (corner_start w.is_right (count_of w)) w.scale x at.column) (at_last w.top (corner_start w.is_lower (count_of w)) w.scale y some at.row)
+    ∙ ring_pixel b w 1 0 0 (w.scale - 1) at.whole (omega arith) (omega arith) some (omega (arith, some))
+
+pub first_light : (b : Bitmap) (w : Whole) (x y : ℕ) → BeginsAt b w x y
+    → (0 < x) × (0 < y) × (mark_at b x y ≡ false) × (mark_at b (x - 1) y ≡ true) × (mark_at b x (y - 1) ≡ true)
+first_light b w x y at =
+    let inside = ring_inside b w x y at in
+    (omega (arith, inside.0, inside.1), omega (arith, inside.0, inside.2), ring_light b w x y at, ring_before b w x y at, ring_above b w x y at)
+
+-- the second row of a finder pattern has five light modules
+second_row : (i : ℕ) → i < 5 → finder_dark (1 + i) 1 ≡ false
+second_row zero low = refl
+second_row (suc zero) low = refl
+second_row (suc (suc zero)) low = refl
+second_row (suc (suc (suc zero))) low = refl
+second_row (suc (suc (suc (suc zero)))) low = refl
+second_row (suc (suc (suc (suc (suc n))))) low = absurd (omega (arith, low))
+
+-- so there are five modules of light pixels, and then a dark one in the picture
+ring_row : (b : Bitmap) (w : Whole) (x y k : ℕ) → BeginsAt b w x y → k < 5 * w.scale → mark_at b (x + k) y ≡ false
+ring_row b w x y k at inside =
+    let some = at.whole.at_least in
+    let low : k / w.scale < 5 = div_below k w.scale 5 some inside in
+    ap₂ (mark_at b) (at_run w.left (corner_start w.is_right (count_of w)) w.scale x k (k / w.scale) (k % w.scale) at.column (div-add-mod' k w.scale))
+    (at_first w.top (corner_start w.is_lower (count_of w)) w.scale y at.row)
+    ∙ ring_pixel b w (1 + k / w.scale) 1 (k % w.scale) 0 at.whole (omega (arith, low)) (omega arith) (mod_below k w.scale some) some
+    ∙ second_row (k / w.scale) low
+
+ring_end : (b : Bitmap) (w : Whole) (x y : ℕ) → BeginsAt b w x y → (x + 5 * w.scale < b.across) × (mark_at b (x + 5 * w.scale) y ≡ true)
+ring_end b w x y at =
+    let some = at.whole.at_least in
+    let c = corner_start w.is_right (count_of w) in (
+      end_inside w.left c (count_of w) w.scale x b.across some (corner_fits w.is_right (count_of w) (omega arith)) at.whole.across at.column,
+      ap₂ (mark_at b) (at_end w.left c w.scale x at.column) (at_first w.top (corner_start w.is_lower (count_of w)) w.scale y at.row)
+          ∙ ring_pixel b w 6 1 0 0 at.whole (omega arith) (omega arith) some some,
+    )
+
+-- the run of light pixels there is five modules long
+pub five_long : (b : Bitmap) (w : Whole) (x y n : ℕ) → ((k : ℕ) → k < n → mark_at b (x + k) y ≡ false) → (x + n < b.across → mark_at b (x + n) y ≡ true)
+    → BeginsAt b w x y → n ≡ 5 * w.scale
+five_long b w x y n light end at =
+    let behind = ring_end b w x y at in
+    elim (cases_lt n (5 * w.scale)) [
+      | inl short ↦ absurd (differ (sym (ring_row b w x y n at short) ∙ end (omega (arith, short, behind.0))))
+      | inr late ↦ elim (cases_lt (5 * w.scale) n) [
+        | inl long ↦ absurd (differ (sym (light (5 * w.scale) long) ∙ behind.1))
+        | inr early ↦ omega (arith, late, early)
+      ]
+    ] where
+      differ : false ≡ true → ⊥
+      differ e = cc
+
+-- the first light pixel lies in the picture
+pub begins_above : (b : Bitmap) (w : Whole) → IsWholeIn b w → light_row w < b.down
+begins_above b w is =
+    let below = end_inside w.top (corner_start w.is_lower (count_of w)) (count_of w) w.scale (light_row w) b.down is.at_least (corner_fits w.is_lower (count_of w) (omega arith)) is.down refl in
+    omega (arith, below)
+
+pub begins_left : (b : Bitmap) (w : Whole) (x y : ℕ) → BeginsAt b w x y → x < b.across
+begins_left b w x y at =
+    let behind = (ring_end b w x y at).0 in
+    omega (arith, behind)
+
+-- a grid from the pattern's first pixel on shows it
+pub corner_seen : (b : Bitmap) (w : Whole) (g : Grid) (x y count : ℕ) → BeginsAt b w (x + w.scale) (y + w.scale) → IsGridAt x y w.scale count g → HasFinder (marked b g) 0 0
+corner_seen b w g x y count begins at i j left top =
+    let s = w.scale in
+    let some = begins.whole.at_least in
+    let half : s / 2 < s = omega (arith, some) in
+    ap₂ (mark_at b)
+    (column_of x y s count g (0 + i) at ∙ at_module w.left (corner_start w.is_right (count_of w)) s x i (s / 2) begins.column)
+    (row_of x y s count g (0 + j) at ∙ at_module w.top (corner_start w.is_lower (count_of w)) s y j (s / 2) begins.row)
+    ∙ ring_pixel b w i j (s / 2) (s / 2) begins.whole left top half half
+
+-- a finder pattern, from its modules one after the other
+pub all_modules : (mark : ℕ → ℕ → Bool) (column row : ℕ) → ((k : ℕ) → k < 49 → mark (column + k % 7) (row + k / 7) ≡ finder_dark (k % 7) (k / 7)) → HasFinder mark column row
+all_modules mark column row all i j left top =
+    let across : (j * 7 + i) % 7 ≡ i = omega (arith, left) in
+    let down : (j * 7 + i) / 7 ≡ j = omega (arith, left) in
+    subst (λ n. mark (column + n) (row + j) ≡ finder_dark n j) across
+    (subst (λ n. mark (column + (j * 7 + i) % 7) (row + n) ≡ finder_dark ((j * 7 + i) % 7) n) down (all (j * 7 + i) (omega (arith, left, top))))
