@@ -273,9 +273,9 @@ fn has_patterns(pixels: &Pixels, grid: &Grid, corner: Corner) -> bool
     let beside = corner_start(!corner.is_right, grid.count);
     let below = corner_start(!corner.is_lower, grid.count);
     is_inside(pixels, grid)
-        && has_finder(pixels, grid, x, y)
         && has_finder(pixels, grid, beside, y)
         && has_finder(pixels, grid, x, below)
+        && has_finder(pixels, grid, x, y)
 }
 
 // Whether a grid has a finder pattern that begins in this column and row.
