@@ -5,7 +5,7 @@ import sys
 from pathlib import Path
 from typing import NamedTuple
 
-from tools.sums import CRATES, kit, words_over
+from tools.sums import CRATES, TOP, kit, words_over
 
 HERE = Path(__file__).resolve().parent
 
@@ -39,6 +39,19 @@ class Machine(NamedTuple):
                 subprocess.run([*words, HERE / f"{name}.c"], cwd=folder, check=True)
             else:
                 subprocess.run(["ar", "x", kit() / "c" / f"lib{name}_c.a"], cwd=folder, check=True)
+
+    def libraries_to_ask(self, folder):
+        """Links the archive in `folder` with inline.c, for bindings/c/ask: with pool.c, and with
+        fence.c; yields the path of each library."""
+        own = TOP / "bindings" / "c"
+        words = [self.gcc, "-std=c11", "-O2", "-Wall", "-Wextra", "-Werror", "-shared", "-fPIC"]
+        words += ["-DPOOL_BYTES=300000000", f"-I{own}", own / "inline.c", folder / "goqlanis_c.o"]
+        archive = folder / "libgoqlanis.a"
+        subprocess.run(["ar", "x", archive, "goqlanis_c.o"], cwd=folder, check=True)
+        for name in ("pool", "fence"):
+            made = folder / f"lib{name}.so"
+            subprocess.run([*words, own / f"{name}.c", "-o", made], check=True)
+            yield made
 
 
 X86 = Machine("x86_64", "amd64", "gcc")

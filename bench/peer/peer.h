@@ -1,6 +1,6 @@
-/* What each peer's program has in common: `PEER FILE LEVEL VERSION COUNT` makes COUNT symbols of the bytes of FILE, at
-   LEVEL (L, M, Q, H), of VERSION (0: the least Normal one; 1 to 40; M1 to M4), and prints how many modules a side has
-   and how many dark ones the last symbol. */
+/* What each peer's program has in common: `PEER FILE LEVEL VERSION COUNT` makes COUNT symbols of
+   the bytes of FILE, at LEVEL (L, M, Q, H), of VERSION (0: the least Normal one; 1 to 40; M1 to
+   M4), and prints how many modules a side has and how many dark ones the last symbol. */
 #ifndef PEER_H
 #define PEER_H
 #include <stdio.h>
@@ -44,5 +44,19 @@ static struct job read_job(int argc, char **argv)
     job.count = atol(argv[4]);
     job.digits = job.length == (int)strspn((char *)job.bytes, "0123456789");
     return job;
+}
+
+/* The program's own: makes a symbol, and returns how many modules a side has; unless `dark` is
+   NULL, adds to it how many are dark. */
+static int make(const struct job *job, int *dark);
+
+int main(int argc, char **argv)
+{
+    struct job job = read_job(argc, argv);
+    int side = 0, dark = 0;
+    for (long i = 0; i < job.count; i++)
+        side = make(&job, i + 1 == job.count ? &dark : NULL);
+    printf("%d %d\n", side, dark);
+    return 0;
 }
 #endif

@@ -6,23 +6,19 @@
 using qrcodegen::QrCode;
 using qrcodegen::QrSegment;
 
-int main(int argc, char **argv)
+static int make(const job *job, int *dark)
 {
-    static const QrCode::Ecc levels[] = {QrCode::Ecc::LOW, QrCode::Ecc::MEDIUM, QrCode::Ecc::QUARTILE, QrCode::Ecc::HIGH};
-    job job = read_job(argc, argv);
-    if (job.micro)
+    static const QrCode::Ecc levels[] = {QrCode::Ecc::LOW, QrCode::Ecc::MEDIUM,
+                                         QrCode::Ecc::QUARTILE, QrCode::Ecc::HIGH};
+    static const std::vector<uint8_t> bytes(job->bytes, job->bytes + job->length);
+    if (job->micro)
         fail("no Micro");
-    int least = job.version ? job.version : 1, most = job.version ? job.version : 40, side = 0, dark = 0;
-    std::vector<uint8_t> bytes(job.bytes, job.bytes + job.length);
-    for (long i = 0; i < job.count; i++) {
-        QrSegment part = job.digits ? QrSegment::makeNumeric((const char *)job.bytes) : QrSegment::makeBytes(bytes);
-        QrCode symbol = QrCode::encodeSegments({part}, levels[job.level], least, most, -1, false);
-        side = symbol.getSize();
-        if (i + 1 == job.count)
-            for (int y = dark = 0; y < side; y++)
-                for (int x = 0; x < side; x++)
-                    dark += symbol.getModule(x, y);
-    }
-    printf("%d %d\n", side, dark);
-    return 0;
+    int least = job->version ? job->version : 1, most = job->version ? job->version : 40;
+    QrSegment part = job->digits ? QrSegment::makeNumeric((const char *)job->bytes)
+                                 : QrSegment::makeBytes(bytes);
+    QrCode symbol = QrCode::encodeSegments({part}, levels[job->level], least, most, -1, false);
+    const int side = symbol.getSize();
+    for (int k = 0; dark && k < side * side; k++)
+        *dark += symbol.getModule(k % side, k / side);
+    return side;
 }

@@ -6,25 +6,19 @@
 #include <ZXing/MultiFormatWriter.h>
 #include <string>
 
-int main(int argc, char **argv)
+static int make(const job *job, int *dark)
 {
     // The levels as zxing numbers them, from L to H.
     static const int levels[] = {2, 4, 6, 8};
-    job job = read_job(argc, argv);
-    if (job.micro)
+    static const std::wstring text(job->bytes, job->bytes + job->length);
+    if (job->micro)
         fail("no Micro");
-    std::wstring text(job.bytes, job.bytes + job.length);
-    int side = 0, dark = 0;
-    for (long i = 0; i < job.count; i++) {
-        auto writer = ZXing::MultiFormatWriter(ZXing::BarcodeFormat::QRCode)
-                          .setEncoding(ZXing::CharacterSet::ISO8859_1).setEccLevel(levels[job.level]).setMargin(0);
-        ZXing::BitMatrix symbol = writer.encode(text, 0, 0);
-        side = symbol.width();
-        if (i + 1 == job.count)
-            for (int y = dark = 0; y < side; y++)
-                for (int x = 0; x < side; x++)
-                    dark += symbol.get(x, y);
-    }
-    printf("%d %d\n", side, dark);
-    return 0;
+    auto writer = ZXing::MultiFormatWriter(ZXing::BarcodeFormat::QRCode)
+                      .setEncoding(ZXing::CharacterSet::ISO8859_1)
+                      .setEccLevel(levels[job->level]).setMargin(0);
+    ZXing::BitMatrix symbol = writer.encode(text, 0, 0);
+    const int side = symbol.width();
+    for (int k = 0; dark && k < side * side; k++)
+        *dark += symbol.get(k % side, k / side);
+    return side;
 }

@@ -1,5 +1,5 @@
 """Inverts the largest area that may be covered in each version and level, and then an area with one
-codeword more. `bindings/c/areas.c` covers it in other ways."""
+codeword more. `bindings/c/rows/areas` covers it in other ways."""
 import goqlanis
 from forms import pairs
 from looks import answered, square_of

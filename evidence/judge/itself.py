@@ -1,5 +1,6 @@
 """Tests of the judge itself: it reads symbols of other encoders as what they were asked for,
 corrects blocks as trying all changes does, counts published penalties, and notices wrong input."""
+import sys
 from itertools import product
 from pathlib import Path
 from random import Random
@@ -14,20 +15,12 @@ from looks import damaged, drawn, not_alike, not_least, not_read, square_of, tur
 from masks import not_beyond, not_decided
 
 HERE = Path(__file__).resolve().parent
-OTHERS = HERE.parent / "others" / "symbols"
+sys.path.append(str(HERE.parent / "program"))
+from room import squares  # noqa: E402
+
 # The symbols of printed.txt: two printed ones of `01234567`, and one whose penalty is published.
 DIGITS_NORMAL, DIGITS_MICRO, PUBLISHED = (
     part.split() for part in (HERE / "printed.txt").read_text().split("\n\n")[1::2])
-
-
-def other_squares():
-    """Yields the squares of evidence/others/symbols, each with what its encoder was asked for."""
-    lines = (OTHERS / "squares").read_text().splitlines()
-    squares = [line.split() for line in lines if line and not line.startswith("#")]
-    readings = (OTHERS / "readings").read_text().splitlines()
-    for (width, digits), said in zip(squares, readings, strict=True):
-        count = int(width) ** 2
-        yield bytes(map(int, f"{int(digits, 16):0{len(digits) * 4}b}"[:count])), said
 
 
 def told_header(kind, *numbers):
@@ -50,8 +43,8 @@ def other_encoders():
     """The judge reads symbols of segno, qrcodegen, zint, qrencode and zxing as what they were asked
     for, and so does the library"""
     found, count = [], 0
-    for square, wanted in other_squares():
-        count += 1
+    for rows, wanted in squares():
+        count, square = count + 1, bytes(it for row in rows for it in row)
         said = told_of(square)
         it = not_alike(square) if said == wanted else f"{said} and not {wanted}"
         found += [it] if it else []

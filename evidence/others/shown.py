@@ -69,8 +69,8 @@ def zbar(path):
 
 
 def keep(text, found, words):
-    """Prints what was found and writes it to a file, or with the word `check` says whether it stands
-    there; returns the exit status."""
+    """Prints what was found and writes it to a file, or with the word `check` says whether it
+    stands there; returns the exit status."""
     print(text, end="")
     if words == ["check"]:
         is_same = text == found.read_text()

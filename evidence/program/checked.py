@@ -6,7 +6,7 @@ sys.path.append(os.path.join(os.path.dirname(os.path.realpath(__file__)), os.par
 import penalty
 import reading
 from field import Uncorrected, corrected
-from forms import blocks, form, number_of
+from forms import blocks, form
 from spelling import ECI, FNC1_FIRST, FNC1_SECOND, READERS, Front, Unspelled, count_bits, header
 from tables import CHARACTERS, MICRO_MODES, MODES
 

@@ -6,6 +6,8 @@ letters, marks and noise. Codes are upright, turned or mirrored.
 import random
 import subprocess
 
+from room import modules_of
+
 LETTERS = "abcdefghijklmnopqrstuvwxyzABCDEFGHIJKLMNOPQRSTUVWXYZ0123456789 .,:;-+*/=()"
 # Glyphs of five by seven pixels, a row for each five bits: o O 0 8 B D [ ] H i
 GLYPHS = (0x0001d18c62e, 0x3a31863172e, 0x3a33ae6372e, 0x3a317462e, 0x7a31f462f, 0x7a318c63e,
@@ -74,11 +76,7 @@ def square(program, text, *words):
     """Returns the rows of modules of a code."""
     made = subprocess.run([program, "-f", "pbm", "-s", "1", "-q", "0", *words, "--", text],
                           capture_output=True, check=True).stdout
-    side, bits = int(made.split()[1]), made.split(b"\n", 2)[2]
-    step = (side + 7) // 8
-    lines = [f"{int.from_bytes(bits[at:at + step], 'big'):0{8 * step}b}"[:side]
-             for at in range(0, len(bits), step)]
-    return [[int(it) for it in line] for line in lines]
+    return modules_of(made)
 
 
 def turned(rows, number):

@@ -37,6 +37,16 @@ def file_of(rows, zone, scale):
     return b"P4\n%d %d\n" % (side, side) + data
 
 
+def modules_of(file):
+    """Returns the rows of a binary PBM file, 1 for dark."""
+    _, sides, bits = file.split(b"\n", 2)
+    across = int(sides.split()[0])
+    step = (across + 7) // 8
+    lines = (f"{int.from_bytes(bits[at:at + step], 'big'):0{8 * step}b}"
+             for at in range(0, len(bits), step))
+    return [[int(it) for it in line[:across]] for line in lines]
+
+
 def page(*codes):
     """Returns a plain PBM file (P1) of a page with symbols, each a name, column, row and scale,
     below a line that looks like text. If a name ends in !, the lower right quarter of it is
@@ -163,11 +173,8 @@ def figures(program, given):
     """Returns the symbol of data as a plain PBM file (P1), one pixel a module, without a quiet
     zone."""
     words = ["-l", "L", "-f", "pbm", "-s", "1", "-q", "0", "--micro"]
-    side, bits = run(program, words, "/", given).stdout[3:].split(b"\n", 1)
-    side = int(side.split()[0])
-    rows = (f"{int.from_bytes(bits[at:at + (side + 7) // 8], 'big'):0{(side + 7) // 8 * 8}b}"[:side]
-            for at in range(0, len(bits), (side + 7) // 8))
-    return f"P1 {side} {side}\n{''.join(rows)}".encode()
+    rows = modules_of(run(program, words, "/", given).stdout)
+    return f"P1 {len(rows)} {len(rows)}\n{''.join(map(str, sum(rows, [])))}".encode()
 
 
 def held(folder, name):

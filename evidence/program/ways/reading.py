@@ -8,7 +8,7 @@ import zlib
 import checked
 import crowds
 import png
-from room import FILES, SYMBOLS, figures, file_of, rows_of, run, squares
+from room import FILES, SYMBOLS, figures, file_of, modules_of, run, squares
 
 EXCHANGED = ", inverted"
 NOT_HEADERS = ("segment: ", "goqlanis: warning: ")
@@ -205,9 +205,7 @@ def a_percent_sign_is_a_separator_behind_fnc1_alone(program):
 def _square(program, *words):
     """Returns the rows of modules of a symbol."""
     words = ["-f", "pbm", "-s", "1", "-q", "0", *words]
-    _, sides, bits = run(program, words, "/").stdout.split(b"\n", 2)
-    step = (int(sides.split()[0]) + 7) // 8
-    return rows_of(" ".join(bits[at:at + step].hex() for at in range(0, len(bits), step)))
+    return modules_of(run(program, words, "/").stdout)
 
 
 def _tiled(rows, count, pitch):
