@@ -1,7 +1,6 @@
 pub mod Checked
 pub mod Codes
 pub mod Files
-pub mod Finders
 pub mod Grids
 pub mod Halves
 pub mod HandedOn

@@ -2,7 +2,6 @@
 //! modules, across and down, in squares of seven modules a side.
 
 ghost use Rattle.std.specs.Prelude.{◌≡◌, ◌^◌, ◌<◌, ◌≤◌, length, IfOk, IfSome, OnOk};
-ghost use Rattle.qrcode_scan.specs.Finders.{AreFew};
 
 use crate::pixels::{GREATEST_SIDE, Pixels};
 use crate::squares::mark_at;
@@ -73,7 +72,8 @@ pub(crate) fn column_of(pixels: &Pixels, x: usize) -> Line
 ///
 /// Errors: only `AllocError`, if memory runs out.
 pub(crate) fn finders(alloc: Global, pixels: &Pixels) -> Result<Found, AllocError>
-    ensures { IfOk result AreFew }
+    ensures { IfOk result (λ found. (length found.upright.items ≤ 1024)
+        × (length found.turned.items ≤ 48)) }
 {
     let mut found = Found {
         upright: Vec::new(alloc),
@@ -88,8 +88,10 @@ pub(crate) fn finders(alloc: Global, pixels: &Pixels) -> Result<Found, AllocErro
 // Appends the finder patterns that cross row `y`, except known ones.
 fn push_finders(found: &mut Found, pixels: &Pixels, y: usize) -> Result<(), AllocError>
     requires row { (y < pixels.now.down) × (y ≤ 65535) }
-    requires few { AreFew found.old }
-    ensures { OnOk result (AreFew found.new) }
+    requires upright { length found.old.upright.items ≤ 1024 }
+    requires turned { length found.old.turned.items ≤ 48 }
+    ensures upright { OnOk result (length found.new.upright.items ≤ 1024) }
+    ensures turned { OnOk result (length found.new.turned.items ≤ 48) }
 {
     let row = row_of(pixels, y);
     for x in 0..row.length {
@@ -109,8 +111,10 @@ fn push_finders(found: &mut Found, pixels: &Pixels, y: usize) -> Result<(), Allo
 // Appends a finder pattern to those whose modules are right, at most a quarter of them wrong; and
 // to those at any angle. Neither if it is known or there are too many.
 fn push_both(found: &mut Found, pixels: &Pixels, finder: Option<Finder>) -> Result<(), AllocError>
-    requires few { AreFew found.old }
-    ensures { OnOk result (AreFew found.new) }
+    requires upright { length found.old.upright.items ≤ 1024 }
+    requires turned { length found.old.turned.items ≤ 48 }
+    ensures upright { OnOk result (length found.new.upright.items ≤ 1024) }
+    ensures turned { OnOk result (length found.new.turned.items ≤ 48) }
 {
     let Some(finder) = finder else {
         return Ok(());
