@@ -46,16 +46,16 @@ inner_side one other = (one * one + other * other) / max (one + other) 1
 -- largest upright square in that one with the same middle. x and y are twice the middle, in fractions of a pixel.
 abbrev pub place_of : Grid → Place
 place_of g =
-    let parts = 2 * max g.parts 1 in
+    let parts = max g.parts 1 in
     let width = g.count * inner_side g.across g.fall in
     let height = g.count * inner_side g.down g.lean in
     let x = 2 * g.left + g.count * g.across - g.count * g.lean in
     let y = 2 * g.top + g.count * g.down + g.count * g.fall in
     record {
-      left = (x - width) / parts;
-      top = (y - height) / parts;
-      right = (x + width) / parts;
-      bottom = (y + height) / parts;
+      left = (x - width) / parts / 2;
+      top = (y - height) / parts / 2;
+      right = (x + width) / parts / 2;
+      bottom = (y + height) / parts / 2;
     }
 
 -- two places have no pixel in common: one ends before the other begins, across or down

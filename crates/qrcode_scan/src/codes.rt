@@ -1,6 +1,6 @@
 //! Finds and decodes all codes of a picture.
 
-ghost use Rattle.std.specs.Prelude.{◌^◌, ◌≡◌, ◌≤◌, ◌<◌, ◌⊎◌, ◌++◌, ◌∷◌, [], ℕ, Some, All, AllPairs, Any, insert, length, IsTrue, IsFalse, IfOk, IfErr, OnOk};
+ghost use Rattle.std.specs.Prelude.{◌^◌, ◌+◌, ◌-◌, ◌/◌, ◌≡◌, ◌≤◌, ◌<◌, ◌⊎◌, ◌++◌, ◌∷◌, [], ℕ, Some, All, AllPairs, Any, insert, length, IsTrue, IsFalse, IfOk, IfErr, OnOk};
 ghost use Rattle.qrcode_reader.specs.declared.refusals.Unread.TheVariants.{OutOfMemory};
 ghost use Rattle.qrcode_scan.specs.declared.scanning.Unread.TheVariants.{OutOfMemory as NoMemory};
 ghost use Rattle.qrcode_scan.specs.Codes.{inner_side, place_of, AreApart, AreCodesIn, AreTwo, FindsWholes, FindsWholesOf, HasGrid, IsApartFrom, IsCodeFound, IsFoundAs, IsFoundBy, IsMissedOf, Overlaps};
@@ -302,17 +302,31 @@ fn is_over(scan: &Scan, grid: &Grid) -> bool
 fn place_of(grid: &Grid) -> Place
     ensures { result ≡ place_of grid.now }
 {
-    let parts = 2 * grid.parts.max(1);
+    let parts = grid.parts.max(1);
     let width = grid.count * inner_side(grid.across, grid.fall);
     let height = grid.count * inner_side(grid.down, grid.lean);
     let x = (2 * grid.left + grid.count * grid.across).saturating_sub(grid.count * grid.lean);
     let y = 2 * grid.top + grid.count * grid.down + grid.count * grid.fall;
+    let (left, right) = ends(x, width, parts);
+    let (top, bottom) = ends(y, height, parts);
     Place {
-        left: x.saturating_sub(width) / parts,
-        top: y.saturating_sub(height) / parts,
-        right: (x + width) / parts,
-        bottom: (y + height) / parts,
+        left,
+        top,
+        right,
+        bottom,
     }
+}
+
+// Returns where an extent begins and ends, in pixels; it and its middle are doubled, in fractions.
+fn ends(middle: usize, extent: usize, parts: usize) -> (usize, usize)
+    requires { (middle < 2 ^ 48) × (extent < 2 ^ 48) × (1 ≤ parts) }
+    ensures first { result.0 ≡ (middle - extent) / parts / 2 }
+    ensures last { result.1 ≡ (middle + extent) / parts / 2 }
+{
+    (
+        middle.saturating_sub(extent) / parts / 2,
+        (middle + extent) / parts / 2,
+    )
 }
 
 // Returns the side of the largest upright square in a turned one with the same middle. Each side of

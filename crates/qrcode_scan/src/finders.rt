@@ -245,6 +245,14 @@ fn middle_of(pixels: &Pixels, x: usize, y: usize, seven: usize) -> Option<(usize
     ))
 }
 
+// Returns the square of a distance, by what it is across and down.
+pub(crate) fn square_of_far(across: usize, down: usize) -> usize
+    requires { (across < 2 ^ 18) × (down < 2 ^ 18) }
+    ensures { result < 2 ^ 37 }
+{
+    across * across + down * down
+}
+
 // Whether a pixel is dark and in a circle around a place, which is doubled.
 fn is_dark_near(
     pixels: &Pixels,
@@ -259,7 +267,7 @@ fn is_dark_near(
     let across = place.0.abs_diff(2 * column + 1);
     let down = place.1.abs_diff(2 * row + 1);
     let most = 5 * seven / 8;
-    across * across + down * down <= most * most
+    square_of_far(across, down) <= most * most
         && column < pixels.sides().0
         && mark_at(pixels, column, row)
 }

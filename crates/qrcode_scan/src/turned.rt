@@ -2,7 +2,7 @@
 
 ghost use Rattle.std.specs.Prelude.{◌≡◌, ◌+◌, ◌*◌, ◌^◌, ◌<◌, ◌≤◌, IfSome};
 
-use crate::finders::Finder;
+use crate::finders::{Finder, square_of_far};
 use crate::grids::{Corner, Grid, grid_of, is_same_size, push_grid};
 use crate::pixels::Pixels;
 use crate::samples::{is_inside, mark_in};
@@ -71,10 +71,9 @@ fn is_square(corner: &Corner) -> bool {
 
 // Returns the square of the distance of two finder patterns, four times.
 fn apart(one: Finder, other: Finder) -> usize
-    ensures { result < 2 ^ 36 }
+    ensures { result < 2 ^ 37 }
 {
-    let (across, down) = (one.x.abs_diff(other.x), one.y.abs_diff(other.y));
-    across * across + down * down
+    square_of_far(one.x.abs_diff(other.x), one.y.abs_diff(other.y))
 }
 
 // Whether `beside` is right of the corner and below it, or left and above: more so than `below`.
