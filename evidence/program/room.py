@@ -3,6 +3,7 @@
 A room is a temporary folder with the files that the cases name.
 """
 import contextlib
+import math
 import os
 import pty
 import re
@@ -58,6 +59,23 @@ def page(*codes):
             for x in range(len(rows) * scale):
                 spoilt = name.endswith("!") and min(x, y) >= len(rows) // 2 * scale
                 ink[top + y][left + x] = int(spoilt or rows[y // scale][x // scale])
+    return b"P1\n200 180\n" + "\n".join("".join(map(str, row)) for row in ink).encode()
+
+
+def slanted(*codes):
+    """Returns a plain PBM file (P1) of a page with symbols, each a name, the column and row of its
+    middle, the degrees by which it is turned and its scale."""
+    ink = [[0] * 200 for _ in range(180)]
+    for name, middle, height, degrees, scale in codes:
+        rows, turn = SYMBOLS[name], math.radians(degrees)
+        right, fall = math.cos(turn) / scale, math.sin(turn) / scale
+        for y in range(180):
+            for x in range(200):
+                across, down = x + 0.5 - middle, y + 0.5 - height
+                i = math.floor(len(rows) / 2 + right * across + fall * down)
+                j = math.floor(len(rows) / 2 + right * down - fall * across)
+                if 0 <= min(i, j) and max(i, j) < len(rows):
+                    ink[y][x] = int(rows[j][i])
     return b"P1\n200 180\n" + "\n".join("".join(map(str, row)) for row in ink).encode()
 
 

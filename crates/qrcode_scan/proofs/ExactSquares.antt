@@ -15,16 +15,18 @@ use Rattle.qrcode_scan.specs.declared.grids.Grid.{Grid}
 use Rattle.qrcode_scan.proofs.Framed.{color_of_is_dark, pixel_in, some_count}
 
 -- where the centres of a grid's modules are
-column_of : (x y scale count : ℕ) (g : Grid) (i : ℕ) → IsGridAt x y scale count g → column_at g i ≡ x + (i * scale + scale / 2)
-column_of x y scale count g i at =
-    ap (λ p. (g.left + i * g.across) / p) at.parts
-    ∙ ap₂ (λ (l a : ℕ). (l + i * a) / 1) at.left at.across
+column_of : (x y scale count : ℕ) (g : Grid) (i j : ℕ) → IsGridAt x y scale count g → column_at g i j ≡ x + (i * scale + scale / 2)
+column_of x y scale count g i j at =
+    ap (λ p. (g.left + i * g.across - j * g.lean) / p) at.parts
+    ∙ ap₂ (λ (l a : ℕ). (l + i * a - j * g.lean) / 1) at.left at.across
+    ∙ ap (λ (n : ℕ). (x + scale / 2 + i * scale - j * n) / 1) at.lean
     ∙ omega arith
 
-row_of : (x y scale count : ℕ) (g : Grid) (i : ℕ) → IsGridAt x y scale count g → row_at g i ≡ y + (i * scale + scale / 2)
-row_of x y scale count g i at =
-    ap (λ p. (g.top + i * g.down) / p) at.parts
-    ∙ ap₂ (λ (l a : ℕ). (l + i * a) / 1) at.top at.down
+row_of : (x y scale count : ℕ) (g : Grid) (i j : ℕ) → IsGridAt x y scale count g → row_at g i j ≡ y + (j * scale + scale / 2)
+row_of x y scale count g i j at =
+    ap (λ p. (g.top + j * g.down + i * g.fall) / p) at.parts
+    ∙ ap₂ (λ (l a : ℕ). (l + j * a + i * g.fall) / 1) at.top at.down
+    ∙ ap (λ (n : ℕ). (y + scale / 2 + j * scale + i * n) / 1) at.fall
     ∙ omega arith
 
 -- a pixel of module i lies in the square
@@ -45,7 +47,7 @@ centre_seen : (b : Bitmap) (w : Whole) (g : Grid) (i j : ℕ) → IsWholeIn b w 
 centre_seen b w g i j is at left top =
     let some = is.at_least in
     let half : w.scale / 2 < w.scale = omega (arith, some) in
-    ap₂ (mark_at b) (column_of w.left w.top w.scale (count_of w) g i at) (row_of w.left w.top w.scale (count_of w) g j at) ∙ seen_module b w i j (w.scale / 2) (w.scale / 2) is left top half half
+    ap₂ (mark_at b) (column_of w.left w.top w.scale (count_of w) g i j at) (row_of w.left w.top w.scale (count_of w) g i j at) ∙ seen_module b w i j (w.scale / 2) (w.scale / 2) is left top half half
 
 -- a finder pattern in a corner lies in the square
 corner_fits : (is_last : Bool) (count : ℕ) → 7 ≤ count → corner_start is_last count + 7 ≤ count
@@ -75,8 +77,15 @@ patterned b w g is at =
     let across = last_inside w.left (count_of w) w.scale b.across (omega arith) is.at_least is.across in
     let down = last_inside w.top (count_of w) w.scale b.down (omega arith) is.at_least is.down in
     record {
-      across = subst (λ n. column_at g (n - 1) < b.across) (sym at.count) (subst (λ n. n < b.across) (sym (column_of w.left w.top w.scale (count_of w) g (count_of w - 1) at)) across);
-      down = subst (λ n. row_at g (n - 1) < b.down) (sym at.count) (subst (λ n. n < b.down) (sym (row_of w.left w.top w.scale (count_of w) g (count_of w - 1) at)) down);
+      inside = record {
+        left = subst (λ (n : ℕ). (g.count - 1) * n ≤ g.left) (sym at.lean) (omega arith);
+        across =
+            subst (λ n. column_at g (n - 1) 0 < b.across) (sym at.count)
+            (subst (λ n. n < b.across) (sym (column_of w.left w.top w.scale (count_of w) g (count_of w - 1) 0 at)) across);
+        down =
+            subst (λ n. row_at g (n - 1) (n - 1) < b.down) (sym at.count)
+            (subst (λ n. n < b.down) (sym (row_of w.left w.top w.scale (count_of w) g (count_of w - 1) (count_of w - 1) at)) down);
+      };
       finders = record {
         corner = finder_seen b w g w.is_right w.is_lower is at is.finders.corner;
         beside = finder_seen b w g (not w.is_right) w.is_lower is at is.finders.beside;
@@ -222,8 +231,8 @@ corner_seen b w g x y count begins at i j left top =
     let some = begins.whole.at_least in
     let half : s / 2 < s = omega (arith, some) in
     ap₂ (mark_at b)
-    (column_of x y s count g (0 + i) at ∙ at_module w.left (corner_start w.is_right (count_of w)) s x i (s / 2) begins.column)
-    (row_of x y s count g (0 + j) at ∙ at_module w.top (corner_start w.is_lower (count_of w)) s y j (s / 2) begins.row)
+    (column_of x y s count g (0 + i) (0 + j) at ∙ at_module w.left (corner_start w.is_right (count_of w)) s x i (s / 2) begins.column)
+    (row_of x y s count g (0 + i) (0 + j) at ∙ at_module w.top (corner_start w.is_lower (count_of w)) s y j (s / 2) begins.row)
     ∙ ring_pixel b w i j (s / 2) (s / 2) begins.whole left top half half
 
 -- a finder pattern, from its modules one after the other

@@ -35,6 +35,8 @@ grid_of b w g x y scale version column row r l across down at begins at_scale at
       top = at.top ∙ ap₂ (λ (m s : ℕ). m + s / 2) top (sym at_scale);
       across = at.across ∙ sym at_scale;
       down = at.down ∙ sym at_scale;
+      lean = at.lean;
+      fall = at.fall;
       parts = at.parts;
     }
 
@@ -58,6 +60,8 @@ same_place w g h same at = record {
   top = same.top ∙ at.top;
   across = same.across ∙ at.across;
   down = same.down ∙ at.down;
+  lean = same.lean ∙ at.lean;
+  fall = same.fall ∙ at.fall;
   parts = same.parts ∙ at.parts;
 }
 
@@ -106,7 +110,7 @@ grid_patterned b g x y scale version column row r l across down left top at has 
       scale = scale;
       is_right = r;
       is_lower = l;
-      place = record { count = refl; left = at.left; top = at.top; across = at.across; down = at.down; parts = at.parts };
+      place = record { count = refl; left = at.left; top = at.top; across = at.across; down = at.down; lean = at.lean; fall = at.fall; parts = at.parts };
       patterns = has;
       ring =
           ring_there b (x + scale) (y + scale) scale (ring_start (x - column) r g.count scale) (ring_start (y - row) l g.count scale)

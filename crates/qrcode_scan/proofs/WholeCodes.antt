@@ -5,7 +5,7 @@ use Rattle.qrcode_render.specs.Bitmap.{Bitmap}
 use Rattle.qrcode_reader.specs.Readings.{IsPartsCause}
 use Rattle.qrcode_reader.specs.declared.refusals.Unread as reading
 use Rattle.qrcode_scan.specs.Codes.{IsCodeOf}
-use Rattle.qrcode_scan.specs.Grids.{IsSampled, column_at, row_at}
+use Rattle.qrcode_scan.specs.Grids.{IsInside, IsSampled}
 use Rattle.qrcode_scan.specs.Wholes.{IsGridOf, ShowsCode, Whole, count_of}
 use Rattle.qrcode_scan.specs.declared.grids.Grid.{Grid}
 use Rattle.qrcode_scan.specs.declared.scanning.Scan.{Scan}
@@ -21,12 +21,12 @@ many_modules b w g shows at few =
 
 -- and lies in the picture
 pub grid_inside : (b : Bitmap) (w : Whole) (g : Grid) → ShowsCode b w → IsGridOf w g
-    → (1 ≤ g.count → 1 ≤ g.parts → column_at g (g.count - 1) < b.across → row_at g (g.count - 1) < b.down → ⊥) → ⊥
+    → (1 ≤ g.count → 1 ≤ g.parts → ¬ IsInside b g) → ⊥
 grid_inside b w g shows at outside =
     let has = patterned b w g shows.whole at in
     let same = at.count in
     let one = at.parts in
-    outside (omega (arith, same)) (omega (arith, one)) has.across has.down
+    outside (omega (arith, same)) (omega (arith, one)) has.inside
 
 -- its modules decode
 pub reads_some : (b : Bitmap) (w : Whole) (g : Grid) (modules : List Color) (e : reading.Unread) → IsSampled b g modules → ¬ (e ≡ reading.TheVariants.OutOfMemory)

@@ -1,5 +1,5 @@
 -- The codes in a picture.
-use Rattle.std.specs.Prelude.{◌≡◌, ◌⊎◌, ℕ, ◌+◌, ◌*◌, ◌/◌, ◌≤◌, max, Bool, List, Some, None, All, AllPairs, Any}
+use Rattle.std.specs.Prelude.{◌≡◌, ◌⊎◌, ℕ, ◌+◌, ◌-◌, ◌*◌, ◌/◌, ◌≤◌, max, Bool, List, Some, None, All, AllPairs, Any}
 use Rattle.qrcode_types.specs.declared.types.Color.{Color}
 use Rattle.qrcode_render.specs.Bitmap.{Bitmap}
 use Rattle.qrcode_scan.specs.Grids.{IsSampled}
@@ -37,15 +37,25 @@ pub record IsMissedOf (bytes : List ℕ) (m : missed.Missed) : Type 0 where
   pub seen : IsSeenAs bytes pixels is_inverted
   pub missed : IsMissedIn pixels m
 
--- The place of a grid in pixels: a square as large as that of its modules, which begins at the centre of the first one.
+-- the side of the largest upright square in a turned one with the same middle; each side of the latter comes `one` in one direction, across or down, and
+-- `other` in the other; if it is not turned, `other` is 0 and this is `one`
+abbrev pub inner_side : ℕ → ℕ → ℕ
+inner_side one other = (one * one + other * other) / max (one + other) 1
+
+-- The place of a grid in pixels: a square as large as that of its modules, which begins at the centre of the first one. Of a turned grid it is the
+-- largest upright square in that one with the same middle. x and y are twice the middle, in fractions of a pixel.
 abbrev pub place_of : Grid → Place
 place_of g =
     let parts = max g.parts 1 in
+    let width = g.count * inner_side g.across g.fall in
+    let height = g.count * inner_side g.down g.lean in
+    let x = 2 * g.left + g.count * g.across - g.count * g.lean in
+    let y = 2 * g.top + g.count * g.down + g.count * g.fall in
     record {
-      left = g.left / parts;
-      top = g.top / parts;
-      right = (g.left + g.count * g.across) / parts;
-      bottom = (g.top + g.count * g.down) / parts;
+      left = (x - width) / parts / 2;
+      top = (y - height) / parts / 2;
+      right = (x + width) / parts / 2;
+      bottom = (y + height) / parts / 2;
     }
 
 -- two places have no pixel in common: one ends before the other begins, across or down

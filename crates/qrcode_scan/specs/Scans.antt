@@ -1,5 +1,5 @@
 -- How a picture decodes, and why it does not.
-use Rattle.std.specs.Prelude.{◌≡◌, ◌⊎◌, ◌==◌, ◌/◌, ◌<◌, ◌≤◌, ℕ, List, [], ◌∷◌, Bool, true, false, Some, None, length, map, flat_map, unwrap_or, if◌then◌else◌}
+use Rattle.std.specs.Prelude.{◌≡◌, ◌⊎◌, ◌==◌, ◌/◌, ◌<◌, ◌≤◌, ℕ, List, [], ◌∷◌, Bool, true, false, Some, None, length, map, flat_map, max, unwrap_or, if◌then◌else◌}
 use Rattle.std.specs.List.{starts_with}
 use Rattle.std.specs.Option.{option_map}
 use Rattle.qrcode_types.specs.declared.types.Color.{Color}
@@ -55,11 +55,12 @@ pub record IsReadAs (scan : Scan) : Type 0 where
   pub marked : (p : gs1.Position) (segments : List Part) → scan.parts.items ≡ Front (fnc1 p) ∷ segments → headers_in segments ≡ []
       → ReadsMarkedOnly (seen scan.square.count scan.any.position scan.any.is_inverted scan.square.modules.items) p scan.any.reading.data.items
 
--- the code's square is the one in a grid: each module has the colour of the pixel at its centre; the scale is rounded down to whole pixels, and there is no zone
+-- the code's square is the one in a grid: each module has the colour of the pixel at its centre; the scale is rounded down to whole pixels (of a turned
+-- square its greater extent, across or down), and there is no zone
 pub record IsSampledOf (scan : Scan) (g : Grid) (b : Bitmap) : Type 0 where
   pub count : scan.square.count ≡ g.count
   pub zone : scan.square.zone ≡ 0
-  pub scale : scan.square.scale ≡ g.across / g.parts
+  pub scale : scan.square.scale ≡ max g.across g.fall / g.parts
   pub sampled : IsSampled b g scan.square.modules.items
 
 abbrev pub IsSampledIn : Scan → Bitmap → Type 0

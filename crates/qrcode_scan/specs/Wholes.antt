@@ -11,7 +11,7 @@ use Rattle.qrcode_reader.specs.Positions.{seen}
 use Rattle.qrcode_reader.specs.Readings.{ReadsParts}
 use Rattle.qrcode_reader.specs.declared.positions.Position.{Position}
 use Rattle.qrcode_reader.specs.declared.spell.parts.Part.{Part}
-use Rattle.qrcode_scan.specs.Grids.{column_at, row_at}
+use Rattle.qrcode_scan.specs.Grids.{column_at, row_at, IsInside}
 use Rattle.qrcode_scan.specs.Squares.{mark_at}
 use Rattle.qrcode_scan.specs.declared.grids.Grid.{Grid}
 
@@ -77,18 +77,19 @@ pub record IsGridAt (x y scale side : ℕ) (g : Grid) : Type 0 where
   pub top : g.top ≡ y + scale / 2
   pub across : g.across ≡ scale
   pub down : g.down ≡ scale
+  pub lean : g.lean ≡ 0
+  pub fall : g.fall ≡ 0
   pub parts : g.parts ≡ 1
 
 abbrev pub IsGridOf : Whole → Grid → Type 0  -- the grid of a square in whole pixels
 IsGridOf w g = IsGridAt w.left w.top w.scale (count_of w) g
 
 abbrev pub marked : Bitmap → Grid → ℕ → ℕ → Bool  -- the pixel at the centre of the module in column i and row j of a grid is dark
-marked b g i j = mark_at b (column_at g i) (row_at g j)
+marked b g i j = mark_at b (column_at g i j) (row_at g i j)
 
 -- a grid in the pixels has finder patterns in this corner and the two next to it, as the centres of its modules show
 pub record HasPatterns (b : Bitmap) (g : Grid) (is_right is_lower : Bool) : Type 0 where
-  pub across : column_at g (g.count - 1) < b.across
-  pub down : row_at g (g.count - 1) < b.down
+  pub inside : IsInside b g
   pub finders : HasFinders (marked b g) g.count is_right is_lower
 
 -- exactly five modules of `scale` light pixels begin in column x of row y, behind a dark pixel and below one: the ring in a finder pattern begins there
@@ -121,6 +122,8 @@ pub record AreSame (g h : Grid) : Type 0 where
   pub top : g.top ≡ h.top
   pub across : g.across ≡ h.across
   pub down : g.down ≡ h.down
+  pub lean : g.lean ≡ h.lean
+  pub fall : g.fall ≡ h.fall
   pub parts : g.parts ≡ h.parts
 
 -- different grids, all of whole pixels with finder patterns in three corners

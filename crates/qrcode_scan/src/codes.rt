@@ -1,9 +1,9 @@
 //! Finds and decodes all codes of a picture.
 
-ghost use Rattle.std.specs.Prelude.{◌≡◌, ◌≤◌, ◌<◌, ◌⊎◌, ◌++◌, ◌∷◌, [], ℕ, Some, All, AllPairs, Any, insert, length, IsTrue, IsFalse, IfOk, IfErr, OnOk};
+ghost use Rattle.std.specs.Prelude.{◌^◌, ◌+◌, ◌-◌, ◌/◌, ◌≡◌, ◌≤◌, ◌<◌, ◌⊎◌, ◌++◌, ◌∷◌, [], ℕ, Some, All, AllPairs, Any, insert, length, IsTrue, IsFalse, IfOk, IfErr, OnOk};
 ghost use Rattle.qrcode_reader.specs.declared.refusals.Unread.TheVariants.{OutOfMemory};
 ghost use Rattle.qrcode_scan.specs.declared.scanning.Unread.TheVariants.{OutOfMemory as NoMemory};
-ghost use Rattle.qrcode_scan.specs.Codes.{place_of, AreApart, AreCodesIn, AreTwo, FindsWholes, FindsWholesOf, HasGrid, IsApartFrom, IsCodeFound, IsFoundAs, IsFoundBy, IsMissedOf, Overlaps};
+ghost use Rattle.qrcode_scan.specs.Codes.{inner_side, place_of, AreApart, AreCodesIn, AreTwo, FindsWholes, FindsWholesOf, HasGrid, IsApartFrom, IsCodeFound, IsFoundAs, IsFoundBy, IsMissedOf, Overlaps};
 ghost use Rattle.qrcode_scan.specs.Wholes.{IsGridOf, ShowsCode, Whole};
 ghost use Rattle.qrcode_scan.specs.declared.codes.Found.TheVariants.{Nothing, Missed as MissedAt};
 ghost use Rattle.qrcode_scan.specs.Scans.{has_more, HasNoWhole, IsNotClean, IsScanOf, IsUnreadPicture, IsUnreadIn};
@@ -206,7 +206,7 @@ fn found_at(
     let square = Square {
         count: grid.count,
         zone: 0,
-        scale: grid.across / grid.parts,
+        scale: grid.across.max(grid.fall) / grid.parts,
         modules,
     };
     Ok(Found::Code(scan_of(alloc, square, Some(*grid), is_inverted, any)?))
@@ -298,17 +298,45 @@ fn is_over(scan: &Scan, grid: &Grid) -> bool
     }
 }
 
-// The pixels that a grid's modules take.
+// The pixels that a grid's modules take; of a turned grid, the largest upright square of them.
 fn place_of(grid: &Grid) -> Place
     ensures { result ≡ place_of grid.now }
 {
     let parts = grid.parts.max(1);
+    let width = grid.count * inner_side(grid.across, grid.fall);
+    let height = grid.count * inner_side(grid.down, grid.lean);
+    let x = (2 * grid.left + grid.count * grid.across).saturating_sub(grid.count * grid.lean);
+    let y = 2 * grid.top + grid.count * grid.down + grid.count * grid.fall;
+    let (left, right) = ends(x, width, parts);
+    let (top, bottom) = ends(y, height, parts);
     Place {
-        left: grid.left / parts,
-        top: grid.top / parts,
-        right: (grid.left + grid.count * grid.across) / parts,
-        bottom: (grid.top + grid.count * grid.down) / parts,
+        left,
+        top,
+        right,
+        bottom,
     }
+}
+
+// Returns where an extent begins and ends, in pixels; it and its middle are doubled, in fractions.
+fn ends(middle: usize, extent: usize, parts: usize) -> (usize, usize)
+    requires { (middle < 2 ^ 48) × (extent < 2 ^ 48) × (1 ≤ parts) }
+    ensures first { result.0 ≡ (middle - extent) / parts / 2 }
+    ensures last { result.1 ≡ (middle + extent) / parts / 2 }
+{
+    (
+        middle.saturating_sub(extent) / parts / 2,
+        (middle + extent) / parts / 2,
+    )
+}
+
+// Returns the side of the largest upright square in a turned one with the same middle. Each side of
+// the latter comes `one` in one direction, across or down, and `other` in the other.
+fn inner_side(one: usize, other: usize) -> usize
+    requires { (one < 2 ^ 18) × (other < 2 ^ 18) }
+    ensures value { result ≡ inner_side one other }
+    ensures at_most { result < 2 ^ 37 }
+{
+    (one * one + other * other) / (one + other).max(1)
 }
 
 // Whether two squares have pixels in common.

@@ -4,10 +4,14 @@
 ghost use Rattle.std.specs.Prelude.{◌≡◌, ◌^◌, ◌<◌, ◌≤◌, length, IfOk, IfSome, OnOk};
 
 use crate::pixels::{GREATEST_SIDE, Pixels};
+use crate::squares::mark_at;
 use std::alloc::{AllocError, Global};
 
 // The most finder patterns to keep of a picture. Bounds memory and time.
 const MOST_FINDERS: usize = 1024;
+
+// The most of those at any angle: with each two others they are tried as a corner. Bounds time.
+const MOST_TURNED: usize = 48;
 
 // A finder pattern: twice its centre, and its width and height in pixels, seven modules each.
 #[derive(Clone, Copy)]
@@ -20,6 +24,14 @@ pub(crate) struct Finder {
     ghost sides: { (width ≤ 65535) × (height ≤ 65535) },
 }
 
+// The finder patterns of a picture: those whose sides are parallel to the picture's, and those at
+// any angle, with more exact centres.
+#[derive(Drop)]
+pub(crate) struct Found {
+    pub(crate) upright: Vec<Finder>,
+    pub(crate) turned: Vec<Finder>,
+}
+
 // A row or column of pixels: the index of its first pixel, the step from one pixel to the next, and
 // how many there are.
 #[derive(Clone, Copy)]
@@ -27,7 +39,7 @@ pub(crate) struct Line {
     first: usize,
     step: usize,
     pub(crate) length: usize,
-    ghost fits: { (first < 2 ^ 33) × (step ≤ 65535) × (length ≤ 65535) },
+    ghost fits: { (first < 2 ^ 33) × (step ≤ 65536) × (length ≤ 65535) },
 }
 
 // Returns row `y` of the pixels.
@@ -56,13 +68,17 @@ pub(crate) fn column_of(pixels: &Pixels, x: usize) -> Line
     }
 }
 
-/// Finds finder patterns, in the order of their rows, at most 1,024.
+/// Finds finder patterns, in the order of their rows, at most 1,024, and 48 at any angle.
 ///
 /// Errors: only `AllocError`, if memory runs out.
-pub(crate) fn finders(alloc: Global, pixels: &Pixels) -> Result<Vec<Finder>, AllocError>
-    ensures { IfOk result (λ found. length found.items ≤ 1024) }
+pub(crate) fn finders(alloc: Global, pixels: &Pixels) -> Result<Found, AllocError>
+    ensures { IfOk result (λ found. (length found.upright.items ≤ 1024)
+        × (length found.turned.items ≤ 48)) }
 {
-    let mut found = Vec::new(alloc);
+    let mut found = Found {
+        upright: Vec::new(alloc),
+        turned: Vec::new(alloc),
+    };
     for y in 0..pixels.sides().1 {
         push_finders(&mut found, pixels, y)?;
     }
@@ -70,10 +86,12 @@ pub(crate) fn finders(alloc: Global, pixels: &Pixels) -> Result<Vec<Finder>, All
 }
 
 // Appends the finder patterns that cross row `y`, except known ones.
-fn push_finders(found: &mut Vec<Finder>, pixels: &Pixels, y: usize) -> Result<(), AllocError>
+fn push_finders(found: &mut Found, pixels: &Pixels, y: usize) -> Result<(), AllocError>
     requires row { (y < pixels.now.down) × (y ≤ 65535) }
-    requires at_most { length found.old.items ≤ 1024 }
-    ensures { OnOk result (length found.new.items ≤ 1024) }
+    requires upright { length found.old.upright.items ≤ 1024 }
+    requires turned { length found.old.turned.items ≤ 48 }
+    ensures upright { OnOk result (length found.new.upright.items ≤ 1024) }
+    ensures turned { OnOk result (length found.new.turned.items ≤ 48) }
 {
     let row = row_of(pixels, y);
     for x in 0..row.length {
@@ -81,7 +99,7 @@ fn push_finders(found: &mut Vec<Finder>, pixels: &Pixels, y: usize) -> Result<()
             match finder_before(pixels, row, x + 1) {
                 Some(start) => {
                     let finder = finder_at(pixels, (start + x + 1) / 2, y, x + 1 - start);
-                    push_new(found, finder)?;
+                    push_both(found, pixels, finder)?;
                 }
                 None => {}
             }
@@ -90,15 +108,35 @@ fn push_finders(found: &mut Vec<Finder>, pixels: &Pixels, y: usize) -> Result<()
     Ok(())
 }
 
-// Appends a finder pattern, unless it is known or there are too many.
-fn push_new(found: &mut Vec<Finder>, finder: Option<Finder>) -> Result<(), AllocError>
-    requires { length found.old.items ≤ 1024 }
-    ensures { OnOk result (length found.new.items ≤ 1024) }
+// Appends a finder pattern to those whose modules are right, at most a quarter of them wrong; and
+// to those at any angle. Neither if it is known or there are too many.
+fn push_both(found: &mut Found, pixels: &Pixels, finder: Option<Finder>) -> Result<(), AllocError>
+    requires upright { length found.old.upright.items ≤ 1024 }
+    requires turned { length found.old.turned.items ≤ 48 }
+    ensures upright { OnOk result (length found.new.upright.items ≤ 1024) }
+    ensures turned { OnOk result (length found.new.turned.items ≤ 48) }
 {
     let Some(finder) = finder else {
         return Ok(());
     };
-    if found.len() < MOST_FINDERS && !is_known(found, finder) {
+    if 4 * wrong_modules(pixels, finder) <= 49 {
+        push_new(&mut found.upright, Some(finder), MOST_FINDERS)?;
+    }
+    if !is_known(&found.turned, finder) {
+        push_new(&mut found.turned, centred(pixels, finder), MOST_TURNED)?;
+    }
+    Ok(())
+}
+
+// Appends a finder pattern, unless it is known or there are too many.
+fn push_new(found: &mut Vec<Finder>, finder: Option<Finder>, most: usize) -> Result<(), AllocError>
+    requires { length found.old.items ≤ most }
+    ensures { OnOk result (length found.new.items ≤ most) }
+{
+    let Some(finder) = finder else {
+        return Ok(());
+    };
+    if found.len() < most && !is_known(found, finder) {
         found.push(finder)?;
     }
     Ok(())
@@ -117,7 +155,7 @@ fn is_same(finder: Finder, other: Finder) -> bool {
 }
 
 // Returns the finder pattern around a pixel, about `width` pixels wide. Neither side may be more
-// than twice as long as the other, and at most a quarter of the modules may be wrong.
+// than twice as long as the other.
 fn finder_at(pixels: &Pixels, x: usize, y: usize, width: usize) -> Option<Finder>
     requires inside { (x ≤ pixels.now.across) × (y ≤ pixels.now.down) × (x ≤ 65535) }
     requires width { width ≤ 65535 }
@@ -129,16 +167,109 @@ fn finder_at(pixels: &Pixels, x: usize, y: usize, width: usize) -> Option<Finder
     if width > 2 * height || height > 2 * width {
         return None;
     }
-    let finder = Finder {
+    Some(Finder {
         x: left + right,
         y: top + bottom,
         width,
         height,
-    };
-    if 4 * wrong_modules(pixels, finder) > 49 {
+    })
+}
+
+// Returns a finder pattern at any angle, if both diagonals have its runs, too. Its centre is the
+// middle of the dark pixels near it: the square in the light ring, which has three modules a side.
+fn centred(pixels: &Pixels, finder: Finder) -> Option<Finder> {
+    let diagonals = diagonal_of(pixels, finder, false)? + diagonal_of(pixels, finder, true)?;
+    let short = (finder.width + finder.height).min(7 * diagonals / 5) / 2;
+    let (x, y) = middle_of(pixels, finder.x, finder.y, short)?;
+    let (x, y) = middle_of(pixels, x, y, short)?;
+    Some(Finder {
+        x,
+        y,
+        width: finder.width,
+        height: finder.height,
+    })
+}
+
+// Returns how many pixels of a diagonal through its centre a finder pattern takes, if it has its
+// runs: of the one down to the right, or down to the left.
+fn diagonal_of(pixels: &Pixels, finder: Finder, is_left: bool) -> Option<usize>
+    ensures { IfSome result (λ length. length ≤ 65535) }
+{
+    let ((across, down), reach) = (pixels.sides(), finder.width);
+    let (x, y) = (finder.x / 2, finder.y / 2);
+    if across <= x || down <= y {
         return None;
     }
-    Some(finder)
+    let (before, behind) = if is_left {
+        (across - 1 - x, x + 1)
+    } else {
+        (x, across - x)
+    };
+    let back = reach.min(before).min(y);
+    let line = Line {
+        first: (y - back) * across + if is_left { x + back } else { x - back },
+        step: if is_left { across - 1 } else { across + 1 },
+        length: back + reach.min(behind).min(down - y),
+    };
+    let (start, end) = finder_through(pixels, line, back, reach)?;
+    Some(end - start)
+}
+
+// Returns twice the middle of the dark pixels around a place, which is doubled too: of those in a
+// circle of 5/16 of `seven` pixels. Seven modules take between `seven` and eleven twelfths of it,
+// so the circle has the dark square in a finder pattern, and ends in the light ring.
+fn middle_of(pixels: &Pixels, x: usize, y: usize, seven: usize) -> Option<(usize, usize)>
+    requires { (x ≤ 131070) × (y ≤ 131070) × (seven ≤ 65535) }
+    ensures { IfSome result (λ middle. (middle.0 ≤ 131070) × (middle.1 ≤ 131070)) }
+{
+    let near = 5 * seven / 16 + 1;
+    let side = 2 * near + 1;
+    let (mut count, mut across, mut down) = (0, 0, 0);
+    for i in 0..side * side {
+        let (column, row) = (x / 2 + i % side, y / 2 + i / side);
+        if near <= column && near <= row {
+            let (column, row) = (column - near, row - near);
+            if is_dark_near(pixels, column, row, (x, y), seven) {
+                count += 1;
+                across += 2 * column + 1;
+                down += 2 * row + 1;
+            }
+        }
+    }
+    if count == 0 {
+        return None;
+    }
+    Some((
+        ((across + count / 2) / count).min(2 * GREATEST_SIDE),
+        ((down + count / 2) / count).min(2 * GREATEST_SIDE),
+    ))
+}
+
+// Returns the square of a distance, by what it is across and down.
+pub(crate) fn square_of_far(across: usize, down: usize) -> usize
+    requires { (across < 2 ^ 18) × (down < 2 ^ 18) }
+    ensures { result < 2 ^ 37 }
+{
+    across * across + down * down
+}
+
+// Whether a pixel is dark and in a circle around a place, which is doubled.
+fn is_dark_near(
+    pixels: &Pixels,
+    column: usize,
+    row: usize,
+    place: (usize, usize),
+    seven: usize,
+) -> bool
+    requires pixel { (column ≤ 131070) × (row ≤ 131070) }
+    requires place { (place.0 ≤ 131070) × (place.1 ≤ 131070) × (seven ≤ 65535) }
+{
+    let across = place.0.abs_diff(2 * column + 1);
+    let down = place.1.abs_diff(2 * row + 1);
+    let most = 5 * seven / 8;
+    square_of_far(across, down) <= most * most
+        && column < pixels.sides().0
+        && mark_at(pixels, column, row)
 }
 
 // Counts the wrong modules of a finder pattern. In the data of a large symbol, many places have its

@@ -6,6 +6,7 @@ use crate::finders::{Finder, finders};
 use crate::micro::push_micro;
 use crate::pixels::Pixels;
 use crate::samples::mark_in;
+use crate::turned::{push_turned, turned_grid};
 use std::alloc::{AllocError, Global};
 
 // The most grids of a picture. Bounds memory and time.
@@ -16,7 +17,9 @@ const MOST_GRIDS: usize = 1024;
 const MOST_NEAR: usize = 4;
 
 /// Where the modules of a square are in pixels: the centre of the first module, and the distances
-/// of columns and of rows, in fractions of a pixel.
+/// of columns and of rows, in fractions of a pixel. The first module is that in the corner from
+/// which one side of the square goes to the right, or down to the right, and the other down, or down
+/// to the left.
 #[derive(Clone, Copy)]
 pub struct Grid {
     /// Modules along a side.
@@ -29,42 +32,67 @@ pub struct Grid {
     pub across: usize,
     /// From one row of modules to the next, likewise.
     pub down: usize,
+    /// How far left of a row of modules the next begins, likewise; 0 if the square is not turned.
+    pub lean: usize,
+    /// How far below a column of modules the next begins, likewise; 0 if the square is not turned.
+    pub fall: usize,
     /// How many such fractions make a pixel.
     pub parts: usize,
     pub ghost fits: { (count ≤ 177) × (left < 2 ^ 28) × (top < 2 ^ 28) × (across < 2 ^ 18)
-        × (down < 2 ^ 18) },
+        × (down < 2 ^ 18) × (lean < 2 ^ 18) × (fall < 2 ^ 18) },
 }
 
-// Three finder patterns: one in the corner, one left or right of it, one above or below it.
+// Three finder patterns: one in the corner, one left or right of it, one above or below it. Of a
+// turned square `beside` is below it if it is right of it, and above it if it is left of it.
 #[derive(Clone, Copy)]
-struct Corner {
-    corner: Finder,
-    beside: Finder,
-    below: Finder,
+pub(crate) struct Corner {
+    pub(crate) corner: Finder,
+    pub(crate) beside: Finder,
+    pub(crate) below: Finder,
+}
+
+impl Corner {
+    // Whether the corner is one of the two on the right.
+    pub(crate) fn is_right(&self) -> bool {
+        self.beside.x + self.beside.y < self.corner.x + self.corner.y
+    }
+
+    // Whether the corner is one of the two below.
+    pub(crate) fn is_lower(&self) -> bool {
+        self.below.y + self.corner.x < self.corner.y + self.below.x
+    }
 }
 
 /// Guesses where squares of modules are in a picture, by the finder patterns in three of their
-/// corners, or by the single one of Micro: first dark modules on light, then light on dark; at most
-/// 1,024.
+/// corners, or by the single one of Micro: first dark modules on light, then light on dark; last
+/// squares at any angle, likewise; at most 1,024.
 ///
 /// Errors: only `AllocError`, if memory runs out.
 pub(crate) fn guesses(alloc: Global, pixels: &Pixels) -> Result<Vec<Grid>, AllocError> {
     let mut grids = Vec::new(alloc);
-    push_grids(alloc, &mut grids, pixels)?;
-    push_grids(alloc, &mut grids, &pixels.inverted(alloc)?)?;
+    let inverted = pixels.inverted(alloc)?;
+    let dark = push_grids(alloc, &mut grids, pixels)?;
+    let light = push_grids(alloc, &mut grids, &inverted)?;
+    push_turned(&mut grids, pixels, &dark)?;
+    push_turned(&mut grids, &inverted, &light)?;
     Ok(grids)
 }
 
 // Appends the grids of dark modules: first those of three finder patterns, then those of Micro.
-fn push_grids(alloc: Global, grids: &mut Vec<Grid>, pixels: &Pixels) -> Result<(), AllocError> {
+// Returns the finder patterns at any angle.
+fn push_grids(
+    alloc: Global,
+    grids: &mut Vec<Grid>,
+    pixels: &Pixels,
+) -> Result<Vec<Finder>, AllocError> {
     let found = finders(alloc, pixels)?;
-    for corner in &found {
-        push_corners(alloc, grids, pixels, &found, *corner)?;
+    for corner in &found.upright {
+        push_corners(alloc, grids, pixels, &found.upright, *corner)?;
     }
-    for finder in &found {
+    for finder in &found.upright {
         push_micro(grids, pixels, *finder)?;
     }
-    Ok(())
+    Ok(found.turned)
 }
 
 // Appends the grids with this finder pattern in the corner.
@@ -139,7 +167,7 @@ fn push_below(
             beside,
             below: *below,
         };
-        push_grid(grids, grid_of(pixels, &corner))?;
+        push_grid(grids, grid_of(pixels, &corner, false))?;
     }
     Ok(())
 }
@@ -170,18 +198,23 @@ fn is_below(corner: Finder, other: Finder) -> bool {
 }
 
 // Whether the sides of two finder patterns differ by at most a third.
-fn is_same_size(finder: Finder, other: Finder) -> bool {
+pub(crate) fn is_same_size(finder: Finder, other: Finder) -> bool {
     3 * finder.width.abs_diff(other.width) <= finder.width
         && 3 * finder.height.abs_diff(other.height) <= finder.height
 }
 
 // Returns the grid between three finder patterns whose timing patterns fit best; at most a quarter
 // of their modules may be wrong.
-fn grid_of(pixels: &Pixels, corner: &Corner) -> Option<Grid> {
+pub(crate) fn grid_of(pixels: &Pixels, corner: &Corner, is_turned: bool) -> Option<Grid> {
     let (mut best, mut least) = (None, 251);
     for version in 1..41 {
         let count = 17 + 4 * version;
-        let Some(grid) = likely_grid(corner, count) else {
+        let likely = if is_turned {
+            turned_grid(pixels, corner, count)
+        } else {
+            likely_grid(corner, count)
+        };
+        let Some(grid) = likely else {
             continue;
         };
         let wrong = 500 * wrong_timing(pixels, corner, &grid) / (count - 16);
@@ -214,6 +247,8 @@ fn likely_grid(corner: &Corner, count: usize) -> Option<Grid>
         top: (corner.y.min(below.y) * (count - 7)).saturating_sub(3 * down),
         across,
         down,
+        lean: 0,
+        fall: 0,
         parts: 2 * (count - 7),
     })
 }
@@ -233,8 +268,8 @@ fn wrong_timing(pixels: &Pixels, corner: &Corner, grid: &Grid) -> usize
     requires { (21 ≤ grid.now.count) × (1 ≤ grid.now.parts) }
     ensures { result ≤ 354 }
 {
-    let row = timing_line(corner.corner.y < corner.below.y, grid.count);
-    let column = timing_line(corner.corner.x < corner.beside.x, grid.count);
+    let row = timing_line(!corner.is_lower(), grid.count);
+    let column = timing_line(!corner.is_right(), grid.count);
     let mut wrong = 0;
     for i in 8..grid.count - 8 {
         wrong += usize::from(mark_in(pixels, grid, i, row) != (i % 2 == 0));

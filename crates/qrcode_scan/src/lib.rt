@@ -15,6 +15,7 @@ mod samples;
 mod scanning;
 mod shades;
 mod squares;
+mod turned;
 mod wholes;
 
 pub use checking::{Checks, check_codes};

@@ -50,6 +50,8 @@ fn micro_grid(pixels: &Pixels, finder: Finder, is_right: bool, is_lower: bool) -
         top: 2 * count * down.start + down.extent,
         across: 2 * across.extent,
         down: 2 * down.extent,
+        lean: 0,
+        fall: 0,
         parts: 2 * count,
     })
 }

@@ -1,7 +1,7 @@
 //! Samples the modules of a grid.
 
 ghost use Rattle.std.specs.Prelude.{◌≡◌, ◌-◌, ◌<◌, ◌≤◌, IsTrue, IsFalse, IfOk, IfSome, IfNone};
-ghost use Rattle.qrcode_scan.specs.Grids.{IsSampled, column_at, row_at, colours_at};
+ghost use Rattle.qrcode_scan.specs.Grids.{IsInside, IsSampled, column_at, row_at, colours_at};
 ghost use Rattle.qrcode_scan.specs.Squares.{mark_at};
 
 use crate::grids::Grid;
@@ -22,8 +22,7 @@ pub fn sampled_at(
     ensures some { IfOk result (λ found. IfSome found (λ modules.
         IsSampled pixels.now grid.now modules.items)) }
     ensures none { IfOk result (λ found. IfNone found ((1 ≤ grid.now.count)
-        → (1 ≤ grid.now.parts) → (column_at grid.now (grid.now.count - 1) < pixels.now.across)
-        → (row_at grid.now (grid.now.count - 1) < pixels.now.down) → ⊥)) }
+        → (1 ≤ grid.now.parts) → ¬ IsInside pixels.now grid.now)) }
 {
     if grid.count == 0 || grid.parts == 0 || !is_inside(pixels, grid) {
         return Ok(None);
@@ -31,16 +30,16 @@ pub fn sampled_at(
     Ok(Some(colours_at(alloc, pixels, grid)?))
 }
 
-// Whether the centre of the last module is in the picture.
+// Whether the centres of all modules are in the picture.
 pub(crate) fn is_inside(pixels: &Pixels, grid: &Grid) -> bool
     requires { (1 ≤ grid.now.count) × (1 ≤ grid.now.parts) }
-    ensures inside { IsTrue result → (column_at grid.now (grid.now.count - 1) < pixels.now.across)
-        × (row_at grid.now (grid.now.count - 1) < pixels.now.down) }
-    ensures outside { IsFalse result → ¬ ((column_at grid.now (grid.now.count - 1)
-        < pixels.now.across) × (row_at grid.now (grid.now.count - 1) < pixels.now.down)) }
+    ensures inside { IsTrue result → IsInside pixels.now grid.now }
+    ensures outside { IsFalse result → ¬ IsInside pixels.now grid.now }
 {
-    let (across, down) = pixels.sides();
-    column_at(grid, grid.count - 1) < across && row_at(grid, grid.count - 1) < down
+    let ((across, down), last) = (pixels.sides(), grid.count - 1);
+    last * grid.lean <= grid.left
+        && column_at(grid, last, 0) < across
+        && row_at(grid, last, last) < down
 }
 
 // Returns the colours of the pixels at the centres of modules.
@@ -59,25 +58,30 @@ fn colours_at(alloc: Global, pixels: &Pixels, grid: &Grid) -> Result<Vec<Color>,
 // Whether the pixel at the centre of a module is dark.
 pub(crate) fn mark_in(pixels: &Pixels, grid: &Grid, column: usize, row: usize) -> bool
     requires { (column ≤ 177) × (row ≤ 177) × (1 ≤ grid.now.parts) }
-    ensures { result ≡ mark_at pixels.now (column_at grid.now column) (row_at grid.now row) }
+    ensures { result ≡ mark_at pixels.now (column_at grid.now column row)
+        (row_at grid.now column row) }
 {
-    mark_at(pixels, column_at(grid, column), row_at(grid, row))
+    mark_at(
+        pixels,
+        column_at(grid, column, row),
+        row_at(grid, column, row),
+    )
 }
 
-// Returns the column of pixels with the centres of a column of modules.
-fn column_at(grid: &Grid, column: usize) -> usize
-    requires { (column ≤ 177) × (1 ≤ grid.now.parts) }
-    ensures value { result ≡ column_at grid.now column }
+// Returns the column of the pixel at the centre of a module.
+fn column_at(grid: &Grid, column: usize, row: usize) -> usize
+    requires { (column ≤ 177) × (row ≤ 177) × (1 ≤ grid.now.parts) }
+    ensures value { result ≡ column_at grid.now column row }
     ensures at_most { result < 1000000000 }
 {
-    (grid.left + column * grid.across) / grid.parts
+    (grid.left + column * grid.across).saturating_sub(row * grid.lean) / grid.parts
 }
 
-// Returns the row of pixels with the centres of a row of modules.
-fn row_at(grid: &Grid, row: usize) -> usize
-    requires { (row ≤ 177) × (1 ≤ grid.now.parts) }
-    ensures value { result ≡ row_at grid.now row }
+// Returns the row of the pixel at the centre of a module.
+fn row_at(grid: &Grid, column: usize, row: usize) -> usize
+    requires { (column ≤ 177) × (row ≤ 177) × (1 ≤ grid.now.parts) }
+    ensures value { result ≡ row_at grid.now column row }
     ensures at_most { result < 1000000000 }
 {
-    (grid.top + row * grid.down) / grid.parts
+    (grid.top + row * grid.down + column * grid.fall) / grid.parts
 }

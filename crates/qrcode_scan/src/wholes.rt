@@ -123,6 +123,8 @@ fn grid_at(x: usize, y: usize, scale: usize, count: usize) -> Grid
         top: y + scale / 2,
         across: scale,
         down: scale,
+        lean: 0,
+        fall: 0,
         parts: 1,
     }
 }
@@ -218,6 +220,8 @@ fn is_same(one: &Grid, other: &Grid) -> bool
         && one.top == other.top
         && one.across == other.across
         && one.down == other.down
+        && one.lean == other.lean
+        && one.fall == other.fall
         && one.parts == other.parts
 }
 
@@ -252,7 +256,7 @@ fn whole_grid(pixels: &Pixels, finder: Finder, version: usize, corner: Corner) -
 }
 
 // Returns the first column or row of a finder pattern in a corner of `count` modules a side.
-fn corner_start(is_last: bool, count: usize) -> usize
+pub(crate) fn corner_start(is_last: bool, count: usize) -> usize
     requires { (7 ≤ count) × (count ≤ 177) }
     ensures value { result ≡ corner_start is_last count }
     ensures at_most { result ≤ 170 }
@@ -293,7 +297,7 @@ fn has_finder(pixels: &Pixels, grid: &Grid, column: usize, row: usize) -> bool
 }
 
 // Whether a module of a finder pattern is dark.
-fn finder_dark(column: usize, row: usize) -> bool
+pub(crate) fn finder_dark(column: usize, row: usize) -> bool
     requires { (column < 7) × (row < 7) }
     ensures { result ≡ finder_dark column row }
 {

@@ -1,4 +1,5 @@
-use Rattle.std.proofs.Common.{◌≡◌, ◌∙◌, ◌*◌, ◌⊎◌, ℕ, List, length, sym, ap, subst, inr, rules}
+use Rattle.std.specs.Prelude.{max}
+use Rattle.std.proofs.Common.{◌≡◌, ◌∙◌, ◌*◌, ◌/◌, ◌⊎◌, ℕ, List, length, sym, ap, subst, inr, rules}
 use Rattle.qrcode_types.specs.declared.types.Color.{Color}
 use Rattle.qrcode_scan.specs.Grids.{IsSampled}
 use Rattle.qrcode_scan.specs.declared.squares.Square.{Square}
@@ -53,6 +54,7 @@ returns-clause-found c =
     let g = c.args.grid.now in
     let sampled : IsSampled b g c.in-Some.modules.items = search rules in
     let scan = c.in_ok-scan_of.ensures.square in
+    let most : c.max.result ≡ max g.across g.fall = search rules in
     record {
       inverted = c.in_ok-scan_of.ensures.inverted;
       square = record {
@@ -64,7 +66,7 @@ returns-clause-found c =
               record {
                 count = ap (λ (s : Square). s.count) scan.0;
                 zone = ap (λ (s : Square). s.zone) scan.0;
-                scale = ap (λ (s : Square). s.scale) scan.0;
+                scale = ap (λ (s : Square). s.scale) scan.0 ∙ ap (λ (n : ℕ). n / g.parts) most;
                 sampled = subst (λ (s : Square). IsSampled b g s.modules.items) (sym scan.0) sampled;
               },
             ),

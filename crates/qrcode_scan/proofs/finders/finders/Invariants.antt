@@ -2,4 +2,4 @@ use Rattle.std.proofs.Common.{◌≤◌, length}
 use Rattle.qrcode_scan.proofs.finders.finders.Given as goal
 
 abbrev pub invariant-loop-y : goal.invariant-loop-y
-invariant-loop-y l = length l.found.items ≤ 1024
+invariant-loop-y l = (length l.found.upright.items ≤ 1024) × (length l.found.turned.items ≤ 48)

@@ -13,4 +13,4 @@ loop-i-preserved c =
     let i = c.loop-i.i in
     c.in_ok-push.ensures.items
     ∙ ap₂ (λ (xs : List Color) (x : Color). xs ++ x ∷ []) c.loop-i.invariant (c.color_of.ensures ∙ ap color_of c.mark_in.ensures)
-    ∙ sym (map-range_with_len_more (λ k. color_of (mark_at p (column_at g (k % g.count)) (row_at g (k / g.count)))) 0 i i (omega arith))
+    ∙ sym (map-range_with_len_more (λ k. color_of (mark_at p (column_at g (k % g.count) (k / g.count)) (row_at g (k % g.count) (k / g.count)))) 0 i i (omega arith))
