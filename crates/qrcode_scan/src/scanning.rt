@@ -71,11 +71,11 @@ impl fmt::Display for Unread {
             Unread::Jpeg => f.write_str("it is a JPEG file; convert it to PNG"),
             Unread::NoSquare => write!(
                 f,
-                "no code found, neither in a plain margin nor by finder patterns; {STRAIGHT}"
+                "no code found, neither in a plain margin nor by finder patterns; {FLAT}"
             ),
             Unread::NoSymbol(count, qrcode_reader::Unread::NoSuchSide) => write!(
                 f,
-                "no code found: {count} by {count} modules are the size of none; {STRAIGHT}"
+                "no code found: {count} by {count} modules are the size of none; {FLAT}"
             ),
             Unread::NoSymbol(count, error) => {
                 write!(f, "{count} by {count} modules do not decode: {error}")
@@ -86,7 +86,7 @@ impl fmt::Display for Unread {
 }
 
 // What helps if no code is found.
-const STRAIGHT: &str = "codes must be straight, but zbarimg reads photographs";
+const FLAT: &str = "codes must be flat and sharp, but zbarimg reads photographs";
 
 // Says why there are no pixels.
 fn cause_text(cause: Unscanned) -> &'static str {
