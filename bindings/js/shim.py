@@ -153,6 +153,7 @@ def draw_with(modules, length, width, drawing, out, room, count):
 def payload(kind, names):
     """Returns the call of the Python package that writes a kind of payload."""
     def call(*words, **more):
+        assert len(words) <= len(names.split()), f"{kind} has more fields than {names}"
         fields = {**dict(zip(names.split(), words)), **more}
         fields = {FIELDS.get(name, name): it for name, it in fields.items() if it is not None}
         try:
@@ -169,7 +170,7 @@ PAYLOADS = {"wifi": "ssid password security hidden", "geo": "latitude longitude"
             "mecard": f"family given phone email url birthday note {CARD}",
             "vcard": f"name family given organisation phone email url {CARD} note title birthday",
             "payment": "name iban amount bic purpose reference message information",
-            "mail": "address subject body", "sms": "number body",
+            "mail": "address subject body cc bcc", "sms": "number body",
             "event": "begin end summary location description uid stamp",
             "upi": "payee name amount note reference category",
             "pix": "payee name city amount reference description", "promptpay": "payee amount"}
