@@ -1,34 +1,32 @@
 /* Times the package for JavaScript and qrcode-generator in one engine: bench/script runs it in Node
-   and in browsers. Times are in microseconds, each the fastest of many rounds of about 10 ms. */
+   and in browsers. Times are in microseconds, each the fastest of some rounds of 100 to 200 ms. */
 
+const ROUND = 100;
 const WORDS = "The quick brown fox jumps over the lazy dog, and then it goes on. ".repeat(40);
 
-/** Returns the fastest time of a call. */
+/** Returns the fastest time of a call. Rounds of both encoders take as long, so that other work of
+    the machine delays both alike, and clocks that browsers make coarse are fine enough. */
 function timeOf(call, spent) {
-    const round = (times) => {
+    let times = 1, least = Infinity;
+    for (const end = performance.now() + spent; performance.now() < end || least === Infinity;) {
         const begin = performance.now();
         for (let at = 0; at < times; at++)
             call();
-        return (performance.now() - begin) * 1000 / times;
-    };
-    let times = 1, least = Infinity;
-    for (const end = performance.now() + spent / 3; performance.now() < end;)
-        times = Math.max(1, Math.min(2 * times, Math.round(10_000 / round(times))));
-    for (const end = performance.now() + spent; performance.now() < end;)
-        least = Math.min(least, round(times));
+        const took = performance.now() - begin;
+        if (took < ROUND)
+            times *= 2;
+        else
+            least = Math.min(least, took * 1000 / times);
+    }
     return least;
 }
 
 /** Returns the times of both encoders, by what they make; `bytes` are those of goqlanis.wasm. */
-export async function measure(goqlanis, qrcode, bytes, spent = 1500) {
-    const starts = [];
-    for (let at = 0; at < 7; at++) {
-        const begin = performance.now();
-        await goqlanis.load(bytes.slice());
-        goqlanis.encode("1");
-        starts.push((performance.now() - begin) * 1000);
-    }
-    const found = { start: [starts.sort((a, b) => a - b)[3]] };
+export async function measure(goqlanis, qrcode, bytes, spent = 2000) {
+    const begin = performance.now();
+    await goqlanis.load(bytes);
+    goqlanis.encode("1");
+    const found = { start: [(performance.now() - begin) * 1000] };
     for (const length of [100, 2331]) {
         const text = WORDS.slice(0, length), data = new TextEncoder().encode(text);
         const other = () => {
