@@ -139,14 +139,6 @@ numbered v i r l some is =
     let lower = flag_small l in
     (omega (arith, some, is, right, lower), flag_is r (i % 2) (omega (arith, is, right)), flag_is l (i / 2 % 2) (omega (arith, is, right, lower)))
 
--- all numbers are below 160
-pub numbered_below : (b : Bitmap) (w : Whole) (x y : ℕ) → BeginsAt b w x y → number_of w < 160
-numbered_below b w x y at =
-    let most = at.whole.version in
-    let right = flag_small w.is_right in
-    let lower = flag_small w.is_lower in
-    omega (arith, most.0, most.1, right, lower)
-
 -- what a size and a corner of a finder pattern must do: if there is a grid, it is that of each such square; if not, there is none
 abbrev pub FindsSize : Bitmap → ℕ → ℕ → ℕ → ℕ → Bool → Bool → Option Grid → Type 0
 FindsSize b x y scale version r l None = (w : Whole) → BeginsAt b w x y → w.scale ≡ scale → w.version ≡ version → w.is_right ≡ r → w.is_lower ≡ l → ⊥

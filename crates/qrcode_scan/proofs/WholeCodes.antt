@@ -1,34 +1,18 @@
 -- Codes in squares of whole pixels, as their grids show them.
-use Rattle.std.proofs.Common.{◌≡◌, ◌⊎◌, ◌*◌, ◌-◌, ◌<◌, ◌≤◌, ◌∙◌, ℕ, List, Some, length, ap, sym, subst, inl, inr, arith}
+use Rattle.std.proofs.Common.{◌≡◌, ◌⊎◌, ◌*◌, ◌∙◌, ℕ, List, Some, length, ap, sym, subst, inl, inr}
 use Rattle.qrcode_types.specs.declared.types.Color.{Color}
 use Rattle.qrcode_render.specs.Bitmap.{Bitmap}
 use Rattle.qrcode_reader.specs.Readings.{IsPartsCause}
 use Rattle.qrcode_reader.specs.declared.refusals.Unread as reading
 use Rattle.qrcode_scan.specs.Codes.{IsCodeOf}
-use Rattle.qrcode_scan.specs.Grids.{IsInside, IsSampled}
+use Rattle.qrcode_scan.specs.Grids.{IsSampled}
 use Rattle.qrcode_scan.specs.Wholes.{IsGridOf, ShowsCode, Whole, count_of}
 use Rattle.qrcode_scan.specs.declared.grids.Grid.{Grid}
 use Rattle.qrcode_scan.specs.declared.scanning.Scan.{Scan}
 use Rattle.qrcode_scan.proofs.WhyUnread.{HasNone}
-use Rattle.qrcode_scan.proofs.ExactSquares.{patterned, sampled_whole}
+use Rattle.qrcode_scan.proofs.ExactSquares.{sampled_whole}
 
--- the grid of a square has 21 modules a side or more
-pub many_modules : (b : Bitmap) (w : Whole) (g : Grid) → ShowsCode b w → IsGridOf w g → g.count < 21 → ⊥
-many_modules b w g shows at few =
-    let some = shows.whole.version in
-    let same = at.count in
-    omega (arith, few, same, some.0)
-
--- and lies in the picture
-pub grid_inside : (b : Bitmap) (w : Whole) (g : Grid) → ShowsCode b w → IsGridOf w g
-    → (1 ≤ g.count → 1 ≤ g.parts → ¬ IsInside b g) → ⊥
-grid_inside b w g shows at outside =
-    let has = patterned b w g shows.whole at in
-    let same = at.count in
-    let one = at.parts in
-    outside (omega (arith, same)) (omega (arith, one)) has.inside
-
--- its modules decode
+-- the modules of a square decode
 pub reads_some : (b : Bitmap) (w : Whole) (g : Grid) (modules : List Color) (e : reading.Unread) → IsSampled b g modules → ¬ (e ≡ reading.TheVariants.OutOfMemory)
     → (e ≡ reading.TheVariants.OutOfMemory) ⊎ (IsPartsCause modules e × ((side : ℕ) → side * side ≡ length modules → HasNone side modules))
     → ShowsCode b w → IsGridOf w g → ⊥
