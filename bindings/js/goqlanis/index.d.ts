@@ -83,8 +83,8 @@ export interface DrawOptions {
 }
 /** The formats: "txt" and "light" are half blocks, "grey" is a byte per pixel, and "zpl", "tspl"
     and "escpos" are for printers. */
-export type Format = "txt" | "light" | "png" | "svg" | "eps" | "pic" | "pbm" | "pgm" | "pdf" | "zpl"
-    | "tspl" | "escpos" | "xbm" | "ppm" | "grey";
+export type Format = "txt" | "png" | "svg" | "eps" | "pic" | "pbm" | "pgm" | "pdf" | "zpl" | "tspl"
+    | "escpos" | "xbm" | "ppm" | "light" | "grey";
 /** The formats with a file extension. */
 export const FORMATS: Readonly<Record<string,
     { number: number; isText: boolean; scale: number; hasColours: boolean }>>;
@@ -129,18 +129,18 @@ export class QrCode {
     readonly quietZone: number;
     isDark(x: number, y: number): boolean;
     draw(format: Format, options?: DrawOptions): string | Uint8Array;
+    png(options?: DrawOptions): Uint8Array;
     svg(options?: DrawOptions): string;
     eps(options?: DrawOptions): string;
     pic(options?: DrawOptions): string;
-    zpl(options?: DrawOptions): string;
-    xbm(options?: DrawOptions): string;
-    png(options?: DrawOptions): Uint8Array;
-    pdf(options?: DrawOptions): Uint8Array;
     pbm(options?: DrawOptions): Uint8Array;
     pgm(options?: DrawOptions): Uint8Array;
-    ppm(options?: DrawOptions): Uint8Array;
+    pdf(options?: DrawOptions): Uint8Array;
+    zpl(options?: DrawOptions): string;
     tspl(options?: DrawOptions): Uint8Array;
     escpos(options?: DrawOptions): Uint8Array;
+    xbm(options?: DrawOptions): string;
+    ppm(options?: DrawOptions): Uint8Array;
     grey(options?: DrawOptions): Uint8Array;
     /** SVG without the XML declaration, for an HTML page. */
     svgInline(options?: DrawOptions): string;

@@ -130,21 +130,16 @@ class Symbol:
         """Writes the symbol to a file.
 
         `out` is a path, whose file is written completely or not at all, or a file that is open for
-        writing. The file extension, or `kind`, selects the format: png, svg, eps, pdf, pbm, pgm,
-        ppm, xbm, pic or txt (half blocks), and for printers zpl, tspl or escpos.
+        writing. The file extension, or `kind`, selects the format, e.g. png, svg, pdf or txt (half
+        blocks).
 
-        Raises NoSuchKind if neither selects a format, NotInFormat if the format has no such
-        colours, `dpi`, `title` or logo, NoSuchColour, NoSuchSize if the picture would be too large,
-        and OSError if writing fails.
+        Raises NoSuchKind, which names all formats, if neither selects one, NotInFormat if the
+        format has no such colours, `dpi`, `title` or logo, NoSuchColour, NoSuchSize if the picture
+        would be too large, and OSError if writing fails.
 
         >>> from goqlanis import encode
         >>> encode("01234567").save("ticket.png", scale=8, border=4, dark="#008", light=None)
         >>> encode("01234567").save("ticket.svg", size="30mm", title="A ticket")
-        >>> encode("01234567").save("ticket.jpg")
-        Traceback (most recent call last):
-            ...
-        goqlanis.NoSuchKind: 'ticket.jpg': its file extension is none of txt, png, svg, eps, pic, \
-pbm, pgm, pdf, zpl, tspl, escpos, xbm, ppm: save 'ticket.png', and convert that
         """
         if not hasattr(out, "write") and not isinstance(out, (str, bytes, os.PathLike)):
             raise TypeError(f"out is a path or a file that is open for writing, not {shown(out)}")
