@@ -149,7 +149,6 @@ enum {
     GOQ_XBM = 14, /* XBM text */
     GOQ_PPM = 15, /* a PPM file, three bytes per pixel */
     GOQ_ASCII = 16, /* text, two characters per pixel: ## if dark, two spaces if light */
-    GOQ_XPM = 17, /* XPM text, one character per pixel */
     GOQ_FORMATS /* the number of formats */
 };
 
@@ -660,7 +659,7 @@ bool goq_is_functional(uint32_t version, uint32_t x, uint32_t y);
    be; GOQ_MODULES_MAX * 80 + 400 bytes are enough for any SVG, PIC or EPS in black on white. The
    scale is 1 to 65,535; a side has at most 177 modules, with the quiet zone 8,191. PNG has 1 to
    65,535 pixels a side, ESC/POS at most 65,535, and the text formats for terminals and pages (half
-   blocks and GOQ_ASCII) and GOQ_XPM at most 4,096. Errors: GOQ_NO_SUCH_STRUCT, GOQ_NO_SUCH_FORMAT,
+   blocks and GOQ_ASCII) at most 4,096. Errors: GOQ_NO_SUCH_STRUCT, GOQ_NO_SUCH_FORMAT,
    GOQ_NOT_SQUARE, GOQ_NO_SUCH_SIZE, GOQ_NOT_IN_FORMAT, GOQ_SMALL_BUFFER; GOQ_OUT_OF_MEMORY. */
 goq_answer goq_draw_with(const uint8_t *modules, size_t modules_length, uint32_t width,
     const goq_drawing *drawing, void *out, size_t out_length, size_t *count);

@@ -84,7 +84,7 @@ export interface DrawOptions {
 /** The formats: "txt" and "light" are half blocks, "grey" is a byte per pixel, and "zpl", "tspl"
     and "escpos" are for printers. */
 export type Format = "txt" | "png" | "svg" | "eps" | "pic" | "pbm" | "pgm" | "pdf" | "zpl" | "tspl"
-    | "escpos" | "xbm" | "ppm" | "xpm" | "light" | "grey";
+    | "escpos" | "xbm" | "ppm" | "light" | "grey";
 /** The formats with a file extension. */
 export const FORMATS: Readonly<Record<string,
     { number: number; isText: boolean; scale: number; hasColours: boolean }>>;
@@ -141,7 +141,6 @@ export class QrCode {
     escpos(options?: DrawOptions): Uint8Array;
     xbm(options?: DrawOptions): string;
     ppm(options?: DrawOptions): Uint8Array;
-    xpm(options?: DrawOptions): string;
     grey(options?: DrawOptions): Uint8Array;
     /** SVG without the XML declaration, for an HTML page. */
     svgInline(options?: DrawOptions): string;

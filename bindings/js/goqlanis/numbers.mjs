@@ -4,7 +4,7 @@ export const VERSION = 10000;
 export const L = 0, M = 1, Q = 2, H = 3;
 export const HALF_BLOCKS = 0, LIGHT_HALF_BLOCKS = 1, SVG = 2, PIC = 3, GREY = 4, PNG = 5, EPS = 6,
     PBM = 7, SVG_PATH = 8, PGM = 9, PDF = 10, ZPL = 11, TSPL = 12, ESC_POS = 13, XBM = 14, PPM = 15,
-    ASCII = 16, XPM = 17;
+    ASCII = 16;
 export const NUMERIC = 0, ALPHANUMERIC = 1, BYTES = 2, KANJI = 3, ECI = 4, FNC1_FIRST = 5,
     FNC1_SECOND = 6, ONE_OF_SEVERAL = 7;
 export const WIFI = 0, MECARD = 1, VCARD = 2, PAYMENT = 3, BILL = 4, MAIL = 5, GEO = 6, TEL = 7,
@@ -129,7 +129,6 @@ export const FORMATS = {
     "escpos": {"number": 13, "isText": false, "scale": 8, "hasColours": false},
     "xbm": {"number": 14, "isText": true, "scale": 8, "hasColours": false},
     "ppm": {"number": 15, "isText": false, "scale": 8, "hasColours": true},
-    "xpm": {"number": 17, "isText": true, "scale": 8, "hasColours": false},
 };
 export const SIDES = {
     0: 4096,
@@ -143,7 +142,6 @@ export const SIDES = {
     14: 16384,
     15: 16384,
     16: 4096,
-    17: 4096,
 };
 export const PAYLOADS = {
     "wifi": {"number": 0, "about": "a Wi-Fi network", "more": "", "fields": {"ssid": "the name of the network, 1 to 32 bytes", "password": "empty for an open network", "security": "\"open\", \"WEP\", \"WPA\" or \"WPA3\"; empty: WPA, or open if no password", "hidden": "\"true\" if the network does not broadcast its name"}},

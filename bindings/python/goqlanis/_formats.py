@@ -14,8 +14,7 @@ FORMATS = {
     "escpos": (13, False, 8, False),
     "xbm": (14, True, 8, False),
     "ppm": (15, False, 8, True),
-    "xpm": (17, True, 8, False),
 }
 # The maximum pixels per side, by these numbers, if there is a limit.
 SIDES = {0: 4096, 1: 4096, 4: 16384, 5: 65535, 7: 16384, 9: 16384, 12: 16384, 13: 16384, 14: 16384,
-    15: 16384, 16: 4096, 17: 4096}
+    15: 16384, 16: 4096}

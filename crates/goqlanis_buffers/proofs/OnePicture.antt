@@ -5,7 +5,7 @@ use Rattle.goqlanis_core.specs.Layers.{AreLayers, AreOver}
 use Rattle.goqlanis_core.specs.Sheets.{Sheet}
 use Rattle.goqlanis_core.specs.declared.layers.PartInk.{PartInk}
 use Rattle.qrcode_formats.specs.declared.Format.{Format}
-use Rattle.qrcode_formats.specs.declared.Format.TheVariants.{HalfBlocks, LightHalfBlocks, Terminal, Chars, Png, Svg, SvgPath, Eps, Pic, Pbm, Pgm, Grey, Pdf, Zpl, Tspl, EscPos, Xbm, Ppm, Ascii, Xpm}
+use Rattle.qrcode_formats.specs.declared.Format.TheVariants.{HalfBlocks, LightHalfBlocks, Terminal, Chars, Png, Svg, SvgPath, Eps, Pic, Pbm, Pgm, Grey, Pdf, Zpl, Tspl, EscPos, Xbm, Ppm, Ascii}
 
 -- the colours of parts have one text in EPS
 layers_same : (t : Sheet) (inks : List PartInk) (a b : List ℕ) → AreLayers Eps t inks a → AreLayers Eps t inks b → a ≡ b
@@ -33,6 +33,5 @@ one_picture Tspl t a b no_png no_path no_pdf no_zpl x y = x ∙ sym y
 one_picture EscPos t a b no_png no_path no_pdf no_zpl x y = x ∙ sym y
 one_picture Xbm t a b no_png no_path no_pdf no_zpl x y = x ∙ sym y
 one_picture Ascii t a b no_png no_path no_pdf no_zpl x y = x ∙ sym y
-one_picture Xpm t a b no_png no_path no_pdf no_zpl x y = x ∙ sym y
 one_picture Ppm t a b no_png no_path no_pdf no_zpl x y = x ∙ sym y
 one_picture Pdf t a b no_png no_path no_pdf no_zpl x y = absurd (no_pdf refl)

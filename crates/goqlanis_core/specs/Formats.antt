@@ -2,7 +2,7 @@
 use Rattle.std.specs.Prelude.{◌≡◌, ℕ, ◌==◌, ◌||◌, not, is_some, Bool, true, false, List, [], ◌∷◌, ◌++◌, codes, encode_utf8, length, max, unwrap_or, if◌then◌else◌}
 use Rattle.std.specs.Option.{option_map, option_or}
 use Rattle.qrcode_render.specs.Eps.{eps_file}
-use Rattle.qrcode_render.specs.Files.{pgm_file, pbm_file, ppm_file, xpm_file}
+use Rattle.qrcode_render.specs.Files.{pgm_file, pbm_file, ppm_file}
 use Rattle.qrcode_render.specs.Layout.{modules_across}
 use Rattle.qrcode_render.specs.Paths.{xml_head, IsPathIn}
 use Rattle.qrcode_render.specs.Pdf.{IsPdfIn}
@@ -17,7 +17,7 @@ use Rattle.goqlanis_core.specs.Layers.{AreOver, IsPaintedFile}
 use Rattle.goqlanis_core.specs.Sheets.{Sheet, dark_of, light_of, eps_ink, per_metre, png_ink, rgb}
 use Rattle.goqlanis_core.specs.Terminal.{coloured_text}
 use Rattle.qrcode_formats.specs.declared.Format.{Format}
-use Rattle.qrcode_formats.specs.declared.Format.TheVariants.{HalfBlocks, LightHalfBlocks, Terminal, Chars, Png, Svg, SvgPath, Eps, Pic, Pbm, Pgm, Grey, Pdf, Zpl, Tspl, EscPos, Xbm, Ppm, Ascii, Xpm}
+use Rattle.qrcode_formats.specs.declared.Format.TheVariants.{HalfBlocks, LightHalfBlocks, Terminal, Chars, Png, Svg, SvgPath, Eps, Pic, Pbm, Pgm, Grey, Pdf, Zpl, Tspl, EscPos, Xbm, Ppm, Ascii}
 
 abbrev pub ended : Sheet → List ℕ → List ℕ  -- text, with a newline at the end if the sheet asks for one
 ended t lines = if t.ends_lines then lines ++ codes "\n" else lines
@@ -76,4 +76,3 @@ IsDrawn Zpl t bytes = IsZplOf t.place (dark_of t true false) (light_of t true fa
 IsDrawn Tspl t bytes = bytes ≡ tspl_file_at t.place (dark_of t true false) (light_of t true false) (picture t.at t.modules)
 IsDrawn EscPos t bytes = bytes ≡ escpos_file (dark_of t true false) (light_of t true false) (picture t.at t.modules)
 IsDrawn Xbm t bytes = bytes ≡ xbm_file (dark_of t true false) (light_of t true false) (picture t.at t.modules)
-IsDrawn Xpm t bytes = bytes ≡ xpm_file (dark_of t true false) (light_of t true false) (picture t.at t.modules)

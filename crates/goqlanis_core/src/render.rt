@@ -20,7 +20,7 @@ use qrcode::render::pbm::Bit;
 use qrcode::render::pdf::Extras;
 use qrcode::render::string::Str;
 use qrcode::render::unicode::Dense1x2;
-use qrcode::render::{Pixel, Renderer, eps, escpos, pdf, pgm, pic, ppm, svg, tspl, xbm, xpm, zpl};
+use qrcode::render::{Pixel, Renderer, eps, escpos, pdf, pgm, pic, ppm, svg, tspl, xbm, zpl};
 use qrcode::types::QrResult;
 use qrcode_formats::Format;
 use qrcode_png::with_density;
@@ -61,7 +61,6 @@ pub fn draw(alloc: Global, format: Format, sheet: &Sheet<'_>) -> QrResult<Vec<u8
         Format::Tspl => tspl(alloc, sheet),
         Format::EscPos => bits::<escpos::Raster>(alloc, sheet),
         Format::Xbm => bits::<xbm::Text>(alloc, sheet),
-        Format::Xpm => drawn(alloc, sheet, xpm::Dot(Bit::Black), xpm::Dot(Bit::White)),
     }
 }
 

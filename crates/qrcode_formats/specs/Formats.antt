@@ -7,7 +7,7 @@ use Rattle.qrcode_formats.specs.declared.Colours.TheVariants as colours
 use Rattle.qrcode_formats.specs.declared.Density.{Density}
 use Rattle.qrcode_formats.specs.declared.Density.TheVariants as density
 use Rattle.qrcode_formats.specs.declared.Format.{Format}
-use Rattle.qrcode_formats.specs.declared.Format.TheVariants.{HalfBlocks, LightHalfBlocks, Terminal, Chars, Png, Svg, SvgPath, Eps, Pic, Pbm, Pgm, Grey, Pdf, Zpl, Tspl, EscPos, Xbm, Ppm, Ascii, Xpm}
+use Rattle.qrcode_formats.specs.declared.Format.TheVariants.{HalfBlocks, LightHalfBlocks, Terminal, Chars, Png, Svg, SvgPath, Eps, Pic, Pbm, Pgm, Grey, Pdf, Zpl, Tspl, EscPos, Xbm, Ppm, Ascii}
 use Rattle.qrcode_formats.specs.declared.Middle.{Middle}
 use Rattle.qrcode_formats.specs.declared.Middle.TheVariants as middle
 use Rattle.qrcode_formats.specs.declared.Row as code
@@ -111,13 +111,12 @@ row EscPos = record (pixels EscPos) { name = Some (codes "escpos"); ending = Som
 row Xbm = record (pixels Xbm) { name = Some (codes "xbm"); ending = Some (codes "xbm"); number = Some 14; is_text = true }
 row Ppm = record (pixels Ppm) { name = Some (codes "ppm"); ending = Some (codes "ppm"); number = Some 15; colours = colours.Opaque }
 row Ascii = record (lines Ascii) { name = Some (codes "ascii"); number = Some 16 }
-row Xpm = record (lines Xpm) { name = Some (codes "xpm"); ending = Some (codes "xpm"); number = Some 17; is_series = false; pixels = 8; density = density.Sizes }
 
 -- the formats, in the order of the program's help
 unfoldable pub formats : List Row
 formats =
     row HalfBlocks ∷ row LightHalfBlocks ∷ row Terminal ∷ row Chars ∷ row Png ∷ row Svg ∷ row SvgPath ∷ row Eps ∷ row Pic ∷ row Pbm ∷
-    row Pgm ∷ row Grey ∷ row Pdf ∷ row Zpl ∷ row Tspl ∷ row EscPos ∷ row Xbm ∷ row Ppm ∷ row Ascii ∷ row Xpm ∷ []
+    row Pgm ∷ row Grey ∷ row Pdf ∷ row Zpl ∷ row Tspl ∷ row EscPos ∷ row Xbm ∷ row Ppm ∷ row Ascii ∷ []
 
 abbrev pub row_of : code.Row → Row  -- a row of the code's table
 row_of r = record {

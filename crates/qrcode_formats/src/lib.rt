@@ -9,7 +9,7 @@ pub mod laws;
 
 use Format::{
     Ascii, Chars, Eps, EscPos, Grey, HalfBlocks, LightHalfBlocks, Pbm, Pdf, Pgm, Pic, Png, Ppm,
-    Svg, SvgPath, Terminal, Tspl, Xbm, Xpm, Zpl,
+    Svg, SvgPath, Terminal, Tspl, Xbm, Zpl,
 };
 
 /// An output format.
@@ -53,8 +53,6 @@ pub enum Format {
     Ppm,
     /// Lines with two characters for each pixel: `##` for dark ones, spaces for light ones.
     Ascii,
-    /// An XPM file: C source with a string for each row of black and white pixels.
-    Xpm,
 }
 
 /// Which colours dark and light modules may have.
@@ -196,8 +194,6 @@ pub static FORMATS: &[Row] = &[
     Row { format: Xbm, name: Some("xbm"), ending: Some("xbm"), number: Some(14), is_text: true, ..PIXELS },
     Row { format: Ppm, name: Some("ppm"), ending: Some("ppm"), number: Some(15), colours: Colours::Opaque, ..PIXELS },
     Row { format: Ascii, name: Some("ascii"), number: Some(16), ..LINES },
-    Row { format: Xpm, name: Some("xpm"), ending: Some("xpm"), number: Some(17), is_series: false, pixels: 8,
-        density: Density::Sizes, ..LINES },
 ];
 
 impl Format {

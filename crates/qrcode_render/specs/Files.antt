@@ -1,8 +1,8 @@
--- Image files: PBM, PGM and PPM of netpbm, and XPM.
+-- Image files of the netpbm formats: PBM, PGM and PPM.
 use Rattle.std.specs.Prelude.{ℕ, zero, suc, ◌+◌, ◌*◌, ◌/◌, Bool, false, List, [], ◌∷◌, ◌++◌, codes, decimal, length, map, flat_map, slice_index_or, if◌then◌else◌}
 use Rattle.std.specs.List.{range_with_len}
 use Rattle.qrcode_render.specs.Bitmap.{Bitmap, row_of}
-use Rattle.qrcode_render.specs.Texts.{marks_text, raw_bytes}
+use Rattle.qrcode_render.specs.Texts.{raw_bytes}
 
 -- a PGM file: its type P5, its width and height, the value of white, and the grey of each pixel, row by row
 unfoldable pub pgm_file : ℕ → ℕ → Bitmap → List ℕ
@@ -40,20 +40,3 @@ unfoldable pub pbm_file : Bool → Bool → Bitmap → List ℕ
 pbm_file marked other b =
     pbm_head b.across b.down
     ++ flat_map (λ y. packed (inked marked other (row_of b y))) (range_with_len 0 b.down)
-
--- the character of a pixel in an XPM file: # for black, . for white
-abbrev pub xpm_letter : Bool → ℕ
-xpm_letter black = if black then 35 else 46
-
--- the lines before the rows of an XPM file: how many pixels, colours and characters a pixel, and the colour of each character
-abbrev pub xpm_head : ℕ → ℕ → List ℕ
-xpm_head w h =
-    codes "/* XPM */\nstatic char *symbol[] = {\n\""
-    ++ (decimal w ++ (codes " " ++ (decimal h ++ codes " 2 1\",\n\"# c #000000\",\n\". c #ffffff\",\n")))
-
--- an XPM file: the head, each row of pixels as a string, and the end of the list
-unfoldable pub xpm_file : Bool → Bool → Bitmap → List ℕ
-xpm_file marked other b =
-    xpm_head b.across b.down
-    ++ flat_map (λ y. codes "\"" ++ (marks_text (xpm_letter marked ∷ []) (xpm_letter other ∷ []) (row_of b y) ++ codes "\",\n")) (range_with_len 0 b.down)
-    ++ codes "};\n"

@@ -40,7 +40,6 @@ mod svg_path;
 pub mod tspl;
 pub mod unicode;
 pub mod xbm;
-pub mod xpm;
 pub mod zpl;
 
 /// A pixel type, which chooses the format of the picture. Its values stand for dark and light.

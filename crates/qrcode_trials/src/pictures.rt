@@ -8,8 +8,7 @@ use qrcode::render::image::{ImageBuffer, Luma, LumaA, Rgb, Rgba};
 use qrcode::render::string::Str;
 use qrcode::render::unicode::Dense1x2;
 use qrcode::render::{
-    Canvas, Pixel, Renderer, eps, escpos, fill_rect, pbm, pdf, pgm, pic, ppm, svg, tspl, xbm, xpm,
-    zpl,
+    Canvas, Pixel, Renderer, eps, escpos, fill_rect, pbm, pdf, pgm, pic, ppm, svg, tspl, xbm, zpl,
 };
 use qrcode::types::{Color, QrError, QrResult, Version};
 use qrcode_examples::label::Dot;
@@ -32,7 +31,6 @@ pub fn run(alloc: Global, asked: &Asked<'_>) -> QrResult<Digest> {
         "tspl" => file::<tspl::Dot>(alloc, asked),
         "escpos" => file::<escpos::Dot>(alloc, asked),
         "xbm" => file::<xbm::Dot>(alloc, asked),
-        "xpm" => file::<xpm::Dot>(alloc, asked),
         "png" => file::<qrcode_png::Color>(alloc, asked),
         _ => text_of(alloc, asked),
     }

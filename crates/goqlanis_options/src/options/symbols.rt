@@ -56,7 +56,7 @@ const LEVEL: Takes = Word("LEVEL", &["L", "M", "Q", "H"]);
 #[rattlefmt::skip]
 const FORMAT: Takes = Word("FORMAT", &[
     "half-blocks", "terminal", "text", "png", "svg", "eps", "pic", "pbm", "pgm", "pdf", "zpl", "tspl", "escpos", "xbm",
-    "ppm", "ascii", "xpm",
+    "ppm", "ascii",
 ]);
 
 /// Level and version options.
