@@ -12,6 +12,7 @@ import subprocess
 import sys
 import types
 from collections import namedtuple
+from importlib.machinery import SourceFileLoader
 from pathlib import Path
 
 HERE = Path(__file__).resolve().parent
@@ -210,6 +211,8 @@ def install(folder):
     fields = [(it, ctypes.c_uint32) for it in "size format zone scale dark light dpi".split()]
     low.Drawing = type("Drawing", (ctypes.Structure,), {"_fields_": fields})
     low.library = types.SimpleNamespace(goq_draw_with=draw_with)
+    numbers = HERE.parent / "python" / "goqlanis" / "_numbers.py"
+    module._numbers = SourceFileLoader("goqlanis._numbers", str(numbers)).load_module()
     sys.modules.update({"goqlanis": module, "goqlanis.contents": module.contents,
                         "goqlanis._library": low})
     source = (HERE / "goqlanis" / "numbers.mjs").read_text()
