@@ -8,8 +8,8 @@ INTERVAL, TICKS = 2, os.sysconf("SC_CLK_TCK")
 
 
 def processes():
-    """Returns each process with its parent, when it began, and its ticks: its own, and with those of
-    children that have ended."""
+    """Returns each process with its parent, when it began, and its ticks: its own, and with those
+    of children that have ended."""
     found = {}
     for name in filter(str.isdigit, os.listdir("/proc")):
         try:

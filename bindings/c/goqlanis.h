@@ -544,7 +544,7 @@ typedef struct {
     uint32_t version; /* 1 to 40, or GOQ_MICRO(1 to 4) */
     uint32_t level; /* GOQ_L .. GOQ_H */
     uint32_t mask; /* 0 to 7, in Micro 0 to 3 */
-    uint32_t standard; /* 1 if nothing departs: the mask is the best by some reading of the standard */
+    uint32_t standard; /* 1 if nothing departs: the mask is the best by a reading of the standard */
     uint32_t grade; /* the grade of `unused` by ISO/IEC 15415: 'A' to 'D', or 'F' */
     size_t blocks; /* how many blocks the symbol has */
     size_t allowed; /* how many wrong codewords of each block the standard lets readers correct */

@@ -8,8 +8,8 @@ from looks import square_of
 from spelling import count_bits
 from tables import CHARACTERS, MICRO_MODES
 
-# A digit, a letter, another byte, and two lead bytes, which are Kanji pairs with each other and with
-# a letter after them; in text a character of two bytes.
+# A digit, a letter, another byte, and two lead bytes, which are Kanji pairs with each other and
+# with a letter after them; in text a character of two bytes.
 BYTES = [b"1", b"A", b"a", b"\x81", b"\x9f"]
 LETTERS = ["1", "A", "a", "\u00e9"]
 

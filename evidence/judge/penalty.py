@@ -34,8 +34,8 @@ def blocks(rows):
 
 def finders(line, outside="0", is_long=True):
     """Counts 40 for each finder-like pattern with four light modules before or after it. Modules
-    outside the square are light, if `outside` is "0"; the outer dark runs of a pattern may be longer
-    than a module, if `is_long`."""
+    outside the square are light, if `outside` is "0"; the outer dark runs of a pattern may be
+    longer than a module, if `is_long`."""
     wide = outside * 4 + line + outside * 4
     return sum(40 for found in FINDERS.finditer(wide, 4, len(wide) - 4)
                if "0000" in (wide[found.start() - 4:found.start()],

@@ -1,8 +1,8 @@
 // zxing [sequence]: reads lines `SIDE HEX` (the modules in row order, a dark one being a one), and
 // writes for each what zxing-cpp shows of the symbol at four pixels a module with a quiet zone of
-// four modules, as the hexadecimal digits of its UTF-8; `-` where it finds nothing. Of a sequence it
-// writes before these the place, how many there are and the parity, and at the end the digits of the
-// text of all, as it joins them.
+// four modules, as the hexadecimal digits of its UTF-8; `-` where it finds nothing. Of a sequence
+// it writes before these the place, how many there are and the parity, and at the end the digits of
+// the text of all, as it joins them.
 #define ZX_USE_UTF8
 #include <ZXing/ReadBarcode.h>
 #include <cstdio>

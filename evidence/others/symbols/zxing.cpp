@@ -1,5 +1,6 @@
-// zxing FILE LEVEL bytes|UTF-8: the rows of the symbol of the bytes of FILE by the writer of zxing-cpp, dark modules as `#`. With `UTF-8` they are
-// taken for UTF-8, which the writer announces by the number 26 of that character set; with `bytes` they are written as they are, with no number.
+// zxing FILE LEVEL bytes|UTF-8: the rows of the symbol of the bytes of FILE by the writer of
+// zxing-cpp, dark modules as `#`. With `UTF-8` they are taken for UTF-8, which the writer announces
+// by the number 26 of that character set; with `bytes` they are written as they are.
 #include <ZXing/BarcodeFormat.h>
 #include <ZXing/BitMatrix.h>
 #include <ZXing/CharacterSet.h>

@@ -45,8 +45,8 @@ def checks_are_those_of_the_judge(program):
 
 
 def grades_are_those_of_the_standard(program):
-    """Codewords of 1-H are inverted, one more at a time, of 8 that may be wrong. Grades A to D begin
-    at 62, 50, 37 and 25 % of unused error correction (ISO/IEC 15415)."""
+    """Codewords of 1-H are inverted, one more at a time, of 8 that may be wrong. Grades A to D
+    begin at 62, 50, 37 and 25 % of unused error correction (ISO/IEC 15415)."""
     words, found = ["-l", "H", "-q", "0", "-s", "1", "-f", "pgm", "1"], ""
     for count in range(9):
         square = [int(it == 0) for it in run(program, words, "/").stdout[-441:]]
