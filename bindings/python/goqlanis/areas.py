@@ -21,7 +21,6 @@ class Rectangle(NamedTuple):
     """A rectangle of modules: its left column and top row, counted from 0, and how many columns and
     rows it has.
 
-    >>> from goqlanis import encode
     >>> encode("01234567", "H").with_area(Rectangle(9, 9, 3, 3)).matrix[10][9:12]
     (False, False, False)
     """
@@ -41,7 +40,6 @@ class Reserve(NamedTuple):
       lost;
     - `least`: how many more codewords of each block may be lost; None if the area takes too much.
 
-    >>> from goqlanis import encode
     >>> found = encode("01234567", "H").reserve((9, 9, 3, 3))
     >>> found.touched[found.worst] <= found.allowed, found.least is None
     (True, False)

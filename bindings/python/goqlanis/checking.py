@@ -46,7 +46,6 @@ class Check(NamedTuple):
     Unknown fields are None: `bits` and `fewest_bits` after FNC1 or with a header between segments,
     and all fields on the data if its bits are not segments and a terminator.
 
-    >>> from goqlanis import encode_segments
     >>> found = check(encode_segments([("numeric", b"1"), ("numeric", b"23")]))
     >>> found.is_standard, found.bits, found.fewest_bits
     (True, 39, 24)
@@ -99,7 +98,6 @@ def check(picture: Union[Picture, Modules, Any]) -> Union[List[Check], Check]:
 
     Raises a subclass of Unread if nothing can be checked.
 
-    >>> from goqlanis import encode
     >>> rows = [list(row) for row in encode(b"01234567", "H").matrix]
     >>> rows[20][20] = not rows[20][20]
     >>> found = check(rows)

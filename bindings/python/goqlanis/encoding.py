@@ -130,7 +130,6 @@ def encode_sequence(data: Data, level: str = "M", version: Optional[Version] = N
     Raises NoRoom if these symbols do not hold the data, and NoSuchVersion if a version is Micro QR,
     or `min_version` is above `max_version`.
 
-    >>> from goqlanis import join
     >>> symbols = encode_sequence("All that is gold does not glitter", "L", count=3)
     >>> symbols
     [<goqlanis.Symbol 1-L>, <goqlanis.Symbol 1-L>, <goqlanis.Symbol 1-L>]

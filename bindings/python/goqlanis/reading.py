@@ -46,7 +46,6 @@ class Reading(NamedTuple):
     """A decoded square: its data, version and level, the number of its mask, and how many codewords
     were wrong and corrected.
 
-    >>> from goqlanis import encode
     >>> read(encode("01234567"))
     Reading(data=b'01234567', version='1', level='M', mask=2, wrong=0)
     """
@@ -65,7 +64,6 @@ class AnyReading(NamedTuple):
     "mirrored" (left and right swapped), "flipped" (top and bottom swapped), "transposed" (columns
     and rows swapped) or "antitransposed" (the same along the other diagonal).
 
-    >>> from goqlanis import encode
     >>> read_any([[not dark for dark in row] for row in encode("01234567").matrix])[5:]
     ('upright', True)
     """
@@ -87,7 +85,6 @@ class Part(NamedTuple):
     - `place`, `symbols`: for "one_of_several" which symbol it is, from 0, and how many there are;
     - `length`: for a segment, how many bytes it has.
 
-    >>> from goqlanis import encode_segments
     >>> symbol = encode_segments([("fnc1_second", 37), ("numeric", b"0123")])
     >>> [(part.kind, part.number, part.length) for part in read(symbol.png())[0].parts]
     [('fnc1_second', 37, None), ('numeric', None, 4)]
@@ -107,7 +104,6 @@ class Code(NamedTuple):
     """A code in a picture: as an `AnyReading`, and its headers and segments in order (`parts`).
     After FNC1, `data` has a separator (byte 29) between elements.
 
-    >>> from goqlanis import encode_gs1
     >>> symbol = encode_gs1([("10", "ABCD1234"), ("17", "191125")])
     >>> code = read(symbol.png())[0]
     >>> code.data, code.level, code.position, code.parts[0].kind
@@ -127,7 +123,6 @@ class Code(NamedTuple):
         """The data as a str, or None if it is not UTF-8, has an ECI header of another character
         set, or has a Kanji segment.
 
-        >>> from goqlanis import encode, encode_segments
         >>> read(encode("Größe: 5 m²").png())[0].text
         'Größe: 5 m²'
         >>> latin = encode_segments([("eci", 3), ("byte", "Â±".encode("latin-1"))])
@@ -158,7 +153,6 @@ def read(picture: Union[Picture, Modules, Any]) -> Union[List[Code], Reading]:
 
     Raises a subclass of Unread if nothing can be read, and OSError if a file cannot be opened.
 
-    >>> from goqlanis import encode, encode_sequence
     >>> encode("https://example.org").save("a.png", scale=4)
     >>> [(code.text, code.version, code.level) for code in read("a.png")]
     [('https://example.org', '2', 'M')]
@@ -273,7 +267,6 @@ def read_any(square: Modules) -> AnyReading:
 
     Raises Unread if it cannot be read in any position.
 
-    >>> from goqlanis import encode
     >>> found = read_any([row[::-1] for row in encode("01234567").matrix])
     >>> found.data, found.position, found.is_inverted
     (b'01234567', 'mirrored', False)
@@ -289,7 +282,6 @@ def read_text(square: Modules) -> str:
     Raises NotShown if the data is not such a text, and another subclass of Unread if the square
     cannot be read.
 
-    >>> from goqlanis import encode
     >>> read_text(encode("Größe: 5 m²", marked=True))
     'Größe: 5 m²'
     """
@@ -306,7 +298,6 @@ def join(squares: Iterable[Union[Modules, Picture]]) -> bytes:
     Raises NotJoined if they are not all the parts of one sequence, and a subclass of Unread if one
     cannot be read.
 
-    >>> from goqlanis import encode_sequence
     >>> symbols = encode_sequence(b"01234567", count=2)
     >>> join(symbols[::-1])
     b'01234567'

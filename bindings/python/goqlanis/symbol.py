@@ -47,7 +47,6 @@ class Symbol:
 
     With a logo, only SVG can be drawn, and half blocks with a light area in its place.
 
-    >>> from goqlanis import encode
     >>> symbol = encode("01234567")
     >>> symbol, symbol.width, symbol.mask
     (<goqlanis.Symbol 1-M>, 21, 2)
@@ -72,7 +71,6 @@ class Symbol:
     def width(self) -> int:
         """The modules per side, without the quiet zone.
 
-        >>> from goqlanis import encode
         >>> encode("01234567").width, encode("01234567", version=40).width
         (21, 177)
         """
@@ -82,7 +80,6 @@ class Symbol:
     def mask(self) -> int:
         """The number of the mask: 0 to 7, for Micro QR 0 to 3.
 
-        >>> from goqlanis import encode
         >>> encode("01234567", mask=5).mask
         5
         """
@@ -94,7 +91,6 @@ class Symbol:
     def matrix(self) -> Tuple[Tuple[bool, ...], ...]:
         """The rows of modules, True for a dark module, without the quiet zone.
 
-        >>> from goqlanis import encode
         >>> encode("01234567").matrix[0][:8]
         (True, True, True, True, True, True, True, False)
         """
@@ -105,7 +101,6 @@ class Symbol:
     def quiet_zone(self) -> int:
         """The width of the quiet zone that the standard requires, in modules: 4, for Micro QR 2.
 
-        >>> from goqlanis import encode
         >>> encode("01234567").quiet_zone, encode("01234567", micro=True).quiet_zone
         (4, 2)
         """
@@ -114,7 +109,6 @@ class Symbol:
     def matrix_iter(self, scale: int = 1, border: Whole = None) -> Iterator[Tuple[bool, ...]]:
         """Yields the rows of the picture, True for a dark pixel, with the quiet zone.
 
-        >>> from goqlanis import encode
         >>> rows = list(encode("01234567").matrix_iter(scale=2, border=1))
         >>> len(rows), rows[2][:6]
         (46, (False, False, True, True, True, True))
@@ -137,7 +131,6 @@ class Symbol:
         format has no such colours, `dpi`, `title` or logo, NoSuchColour, NoSuchSize if the picture
         would be too large, and OSError if writing fails.
 
-        >>> from goqlanis import encode
         >>> encode("01234567").save("ticket.png", scale=8, border=4, dark="#008", light=None)
         >>> encode("01234567").save("ticket.svg", size="30mm", title="A ticket")
         """
@@ -152,7 +145,6 @@ class Symbol:
     def png(self, scale: Whole = None, quiet_zone: Whole = None, **look: Any) -> bytes:
         """Returns the bytes of a PNG file, with at most 65,535 pixels per side.
 
-        >>> from goqlanis import encode
         >>> encode("01234567").png()[:8]
         b'\\x89PNG\\r\\n\\x1a\\n'
         """
@@ -162,7 +154,6 @@ class Symbol:
     def svg(self, scale: Whole = None, quiet_zone: Whole = None, **look: Any) -> str:
         """Returns the text of an SVG file, which has one path.
 
-        >>> from goqlanis import encode
         >>> encode("01234567").svg().startswith("<?xml")
         True
         """
@@ -172,7 +163,6 @@ class Symbol:
     def eps(self, scale: Whole = None, quiet_zone: Whole = None, **look: Any) -> str:
         """Returns Encapsulated PostScript, with one point per pixel.
 
-        >>> from goqlanis import encode
         >>> encode("01234567").eps(scale=2).splitlines()[1]
         '%%BoundingBox: 0 0 58 58'
         """
@@ -182,7 +172,6 @@ class Symbol:
     def pdf(self, scale: Whole = None, quiet_zone: Whole = None, **look: Any) -> bytes:
         """Returns the bytes of a PDF file with one page and one point per pixel.
 
-        >>> from goqlanis import encode
         >>> encode("01234567").pdf(size="30mm")[:8]
         b'%PDF-1.4'
         """
@@ -192,7 +181,6 @@ class Symbol:
     def pbm(self, scale: Whole = None, quiet_zone: Whole = None, **look: Any) -> bytes:
         """Returns the bytes of a PBM file: black and white pixels, eight per byte.
 
-        >>> from goqlanis import encode
         >>> encode("01234567").pbm(scale=1, border=0)[:10]
         b'P4\\n21 21\\n\\xfe'
         """
@@ -202,7 +190,6 @@ class Symbol:
     def grey(self, scale: Whole = None, quiet_zone: Whole = None, **look: Any) -> bytes:
         """Returns the pixels row by row, a byte each: 0 for a dark pixel, 255 for a light one.
 
-        >>> from goqlanis import encode
         >>> encode("01234567").grey(scale=1, border=0)[:8]
         b'\\x00\\x00\\x00\\x00\\x00\\x00\\x00\\xff'
         """
@@ -212,7 +199,6 @@ class Symbol:
     def pic(self, scale: Whole = None, quiet_zone: Whole = None, **look: Any) -> str:
         """Returns PIC text, for troff.
 
-        >>> from goqlanis import encode
         >>> encode("01234567").pic().splitlines()[0]
         'maxpswid=29;maxpsht=29;movewid=0;moveht=1;boxwid=1;boxht=1'
         """
@@ -222,7 +208,6 @@ class Symbol:
         """Returns half blocks, two modules per character; `light` is for light text on a dark
         background.
 
-        >>> from goqlanis import encode
         >>> print(encode("1", "L", micro=True).text(border=0))
         █▀▀▀▀▀█ █ ▀
         █ ███ █ ▄▀▀
@@ -249,7 +234,6 @@ class Symbol:
         On a terminal they are black on white, whatever its colours are, unless the environment
         variable NO_COLOR is set.
 
-        >>> from goqlanis import encode
         >>> encode("1", "L", micro=True).terminal(border=0)
         █▀▀▀▀▀█ █ ▀
         █ ███ █ ▄▀▀
@@ -280,7 +264,6 @@ class Symbol:
     def svg_inline(self, **look: Any) -> str:
         """Returns the text of `svg` without the XML declaration, for an HTML page.
 
-        >>> from goqlanis import encode
         >>> encode("01234567").svg_inline(scale=4, dark="navy")[:4]
         '<svg'
         """
@@ -289,7 +272,6 @@ class Symbol:
     def svg_data_uri(self, **look: Any) -> str:
         """Returns the SVG as a data URI, for `src` and `href` in HTML and `url(..)` in CSS.
 
-        >>> from goqlanis import encode
         >>> encode("01234567").svg_data_uri()[:24]
         'data:image/svg+xml,%3Csv'
         """
@@ -298,7 +280,6 @@ class Symbol:
     def png_data_uri(self, **look: Any) -> str:
         """Returns the bytes of `png` as a data URI.
 
-        >>> from goqlanis import encode
         >>> encode("01234567").png_data_uri(scale=4, dpi=300)[:32]
         'data:image/png;base64,iVBORw0KGg'
         """
@@ -311,7 +292,6 @@ class Symbol:
         `area` is a `Rectangle`, or four numbers: left, top, width, height; or several of these.
         Raises NoSuchArea if a rectangle is not inside the symbol, or there is none.
 
-        >>> from goqlanis import encode
         >>> encode("01234567", "H").reserve((10, 10, 1, 1))
         Reserve(touched=(1,), allowed=8, worst=0, format_modules=(0, 0), least=7)
         """
@@ -328,7 +308,6 @@ class Symbol:
 
         Raises AreaTooLarge if there is no such rectangle.
 
-        >>> from goqlanis import encode
         >>> encode("01234567", "H").largest_area(reserve=0)
         Rectangle(left=9, top=9, width=3, height=3)
         """
@@ -342,7 +321,6 @@ class Symbol:
         Raises NoSuchArea as `reserve` does, and AreaTooLarge if the area takes more of the symbol
         than may be lost.
 
-        >>> from goqlanis import encode, read
         >>> read(encode("01234567", "H").with_area()).data
         b'01234567'
         >>> encode("01234567", "H").with_area((0, 0, 21, 21))
@@ -367,7 +345,6 @@ take a smaller area
 
         Raises NoSuchArea or AreaTooLarge as `with_area` does, and NotPicture if `logo` is neither.
 
-        >>> from goqlanis import encode
         >>> logo = b'<svg xmlns="http://www.w3.org/2000/svg" viewBox="0 0 2 1"/>'
         >>> "<image " in encode("01234567", "H").with_logo(logo).svg()
         True
