@@ -31,7 +31,8 @@ export function options(call, given, defaults) {
     for (const name of Object.keys(given))
         if (!Object.keys(defaults).includes(name))
             throw new TypeError(`${call} has no option '${name}': `
-                + (Object.keys(OTHERS).includes(name) ? `take ${OTHERS[name]}` : `it takes ${Object.keys(defaults).join(", ")}`));
+                + (Object.keys(OTHERS).includes(name) ? `take ${OTHERS[name]}`
+                    : `it takes ${Object.keys(defaults).join(", ")}`));
     const defined = Object.entries(given).filter(([, value]) => value !== undefined);
     return { ...defaults, ...Object.fromEntries(defined) };
 }

@@ -33,7 +33,8 @@ MOST_SIDE = 65535
 Size = Union[int, str, None]
 Length = Tuple[str, str]
 # Each unit in inches.
-INCHES = {"mm": Fraction(10, 254), "cm": Fraction(100, 254), "in": Fraction(1), "pt": Fraction(1, 72)}
+INCHES = {"mm": Fraction(10, 254), "cm": Fraction(100, 254), "in": Fraction(1),
+          "pt": Fraction(1, 72)}
 
 
 class Look(NamedTuple):
@@ -111,7 +112,8 @@ def _scale(look: Look, kind: Kind) -> int:
 
 def _length(size: Any) -> Optional[Length]:
     """Returns a size as a number and its unit, or None if it is not written so."""
-    found = isinstance(size, str) and re.fullmatch(r"([0-9]{1,9}(?:[.][0-9]{1,9})?)(mm|cm|in|pt)", size)
+    length = r"([0-9]{1,9}(?:[.][0-9]{1,9})?)(mm|cm|in|pt)"
+    found = isinstance(size, str) and re.fullmatch(length, size)
     return (found[1], found[2]) if found and float(found[1]) > 0 else None
 
 
@@ -155,7 +157,9 @@ def _ink(look: Look, name: str, has_colours: bool) -> Tuple[int, int, int]:
     if are_close(dark, light):
         warnings.warn(f"dark modules in {shown(look.dark)}, light ones in {shown(look.light)}: "
                       "many readers need the dark ones to be much darker", stacklevel=6)
-    return dark, light, 0 if look.dpi is None else _checks.whole("dpi", look.dpi, 1, MOST_SIDE, NoSuchSize)
+    if look.dpi is None:
+        return dark, light, 0
+    return dark, light, _checks.whole("dpi", look.dpi, 1, MOST_SIDE, NoSuchSize)
 
 
 def kind_of(out: Any, kind: Optional[str]) -> str:

@@ -365,7 +365,8 @@ take a smaller area
                               "light in all formats, and `goqlanis --logo` draws PNG too")
         look = Look(scale, quiet_zone=quiet_zone, **more)
         found = _drawing.drawn(self.modules, self.width, self.quiet_zone, name, look)
-        return self.logo.over(found, _drawing.zone_of(look, self.quiet_zone)) if self.logo else found
+        zone = _drawing.zone_of(look, self.quiet_zone)
+        return self.logo.over(found, zone) if self.logo else found
 
     def _plain(self, name: str, look: Look) -> bytes:
         """Draws the symbol without its logo."""
