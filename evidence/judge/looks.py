@@ -78,7 +78,8 @@ def not_least(square):
     """Returns a complaint unless the mask of a symbol is the first of lowest penalty."""
     bits = reading.read_bits(square)
     first = penalty.first_least(reading.penalties(square, bits))
-    return "" if bits.mask == first else f"mask {bits.mask} of {bits.version}-{bits.level}, and not {first}"
+    said = f"mask {bits.mask} of {bits.version}-{bits.level}, and not {first}"
+    return "" if bits.mask == first else said
 
 
 def turn_word(square, shape, parts, number, bits):

@@ -42,7 +42,8 @@ def symbol_complaint(version, level, data, chance):
     symbol = goqlanis.encode(data, level, version)
     square = square_of(symbol)
     worst, wrong = damaged(square, version, level, chance)
-    return not_read(square, version, level, data) or not_drawn(symbol) or not_least(square) or not_read(worst, version, level, data, wrong)
+    return (not_read(square, version, level, data) or not_drawn(symbol) or not_least(square)
+            or not_read(worst, version, level, data, wrong))
 
 
 def pair_complaints(version, level, chance):
