@@ -788,8 +788,8 @@ goq_answer goq_largest_area(uint32_t version, uint32_t level, const goq_wish *wi
     goq_rectangle *rectangle);
 
 /* Makes an area of a symbol light, as room for a logo. Whatever the area shows afterwards, the
-   symbol decodes to the same data and nothing else. `modules` is the symbol, as written by
-   goq_encode. Errors: GOQ_NO_SUCH_SIDE, GOQ_NO_FORMAT, GOQ_NO_SUCH_AREA, GOQ_AREA_BLOCK with the
+   symbol decodes to the same data and headers and nothing else. `modules` is the symbol, as written
+   by goq_encode. Errors: GOQ_NO_SUCH_SIDE, GOQ_NO_FORMAT, GOQ_NO_SUCH_AREA, GOQ_AREA_BLOCK with the
    block that loses the most codewords in `place`, GOQ_AREA_FORMAT; GOQ_OUT_OF_MEMORY. */
 goq_answer goq_cover(uint8_t *modules, size_t modules_length, const goq_rectangle *area,
     size_t area_length, size_t *place);

@@ -1,8 +1,9 @@
 """Inverts the largest area that may be covered in each version and level, and then an area with one
 codeword more. `bindings/c/rows/areas` covers it in other ways."""
 import goqlanis
+import reading
 from forms import pairs
-from looks import answered, square_of
+from looks import answered, differs, judged, listed, square_of
 
 # Here the modules below the largest square are too few to touch one more codeword.
 BOUNDED = [("1", "Q"), ("1", "H"), ("13", "H")]
@@ -10,14 +11,14 @@ BOUNDED = [("1", "Q"), ("1", "H"), ("13", "H")]
 OUTSIDE = 99
 
 
-def is_read(symbol, area):
-    """Whether a symbol of the digit 1 is read with all modules of an area inverted."""
+def inverted(symbol, area):
+    """Returns the modules of a symbol, those of an area inverted."""
     square = bytearray(square_of(symbol))
     for left, top, across, down in area:
         for begin in range(top * symbol.width + left, (top + down) * symbol.width, symbol.width):
             for place in range(begin, begin + across):
                 square[place] ^= 1
-    return answered(square)[-1] == b"1"
+    return square
 
 
 def grown(area, more):
@@ -50,14 +51,19 @@ def area_complaint(version, level):
     prevent reading; enlarged until it touches one codeword too many it must."""
     symbol = goqlanis.encode(b"1", level, version)
     area = symbol.largest_area(reserve=0)
-    if not is_read(symbol, [area]):
-        return "the symbol is not read"
+    square = inverted(symbol, [area])
+    said = judged(square)
+    if said[-1] != b"1" or said != answered(square):
+        return f"not read: {differs(said, answered(square)) or said}"
     larger = too_large(symbol, area)
     most = excess(symbol, larger)
     if most != (OUTSIDE if (version, level) in BOUNDED else 1):
         return f"a larger area has {most} codewords too many"
-    is_damaged = most == OUTSIDE or not is_read(symbol, larger)
-    return "" if is_damaged else "the symbol is read, although a larger area is turned"
+    if most == OUTSIDE:
+        return ""
+    square = inverted(symbol, larger)
+    is_read = b"1" in (judged(square)[-1], answered(square)[-1])
+    return "it is read, although a larger area is inverted" if is_read else ""
 
 
 def largest_squares():
@@ -66,6 +72,20 @@ def largest_squares():
     found = [f"{version}-{level}: {it}" for version, level in normal
              if (it := area_complaint(version, level))]
     return found, f"{len(normal)} pairs"
+
+
+def headers_stay():
+    """Symbols with headers keep them whatever their largest square shows"""
+    found = []
+    rows = listed("headers")
+    for segments, version, level, headers, data in rows:
+        symbol = goqlanis.encode_segments(segments, level, version)
+        area = symbol.largest_area(reserve=0)
+        square = inverted(symbol.with_area(area), [area])
+        bits, said = reading.read_headed(square)
+        if (bits.version, bits.level, said.headers, said.data) != (version, level, headers, data):
+            found.append(f"{segments}: {said}")
+    return found, f"{len(rows)} symbols"
 
 
 def no_squares():
@@ -80,4 +100,4 @@ def no_squares():
     return found, f"{len(micro)} pairs"
 
 
-TESTS = [largest_squares, no_squares]
+TESTS = [largest_squares, headers_stay, no_squares]

@@ -16,7 +16,7 @@ use Rattle.qrcode_area.specs.declared.areas.Rectangle.{Rectangle}
 use Rattle.qrcode_area.specs.declared.excess.Excess.{Excess}
 use Rattle.qrcode_area.specs.declared.reserve.Reserve.{Reserve}
 use Rattle.qrcode_area.proofs.Bounds.{agrees_along, excess_is_not, length_counts}
-use Rattle.qrcode_area.proofs.Shown.{area_is_read}
+use Rattle.qrcode_area.proofs.Shown.{area_is_read, area_keeps_bits}
 use Rattle.goqlanis_buffers.specs.Areas.{covered_byte, told, IsCovered, IsTaken, IsUncovered, IsUncoveredCause}
 use Rattle.goqlanis_buffers.specs.declared.answers.Refusal.TheVariants.{AreaFormat}
 use Rattle.goqlanis_buffers.specs.declared.areas.Taken.{Taken}
@@ -47,6 +47,8 @@ pub covered : (v : Version) (l : EcLevel) (k : MaskPattern) (rectangles area : L
 covered v l k rectangles area old new w square format inside may is across same each =
     let here = subst (λ (a : List Rectangle). (i : ℕ) → i < length old → get_or new i 0 ≡ covered_byte w (covers a) old i) is each in
     let all = subst (λ (n : ℕ). (i : ℕ) → i < length old → get_or new i 0 ≡ covered_byte n (covers rectangles) old i) across here in
+    let shown = agrees_along v (covers rectangles) (colors_of old) (colors_of new) in
+    let light = agrees v (covers rectangles) old new square same all in
     record {
       v = v;
       l = l;
@@ -56,8 +58,9 @@ covered v l k rectangles area old new w square format inside may is across same 
       same_length = same;
       each = all;
       read = λ bits bytes other encodes beside.
-          area_is_read v l bits bytes (covers rectangles) (colors_of old) other encodes may
-          (agrees_along v (covers rectangles) (colors_of old) (colors_of new) other (agrees v (covers rectangles) old new square same all) beside);
+          area_is_read v l bits bytes (covers rectangles) (colors_of old) other encodes may (shown other light beside);
+      read_bits = λ bits other encodes beside.
+          area_keeps_bits v l bits (covers rectangles) (colors_of old) other encodes may (shown other light beside);
     }
 
 -- a block with more touched codewords than may be lost is a cause of the error

@@ -6,7 +6,8 @@ use Rattle.qrcode_types.specs.declared.types.Color.{Color}
 use Rattle.qrcode_types.specs.declared.types.EcLevel.{EcLevel}
 use Rattle.qrcode_types.specs.declared.types.Version.{Version}
 use Rattle.qrcode_layout.specs.declared.masks.MaskPattern.{MaskPattern}
-use Rattle.qrcode.specs.Reading.{EncodesBytes, ReadsOnly}
+use Rattle.qrcode_symbol.specs.Reading.{ReadsBitsOnly}
+use Rattle.qrcode.specs.Reading.{EncodesBits, EncodesBytes, ReadsOnly}
 use Rattle.qrcode_reader.specs.Formats.{HasFormat}
 use Rattle.qrcode_reader.specs.declared.formats.FormatCopy.TheVariants.{First, Last}
 use Rattle.qrcode_render.specs.Shades.{colors_of}
@@ -122,7 +123,7 @@ pub record IsOfLevel (s : List Color) (v : Version) (l : EcLevel) : Type 0 where
   pub format : HasFormat v s l mask
 
 -- An area of a square of modules is light and may show anything: if the modules were the symbol of bytes, each square that agrees with the result outside the
--- area decodes to these bytes alone.
+-- area decodes to these bytes alone; and if they were that of bits, which may hold headers too, to these bits alone.
 pub record IsCovered (rectangles : List Rectangle) (old new : List ℕ) : Type 0 where
   pub v : Version
   pub l : EcLevel
@@ -133,6 +134,8 @@ pub record IsCovered (rectangles : List Rectangle) (old new : List ℕ) : Type 0
   pub each : (i : ℕ) → i < length old → slice_index new i ≡ covered_byte (side v) (covers rectangles) old i
   pub read : (bits : List Bool) (bytes : List ℕ) (other : List Color) → EncodesBytes v l bits bytes (colors_of old)
       → AgreesOutside v (covers rectangles) (colors_of new) other → ReadsOnly other bytes
+  pub read_bits : (bits : List Bool) (other : List Color) → EncodesBits v l bits (colors_of old)
+      → AgreesOutside v (covers rectangles) (colors_of new) other → ReadsBitsOnly other v l bits
 
 -- the area lies inside the square, which has this version and level
 pub record IsAreaIn (rectangles : List Rectangle) (modules : List ℕ) (v : Version) (l : EcLevel) : Type 0 where

@@ -53,8 +53,8 @@ pub extern "C" fn goq_largest_area(
 }
 
 /// Makes the modules of an area of a symbol light. The area may then show anything: every square
-/// that agrees with the result outside the area decodes to the bytes of the symbol, and to nothing
-/// else.
+/// that agrees with the result outside the area decodes to the bytes and headers of the symbol, and
+/// to nothing else.
 ///
 /// Returns 0, or the number of the first `Refusal` that applies: `NoSuchSide`, `NoFormat`,
 /// `NoSuchArea`, `AreaBlock` (with the block in `place`), `AreaFormat`; or of `OutOfMemory`. After
