@@ -75,12 +75,14 @@ fn bars(alloc: Global, asked: &Asked<'_>) -> QrResult<Digest> {
     Ok(digest)
 }
 
-// Draws no module (`none`), a wide symbol (`wide`), each call of the canvas (`calls`), a rectangle
-// pixel by pixel (`rect`), or the symbol of digits in the version that is asked for.
+// Draws no module (`none`), a wide symbol (`wide`), a chessboard (`board`), each call of the canvas
+// (`calls`), a rectangle pixel by pixel (`rect`), or the symbol of digits in the version that is
+// asked for.
 fn picture<P: Pixel>(alloc: Global, asked: &Asked<'_>) -> QrResult<P::Image> {
     match asked.version {
         "none" => built(alloc, &Renderer::<P>::new(&[], 0, 0)),
         "wide" => wide::<P>(alloc, number(asked.level)),
+        "board" => board::<P>(alloc),
         "calls" => drawn::<P>(alloc),
         "rect" => filled::<P>(alloc),
         _ => built(alloc, &of_digits(alloc, asked.version())?.render::<P>()),
@@ -103,6 +105,24 @@ fn wide<P: Pixel>(alloc: Global, size: u32) -> QrResult<P::Image> {
     }
     let mut renderer = Renderer::<P>::new(&colors, 177, 5);
     renderer.module_size(size);
+    built(alloc, &renderer)
+}
+
+// The fields along a side of a chessboard of which a PDF file has more than a megabyte.
+const FIELDS: usize = 420;
+
+// Draws a chessboard, one pixel a field.
+fn board<P: Pixel>(alloc: Global) -> QrResult<P::Image> {
+    let mut colors = Vec::new(alloc);
+    for i in 0..FIELDS * FIELDS {
+        let is_dark = (i / FIELDS + i) % 2 == 0;
+        colors.push(if is_dark { Color::Dark } else { Color::Light })?;
+    }
+    if colors.len() != FIELDS * FIELDS {
+        return Err(QrError::InvalidVersion);
+    }
+    let mut renderer = Renderer::<P>::new(&colors, FIELDS, 0);
+    renderer.module_size(1);
     built(alloc, &renderer)
 }
 

@@ -5,6 +5,9 @@ use crate::words::Asked;
 use qrcode::QrCode;
 use qrcode::canvas::MaskPattern;
 use qrcode::types::{Color, EcLevel, QrError, QrResult, Version};
+use qrcode_area::areas::{Area, Rectangle};
+use qrcode_area::covered::with_area;
+use qrcode_area::excess::Excess;
 use std::alloc::Global;
 
 /// Makes the symbol of eight digits in `version` at level L, or of one digit in Micro 1.
@@ -28,6 +31,7 @@ pub fn run(alloc: Global, asked: &Asked<'_>) -> QrResult<Digest> {
         "to-debug-str" => Ok(Digest::of(code.to_debug_str(alloc, '#', '.')?.as_bytes())),
         "clone" => Ok(Digest::of(code.colors()).and(Digest::of(code.clone()?.colors()))),
         "under-mask" => under_mask(alloc, &code),
+        "covered" => covered(alloc, &code),
         _ => asked_of(&code, version),
     }
 }
@@ -39,6 +43,21 @@ fn under_mask(alloc: Global, code: &QrCode) -> QrResult<Digest> {
         return Err(QrError::InvalidVersion);
     }
     Ok(Digest::of(&code.under_mask(alloc, mask)?))
+}
+
+// Returns the digest of the symbol with one module covered.
+fn covered(alloc: Global, code: &QrCode) -> QrResult<Digest> {
+    let one = [Rectangle {
+        left: 9,
+        top: 9,
+        width: 1,
+        height: 1,
+    }];
+    match with_area(alloc, code, &Area::of(&one)) {
+        Ok(modules) => Ok(Digest::of(&modules)),
+        Err(Excess::OutOfMemory) => Err(QrError::OutOfMemory),
+        Err(_) => Err(QrError::DataTooLong),
+    }
 }
 
 // Makes the calls that need no memory.

@@ -11,4 +11,4 @@ use Rattle.qrcode_facts.proofs.files.read_as_asked.Goals as goal
 
 pub returns : goal.returns
 unfolding image_of parts_of pixels_of chunks_of chunks_at chunk_at are_ordered head_of rows_at unfiltered crc_of unzipped inflated_at blocks_at block_at alphabet_at lengths_at more_lengths_at stored_at numbers_at symbols_at copy_at field_at copied symbol_at code_of code_number number_at number_of stream_of low_bits high_bits adler_of
-returns c = record { own_codes = refl; fixed_codes = refl; copies = refl; stored = refl; filtered = refl }
+returns c = record { own_codes = refl; fixed_codes = refl; copies = refl; stored = refl; filtered = refl; ratio = refl }
