@@ -1,0 +1,264 @@
+-- Where the codewords of a block are.
+use Rattle.std.proofs.Common.{◌≡◌, ◌≢◌, ◌==◌, not, ℕ, zero, suc, ◌+◌, ◌-◌, ◌*◌, ◌/◌, ◌%◌, ◌<◌, ◌≤◌, nat_le, ltb, leb, cond, Bool, true, false, List, [], ◌∷◌, ◌++◌, length, map, take, replicate, get_or, get_or-set_same, get_or-set_other, below_more, slice_index, inl, inr, refl, sym, ap, ap₂, ◌∙◌, arith}
+use Rattle.std.specs.List.{range_with_len, sum_by, count_by}
+use Rattle.std.proofs.Math.ListN.{set}
+use Rattle.std.proofs.lemmas.Bool.{cases_lt, cases_eq, lt-ltb, le-ltb}
+use Rattle.std.proofs.lemmas.Bool.Decides.{leb_tells}
+use Rattle.std.proofs.lemmas.List.{append-nil, get_or-take, get_or_past, length-take}
+use Rattle.std.proofs.lemmas.List.FromFn.{map-range_with_len_more, length-map-range_with_len, get_or-map-range_with_len, fill_by_all}
+use Rattle.std.proofs.lemmas.List.Sums.{sum_by-append}
+use Rattle.std.proofs.lemmas.Nat.{mul-add-lt, div-mul-add, mod-mul-add}
+use Rattle.qrcode_types.specs.Blocks.{AreBlocks, count_of, data_length_of}
+use Rattle.qrcode_types.specs.declared.types.Version.{Version}
+use Rattle.qrcode_types.specs.declared.types.EcLevel.{EcLevel}
+use Rattle.qrcode_types.specs.declared.tables.Blocks.{Blocks}
+use Rattle.qrcode_types.specs.Versions.{block_lengths, blocks_entry}
+use Rattle.qrcode_ec.specs.Blocks.{block}
+use Rattle.qrcode_ec.proofs.Places.{short_and_long, length_at}
+use Rattle.qrcode_reader.specs.Parts.{data_part, ec_part}
+use Rattle.qrcode_reader.proofs.Interleaved.{block_is}
+use Rattle.qrcode_area.proofs.Beside.{count-cons}
+use Rattle.qrcode_damage.specs.Flips.{count_wrong, AreHigh, shortest_block, length_in, place_of}
+
+abbrev at_end : Blocks → ℕ → ℕ
+at_end b k = b.short_length * count_of b + (k - b.short_blocks)
+
+abbrev at_ec : Blocks → ℕ → ℕ → ℕ
+at_ec b k i = data_length_of b + i * count_of b + k
+
+long_has : (b : Blocks) (k : ℕ) → b.short_blocks ≤ k → length_in b k ≡ b.short_length + 1
+long_has b k long = elim (leb_tells b.short_blocks k) [ inl most ↦ ap (λ t. b.short_length + cond {A = ℕ} t 1 0) most.0 | inr less ↦ absurd (omega (arith, less.1)) ]
+
+pub row_at : (b : Blocks) (k i : ℕ) → i < b.short_length → place_of b k i ≡ i * count_of b + k
+row_at b k i below = ap (λ t. cond {A = ℕ} t (i * count_of b + k) (cond (ltb i (length_in b k)) (at_end b k) (at_ec b k (i - length_in b k)))) (lt-ltb i b.short_length below)
+
+pub end_at : (b : Blocks) (k : ℕ) → b.short_blocks ≤ k → place_of b k b.short_length ≡ b.short_length * count_of b + (k - b.short_blocks)
+end_at b k long =
+    let i = b.short_length in
+    let more = long_has b k long in
+    ap (λ t. cond {A = ℕ} t (i * count_of b + k) (cond (ltb i (length_in b k)) (at_end b k) (at_ec b k (i - length_in b k)))) (le-ltb i b.short_length (omega arith))
+    ∙ ap (λ t. cond {A = ℕ} t (at_end b k) (at_ec b k (i - length_in b k))) (lt-ltb i (length_in b k) (omega (arith, more)))
+
+pub ec_at : (b : Blocks) (k i : ℕ) → place_of b k (length_in b k + i) ≡ data_length_of b + i * count_of b + k
+ec_at b k i =
+    let j = length_in b k + i in
+    let back : j - length_in b k ≡ i = omega arith in
+    ap (λ t. cond {A = ℕ} t (j * count_of b + k) (cond (ltb j (length_in b k)) (at_end b k) (at_ec b k (j - length_in b k)))) (le-ltb j b.short_length (omega arith))
+    ∙ ap (λ t. cond {A = ℕ} t (at_end b k) (at_ec b k (j - length_in b k))) (le-ltb j (length_in b k) (omega arith))
+    ∙ ap (at_ec b k) back
+
+-- a range in two parts
+split : (f : ℕ → ℕ) (a m n : ℕ) → map f (range_with_len a (m + n)) ≡ map f (range_with_len a m) ++ map f (range_with_len (a + m) n)
+split f a zero n =
+    let none : 0 + n ≡ n = omega arith in
+    let start : a ≡ a + 0 = omega arith in
+    ap₂ (λ (x y : ℕ). map f (range_with_len x y)) start none
+split f a (suc m) n =
+    let more : suc m + n ≡ suc (m + n) = omega arith in
+    let start : a + 1 + m ≡ a + suc m = omega arith in
+    ap (λ k. map f (range_with_len a k)) more
+    ∙ ap (λ xs. f a ∷ xs) (split f (a + 1) m n ∙ ap (λ k. map f (range_with_len (a + 1) m) ++ map f (range_with_len k n)) start)
+
+pub same_range : (f g : ℕ → ℕ) (a n : ℕ) → ((i : ℕ) → i < n → f (a + i) ≡ g i) → map f (range_with_len a n) ≡ map g (range_with_len 0 n)
+same_range f g a n h =
+    fill_by_all g (map f (range_with_len a n)) n 0 (length-map-range_with_len f a n)
+    (λ i below. get_or-map-range_with_len f a n i (a + i) 0 below refl ∙ h i below)
+
+data_by_places : (b : Blocks) (words : List ℕ) (k : ℕ)
+    → map (λ i. slice_index words (place_of b k i)) (range_with_len 0 (length_in b k)) ≡ data_part b words k
+data_by_places b words k =
+    let short = b.short_blocks in
+    let s = b.short_length in
+    let f = λ (i : ℕ). slice_index words (place_of b k i) in
+    let g = λ (i : ℕ). slice_index words (i * count_of b + k) in
+    let last = slice_index words (s * count_of b + (k - short)) in
+    let rows : map f (range_with_len 0 s) ≡ map g (range_with_len 0 s) =
+    same_range f g 0 s (λ i below. let zeroth : 0 + i ≡ i = omega arith in ap f zeroth ∙ ap (slice_index words) (row_at b k i below)) in
+    elim (leb_tells short k) [
+      | inl most ↦
+          ap (λ t. map f (range_with_len 0 (s + cond t 1 0))) most.0 ∙ map-range_with_len_more f 0 s s (omega arith)
+          ∙ ap₂ (λ xs x. xs ++ x ∷ []) rows (ap (slice_index words) (end_at b k most.1))
+          ∙ ap (λ t. map g (range_with_len 0 s) ++ cond t (last ∷ []) []) (sym most.0)
+      | inr less ↦
+          ap (λ t. map f (range_with_len 0 (s + cond t 1 0))) less.0 ∙ ap (λ n. map f (range_with_len 0 n)) (let e : s + 0 ≡ s = omega arith in e) ∙ rows
+          ∙ sym (append-nil (map g (range_with_len 0 s)))
+          ∙ ap (λ t. map g (range_with_len 0 s) ++ cond t (last ∷ []) []) (sym less.0)
+    ]
+
+-- a block is made of the codewords at its places
+pub block_by_places : (v : Version) (l : EcLevel) (b : Blocks) (words : List ℕ) (k : ℕ) → AreBlocks v l b → k < count_of b
+    → block v l words k ≡ map (λ i. slice_index words (place_of b k i)) (range_with_len 0 (length_in b k + b.ec_length))
+block_by_places v l b words k are below =
+    let f = λ (i : ℕ). slice_index words (place_of b k i) in
+    let g = λ (i : ℕ). slice_index words (data_length_of b + i * count_of b + k) in
+    let n = length_in b k in
+    let start : 0 + n ≡ n = omega arith in
+    let ec : map f (range_with_len (0 + n) b.ec_length) ≡ ec_part b words k =
+    ap (λ a. map f (range_with_len a b.ec_length)) start ∙ same_range f g n b.ec_length (λ i inside. ap (slice_index words) (ec_at b k i)) in
+    block_is v l b words k are below
+    ∙ ap₂ (λ xs ys. xs ++ ys) (sym (data_by_places b words k)) (sym ec)
+    ∙ sym (split f 0 n b.ec_length)
+
+-- Each place belongs to one codeword of one block.
+
+-- the block and the codeword at a place
+abbrev owner : Blocks → ℕ → ℕ × ℕ
+owner b p =
+    let n = count_of b in
+    let d = data_length_of b in
+    cond (ltb p (b.short_length * n)) (p % n, p / n)
+    (cond (ltb p d) (b.short_blocks + (p - b.short_length * n), b.short_length) ((p - d) % n, length_in b ((p - d) % n) + (p - d) / n))
+
+owner_row : (b : Blocks) (k i : ℕ) → k < count_of b → i < b.short_length → owner b (place_of b k i) ≡ (k, i)
+owner_row b k i below inside =
+    let n = count_of b in
+    let p = i * n + k in
+    ap (owner b) (row_at b k i inside)
+    ∙ ap (λ t. cond {A = ℕ × ℕ} t (p % n, p / n) (cond (ltb p (data_length_of b)) (b.short_blocks + (p - b.short_length * n), b.short_length) ((p - data_length_of b) % n, length_in b ((p - data_length_of b) % n) + (p - data_length_of b) / n)))
+    (lt-ltb p (b.short_length * n) (omega (arith, mul-add-lt i n k b.short_length inside below)))
+    ∙ ap₂ (λ (x y : ℕ). (x, y)) (mod-mul-add i n k below) (div-mul-add i n k below)
+
+owner_end : (b : Blocks) (k : ℕ) → k < count_of b → b.short_blocks ≤ k → owner b (place_of b k b.short_length) ≡ (k, b.short_length)
+owner_end b k below long =
+    let n = count_of b in
+    let p = b.short_length * n + (k - b.short_blocks) in
+    let back : b.short_blocks + (p - b.short_length * n) ≡ k = omega arith in
+    ap (owner b) (end_at b k long)
+    ∙ ap (λ t. cond {A = ℕ × ℕ} t (p % n, p / n) (cond (ltb p (data_length_of b)) (b.short_blocks + (p - b.short_length * n), b.short_length) ((p - data_length_of b) % n, length_in b ((p - data_length_of b) % n) + (p - data_length_of b) / n)))
+    (le-ltb p (b.short_length * n) (omega arith))
+    ∙ ap (λ t. cond {A = ℕ × ℕ} t (b.short_blocks + (p - b.short_length * n), b.short_length) ((p - data_length_of b) % n, length_in b ((p - data_length_of b) % n) + (p - data_length_of b) / n))
+    (lt-ltb p (data_length_of b) (omega arith))
+    ∙ ap {B = ℕ × ℕ} (λ (x : ℕ). (x, b.short_length)) back
+
+owner_ec : (b : Blocks) (k i : ℕ) → k < count_of b → owner b (place_of b k (length_in b k + i)) ≡ (k, length_in b k + i)
+owner_ec b k i below =
+    let n = count_of b in
+    let d = data_length_of b in
+    let p = d + i * n + k in
+    let back : p - d ≡ i * n + k = omega arith in
+    ap (owner b) (ec_at b k i)
+    ∙ ap (λ t. cond {A = ℕ × ℕ} t (p % n, p / n) (cond (ltb p d) (b.short_blocks + (p - b.short_length * n), b.short_length) ((p - d) % n, length_in b ((p - d) % n) + (p - d) / n)))
+    (le-ltb p (b.short_length * n) (omega arith))
+    ∙ ap (λ t. cond {A = ℕ × ℕ} t (b.short_blocks + (p - b.short_length * n), b.short_length) ((p - d) % n, length_in b ((p - d) % n) + (p - d) / n))
+    (le-ltb p d (omega arith))
+    ∙ ap {B = ℕ × ℕ} (λ (q : ℕ). (q % n, length_in b (q % n) + q / n)) back
+    ∙ ap₂ (λ (x y : ℕ). (x, length_in b x + y)) (mod-mul-add i n k below) (div-mul-add i n k below)
+
+owner_of_place : (b : Blocks) (k i : ℕ) → k < count_of b → owner b (place_of b k i) ≡ (k, i)
+owner_of_place b k i below =
+    elim (cases_lt i b.short_length) [
+      | inl row ↦ owner_row b k i below row
+      | inr behind ↦ elim (cases_lt i (length_in b k)) [
+        | inl last ↦
+            elim (leb_tells b.short_blocks k) [
+              | inl most ↦
+                  let one = long_has b k most.1 in
+                  let same : b.short_length ≡ i = omega (arith, one) in
+                  ap (λ j. owner b (place_of b k j)) (sym same) ∙ owner_end b k below most.1 ∙ ap {B = ℕ × ℕ} (λ (j : ℕ). (k, j)) same
+              | inr less ↦ absurd (let none : length_in b k ≡ b.short_length + 0 = ap (λ t. b.short_length + cond {A = ℕ} t 1 0) less.0 in omega arith)
+            ]
+        | inr ec ↦
+            let same : length_in b k + (i - length_in b k) ≡ i = omega arith in
+            ap (λ j. owner b (place_of b k j)) (sym same) ∙ owner_ec b k (i - length_in b k) below ∙ ap {B = ℕ × ℕ} (λ (j : ℕ). (k, j)) same
+      ]
+    ]
+
+pub same_place : (b : Blocks) (k j i h : ℕ) → k < count_of b → j < count_of b → place_of b k i ≡ place_of b j h → (k ≡ j) × (i ≡ h)
+same_place b k j i h below under e =
+    let same : ◌≡◌ {A = ℕ × ℕ} (k, i) (j, h) = sym (owner_of_place b k i below) ∙ ap (owner b) e ∙ owner_of_place b j h under in
+    (ap (λ (p : ℕ × ℕ). p.0) same, ap (λ (p : ℕ × ℕ). p.1) same)
+
+-- and all places are inside
+pub place_inside : (b : Blocks) (k i : ℕ) → k < count_of b → i < length_in b k + b.ec_length → place_of b k i < data_length_of b + b.ec_length * count_of b
+place_inside b k i below inside =
+    elim (cases_lt i b.short_length) [
+      | inl row ↦ omega (arith, row_at b k i row, mul-add-lt i (count_of b) k b.short_length row below)
+      | inr behind ↦ elim (cases_lt i (length_in b k)) [
+        | inl last ↦
+            elim (leb_tells b.short_blocks k) [
+              | inl most ↦
+                  let one = long_has b k most.1 in
+                  let same : i ≡ b.short_length = omega (arith, one) in
+                  let at = ap (place_of b k) same ∙ end_at b k most.1 in
+                  omega (arith, at, most.1)
+              | inr less ↦ absurd (let none : length_in b k ≡ b.short_length + 0 = ap (λ t. b.short_length + cond {A = ℕ} t 1 0) less.0 in omega arith)
+            ]
+        | inr ec ↦
+            let same : i ≡ length_in b k + (i - length_in b k) = omega arith in
+            let at = ap (place_of b k) same ∙ ec_at b k (i - length_in b k) in
+            omega (arith, at, mul-add-lt (i - length_in b k) (count_of b) k b.ec_length (omega arith) below)
+      ]
+    ]
+
+-- no block is shorter than a short one
+pub shortest_is : (v : Version) (l : EcLevel) (b : Blocks) → AreBlocks v l b → shortest_block v l ≡ b.short_length + b.ec_length
+unfolding block_lengths
+shortest_is v l b are =
+    let lengths = short_and_long b.short_blocks b.long_blocks b.short_length in
+    let some = b.some_blocks in
+    let short : leb b.short_blocks 0 ≡ false = elim (leb_tells b.short_blocks 0) [ inl none ↦ absurd (omega (arith, none.1)) | inr more ↦ more.0 ] in
+    let none : b.short_length + 0 ≡ b.short_length = omega arith in
+    ap₂ (λ x y. x + y)
+    (ap (λ t. get_or (replicate t.1 t.2 ++ replicate t.3 (t.2 + 1)) 0 0) are
+    ∙ length_at b.short_blocks b.long_blocks b.short_length 0 (omega arith)
+    ∙ ap (λ t. b.short_length + cond {A = ℕ} t 1 0) short ∙ none)
+    (ap (λ t. t.0) are)
+
+-- Steps of writing a block.
+
+pub put_written : (b : Blocks) (k i p : ℕ) (words bytes : List ℕ) → p ≡ place_of b k i → k < count_of b → p < length words
+    → ((j : ℕ) → j < i → get_or words (place_of b k j) 0 ≡ get_or bytes j 0)
+    → (j : ℕ) → j < i + 1 → get_or (set words p (get_or bytes i 0)) (place_of b k j) 0 ≡ get_or bytes j 0
+put_written b k i p words bytes at below inside before = below_more _ _
+    (λ j less. get_or-set_other words p (place_of b k j) (get_or bytes i 0) 0 (λ e. absurd (omega (arith, less, (same_place b k k j i below below (e ∙ at)).1))) ∙ before j less)
+    (ap (λ q. get_or (set words p (get_or bytes i 0)) q 0) (sym at) ∙ get_or-set_same words p (get_or bytes i 0) 0 inside)
+
+pub put_others : (b : Blocks) (k i p x : ℕ) (words old : List ℕ) → p ≡ place_of b k i → k < count_of b
+    → ((other j : ℕ) → other < count_of b → other ≢ k → get_or words (place_of b other j) 0 ≡ get_or old (place_of b other j) 0)
+    → (other j : ℕ) → other < count_of b → other ≢ k → get_or (set words p x) (place_of b other j) 0 ≡ get_or old (place_of b other j) 0
+put_others b k i p x words old at below before = λ other j under apart.
+    get_or-set_other words p (place_of b other j) x 0 (λ e. apart (same_place b other k j i under below (e ∙ at)).0) ∙ before other j under apart
+
+pub put_high : (words : List ℕ) (p x : ℕ) → p < length words → AreHigh words → x % 16 ≡ 0 → AreHigh (set words p x)
+put_high words p x inside high h = λ i. elim (cases_eq i p) [
+  | inl same ↦ ap (λ j. get_or (set words p x) j 0 % 16) same ∙ ap (λ n. n % 16) (get_or-set_same words p x 0 inside) ∙ h
+  | inr other ↦ ap (λ n. n % 16) (get_or-set_other words p i x 0 other) ∙ high i
+]
+
+pub counted_more : (v : Version) (l : EcLevel) (count n b : ℕ) (words new bytes : List ℕ) → b < n → block v l new b ≡ bytes → count_wrong bytes ≡ count
+    → ((k : ℕ) → k < n → k ≢ b → block v l new k ≡ block v l words k) → ((k : ℕ) → k < b → count_wrong (block v l words k) ≡ count)
+    → (k : ℕ) → k < b + 1 → count_wrong (block v l new k) ≡ count
+counted_more v l count n b words new bytes below own counted others before = below_more _ _
+    (λ k less. let apart : k ≢ b = omega (arith, less) in ap count_wrong (others k (omega (arith, less, below)) apart) ∙ before k less)
+    (ap count_wrong own ∙ counted)
+
+-- Steps of making flips.
+
+pub high_more : (bytes : List ℕ) (x : ℕ) → AreHigh bytes → x % 16 ≡ 0 → AreHigh (bytes ++ x ∷ [])
+high_more [] x high h = λ i. at i where
+  at : (i : ℕ) → get_or (x ∷ []) i 0 % 16 ≡ 0
+  at zero = h
+  at (suc i) = refl
+high_more (b ∷ bytes) x high h = λ i. at i where
+  at : (i : ℕ) → get_or (b ∷ (bytes ++ x ∷ [])) i 0 % 16 ≡ 0
+  at zero = high 0
+  at (suc i) = high_more bytes x (λ j. high (suc j)) h i
+
+pub high_zeros : (n : ℕ) → AreHigh (replicate n 0)
+high_zeros n = λ i. at n i where
+  at : (n i : ℕ) → get_or (replicate n 0) i 0 % 16 ≡ 0
+  at zero i = refl
+  at (suc n) zero = refl
+  at (suc n) (suc i) = at n i
+
+pub high_front : (n : ℕ) (bytes : List ℕ) → AreHigh bytes → AreHigh (take n bytes)
+high_front n bytes high = λ i. elim (cases_lt i n) [
+  | inl less ↦ ap (λ m. m % 16) (get_or-take n bytes i 0 less) ∙ high i
+  | inr past ↦ ap (λ m. m % 16) (get_or_past (take n bytes) i 0 (omega (arith, length-take n bytes)))
+]
+
+pub flip_more : (bytes : List ℕ) (x left count : ℕ) (wrong : Bool) → not (x == 0) ≡ wrong → count_wrong bytes + left ≡ count → cond {A = ℕ} wrong 1 0 ≤ left
+    → count_wrong (bytes ++ x ∷ []) + (left - cond wrong 1 0) ≡ count
+flip_more bytes x left count wrong is before few =
+    let one : count_wrong (x ∷ []) ≡ cond wrong 1 0 + 0 = count-cons (λ (word : ℕ). not (word == 0)) x [] ∙ ap (λ b. cond {A = ℕ} b 1 0 + 0) is in
+    omega (arith, sum_by-append (λ (word : ℕ). cond {A = ℕ} (not (word == 0)) 1 0) bytes (x ∷ []), one, before, few)

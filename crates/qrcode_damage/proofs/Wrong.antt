@@ -1,0 +1,192 @@
+-- Which modules are wrong, kind by kind.
+use Rattle.std.proofs.Common.{◌≡◌, ◌≢◌, ℕ, ◌+◌, ◌-◌, ◌*◌, ◌/◌, ◌%◌, ◌<◌, ◌≤◌, ◌==◌, nat_le, nat_lt, nat_abs, Bool, true, false, not, cond, ◌&&◌, ◌||◌, List, [], ◌∷◌, ◌++◌, map, get_or, Option, Some, None, is_some, pos, negsuc, true≢false, refl, sym, ap, ap₂, ◌∙◌, arith, subst, IsTrue}
+use Rattle.std.specs.List.{range_with_len, count_by, AllByRecursion}
+use Rattle.std.proofs.lemmas.Bool.{or_left, or_right, le-ltb}
+use Rattle.std.proofs.lemmas.Bool.Decides.{nat_tests}
+use Rattle.std.proofs.lemmas.List.FromFn.{get_or-map-range_with_len}
+use Rattle.qrcode_types.specs.Versions.{is_valid, is_micro, side}
+use Rattle.qrcode_types.specs.declared.types.Version.{Version}
+use Rattle.qrcode_types.specs.declared.types.Version.TheVariants.{Normal, Micro}
+use Rattle.qrcode_types.specs.declared.types.EcLevel.{EcLevel}
+use Rattle.qrcode_layout.specs.Figures.{has, normal_figures, normal_format_figures, alignments, version_figures, word_figures}
+use Rattle.qrcode_layout.specs.Laws.{IsFormatCopy}
+use Rattle.qrcode_layout.specs.Patterns.{pattern, format_copies, first_format_place, second_format_place, micro_format_place, format_index, is_functional_place}
+use Rattle.qrcode_layout.proofs.Agreements.{format_places_are_no_patterns}
+use Rattle.qrcode_layout.proofs.FigurePlaces.{any_has, normal_functional}
+use Rattle.qrcode_layout.proofs.Formats.{within}
+use Rattle.qrcode_layout.proofs.FormatPlaces.{normal_cases, normal_index, format_copies_are_indexed}
+use Rattle.qrcode_damage.specs.Damage.{upper_place, lower_place, has_version_word, version_copies, is_version_place}
+use Rattle.qrcode_damage.specs.Errors.{is_set, is_version_wrong, is_format_wrong, is_free_wrong, wrong_in, is_wrong, AreErrors}
+use Rattle.qrcode_damage.specs.declared.damage.Damage.{Damage}
+use Rattle.qrcode_damage.specs.declared.errors.Errors.{Errors}
+use Rattle.qrcode_damage.proofs.Counted.{counted_along}
+
+-- a place of the format word
+format_wrong : (v : Version) (e : Errors) (x y i : ℕ) → format_index v x y ≡ Some i → is_wrong v e x y ≡ is_format_wrong e i x y
+unfolding is_wrong
+format_wrong v e x y i here = ap (wrong_in v e x y) here
+
+format_is_functional : (v : Version) (x y i : ℕ) → format_index v x y ≡ Some i → is_functional_place v x y ≡ true
+unfolding is_functional_place
+format_is_functional v x y i here = ap (λ (o : Option ℕ). is_some (pattern v x y) || is_some o) here ∙ or_right (is_some (pattern v x y)) true refl
+
+-- a free place
+pub free_wrong : (v : Version) (e : Errors) (x y : ℕ) → is_functional_place v x y ≡ false → is_wrong v e x y ≡ is_free_wrong v e x y
+unfolding is_wrong
+free_wrong v e x y free = go (format_index v x y) refl where
+  go : (o : Option ℕ) → format_index v x y ≡ o → wrong_in v e x y o ≡ is_free_wrong v e x y
+  go (Some i) here = absurd (true≢false (sym (format_is_functional v x y i here) ∙ free))
+  go None none = ap (λ b. cond b (is_version_wrong e (side v) x y) (is_free_wrong v e x y)) free
+
+-- any other place
+other_wrong : (v : Version) (e : Errors) (x y : ℕ) → format_index v x y ≡ None → is_functional_place v x y ≡ true → is_wrong v e x y ≡ is_version_wrong e (side v) x y
+unfolding is_wrong
+other_wrong v e x y none functional =
+    ap (wrong_in v e x y) none ∙ ap (λ b. cond b (is_version_wrong e (side v) x y) (is_free_wrong v e x y)) functional
+
+-- a pattern other than the version word
+no_word_wrong : (e : Errors) (w x y : ℕ) → cond (nat_le 45 w) (any_has x y (word_figures w)) false ≡ false → is_version_wrong e w x y ≡ false
+no_word_wrong e w x y no = grind (arith, nat_tests)
+
+pub pattern_right : (v : Version) (e : Errors) (x y : ℕ) → IsTrue (is_valid v) → is_some (pattern v x y) ≡ true → is_version_place v x y ≡ false → is_wrong v e x y ≡ false
+unfolding is_functional_place
+pattern_right v e x y valid some no =
+    other_wrong v e x y (go (format_index v x y) refl) (ap (λ b. b || is_some (format_index v x y)) some) ∙ no_word_wrong e (side v) x y no where
+      go : (o : Option ℕ) → format_index v x y ≡ o → format_index v x y ≡ None
+      go (Some i) here = absurd (true≢false (sym some ∙ ap is_some (format_places_are_no_patterns v x y i valid here)))
+      go None none = none
+
+-- The copies of the format word.
+
+-- the places of a copy, all of which take their bits from one list
+copy_counted : (v : Version) (e : Errors) (place : ℕ → ℕ × ℕ) (bytes : List ℕ) → IsFormatCopy v (map place (range_with_len 0 15))
+    → ((i : ℕ) → i < 15 → is_format_wrong e i (place i).0 (place i).1 ≡ is_set bytes i)
+    → (i : ℕ) → i < 15 → is_wrong v e (place i).0 (place i).1 ≡ is_set bytes i
+copy_counted v e place bytes copy takes i below =
+    format_wrong v e (place i).0 (place i).1 i
+    (subst (λ (p : ℕ × ℕ). format_index v p.0 p.1 ≡ Some i) (get_or-map-range_with_len place 0 15 i i (0, 0) below (omega arith)) (copy.index i below))
+    ∙ takes i below
+
+abbrev wrong_at : Version → Errors → ℕ × ℕ → Bool
+wrong_at v e p = is_wrong v e p.0 p.1
+
+first_takes : (e : Errors) (i : ℕ) → i < 15 → is_format_wrong e i (first_format_place i).0 (first_format_place i).1 ≡ is_set e.first_format.items i
+first_takes e i below = ap (λ b. is_set (cond b e.first_format.items e.last_format.items) i) (near i below) where
+  near : (i : ℕ) → i < 15 → (nat_le (first_format_place i).0 8 && nat_le (first_format_place i).1 8) ≡ true
+  near i below = grind (arith, nat_tests)
+
+second_takes : (e : Errors) (w i : ℕ) → 21 ≤ w → i < 15 → is_format_wrong e i (second_format_place w i).0 (second_format_place w i).1 ≡ is_set e.last_format.items i
+second_takes e w i wide below = ap (λ b. is_set (cond b e.first_format.items e.last_format.items) i) (far w i wide below) where
+  far : (w i : ℕ) → 21 ≤ w → i < 15 → (nat_le (second_format_place w i).0 8 && nat_le (second_format_place w i).1 8) ≡ false
+  far w i wide below = grind (arith, nat_tests)
+
+micro_takes : (e : Errors) (i : ℕ) → i < 15 → is_format_wrong e i (micro_format_place i).0 (micro_format_place i).1 ≡ is_set e.first_format.items i
+micro_takes e i below = ap (λ b. is_set (cond b e.first_format.items e.last_format.items) i) (near i below) where
+  near : (i : ℕ) → i < 15 → (nat_le (micro_format_place i).0 8 && nat_le (micro_format_place i).1 8) ≡ true
+  near i below = grind (arith, nat_tests)
+
+pub formats_counted : (v : Version) (l : EcLevel) (d : Damage) (e : Errors) → IsTrue (is_valid v) → AreErrors v l d e
+    → AllByRecursion (λ places. count_by (wrong_at v e) places ≡ d.format_bits) (format_copies v)
+unfolding format_copies
+formats_counted (Normal (pos n)) l d e valid are =
+    let v = Normal (pos n) in
+    let w = 4 * n + 17 in
+    let copies = format_copies_are_indexed v valid in
+    let low = (within n 40 valid).0 in
+    let wide : 21 ≤ w = omega arith in (
+      counted_along (wrong_at v e) first_format_place 15 e.first_format.items are.first_format.long
+          (copy_counted v e first_format_place e.first_format.items copies.0 (first_takes e)) ∙ are.first_format.count,
+      (
+        counted_along (wrong_at v e) (second_format_place w) 15 e.last_format.items are.last_format.long
+            (copy_counted v e (second_format_place w) e.last_format.items copies.1.0 (λ i below. second_takes e w i wide below)) ∙ are.last_format.count,
+        tt,
+      ),
+    )
+formats_counted (Normal (negsuc n)) l d e valid are = absurd (cc)
+formats_counted (Micro n) l d e valid are =
+    let v = Micro n in
+    let copies = format_copies_are_indexed v valid in (
+      counted_along (wrong_at v e) micro_format_place 15 e.first_format.items are.first_format.long
+          (copy_counted v e micro_format_place e.first_format.items copies.0 (micro_takes e)) ∙ are.first_format.count,
+      tt,
+    )
+
+-- The copies of the version word.
+
+apart_from_format : (w x y : ℕ) → x ≢ 8 → y ≢ 8 → normal_cases w x y ≡ None
+apart_from_format w x y p q = grind (arith, nat_tests)
+
+upper_has : (w r j : ℕ) → 45 ≤ w → r < 3 → j < 6 → any_has (w - 11 + r) j (version_figures w) ≡ true
+upper_has w r j wide p q = grind (arith, nat_tests)
+
+lower_has : (w r j : ℕ) → 45 ≤ w → r < 3 → j < 6 → any_has j (w - 11 + r) (version_figures w) ≡ true
+lower_has w r j wide p q = grind (arith, nat_tests)
+
+upper_takes : (e : Errors) (w r j : ℕ) → 45 ≤ w → r < 3 → j < 6 → is_version_wrong e w (w - 11 + r) j ≡ is_set e.first_version.items (3 * j + r)
+upper_takes e w r j wide p q =
+    let back : 3 * j + (w - 11 + r - (w - 11)) ≡ 3 * j + r = omega arith in
+    let narrow : nat_lt w 45 ≡ false = le-ltb w 45 wide in
+    let inside : (nat_lt j 6 && nat_le (w - 11) (w - 11 + r) && nat_lt (w - 11 + r) (w - 8)) ≡ true = grind (arith, nat_tests) in
+    rw (narrow, inside) (ap (is_set e.first_version.items) back)
+
+lower_takes : (e : Errors) (w r j : ℕ) → 45 ≤ w → r < 3 → j < 6 → is_version_wrong e w j (w - 11 + r) ≡ is_set e.last_version.items (3 * j + r)
+lower_takes e w r j wide p q =
+    let back : 3 * j + (w - 11 + r - (w - 11)) ≡ 3 * j + r = omega arith in
+    let narrow : nat_lt w 45 ≡ false = le-ltb w 45 wide in
+    let far : nat_lt (w - 11 + r) 6 ≡ false = le-ltb (w - 11 + r) 6 (omega arith) in
+    let inside : (nat_lt j 6 && nat_le (w - 11) (w - 11 + r) && nat_lt (w - 11 + r) (w - 8)) ≡ true = grind (arith, nat_tests) in
+    rw (narrow, far, inside) (ap (is_set e.last_version.items) back)
+
+-- a place of a version word is functional, and not of the format word
+word_wrong : (v : Version) (e : Errors) (x y : ℕ) → is_micro v ≡ false → x ≢ 8 → y ≢ 8 → any_has x y (version_figures (side v)) ≡ true
+    → is_wrong v e x y ≡ is_version_wrong e (side v) x y
+word_wrong v e x y normal p q has =
+    other_wrong v e x y (normal_index v x y normal ∙ apart_from_format (side v) x y p q)
+    (normal_functional v x y (side v) normal refl
+    ∙ or_right (any_has x y (normal_format_figures (side v) ++ normal_figures (side v))) _ (or_left (any_has x y (version_figures (side v))) (any_has x y (alignments v)) has))
+
+upper_wrong : (v : Version) (e : Errors) (i : ℕ) → is_micro v ≡ false → 45 ≤ side v → i < 18
+    → is_wrong v e (upper_place (side v) i).0 (upper_place (side v) i).1 ≡ is_set e.first_version.items i
+upper_wrong v e i normal wide below =
+    let r = i % 3 in
+    let j = i / 3 in
+    let small : r < 3 = omega arith in
+    let few : j < 6 = omega arith in
+    let whole : 3 * j + r ≡ i = omega arith in
+    word_wrong v e (side v - 11 + r) j normal (omega arith) (omega arith) (upper_has (side v) r j wide small few)
+    ∙ upper_takes e (side v) r j wide small few ∙ ap (is_set e.first_version.items) whole
+
+lower_wrong : (v : Version) (e : Errors) (i : ℕ) → is_micro v ≡ false → 45 ≤ side v → i < 18
+    → is_wrong v e (lower_place (side v) i).0 (lower_place (side v) i).1 ≡ is_set e.last_version.items i
+lower_wrong v e i normal wide below =
+    let r = i % 3 in
+    let j = i / 3 in
+    let small : r < 3 = omega arith in
+    let few : j < 6 = omega arith in
+    let whole : 3 * j + r ≡ i = omega arith in
+    word_wrong v e j (side v - 11 + r) normal (omega arith) (omega arith) (lower_has (side v) r j wide small few)
+    ∙ lower_takes e (side v) r j wide small few ∙ ap (is_set e.last_version.items) whole
+
+-- only Normal versions have it
+wide_is_normal : (v : Version) → IsTrue (is_valid v) → has_version_word v ≡ true → is_micro v ≡ false
+wide_is_normal (Normal n) valid wide = refl
+wide_is_normal (Micro (pos n)) valid wide = let most = (within n 4 valid).1 in absurd (grind (arith, nat_tests))
+wide_is_normal (Micro (negsuc n)) valid wide = absurd (cc)
+
+pub versions_counted : (v : Version) (l : EcLevel) (d : Damage) (e : Errors) → IsTrue (is_valid v) → AreErrors v l d e
+    → AllByRecursion (λ places. count_by (wrong_at v e) places ≡ d.version_bits) (version_copies v)
+unfolding version_copies
+versions_counted v l d e valid are = go (has_version_word v) refl where
+  go : (b : Bool) → has_version_word v ≡ b
+      → AllByRecursion (λ places. count_by (wrong_at v e) places ≡ d.version_bits)
+      (cond b (map (upper_place (side v)) (range_with_len 0 18) ∷ map (lower_place (side v)) (range_with_len 0 18) ∷ []) [])
+  go true has =
+      let normal = wide_is_normal v valid has in
+      let wide : 45 ≤ side v = grind (arith, nat_tests) in (
+        counted_along (wrong_at v e) (upper_place (side v)) 18 e.first_version.items are.first_version.long (λ i below. upper_wrong v e i normal wide below) ∙ are.first_version.count,
+        (
+          counted_along (wrong_at v e) (lower_place (side v)) 18 e.last_version.items are.last_version.long (λ i below. lower_wrong v e i normal wide below) ∙ are.last_version.count,
+          tt,
+        ),
+      )
+  go false none = tt

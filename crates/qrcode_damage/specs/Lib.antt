@@ -1,0 +1,4 @@
+pub mod Damage
+pub mod Errors
+pub mod Flips
+pub mod Laws

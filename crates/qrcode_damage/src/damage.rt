@@ -1,0 +1,186 @@
+//! Symbols with exactly so much damage.
+
+ghost use Rattle.std.specs.Prelude.{◌≡◌, ◌≢◌, ◌↔◌, ℕ, Bool, List, IsTrue, IfOk, IfErr, IfSome, IfNone, OnOk, IsOkUnless};
+ghost use Rattle.qrcode_types.specs.Versions.{has_level};
+ghost use Rattle.qrcode_types.specs.declared.types.Color.{Color};
+ghost use Rattle.qrcode_layout.specs.declared.masks.MaskPattern.{MaskPattern};
+ghost use Rattle.qrcode_symbol.specs.Symbol.{IsDamaged};
+ghost use Rattle.qrcode_symbol.specs.Reading.{ReadsBitsOnly};
+ghost use Rattle.qrcode.specs.Reading.{EncodesBits, EncodesBytes, ReadsOnly};
+ghost use Rattle.qrcode_damage.specs.Damage.{IsWrongBy, IsPromised, HasRoomFor, IsTooMuch};
+ghost use Rattle.qrcode_damage.specs.Errors.{AreErrors};
+ghost use Rattle.qrcode_damage.specs.declared.damage.TooMuch.TheVariants.{OutOfMemory};
+
+use crate::drawn::drawn;
+use crate::errors::{Errors, flipped};
+use crate::flips::flips;
+use crate::random::Random;
+use crate::words::{blocks_of, wrong_words};
+use qrcode::QrCode;
+use qrcode_types::types::{Color, EcLevel, QrResult, Version};
+use qrcode_types::versions::side;
+use std::alloc::{AllocError, Global};
+use std::error::Error;
+use std::fmt;
+
+/// How much of a symbol is wrong.
+#[derive(Debug, PartialEq, Eq, Copy, Clone)]
+pub struct Damage {
+    /// The number of wrong codewords in each block.
+    pub codewords: usize,
+    /// The number of wrong bits in each copy of the format information.
+    pub format_bits: usize,
+    /// The number of wrong bits in each copy of the version information, which Normal 7 to 40 have.
+    pub version_bits: usize,
+}
+
+/// Which count is too large for a symbol, or `OutOfMemory`.
+#[derive(Debug, PartialEq, Eq, Copy, Clone)]
+pub enum TooMuch {
+    /// The shortest block has only this many codewords.
+    Codewords(usize),
+    /// The format information has only 15 bits.
+    FormatBits,
+    /// The version information has only this many bits: 18, or none in a version without it.
+    VersionBits(usize),
+    /// Memory ran out.
+    OutOfMemory,
+}
+
+impl fmt::Display for TooMuch {
+    fn fmt<W: fmt::Write>(&self, f: &mut fmt::Formatter<W>) -> fmt::Result {
+        match self {
+            TooMuch::Codewords(most) => write!(
+                f,
+                "the shortest block has {most} codewords; no more can be wrong"
+            ),
+            TooMuch::FormatBits => {
+                f.write_str("the format information has 15 bits; no more can be wrong")
+            }
+            TooMuch::VersionBits(0) => {
+                f.write_str("only versions 7 to 40 have version information that can be wrong")
+            }
+            TooMuch::VersionBits(most) => write!(
+                f,
+                "the version information has {most} bits; no more can be wrong"
+            ),
+            TooMuch::OutOfMemory => f.write_str("out of memory"),
+        }
+    }
+}
+
+impl Error for TooMuch {}
+
+impl From<AllocError> for TooMuch {
+    ghost from_gives = { λ _ e. e ≡ OutOfMemory };
+
+    fn from(_error: AllocError) -> TooMuch {
+        TooMuch::OutOfMemory
+    }
+}
+
+impl Damage {
+    /// Returns whether so much damage is within the promise: at most half as many codewords of each
+    /// block as it has for error correction, and at most three bits of each copy of the format
+    /// information.
+    pub fn is_promised(self, version: Version, ec_level: EcLevel) -> bool
+        requires { IsTrue (has_level version ec_level) }
+        ensures { IsTrue result ↔ IsPromised version ec_level self }
+    {
+        let blocks = blocks_of(version, ec_level);
+        self.codewords <= blocks.ec_length / 2 && self.format_bits <= 3
+    }
+
+    /// Returns the first count that is too large for a symbol, or `None` if there is room for all.
+    #[tactic(auto, using(crate::proofs::Places::shortest_is))]
+    pub fn excess(self, version: Version, ec_level: EcLevel) -> Option<TooMuch>
+        requires { IsTrue (has_level version ec_level) }
+        ensures some { IfSome result (IsTooMuch version ec_level self) }
+        ensures none { IfNone result (HasRoomFor version ec_level self) }
+    {
+        let blocks = blocks_of(version, ec_level);
+        let codewords = blocks.short_length + blocks.ec_length;
+        if self.codewords > codewords {
+            return Some(TooMuch::Codewords(codewords));
+        }
+        if self.format_bits > 15 {
+            return Some(TooMuch::FormatBits);
+        }
+        let version_bits = if side(version) >= 45 { 18 } else { 0 };
+        if self.version_bits > version_bits {
+            return Some(TooMuch::VersionBits(version_bits));
+        }
+        None
+    }
+}
+
+// Chooses what is wrong.
+fn chosen_errors(
+    alloc: Global,
+    version: Version,
+    ec_level: EcLevel,
+    damage: Damage,
+    random: &mut Random,
+) -> QrResult<Errors>
+    requires exists { IsTrue (has_level version ec_level) }
+    requires room { HasRoomFor version ec_level damage }
+    ensures { IfOk result (AreErrors version ec_level damage) }
+{
+    let words = wrong_words(alloc, version, ec_level, damage.codewords, random)?;
+    let codewords = drawn(alloc, version, ec_level, &words)?;
+    let first_format = flips(alloc, random, damage.format_bits, 15, false)?;
+    let last_format = flips(alloc, random, damage.format_bits, 15, false)?;
+    let first_version = flips(alloc, random, damage.version_bits, 18, false)?;
+    let last_version = flips(alloc, random, damage.version_bits, 18, false)?;
+    Ok(Errors {
+        codewords,
+        first_format,
+        last_format,
+        first_version,
+        last_version,
+    })
+}
+
+/// Returns the modules of `code`, row by row, with exactly so much damage: wrong are so many
+/// codewords of each block, so many bits of each copy of the format and of the version information,
+/// and no other module. `seed` decides which; equal seeds give equal squares.
+///
+/// Errors: `Codewords`, `FormatBits` or `VersionBits` if the symbol has too few of them;
+/// `OutOfMemory` if memory runs out.
+pub fn damaged(
+    alloc: Global,
+    code: &QrCode,
+    damage: Damage,
+    seed: u64,
+) -> Result<Vec<Color>, TooMuch>
+    // So it is whichever mask is taken off, so also under the symbol's own.
+    ensures wrong { IfOk result (λ colors. (mask : MaskPattern)
+        → IsWrongBy code.now.version code.now.level mask damage code.now.modules colors.items) }
+    ensures accepts { HasRoomFor code.now.version code.now.level damage
+        → IsOkUnless result OutOfMemory }
+    ensures causes { IfErr result (λ error. error ≢ OutOfMemory
+        → IsTooMuch code.now.version code.now.level damage error) }
+
+    // Within the promise, the square decodes to the bytes and no others.
+    ensures read { IsPromised code.now.version code.now.level damage
+        → IfOk result (λ colors. (bits : List Bool) (bytes : List ℕ)
+        → EncodesBytes code.now.version code.now.level bits bytes code.now.modules
+        → ReadsOnly colors.items bytes) }
+
+    // So it does to the bits, which may hold headers too.
+    ensures read_bits { IsPromised code.now.version code.now.level damage
+        → IfOk result (λ colors. (bits : List Bool)
+        → EncodesBits code.now.version code.now.level bits code.now.modules
+        → ReadsBitsOnly colors.items code.now.version code.now.level bits) }
+{
+    let version = code.version();
+    let ec_level = code.error_correction_level();
+    if let Some(error) = damage.excess(version, ec_level) {
+        return Err(error);
+    }
+    let mut random = Random::new(seed);
+    let Ok(errors) = chosen_errors(alloc, version, ec_level, damage, &mut random) else {
+        return Err(TooMuch::OutOfMemory);
+    };
+    Ok(flipped(alloc, version, code.colors(), &errors)?)
+}
