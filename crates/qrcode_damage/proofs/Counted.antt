@@ -41,10 +41,10 @@ counted_along m place n xs long h =
 -- what a filter leaves passes it
 pub all_pass : {X : Type 0} (p : X → Bool) (xs : List X) → AllByRecursion (λ x. p x ≡ true) (filter p xs)
 all_pass p [] = tt
-all_pass {X} p (x ∷ xs) = go (p x) refl where
-  go : (b : Bool) → p x ≡ b → AllByRecursion (λ x. p x ≡ true) (cond b (x ∷ filter p xs) (filter p xs))
-  go true e = (e, all_pass p xs)
-  go false e = all_pass p xs
+all_pass {X} p (x ∷ xs) = go (p x) refl (all_pass p xs) where
+  go : (b : Bool) → p x ≡ b → AllByRecursion (λ x. p x ≡ true) (filter p xs) → AllByRecursion (λ x. p x ≡ true) (cond b (x ∷ filter p xs) (filter p xs))
+  go true e rest = (e, rest)
+  go false e rest = rest
 
 pub map_alike : {X Y : Type 0} (f g : X → Y) (xs : List X) → AllByRecursion (λ x. f x ≡ g x) xs → map f xs ≡ map g xs
 map_alike f g [] h = refl

@@ -19,7 +19,6 @@ use Rattle.qrcode_layout.specs.Masks.{turns, turned_if, nth_mask}
 use Rattle.qrcode_layout.specs.Patterns.{pattern, format_copies, is_functional_place}
 use Rattle.qrcode_layout.specs.Stream.{color_at, stream, zigzag, free_places}
 use Rattle.qrcode_layout.specs.declared.masks.MaskPattern.{MaskPattern}
-use Rattle.qrcode_layout.proofs.Formats.{valid_of}
 use Rattle.qrcode_layout.proofs.FormatPlaces.{format_copies_are_indexed}
 use Rattle.qrcode_symbol.specs.Symbol.{bits_at, blocks_in}
 use Rattle.qrcode_area.specs.Areas.{marks, block_in}
@@ -187,19 +186,7 @@ wrong_by v l k d e s other errors f =
           (λ places i n. bits_wrong v wrong s other f places i ∙ n) (formats_inside v f.valid) (formats_counted v l d e f.valid errors);
       version = all_with inside (λ places. number places ≡ d.version_bits) (λ places. wrong_bits v s other places ≡ d.version_bits) (version_copies v)
           (λ places i n. bits_wrong v wrong s other f places i ∙ n) (versions_inside v) (versions_counted v l d e f.valid errors);
-      patterns = λ x y i j some no.
+      patterns = λ x y i j some apart.
           sym (color_flipped v wrong s other f x y i j ∙ ap (λ a. opposite_if a (color_at v s x y)) (pattern_right v e x y f.valid some no));
       remainder = rest_right v l k d e s other errors f;
     }
-
--- the same where version and level are named twice
-pub damaged_is : (v u : Version) (l m : EcLevel) (d : Damage) (e : Errors) (s other : List Color) → u ≡ v → m ≡ l → IsTrue (has_level u l) → length s ≡ side v * side v
-    → AreErrors u m d e → other ≡ flipped (side u) (is_wrong u e) s (length s) → (k : MaskPattern) → IsWrongBy v l k d s other
-damaged_is v u l m d e s other same level has whole errors is k =
-    wrong_by v l k d e s other
-    (subst (λ (t : EcLevel). AreErrors v t d e) level (subst (λ (t : Version). AreErrors t m d e) same errors))
-    (record {
-      valid = subst (λ (t : Version). IsTrue (is_valid t)) same (valid_of u l has);
-      whole = whole;
-      is = is ∙ ap (λ (t : Version). flipped (side t) (is_wrong t e) s (length s)) same;
-    })

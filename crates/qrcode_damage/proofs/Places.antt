@@ -239,10 +239,10 @@ high_more [] x high h = λ i. at i where
   at : (i : ℕ) → get_or (x ∷ []) i 0 % 16 ≡ 0
   at zero = h
   at (suc i) = refl
-high_more (b ∷ bytes) x high h = λ i. at i where
-  at : (i : ℕ) → get_or (b ∷ (bytes ++ x ∷ [])) i 0 % 16 ≡ 0
-  at zero = high 0
-  at (suc i) = high_more bytes x (λ j. high (suc j)) h i
+high_more (b ∷ bytes) x high h = at (high_more bytes x (λ j. high (suc j)) h) where
+  at : AreHigh (bytes ++ x ∷ []) → (i : ℕ) → get_or (b ∷ (bytes ++ x ∷ [])) i 0 % 16 ≡ 0
+  at rest zero = high 0
+  at rest (suc i) = rest i
 
 pub high_zeros : (n : ℕ) → AreHigh (replicate n 0)
 high_zeros n = λ i. at n i where

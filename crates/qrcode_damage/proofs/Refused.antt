@@ -1,5 +1,5 @@
 -- Which counts are refused.
-use Rattle.std.proofs.Common.{◌≡◌, arith, subst}
+use Rattle.std.proofs.Common.{arith}
 use Rattle.qrcode_types.specs.declared.types.Version.{Version}
 use Rattle.qrcode_types.specs.declared.types.EcLevel.{EcLevel}
 use Rattle.qrcode_damage.specs.Damage.{HasRoomFor, IsTooMuch}
@@ -13,6 +13,3 @@ too_much_is_not v l d (Codewords most) x room = absurd (omega (arith, x.0, x.1, 
 too_much_is_not v l d FormatBits x room = absurd (omega (arith, x.1, room.format))
 too_much_is_not v l d (VersionBits most) x room = absurd (omega (arith, x.0, x.1.0, room.version))
 too_much_is_not v l d OutOfMemory x room = x
-
-pub too_much_along : (v u : Version) (l m : EcLevel) (d : Damage) (e : TooMuch) → u ≡ v → m ≡ l → IsTooMuch u m d e → IsTooMuch v l d e
-too_much_along v u l m d e same level x = subst (λ (t : EcLevel). IsTooMuch v t d e) level (subst (λ (t : Version). IsTooMuch t m d e) same x)

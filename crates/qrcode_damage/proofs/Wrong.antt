@@ -21,10 +21,10 @@ use Rattle.qrcode_damage.specs.declared.damage.Damage.{Damage}
 use Rattle.qrcode_damage.specs.declared.errors.Errors.{Errors}
 use Rattle.qrcode_damage.proofs.Counted.{counted_along}
 
--- a place of the format word
-format_wrong : (v : Version) (e : Errors) (x y i : ℕ) → format_index v x y ≡ Some i → is_wrong v e x y ≡ is_format_wrong e i x y
+-- by the format word's bit at this place, if any
+pub wrong_by_index : (v : Version) (e : Errors) (x y : ℕ) (o : Option ℕ) → format_index v x y ≡ o → is_wrong v e x y ≡ wrong_in v e x y o
 unfolding is_wrong
-format_wrong v e x y i here = ap (wrong_in v e x y) here
+wrong_by_index v e x y o here = ap (wrong_in v e x y) here
 
 format_is_functional : (v : Version) (x y i : ℕ) → format_index v x y ≡ Some i → is_functional_place v x y ≡ true
 unfolding is_functional_place
@@ -32,26 +32,24 @@ format_is_functional v x y i here = ap (λ (o : Option ℕ). is_some (pattern v 
 
 -- a free place
 pub free_wrong : (v : Version) (e : Errors) (x y : ℕ) → is_functional_place v x y ≡ false → is_wrong v e x y ≡ is_free_wrong v e x y
-unfolding is_wrong
 free_wrong v e x y free = go (format_index v x y) refl where
-  go : (o : Option ℕ) → format_index v x y ≡ o → wrong_in v e x y o ≡ is_free_wrong v e x y
+  go : (o : Option ℕ) → format_index v x y ≡ o → is_wrong v e x y ≡ is_free_wrong v e x y
   go (Some i) here = absurd (true≢false (sym (format_is_functional v x y i here) ∙ free))
-  go None none = ap (λ b. cond b (is_version_wrong e (side v) x y) (is_free_wrong v e x y)) free
+  go None none = wrong_by_index v e x y None none ∙ ap (λ b. cond b (is_version_wrong e (side v) x y) (is_free_wrong v e x y)) free
 
 -- any other place
 other_wrong : (v : Version) (e : Errors) (x y : ℕ) → format_index v x y ≡ None → is_functional_place v x y ≡ true → is_wrong v e x y ≡ is_version_wrong e (side v) x y
-unfolding is_wrong
 other_wrong v e x y none functional =
-    ap (wrong_in v e x y) none ∙ ap (λ b. cond b (is_version_wrong e (side v) x y) (is_free_wrong v e x y)) functional
+    wrong_by_index v e x y None none ∙ ap (λ b. cond b (is_version_wrong e (side v) x y) (is_free_wrong v e x y)) functional
 
 -- a pattern other than the version word
-no_word_wrong : (e : Errors) (w x y : ℕ) → cond (nat_le 45 w) (any_has x y (word_figures w)) false ≡ false → is_version_wrong e w x y ≡ false
-no_word_wrong e w x y no = grind (arith, nat_tests)
+is_version_right : (e : Errors) (w x y : ℕ) → cond (nat_le 45 w) (any_has x y (word_figures w)) false ≡ false → is_version_wrong e w x y ≡ false
+is_version_right e w x y apart = grind (arith, nat_tests)
 
 pub pattern_right : (v : Version) (e : Errors) (x y : ℕ) → IsTrue (is_valid v) → is_some (pattern v x y) ≡ true → is_version_place v x y ≡ false → is_wrong v e x y ≡ false
 unfolding is_functional_place
-pattern_right v e x y valid some no =
-    other_wrong v e x y (go (format_index v x y) refl) (ap (λ b. b || is_some (format_index v x y)) some) ∙ no_word_wrong e (side v) x y no where
+pattern_right v e x y valid some apart =
+    other_wrong v e x y (go (format_index v x y) refl) (ap (λ b. b || is_some (format_index v x y)) some) ∙ is_version_right e (side v) x y apart where
       go : (o : Option ℕ) → format_index v x y ≡ o → format_index v x y ≡ None
       go (Some i) here = absurd (true≢false (sym some ∙ ap is_some (format_places_are_no_patterns v x y i valid here)))
       go None none = none
@@ -63,7 +61,7 @@ copy_counted : (v : Version) (e : Errors) (place : ℕ → ℕ × ℕ) (bytes : 
     → ((i : ℕ) → i < 15 → is_format_wrong e i (place i).0 (place i).1 ≡ is_set bytes i)
     → (i : ℕ) → i < 15 → is_wrong v e (place i).0 (place i).1 ≡ is_set bytes i
 copy_counted v e place bytes copy takes i below =
-    format_wrong v e (place i).0 (place i).1 i
+    wrong_by_index v e (place i).0 (place i).1 (Some i)
     (subst (λ (p : ℕ × ℕ). format_index v p.0 p.1 ≡ Some i) (get_or-map-range_with_len place 0 15 i i (0, 0) below (omega arith)) (copy.index i below))
     ∙ takes i below
 
@@ -95,10 +93,10 @@ formats_counted (Normal (pos n)) l d e valid are =
     let low = (within n 40 valid).0 in
     let wide : 21 ≤ w = omega arith in (
       counted_along (wrong_at v e) first_format_place 15 e.first_format.items are.first_format.long
-          (copy_counted v e first_format_place e.first_format.items copies.0 (first_takes e)) ∙ are.first_format.count,
+          (copy_counted v e first_format_place e.first_format.items copies.0 (first_takes e)) ∙ are.first_format.wrong,
       (
         counted_along (wrong_at v e) (second_format_place w) 15 e.last_format.items are.last_format.long
-            (copy_counted v e (second_format_place w) e.last_format.items copies.1.0 (λ i below. second_takes e w i wide below)) ∙ are.last_format.count,
+            (copy_counted v e (second_format_place w) e.last_format.items copies.1.0 (λ i below. second_takes e w i wide below)) ∙ are.last_format.wrong,
         tt,
       ),
     )
@@ -107,7 +105,7 @@ formats_counted (Micro n) l d e valid are =
     let v = Micro n in
     let copies = format_copies_are_indexed v valid in (
       counted_along (wrong_at v e) micro_format_place 15 e.first_format.items are.first_format.long
-          (copy_counted v e micro_format_place e.first_format.items copies.0 (micro_takes e)) ∙ are.first_format.count,
+          (copy_counted v e micro_format_place e.first_format.items copies.0 (micro_takes e)) ∙ are.first_format.wrong,
       tt,
     )
 
@@ -183,9 +181,9 @@ versions_counted v l d e valid are = go (has_version_word v) refl where
   go true has =
       let normal = wide_is_normal v valid has in
       let wide : 45 ≤ side v = grind (arith, nat_tests) in (
-        counted_along (wrong_at v e) (upper_place (side v)) 18 e.first_version.items are.first_version.long (λ i below. upper_wrong v e i normal wide below) ∙ are.first_version.count,
+        counted_along (wrong_at v e) (upper_place (side v)) 18 e.first_version.items are.first_version.long (λ i below. upper_wrong v e i normal wide below) ∙ are.first_version.wrong,
         (
-          counted_along (wrong_at v e) (lower_place (side v)) 18 e.last_version.items are.last_version.long (λ i below. lower_wrong v e i normal wide below) ∙ are.last_version.count,
+          counted_along (wrong_at v e) (lower_place (side v)) 18 e.last_version.items are.last_version.long (λ i below. lower_wrong v e i normal wide below) ∙ are.last_version.wrong,
           tt,
         ),
       )

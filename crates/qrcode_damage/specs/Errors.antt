@@ -57,7 +57,7 @@ flipped width wrong s count = map (flipped_module width wrong s) (range_with_len
 -- so many bytes, and so many of them not zero
 pub record HasWrong (size count : ℕ) (bytes : List ℕ) : Type 0 where
   pub long : length bytes ≡ size
-  pub count : count_wrong bytes ≡ count
+  pub wrong : count_wrong bytes ≡ count
 
 -- exactly what the damage says: in each block so many codewords, and so many bits in each word
 pub record AreErrors (v : Version) (l : EcLevel) (d : Damage) (e : Errors) : Type 0 where

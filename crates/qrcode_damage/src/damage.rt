@@ -1,13 +1,11 @@
 //! Symbols with exactly so much damage.
 
-ghost use Rattle.std.specs.Prelude.{◌≡◌, ◌≢◌, ◌↔◌, ℕ, Bool, List, IsTrue, IfOk, IfErr, IfSome, IfNone, OnOk, IsOkUnless};
-ghost use Rattle.qrcode_types.specs.Versions.{has_level};
-ghost use Rattle.qrcode_types.specs.declared.types.Color.{Color};
+ghost use Rattle.std.specs.Prelude.{◌≡◌, ◌≢◌, ◌↔◌, ◌*◌, ℕ, Bool, List, length, IsTrue, IfOk, IfErr, IfSome, IfNone, IsOkUnless};
+ghost use Rattle.qrcode_types.specs.Versions.{is_valid, has_level, side};
 ghost use Rattle.qrcode_layout.specs.declared.masks.MaskPattern.{MaskPattern};
-ghost use Rattle.qrcode_symbol.specs.Symbol.{IsDamaged};
 ghost use Rattle.qrcode_symbol.specs.Reading.{ReadsBitsOnly};
 ghost use Rattle.qrcode.specs.Reading.{EncodesBits, EncodesBytes, ReadsOnly};
-ghost use Rattle.qrcode_damage.specs.Damage.{IsWrongBy, IsPromised, HasRoomFor, IsTooMuch};
+ghost use Rattle.qrcode_damage.specs.Damage.{IsWrongBy, IsPromised, HasRoomFor, IsTooMuch, version_word_length};
 ghost use Rattle.qrcode_damage.specs.Errors.{AreErrors};
 ghost use Rattle.qrcode_damage.specs.declared.damage.TooMuch.TheVariants.{OutOfMemory};
 
@@ -16,14 +14,13 @@ use crate::errors::{Errors, flipped};
 use crate::flips::flips;
 use crate::random::Random;
 use crate::words::{blocks_of, wrong_words};
-use qrcode::QrCode;
 use qrcode_types::types::{Color, EcLevel, QrResult, Version};
 use qrcode_types::versions::side;
 use std::alloc::{AllocError, Global};
 use std::error::Error;
 use std::fmt;
 
-/// How much of a symbol is wrong.
+/// How much of a symbol is wrong, and where.
 #[derive(Debug, PartialEq, Eq, Copy, Clone)]
 pub struct Damage {
     /// The number of wrong codewords in each block.
@@ -32,6 +29,8 @@ pub struct Damage {
     pub format_bits: usize,
     /// The number of wrong bits in each copy of the version information, which Normal 7 to 40 have.
     pub version_bits: usize,
+    /// Decides which ones.
+    pub seed: u64,
 }
 
 /// Which count is too large for a symbol, or `OutOfMemory`.
@@ -79,10 +78,18 @@ impl From<AllocError> for TooMuch {
     }
 }
 
+// Returns the number of bits of each copy of the version information.
+fn version_word_length(version: Version) -> usize
+    requires { IsTrue (is_valid version) }
+    ensures { result ≡ version_word_length version }
+{
+    if side(version) >= 45 { 18 } else { 0 }
+}
+
 impl Damage {
     /// Returns whether so much damage is within the promise: at most half as many codewords of each
     /// block as it has for error correction, and at most three bits of each copy of the format
-    /// information.
+    /// information. `version` must have `ec_level`.
     pub fn is_promised(self, version: Version, ec_level: EcLevel) -> bool
         requires { IsTrue (has_level version ec_level) }
         ensures { IsTrue result ↔ IsPromised version ec_level self }
@@ -92,7 +99,7 @@ impl Damage {
     }
 
     /// Returns the first count that is too large for a symbol, or `None` if there is room for all.
-    #[tactic(auto, using(crate::proofs::Places::shortest_is))]
+    /// `version` must have `ec_level`.
     pub fn excess(self, version: Version, ec_level: EcLevel) -> Option<TooMuch>
         requires { IsTrue (has_level version ec_level) }
         ensures some { IfSome result (IsTooMuch version ec_level self) }
@@ -106,7 +113,7 @@ impl Damage {
         if self.format_bits > 15 {
             return Some(TooMuch::FormatBits);
         }
-        let version_bits = if side(version) >= 45 { 18 } else { 0 };
+        let version_bits = version_word_length(version);
         if self.version_bits > version_bits {
             return Some(TooMuch::VersionBits(version_bits));
         }
@@ -120,18 +127,18 @@ fn chosen_errors(
     version: Version,
     ec_level: EcLevel,
     damage: Damage,
-    random: &mut Random,
 ) -> QrResult<Errors>
     requires exists { IsTrue (has_level version ec_level) }
     requires room { HasRoomFor version ec_level damage }
     ensures { IfOk result (AreErrors version ec_level damage) }
 {
-    let words = wrong_words(alloc, version, ec_level, damage.codewords, random)?;
+    let mut random = Random::new(damage.seed);
+    let words = wrong_words(alloc, version, ec_level, damage.codewords, &mut random)?;
     let codewords = drawn(alloc, version, ec_level, &words)?;
-    let first_format = flips(alloc, random, damage.format_bits, 15, false)?;
-    let last_format = flips(alloc, random, damage.format_bits, 15, false)?;
-    let first_version = flips(alloc, random, damage.version_bits, 18, false)?;
-    let last_version = flips(alloc, random, damage.version_bits, 18, false)?;
+    let first_format = flips(alloc, &mut random, damage.format_bits, 15, false)?;
+    let last_format = flips(alloc, &mut random, damage.format_bits, 15, false)?;
+    let first_version = flips(alloc, &mut random, damage.version_bits, 18, false)?;
+    let last_version = flips(alloc, &mut random, damage.version_bits, 18, false)?;
     Ok(Errors {
         codewords,
         first_format,
@@ -141,46 +148,46 @@ fn chosen_errors(
     })
 }
 
-/// Returns the modules of `code`, row by row, with exactly so much damage: wrong are so many
+/// Returns these modules of a symbol, row by row, with exactly so much damage: wrong are so many
 /// codewords of each block, so many bits of each copy of the format and of the version information,
-/// and no other module. `seed` decides which; equal seeds give equal squares.
+/// and no other module. `damage.seed` decides which; equal seeds give equal squares. The version
+/// must have the level, and `modules` its side.
 ///
 /// Errors: `Codewords`, `FormatBits` or `VersionBits` if the symbol has too few of them;
 /// `OutOfMemory` if memory runs out.
 pub fn damaged(
     alloc: Global,
-    code: &QrCode,
+    version: Version,
+    ec_level: EcLevel,
+    modules: &[Color],
     damage: Damage,
-    seed: u64,
 ) -> Result<Vec<Color>, TooMuch>
+    requires exists { IsTrue (has_level version ec_level) }
+    requires square { length modules.now ≡ side version * side version }
+
     // So it is whichever mask is taken off, so also under the symbol's own.
     ensures wrong { IfOk result (λ colors. (mask : MaskPattern)
-        → IsWrongBy code.now.version code.now.level mask damage code.now.modules colors.items) }
-    ensures accepts { HasRoomFor code.now.version code.now.level damage
-        → IsOkUnless result OutOfMemory }
+        → IsWrongBy version ec_level mask damage modules.now colors.items) }
+    ensures accepts { HasRoomFor version ec_level damage → IsOkUnless result OutOfMemory }
     ensures causes { IfErr result (λ error. error ≢ OutOfMemory
-        → IsTooMuch code.now.version code.now.level damage error) }
+        → IsTooMuch version ec_level damage error) }
 
     // Within the promise, the square decodes to the bytes and no others.
-    ensures read { IsPromised code.now.version code.now.level damage
+    ensures read { IsPromised version ec_level damage
         → IfOk result (λ colors. (bits : List Bool) (bytes : List ℕ)
-        → EncodesBytes code.now.version code.now.level bits bytes code.now.modules
-        → ReadsOnly colors.items bytes) }
+        → EncodesBytes version ec_level bits bytes modules.now → ReadsOnly colors.items bytes) }
 
     // So it does to the bits, which may hold headers too.
-    ensures read_bits { IsPromised code.now.version code.now.level damage
+    ensures read_bits { IsPromised version ec_level damage
         → IfOk result (λ colors. (bits : List Bool)
-        → EncodesBits code.now.version code.now.level bits code.now.modules
-        → ReadsBitsOnly colors.items code.now.version code.now.level bits) }
+        → EncodesBits version ec_level bits modules.now
+        → ReadsBitsOnly colors.items version ec_level bits) }
 {
-    let version = code.version();
-    let ec_level = code.error_correction_level();
     if let Some(error) = damage.excess(version, ec_level) {
         return Err(error);
     }
-    let mut random = Random::new(seed);
-    let Ok(errors) = chosen_errors(alloc, version, ec_level, damage, &mut random) else {
+    let Ok(errors) = chosen_errors(alloc, version, ec_level, damage) else {
         return Err(TooMuch::OutOfMemory);
     };
-    Ok(flipped(alloc, version, code.colors(), &errors)?)
+    Ok(flipped(alloc, version, modules, &errors)?)
 }

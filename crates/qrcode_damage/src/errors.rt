@@ -1,8 +1,10 @@
 //! Which modules of a symbol are wrong.
 
-ghost use Rattle.std.specs.Prelude.{◌≡◌, ◌*◌, ◌<◌, length, IsTrue, IfOk};
+ghost use Rattle.std.specs.Prelude.{◌≡◌, ◌*◌, ◌<◌, length, None, IsTrue, IfOk};
+ghost use Rattle.qrcode_types.specs.Colors.{is_dark};
 ghost use Rattle.qrcode_types.specs.Versions.{is_valid, side};
-ghost use Rattle.qrcode_damage.specs.Errors.{is_set, is_version_wrong, is_format_wrong, is_free_wrong, is_wrong, opposite_if, flipped};
+ghost use Rattle.qrcode_layout.specs.Masks.{turned_if};
+ghost use Rattle.qrcode_damage.specs.Errors.{is_set, is_version_wrong, is_format_wrong, is_free_wrong, wrong_in, is_wrong, opposite_if, flipped};
 
 use qrcode_layout::masks::nth_mask;
 use qrcode_layout::patterns::{format_index, is_functional_place};
@@ -23,6 +25,16 @@ pub(crate) struct Errors {
     pub(crate) first_version: Vec<u8>,
     /// The same for the version word at the lower left.
     pub(crate) last_version: Vec<u8>,
+}
+
+// Returns the bit of a module, which the mask has flipped or not.
+fn bit_of(color: Color, is_turned: bool) -> bool
+    ensures { result ≡ turned_if is_turned (is_dark color) }
+{
+    match color {
+        Color::Dark => !is_turned,
+        Color::Light => is_turned,
+    }
 }
 
 // Returns whether byte `i` is not zero.
@@ -71,11 +83,24 @@ impl Errors {
         requires row { y < side version }
         ensures { result ≡ is_free_wrong version self.now x y }
     {
-        let is_dark = match self.codewords[y * side(version) + x] {
-            Color::Dark => true,
-            Color::Light => false,
-        };
-        nth_mask(version, 0).turns(x as i16, y as i16) != is_dark
+        let is_turned = nth_mask(version, 0).turns(x as i16, y as i16);
+        bit_of(self.codewords[y * side(version) + x], is_turned)
+    }
+
+    // Returns whether a place is wrong that is not of the format word.
+    fn is_other_wrong(&self, version: Version, x: usize, y: usize) -> bool
+        requires valid { IsTrue (is_valid version) }
+        requires square { length self.now.codewords.items ≡ side version * side version }
+        requires column { x < side version }
+        requires row { y < side version }
+        ensures { result ≡ wrong_in version self.now x y None }
+    {
+        let width = side(version);
+        if is_functional_place(version, width, x, y) {
+            self.is_version_wrong(width, x, y)
+        } else {
+            self.is_free_wrong(version, x, y)
+        }
     }
 
     // Returns whether the module in column `x` and row `y` is wrong.
@@ -86,14 +111,10 @@ impl Errors {
         requires row { y < side version }
         ensures { result ≡ is_wrong version self.now x y }
     {
-        let width = side(version);
-        if let Some(i) = format_index(version, width, x, y) {
-            return self.is_format_wrong(i, x, y);
+        match format_index(version, side(version), x, y) {
+            Some(i) => self.is_format_wrong(i, x, y),
+            None => self.is_other_wrong(version, x, y),
         }
-        if is_functional_place(version, width, x, y) {
-            return self.is_version_wrong(width, x, y);
-        }
-        self.is_free_wrong(version, x, y)
     }
 }
 

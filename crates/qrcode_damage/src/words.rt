@@ -31,7 +31,6 @@ fn length_in(blocks: Blocks, b: usize) -> usize
 }
 
 // Returns the place of codeword `i` of block `b` among all codewords.
-#[tactic(auto, using(crate::proofs::Places::place_inside))]
 fn place_of(blocks: Blocks, b: usize, i: usize) -> usize
     requires block { b < count_of blocks }
     requires inside { i < length_in blocks b + blocks.ec_length }
@@ -70,7 +69,6 @@ fn put_block(words: &mut [u8], blocks: Blocks, b: usize, bytes: &[u8])
 /// `count` are not zero, chosen by `random`.
 ///
 /// Errors: only `AllocError`.
-#[tactic(auto, using(crate::proofs::Places::shortest_is, crate::proofs::Places::high_zeros))]
 pub(crate) fn wrong_words(
     alloc: Global,
     version: Version,

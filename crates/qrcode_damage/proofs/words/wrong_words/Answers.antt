@@ -3,8 +3,21 @@ use Rattle.std.proofs.lemmas.List.{with_items_is}
 use Rattle.qrcode_types.specs.Blocks.{count_of}
 use Rattle.qrcode_ec.specs.Blocks.{block}
 use Rattle.qrcode_damage.specs.Flips.{count_wrong, AreHigh}
-use Rattle.qrcode_damage.proofs.Places.{counted_more}
+use Rattle.qrcode_damage.proofs.Places.{counted_more, high_zeros, shortest_is}
 use Rattle.qrcode_damage.proofs.words.wrong_words.Goals as goal
+
+pub loop-b-init : goal.loop-b-init
+loop-b-init c =
+    let zeros = c.in_ok-words.ensures.items_if_clones_equal (λ y e. e) in
+    record {
+      long = omega (arith, c.in_ok-words.ensures.len, c.data_length.ensures.value, c.total_ec_length.ensures.value);
+      counted = λ k less. absurd (omega (arith, less));
+      high = λ half. subst AreHigh (sym zeros) (high_zeros _);
+    }
+
+pub flips-requires : goal.flips-requires
+flips-requires c =
+    omega (arith, shortest_is c.args.version c.args.ec_level c.blocks_of-blocks.result c.blocks_of-blocks.ensures, c.length_in.ensures.value, c.requires.at_most)
 
 pub loop-b-preserved : goal.loop-b-preserved
 loop-b-preserved c =
@@ -16,7 +29,7 @@ loop-b-preserved c =
     let words = c.loop-b.words in
     let bytes = c.in_ok-bytes.bytes in
     let new = c.put_block.new.words in
-    let below : b < count_of table = omega (arith, c.count.ensures.value) in
+    let below : b < count_of table = omega (arith, c.count-b-end.ensures.value) in
     let back = with_items_is words new (omega (arith, c.put_block.auto.words, c.deref_mut.ensures.len)) in
     let own : block v l new b ≡ bytes.items = c.put_block.ensures.own v l are ∙ c.deref.ensures.value in
     let others = λ (k : ℕ) (under : k < count_of table) (apart : k ≢ b).
@@ -41,5 +54,8 @@ returns-clause-length c =
 
 pub returns-clause-count : goal.returns-clause-count
 returns-clause-count c = λ b below.
-    let all = c.count.ensures.of_version c.args.version c.args.ec_level c.blocks_of-blocks.ensures in
+    let all = c.count-b-end.ensures.of_version c.args.version c.args.ec_level c.blocks_of-blocks.ensures in
     c.loop-b.invariant.counted b (omega (arith, all, below))
+
+pub returns-clause-half : goal.returns-clause-half
+returns-clause-half c = c.loop-b.invariant.high
