@@ -70,7 +70,7 @@ pub fn drawing_of(alloc: Global, request: &Request<'_>, code: QrCode) -> QrResul
 /// Draws these modules of a symbol as requested, with `over` or a picture over them.
 ///
 /// Errors: only `OutOfMemory`, as `draw` says.
-pub(crate) fn drawn(
+pub fn drawn(
     alloc: Global,
     request: &Request<'_>,
     code: &QrCode,

@@ -20,7 +20,7 @@ mod shades;
 pub mod sheet;
 mod terminal;
 
-pub use drawing::{Drawing, dots, drawing_of, quiet_zone, scale, symbol_in};
+pub use drawing::{Drawing, dots, drawing_of, drawn, quiet_zone, scale, symbol_in};
 pub use elements::{symbol_for_application, symbol_of_elements};
 pub use layers::PartInk;
 pub use parts::Part;

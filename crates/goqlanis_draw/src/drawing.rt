@@ -8,6 +8,7 @@ ghost use Rattle.goqlanis_core.specs.Elements.{IsApplicationIn, IsElementsIn};
 ghost use Rattle.goqlanis_draw.specs.Labels.{label_text};
 
 use crate::contents::Elements;
+use crate::damaging::draw_damaged;
 use crate::middle::{draw_with_middle, has_pixels, middle_of, warn_of_logo};
 use crate::segments::{characters_of, is_empty, segments_of};
 use goqlanis_core::{
@@ -233,6 +234,11 @@ pub(crate) fn write_code(
         let area = middle_of(rt.alloc(), asked, &code)?;
         show_report(rt, asked, &code, area)?;
         return Ok(ExitCode::SUCCESS);
+    }
+    if let Some(damage) = asked.damage {
+        let drawing = draw_damaged(rt, asked, damage, &code)?;
+        show_report(rt, asked, &code, None)?;
+        return write_bytes(rt, asked, &drawing);
     }
     let shown = draw_code(rt.alloc(), asked, code)?;
     warn_of_logo(rt, asked, &shown.drawing.code, shown.area)?;

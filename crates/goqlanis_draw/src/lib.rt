@@ -2,7 +2,10 @@
 #![tactic(auto)]
 
 mod contents;
+mod damaging;
 mod drawing;
+mod exams;
+mod grading;
 mod lines;
 mod logos;
 mod making;

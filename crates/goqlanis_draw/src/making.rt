@@ -2,6 +2,8 @@
 
 use crate::contents::{payload_of, with_round_brackets};
 use crate::drawing::{application_code, draw_one, elements_code, segments_code, write_code};
+use crate::exams::write_exam;
+use crate::grading::grade;
 use crate::lines::{Lined, draw_lines};
 use crate::middle::{SWISS_CROSS, has_cross, read_logo};
 use crate::rows::Columns;
@@ -33,6 +35,12 @@ pub fn make(rt: &HostRuntime, task: &Task, asked: &Asked<'_, '_>) -> Result<Exit
 fn draw(rt: &HostRuntime, task: &Task, asked: &Asked<'_, '_>) -> Result<ExitCode, Failure> {
     let what = match task.purpose {
         Purpose::Several => return draw_several(rt, asked, &data(rt, asked, MOST_IN_SEVERAL)?),
+        Purpose::Exam => {
+            return match asked.exam.answers {
+                Some(answers) => grade(rt, answers, asked.exam.path),
+                None => write_exam(rt, asked),
+            };
+        }
         Purpose::Content(kind) => Lined::Payload(kind),
         Purpose::Elements => Lined::Elements,
         _ => Lined::Data,

@@ -1,10 +1,11 @@
 //! Turns the command line into a request.
 
 use crate::colours::{check_colours, ink_of, part_colour, part_inks};
+use crate::exams::{AskedDamage, AskedExam, damage_of, exam_of};
 use crate::fields::Fields;
 use crate::frames::{frame_of, place_of};
 use crate::logos::{AskedLogo, logo_of};
-use crate::options::{Task, task_named};
+use crate::options::{Purpose, Task, task_named};
 use crate::sizes::{Sizes, sizes_of};
 use crate::warnings::warn;
 use clap::ArgMatches;
@@ -98,6 +99,9 @@ pub struct Asked<'a, 'w> {
     /// The options that give the fields of a payload.
     pub fields: Fields<'a, 'w>,
     pub split: Split,
+    pub exam: AskedExam<'a>,
+    /// What is wrong in the code, if it is to be damaged.
+    pub damage: Option<AskedDamage>,
     pub target: Target<'a>,
     /// The side of the picture in hundredths of a millimetre, if `--size` is a length in pixels.
     pub hundredths: Option<u64>,
@@ -126,7 +130,7 @@ pub fn asked_for<'a, 'w>(
     let alloc = rt.alloc();
     check_conflicts(alloc, given)?;
     let target = target_of(alloc, given)?;
-    let format = format(rt, given.get_str("format"), target)?;
+    let format = format(rt, given.get_str("format").or(task.own_format()), target)?;
     check_format(alloc, given, format)?;
     let sizes = sizes_of(alloc, task, given, format)?;
     let asked = Asked {
@@ -136,6 +140,11 @@ pub fn asked_for<'a, 'w>(
         split: Split {
             count: given.get_one::<u8>("count"),
             most: version_of(alloc, given, "max-version")?.unwrap_or(Version::Normal(40)),
+        },
+        exam: exam_of(given),
+        damage: match task.purpose {
+            Purpose::Damage => Some(damage_of(alloc, given)?),
+            _ => None,
         },
         target,
         hundredths: sizes.hundredths,

@@ -48,6 +48,7 @@ fn arguments<'a>(alloc: Global, task: &Task) -> Result<Vec<Arg<'a>>, AllocError>
     if let Some((name, help)) = task.operand() {
         let arg = Arg::new(alloc, name).help(help);
         arguments.push(match task.purpose {
+            Purpose::Exam => arg.required(true),
             Purpose::Join => arg.num_args(1..).action(ArgAction::Append).required(true),
             Purpose::Read | Purpose::Check => arg.num_args(1..).action(ArgAction::Append),
             _ => arg,

@@ -6,6 +6,7 @@ pub mod asked;
 pub mod colours;
 pub mod command;
 pub mod completions;
+pub mod exams;
 pub mod fields;
 pub mod frames;
 pub mod logos;

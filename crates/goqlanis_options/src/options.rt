@@ -99,6 +99,10 @@ pub type Headed = (&'static str, Entry);
 pub enum Purpose {
     /// Makes a code from data.
     Draw,
+    /// Makes a code from data, and damages it.
+    Damage,
+    /// Makes an exam for readers, or grades one.
+    Exam,
     /// Splits data over several codes.
     Several,
     /// Decodes a picture.
@@ -150,7 +154,7 @@ impl Task {
     /// Returns the positional argument, if there is one: its name and its help text.
     pub fn operand(&self) -> Option<(&'static str, &'static str)> {
         Some(match self.purpose {
-            Purpose::Draw | Purpose::Several => (
+            Purpose::Draw | Purpose::Damage | Purpose::Several => (
                 "TEXT",
                 "Text to encode; standard input if neither TEXT nor --input is given",
             ),
@@ -168,6 +172,11 @@ impl Task {
                 "Application identifiers (AI) in round brackets, each with its value, e.g. \
                 (01)09521234543213(10)AB; write ( in a value as \\(; standard input if neither ELEMENTS \
                 nor --input is given. With --application: plain data",
+            ),
+            Purpose::Exam => (
+                "FOLDER",
+                "Folder for the pictures and answers.jsonl; with --grade a file of results instead, \
+                each line the name of a picture, a tab, and in hex what was read",
             ),
             Purpose::Content(_) => return None,
         })
@@ -211,7 +220,8 @@ impl Task {
     // Returns the task's own options and the drawing options, in groups with their headings.
     fn groups<'a>(&self, own: &'a [Entry]) -> [(&'static str, &'a [Entry]); 9] {
         let (place, data, mark, level, text, one) = match self.purpose {
-            Purpose::Draw => ("Code", DATA, MARKS, LEVELS, TEXTS, SEGMENTS),
+            Purpose::Draw | Purpose::Damage => ("Code", DATA, MARKS, LEVELS, TEXTS, SEGMENTS),
+            Purpose::Exam => ("Code", NONE, NONE, NONE, NONE, NONE),
             Purpose::Several => ("Code", DATA, NONE, NORMAL_LEVELS, NONE, NONE),
             Purpose::Content(_) if self.has_its_level() => ("Input", FILES, NONE, NONE, NONE, NONE),
             Purpose::Content(_) => ("Input", FILES, MARKS, LEVELS, TEXTS, NONE),
@@ -226,7 +236,7 @@ impl Task {
             (NONE, NONE)
         };
         let lines = match self.purpose {
-            Purpose::Draw | Purpose::Content(_) | Purpose::Elements => LINES,
+            Purpose::Draw | Purpose::Damage | Purpose::Content(_) | Purpose::Elements => LINES,
             _ => NONE,
         };
         [
@@ -251,6 +261,11 @@ impl Task {
     /// Returns the size that the payload's format prescribes.
     pub fn own_size(&self) -> Option<&'static str> {
         self.is_bill().then_some("46mm")
+    }
+
+    /// Returns the default format, if it does not follow from the output.
+    pub fn own_format(&self) -> Option<&'static str> {
+        matches!(self.purpose, Purpose::Exam).then_some("png")
     }
 
     fn is_bill(&self) -> bool {

@@ -1,7 +1,7 @@
 //! Symbols with exactly so much damage.
 
-ghost use Rattle.std.specs.Prelude.{◌≡◌, ◌≢◌, ◌↔◌, ◌*◌, ℕ, Bool, List, length, IsTrue, IfOk, IfErr, IfSome, IfNone, IsOkUnless};
-ghost use Rattle.qrcode_types.specs.Versions.{is_valid, has_level, side};
+ghost use Rattle.std.specs.Prelude.{◌≡◌, ◌≢◌, ◌↔◌, ◌*◌, ◌/◌, ℕ, Bool, List, length, IsTrue, IfOk, IfErr, IfSome, IfNone, IsOkUnless};
+ghost use Rattle.qrcode_types.specs.Versions.{is_valid, has_level, side, ec_length};
 ghost use Rattle.qrcode_layout.specs.declared.masks.MaskPattern.{MaskPattern};
 ghost use Rattle.qrcode_symbol.specs.Reading.{ReadsBitsOnly};
 ghost use Rattle.qrcode.specs.Reading.{EncodesBits, EncodesBytes, ReadsOnly};
@@ -78,6 +78,15 @@ impl From<AllocError> for TooMuch {
     }
 }
 
+/// Returns how many wrong codewords of each block are within the promise: half as many as it has for
+/// error correction. `version` must have `ec_level`.
+pub fn most_codewords(version: Version, ec_level: EcLevel) -> usize
+    requires { IsTrue (has_level version ec_level) }
+    ensures { result ≡ ec_length version ec_level / 2 }
+{
+    blocks_of(version, ec_level).ec_length / 2
+}
+
 // Returns the number of bits of each copy of the version information.
 fn version_word_length(version: Version) -> usize
     requires { IsTrue (is_valid version) }
@@ -87,15 +96,14 @@ fn version_word_length(version: Version) -> usize
 }
 
 impl Damage {
-    /// Returns whether so much damage is within the promise: at most half as many codewords of each
-    /// block as it has for error correction, and at most three bits of each copy of the format
-    /// information. `version` must have `ec_level`.
+    /// Returns whether so much damage is within the promise: at most `most_codewords` codewords of
+    /// each block, and at most three bits of each copy of the format information. `version` must
+    /// have `ec_level`.
     pub fn is_promised(self, version: Version, ec_level: EcLevel) -> bool
         requires { IsTrue (has_level version ec_level) }
         ensures { IsTrue result ↔ IsPromised version ec_level self }
     {
-        let blocks = blocks_of(version, ec_level);
-        self.codewords <= blocks.ec_length / 2 && self.format_bits <= 3
+        self.codewords <= most_codewords(version, ec_level) && self.format_bits <= 3
     }
 
     /// Returns the first count that is too large for a symbol, or `None` if there is room for all.
@@ -164,6 +172,8 @@ pub fn damaged(
 ) -> Result<Vec<Color>, TooMuch>
     requires exists { IsTrue (has_level version ec_level) }
     requires square { length modules.now ≡ side version * side version }
+
+    ensures square { IfOk result (λ colors. length colors.items ≡ length modules.now) }
 
     // So it is whichever mask is taken off, so also under the symbol's own.
     ensures wrong { IfOk result (λ colors. (mask : MaskPattern)

@@ -4,6 +4,7 @@
 pub mod damage;
 mod drawn;
 mod errors;
+pub mod exam;
 mod flips;
 pub mod laws;
 pub mod random;

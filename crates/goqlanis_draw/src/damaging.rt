@@ -1,0 +1,98 @@
+//! `goqlanis damage`: codes with wrong codewords and bits.
+
+ghost use Rattle.std.specs.Prelude.{◌≡◌, length, IfOk};
+
+use goqlanis_core::masking::modules_under;
+use goqlanis_core::{Request, drawn, refusal_text};
+use goqlanis_files::failure::Failure;
+use goqlanis_files::{doubted, refused, usage};
+use goqlanis_options::asked::Asked;
+use goqlanis_options::exams::{AskedDamage, Wrong};
+use qrcode::QrCode;
+use qrcode::types::Color;
+use qrcode_damage::damage::{Damage, TooMuch, damaged, most_codewords};
+use std::alloc::Global;
+
+/// Returns the damage that is asked for, in this code.
+pub(crate) fn damage_in(code: &QrCode, asked: AskedDamage) -> Damage {
+    let most = most_codewords(code.version(), code.error_correction_level());
+    Damage {
+        codewords: match asked.codewords {
+            Wrong::Count(count) => count,
+            Wrong::Most => most,
+            Wrong::Beyond => most.saturating_add(1),
+        },
+        format_bits: asked.format_bits,
+        version_bits: asked.version_bits,
+        seed: asked.seed,
+    }
+}
+
+/// Draws a damaged code. Warns if so much damage need not be read.
+///
+/// Errors: `Usage` with a logo; `Refused` if the code has too few codewords or bits, or warnings
+/// are errors; `OutOfMemory`.
+pub(crate) fn draw_damaged(
+    rt: &HostRuntime,
+    asked: &Asked<'_, '_>,
+    wanted: AskedDamage,
+    code: &QrCode,
+) -> Result<Vec<u8>, Failure> {
+    let alloc = rt.alloc();
+    if asked.logo.is_some() {
+        return usage!(alloc; "--logo, --logo-area: a damaged code has no room for them");
+    }
+    let damage = damage_in(code, wanted);
+    if !damage.is_promised(code.version(), code.error_correction_level()) {
+        doubted!(rt, asked.is_strict;
+            "beyond what can be corrected: a reader may read nothing, but no other data"
+        )?;
+    }
+    damaged_drawing(alloc, &asked.request, code, damage)
+}
+
+/// Draws a code with this damage.
+///
+/// Errors: `Refused` if the code has too few codewords or bits, or lacks the mask; `OutOfMemory`.
+pub(crate) fn damaged_drawing(
+    alloc: Global,
+    request: &Request<'_>,
+    code: &QrCode,
+    damage: Damage,
+) -> Result<Vec<u8>, Failure> {
+    let modules = damaged_modules(alloc, request, code, damage)?;
+    match drawn(alloc, request, code, &modules, &[], None) {
+        Ok(drawing) => Ok(drawing),
+        Err(_) => Err(Failure::OutOfMemory),
+    }
+}
+
+// Returns the modules of a code, under the requested mask, with this damage.
+fn damaged_modules(
+    alloc: Global,
+    request: &Request<'_>,
+    code: &QrCode,
+    damage: Damage,
+) -> Result<Vec<Color>, Failure>
+    ensures { IfOk result (λ modules. length modules.items ≡ length code.now.modules) }
+{
+    // Its contract says that the modules are a square.
+    let _width = code.width();
+    let modules = match modules_under(alloc, code, request.mask) {
+        Ok(modules) => modules,
+        Err(error) => {
+            return Err(Failure::Refused(refusal_text(alloc, request, &[], error)?));
+        }
+    };
+    match damaged(
+        alloc,
+        code.version(),
+        code.error_correction_level(),
+        &modules,
+        damage,
+    ) {
+        Ok(modules) => Ok(modules),
+        Err(TooMuch::OutOfMemory) => Err(Failure::OutOfMemory),
+        Err(error) => refused!(alloc; "{error}"),
+    }
+}
