@@ -21,10 +21,10 @@ use std::{fs, io};
 struct Pair {
     version: Version,
     level: EcLevel,
-    number: usize,
+    number: u8,
 }
 
-static LEVELS: &[EcLevel] = &[EcLevel::L, EcLevel::M, EcLevel::Q, EcLevel::H];
+static LEVELS: [EcLevel; 4] = [EcLevel::L, EcLevel::M, EcLevel::Q, EcLevel::H];
 
 // The kinds of damage: name, wrong codewords, and wrong bits in each copy of format and version
 // information.
@@ -69,7 +69,7 @@ fn pairs_of(alloc: Global, list: Option<&str>) -> Result<Vec<Pair>, Failure> {
     let mut pairs = Vec::new(alloc);
     for word in list.unwrap_or("micro,normal").split(',') {
         let before = pairs.len();
-        for number in 0..44 * LEVELS.len() {
+        for number in 0..176 {
             push_named(alloc, &mut pairs, word.trim(), number)?;
         }
         if pairs.len() == before {
@@ -82,19 +82,14 @@ fn pairs_of(alloc: Global, list: Option<&str>) -> Result<Vec<Pair>, Failure> {
 }
 
 // Appends the pair with this number if it exists and `word` names it.
-fn push_named(
-    alloc: Global,
-    pairs: &mut Vec<Pair>,
-    word: &str,
-    number: usize,
-) -> Result<(), Failure> {
-    let place = number / LEVELS.len();
+fn push_named(alloc: Global, pairs: &mut Vec<Pair>, word: &str, number: u8) -> Result<(), Failure> {
+    let place = i16::from(number / 4);
     let version = if place < 4 {
-        Version::Micro(place as i16 + 1)
+        Version::Micro(place + 1)
     } else {
-        Version::Normal(place as i16 - 3)
+        Version::Normal(place - 3)
     };
-    let level = LEVELS[number % LEVELS.len()];
+    let level = LEVELS[(number % 4) as usize];
     let name = format!(in alloc; "{}-{level:?}", VersionName(version))?;
     let kind = if version.is_micro() {
         "micro"
@@ -111,7 +106,7 @@ fn push_named(
     Ok(())
 }
 
-// Writes the pictures of a version and level: of every other content, in turn.
+// Writes the pictures of a version and level: of all contents in Micro, else of every other one.
 fn write_pair(
     rt: &HostRuntime,
     asked: &Asked<'_, '_>,
@@ -119,8 +114,9 @@ fn write_pair(
     answers: &mut String,
 ) -> Result<(), Failure> {
     for (place, content) in CONTENTS.iter().enumerate() {
-        let turn = place + pair.number + pair.number / LEVELS.len();
-        if turn % 2 == 0 && content.exists_in(pair.version) {
+        let turn = place ^ usize::from(pair.number ^ (pair.number / 4));
+        let is_on = pair.version.is_micro() || turn % 2 == 0;
+        if is_on && content.exists_in(pair.version) {
             let case = case_of(rt.alloc(), asked, pair, content, place)?;
             for damage in DAMAGES {
                 write_picture(rt, asked, &case, damage, answers)?;
@@ -149,7 +145,9 @@ fn case_of(
     content: &Content,
     place: usize,
 ) -> Result<Case, Failure> {
-    let key = (pair.number * CONTENTS.len() + place) as u64;
+    let key = u64::from(pair.number)
+        .wrapping_mul(16)
+        .wrapping_add(place as u64);
     let mut random = Random::new(asked.exam.seed.wrapping_mul(1_000_003).wrapping_add(key));
     let Pair { version, level, .. } = pair;
     let Ok(question) = content.question(alloc, version, level, &mut random) else {

@@ -6,7 +6,6 @@ use crate::random::Random;
 use qrcode::QrCode;
 use qrcode::bits::Bits;
 use qrcode::types::{EcLevel, Mode, QrError, QrResult, Version};
-use qrcode_types::tables;
 use std::alloc::{AllocError, Global};
 
 // The header before the segments.
@@ -61,7 +60,7 @@ pub static CONTENTS: &[Content] = &[
 const LETTERS: &[u8; 45] = b"0123456789ABCDEFGHIJKLMNOPQRSTUVWXYZ $%*+-./:";
 
 // Some characters of Kanji mode, in Shift JIS and in UTF-8.
-static KANJI: &[(&[u8], &str)] = &[
+static KANJI: [(&[u8], &str); 4] = [
     (b"\x93\x5f", "点"),
     (b"\xe4\xaa", "茗"),
     (b"\x93\xfa", "日"),
@@ -105,7 +104,7 @@ impl Content {
         ec_level: EcLevel,
         random: &mut Random,
     ) -> QrResult<Question> {
-        if tables::capacity(version, ec_level).is_none() {
+        if !version.has_level(ec_level) {
             return Err(QrError::InvalidVersion);
         }
         let mut bits = Bits::new(alloc, version);
@@ -142,11 +141,11 @@ fn push_piece(
     random: &mut Random,
 ) -> QrResult<()> {
     let version = bits.version();
-    let head = version.mode_bits_count() + mode.length_bits_count(version);
     let room = bits
         .max_len(ec_level)?
         .saturating_sub(bits.len())
-        .saturating_sub(head);
+        .saturating_sub(version.mode_bits_count())
+        .saturating_sub(mode.length_bits_count(version));
     let most = most(mode, room);
     let count = if random.below(2) == 0 {
         most

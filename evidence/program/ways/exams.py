@@ -1,0 +1,103 @@
+"""Tests of exams and damage: the judge of evidence/judge counts what is wrong in the squares."""
+import hashlib
+import json
+from pathlib import Path
+
+import checked
+import reading
+from checked import blocks, form
+from room import empty, modules_of, put, run
+from spelling import spelled
+
+# The sum of the default exam: of answers.jsonl and all pictures, by name.
+SUM = ""
+# Pairs whose pictures are read.
+SOME = ["--pairs", "M1-L,M3-M,1-L,2-M,7-H,14-Q"]
+
+
+def _exam(program, folder, *words):
+    """Makes an exam, and returns its answers."""
+    run(program, ["exam", *words, folder], "/")
+    return [json.loads(line) for line in Path(folder, "answers.jsonl").read_text().splitlines()]
+
+
+def _version_copies(shape):
+    """Returns the places of each copy of the version word (Annex D)."""
+    if shape.is_micro or shape.number < 7:
+        return []
+    near = [(k // 3, shape.width - 11 + k % 3) for k in range(18)]
+    return [[y * shape.width + x for x, y in near], [x * shape.width + y for x, y in near]]
+
+
+def _damage(whole, other, answer):
+    """Returns the numbers of wrong codewords of each block, of wrong bits in each copy of the format
+    and of the version word, and of other wrong modules."""
+    shape, parts = form(answer["version"]), blocks(answer["version"], answer["level"])
+    found = [reading.words_of(shape.stream(it, answer["mask"]), len(shape.places), parts)
+             for it in (whole, other)]
+    differs = {place for place, pair in enumerate(zip(whole, other)) if len(set(pair)) > 1}
+    words = [sum(found[0][it] != found[1][it] for it in share) for share in parts.shares()]
+    copies, versions = shape.copies, _version_copies(shape)
+    known = {*shape.places[:parts.total * 8 - 4 * parts.has_half], *sum(copies + versions, [])}
+    return (words, [len(differs & set(it)) for it in copies], [len(differs & set(it)) for it in versions],
+            len(differs - known))
+
+
+def _is_right(folder, answer, whole):
+    """Whether a picture of one pixel a module has the damage that its answer says, and a whole one
+    the data."""
+    square = bytes(sum(modules_of(Path(folder, answer["name"]).read_bytes()), []))
+    words, formats, versions, others = _damage(whole.setdefault(answer["name"].rsplit("-", 1)[0], square),
+                                               square, answer)
+    counts = {(answer["wrong_codewords"], *words), (answer["wrong_format_bits"], *formats),
+              (answer["wrong_version_bits"], *versions)}
+    if others or any(len(set(it)) > 1 for it in counts):
+        return False
+    pair = answer["version"], answer["level"]
+    parts = blocks(*pair)
+    most, kept = parts.ec // 2, checked.PROTECTION.get(pair, 0)
+    allowed = (parts.ec * parts.count - kept) // 2 // parts.count
+    is_promised = answer["wrong_codewords"] <= most and answer["wrong_format_bits"] <= 3
+    if (answer["goqlanis_reads"], answer["standard_corrects"]) != (is_promised, allowed):
+        return False
+    if answer["damage"] != "whole":
+        return answer["wrong_codewords"] == most + (answer["damage"] == "beyond")
+    bits = reading.read_bits(square)
+    held = spelled(form(bits.version), bits.bits).data.hex()
+    return ((bits.version, bits.level, bits.mask, bits.wrong, held) ==
+            (answer["version"], answer["level"], answer["mask"], 0, answer["bytes"]))
+
+
+def exam_is_as_its_answers_say(program):
+    """All squares of the default exam: their damage, and the data of whole ones."""
+    with empty() as folder:
+        answers, whole = _exam(program, folder, "-f", "pbm", "-s", "1", "-q", "0"), {}
+        pairs = {(it["version"], it["level"]) for it in answers}
+        return len(pairs) == 168 and all(_is_right(folder, it, whole) for it in answers)
+
+
+def default_exam_is_the_same(program):
+    """The files of the default exam have the stored sum."""
+    with empty() as folder:
+        _exam(program, folder)
+        found = hashlib.sha256()
+        for path in sorted(Path(folder).iterdir()):
+            found.update(f"{path.name} {path.stat().st_size}\n".encode() + path.read_bytes())
+        return found.hexdigest() == SUM
+
+
+def exam_is_passed(program):
+    """goqlanis passes an exam; with other data, or nothing, in place of one reading it does not."""
+    with empty() as folder:
+        answers = _exam(program, folder, *SOME)
+        names = [it["name"] for it in answers]
+        said = json.loads(run(program, ["read", "--json", *names], folder).stdout)
+        held = {it["file"]: it["hex"] for it in said}
+        first = answers[0]["name"]
+        for change, status in (({}, 0), ({first: "00"}, 1), ({first: None}, 1)):
+            results = {name: hex for name, hex in {**held, **change}.items() if hex is not None}
+            put(folder, "results", "".join(f"{it}\t{hex}\n" for it, hex in results.items()).encode())
+            ran = run(program, ["exam", "--grade", "answers.jsonl", "results"], folder)
+            if ran.returncode != status or (first in ran.stdout.decode()) != bool(status):
+                return False
+        return set(it["name"] for it in answers if it["goqlanis_reads"]) <= set(held)
