@@ -89,8 +89,12 @@ fn draw_code(alloc: Global, asked: &Asked<'_, '_>, code: QrCode) -> Result<Shown
 // The maximum side, in pixels, of uncompressed formats, which are drawn in memory: 0.8 GB for PPM.
 const GREATEST_WHOLE: u32 = 16_384;
 
-// Checks that a side has no more pixels than the format allows, and at least one per module.
-fn check_side(alloc: Global, asked: &Asked<'_, '_>, code: &QrCode) -> Result<(), Failure> {
+/// Checks that a side has no more pixels than the format allows, and at least one per module.
+pub(crate) fn check_side(
+    alloc: Global,
+    asked: &Asked<'_, '_>,
+    code: &QrCode,
+) -> Result<(), Failure> {
     let request = &asked.request;
     let modules = code.width() as u32 + 2 * quiet_zone(request, code);
     let scale = scale(request, code);

@@ -1,6 +1,7 @@
 //! `goqlanis exam`: pictures of whole and damaged codes, and what readers must read.
 
 use crate::damaging::{damage_in, damaged_drawing};
+use crate::drawing::check_side;
 use goqlanis_core::{Request, VersionName};
 use goqlanis_files::failure::Failure;
 use goqlanis_files::streams::{shown, write_file};
@@ -41,6 +42,9 @@ static DAMAGES: &[(&str, Wrong, usize)] = &[
 pub(crate) fn write_exam(rt: &HostRuntime, asked: &Asked<'_, '_>) -> Result<ExitCode, Failure> {
     if !matches!(asked.target, Target::Terminal) {
         return usage!(rt.alloc(); "--output: the pictures go to FOLDER");
+    }
+    if asked.logo.is_some() || asked.is_dry {
+        return usage!(rt.alloc(); "--logo, --logo-area, --dry-run: exams have none");
     }
     let folder = asked.exam.path;
     let pairs = pairs_of(rt.alloc(), asked.exam.pairs)?;
@@ -118,6 +122,7 @@ fn write_pair(
         let is_on = pair.version.is_micro() || turn % 2 == 0;
         if is_on && content.exists_in(pair.version) {
             let case = case_of(rt.alloc(), asked, pair, content, place)?;
+            check_side(rt.alloc(), asked, &case.question.code)?;
             for damage in DAMAGES {
                 write_picture(rt, asked, &case, damage, answers)?;
             }
@@ -176,15 +181,13 @@ fn write_picture(
 ) -> Result<(), Failure> {
     let (damage_name, codewords, bits) = *kind;
     let code = &case.question.code;
-    let damage = damage_in(
-        code,
-        AskedDamage {
-            codewords,
-            format_bits: bits,
-            version_bits: if code.width() < 45 { 0 } else { bits },
-            seed: case.seed,
-        },
-    );
+    let wanted = AskedDamage {
+        codewords,
+        format_bits: bits,
+        version_bits: if code.width() < 45 { 0 } else { bits },
+        seed: case.seed,
+    };
+    let damage = damage_in(code, wanted);
     let request = Request {
         mask: Some(case.mask),
         ..asked.request
@@ -192,11 +195,8 @@ fn write_picture(
     let ending = request.format.row().ending.unwrap_or("txt");
     let name = format!(in rt.alloc(); "{}-{damage_name}.{ending}", case.name)?;
     let path = format!(in rt.alloc(); "{}/{name}", asked.exam.path)?;
-    write_file(
-        rt,
-        path.as_str(),
-        &damaged_drawing(rt.alloc(), &request, code, damage)?,
-    )?;
+    let drawing = damaged_drawing(rt.alloc(), &request, code, damage)?;
+    write_file(rt, path.as_str(), &drawing)?;
     push_answer(answers, case, damage_name, name.as_str(), damage)
 }
 
@@ -216,21 +216,20 @@ fn push_answer(
     let alloc = *answers.allocator();
     let bytes = hex::encode(alloc, &case.question.answer.bytes)?;
     let text = hex::encode(alloc, &case.question.answer.text)?;
-    let (codewords, format_bits, version_bits) = (
-        damage.codewords,
-        damage.format_bits,
-        damage.version_bits,
-    );
     write!(
         answers,
         "{{\"name\": \"{name}\", \"must_read\": {must}, \"goqlanis_reads\": {is_corrected}, \
-        \"bytes\": \"{bytes}\", \"text\": \"{text}\", \"version\": \"{}\", \"level\": \"{level:?}\", \
-        \"mask\": {}, \"content\": \"{}\", \"damage\": \"{damage_name}\", \
-        \"wrong_codewords\": {codewords}, \"wrong_format_bits\": {format_bits}, \
-        \"wrong_version_bits\": {version_bits}, \"standard_corrects\": {standard}}}\n",
+        \"bytes\": \"{bytes}\", \"text\": \"{text}\", \"version\": \"{}\", \
+        \"level\": \"{level:?}\", \"mask\": {}, \"content\": \"{}\", ",
         VersionName(version),
         case.mask,
         case.content
+    )?;
+    write!(
+        answers,
+        "\"damage\": \"{damage_name}\", \"wrong_codewords\": {}, \"wrong_format_bits\": {}, \
+        \"wrong_version_bits\": {}, \"standard_corrects\": {standard}}}\n",
+        damage.codewords, damage.format_bits, damage.version_bits
     )?;
     Ok(())
 }

@@ -1,5 +1,5 @@
+pub mod Carried
 pub mod Counted
-pub mod Drawn
 pub mod Flipped
 pub mod Places
 pub mod Promised

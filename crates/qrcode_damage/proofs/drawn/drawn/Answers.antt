@@ -5,7 +5,7 @@ use Rattle.qrcode_types.specs.declared.types.Color.{Color}
 use Rattle.qrcode_layout.specs.Masks.{nth_mask}
 use Rattle.qrcode_symbol.specs.Canvas.{colors_of}
 use Rattle.qrcode_symbol.specs.Symbol.{Carries}
-use Rattle.qrcode_damage.proofs.Drawn.{drawn_is}
+use Rattle.qrcode_damage.proofs.Carried.{drawn_is}
 use Rattle.qrcode_damage.proofs.Places.{high_front}
 use Rattle.qrcode_damage.proofs.drawn.drawn.Goals as goal
 
