@@ -1,10 +1,10 @@
 -- The symbol of the wrong codewords.
-use Rattle.std.proofs.Common.{◌≡◌, ◌-◌, ◌%◌, ◌++◌, ℕ, List, length, IsTrue, refl, sym, ap, ap₂, ◌∙◌, subst}
-use Rattle.qrcode_types.specs.Versions.{has_level, has_half_codeword, data_length, total_ec_length}
+use Rattle.std.proofs.Common.{◌≡◌, ◌++◌, ℕ, List, length, IsTrue, sym, ap, ap₂, ◌∙◌, subst}
+use Rattle.qrcode_types.specs.Versions.{has_level, data_length, total_ec_length}
 use Rattle.qrcode_types.specs.declared.types.Version.{Version}
 use Rattle.qrcode_types.specs.declared.types.EcLevel.{EcLevel}
 use Rattle.qrcode_types.specs.declared.types.Color.{Color}
-use Rattle.qrcode_layout.specs.Masks.{exists_in, mask_count}
+use Rattle.qrcode_layout.specs.Masks.{exists_in}
 use Rattle.qrcode_layout.specs.declared.masks.MaskPattern.{MaskPattern}
 use Rattle.qrcode_symbol.specs.Canvas.{Drawing, blank, colors_of, drawn_bits, with_bits_drawn, with_patterns, with_mask}
 use Rattle.qrcode_symbol.specs.Carried.{CarriesAll, HasZeroHalf}

@@ -1,13 +1,12 @@
 -- A square in which some modules are reversed: exactly the codewords and bits with such a module differ.
-use Rattle.std.proofs.Common.{◌≡◌, ℕ, zero, suc, ◌+◌, ◌-◌, ◌*◌, ◌/◌, ◌%◌, ◌<◌, ◌≤◌, ◌==◌, not, Bool, true, false, true≢false, cond, List, [], ◌∷◌, ◌++◌, length, map, drop, get_or, slice_index, refl, sym, ap, ap₂, ◌∙◌, arith, subst, IsTrue, is_some, length-append}
-use Rattle.std.specs.List.{AllByRecursion, AllZip, count_by, range_with_len, list_all}
+use Rattle.std.proofs.Common.{◌≡◌, ℕ, zero, suc, ◌+◌, ◌-◌, ◌*◌, ◌<◌, ◌≤◌, not, Bool, true, false, true≢false, cond, List, [], ◌∷◌, ◌++◌, length, map, drop, get_or, slice_index, refl, sym, ap, ap₂, ◌∙◌, arith, IsTrue, length-append}
+use Rattle.std.specs.List.{AllByRecursion, count_by, range_with_len}
 use Rattle.std.proofs.lemmas.Nat.{div-mul-add, mod-mul-add, mul-add-lt}
 use Rattle.std.proofs.lemmas.Bool.Decides.{nat_tests}
 use Rattle.std.proofs.lemmas.List.{get_or-drop}
 use Rattle.std.proofs.lemmas.List.FromFn.{get_or-map-range_with_len, length-map-range_with_len, map-range_with_len_more}
-use Rattle.qrcode_types.specs.Bits.{bit_distance}
-use Rattle.qrcode_types.specs.Colors.{is_dark, opposite}
-use Rattle.qrcode_types.specs.Versions.{is_valid, has_level, side, block_lengths, ec_length, data_length, capacity, total_ec_length}
+use Rattle.qrcode_types.specs.Colors.{is_dark}
+use Rattle.qrcode_types.specs.Versions.{is_valid, side, block_lengths, ec_length, data_length, capacity, total_ec_length}
 use Rattle.qrcode_types.specs.declared.types.Version.{Version}
 use Rattle.qrcode_types.specs.declared.types.EcLevel.{EcLevel}
 use Rattle.qrcode_types.specs.declared.types.Color.{Color}
@@ -16,16 +15,15 @@ use Rattle.qrcode_ec.specs.Blocks.{codewords, block, blocks, interleaved_place}
 use Rattle.qrcode_ec.specs.Codes.{distance}
 use Rattle.qrcode_layout.specs.Laws.{IsInside, IsFormatCopy}
 use Rattle.qrcode_layout.specs.Masks.{turns, turned_if, nth_mask}
-use Rattle.qrcode_layout.specs.Patterns.{pattern, format_copies, is_functional_place}
+use Rattle.qrcode_layout.specs.Patterns.{format_copies, is_functional_place}
 use Rattle.qrcode_layout.specs.Stream.{color_at, stream, zigzag, free_places}
 use Rattle.qrcode_layout.specs.declared.masks.MaskPattern.{MaskPattern}
 use Rattle.qrcode_layout.proofs.FormatPlaces.{format_copies_are_indexed}
-use Rattle.qrcode_symbol.specs.Symbol.{bits_at, blocks_in}
 use Rattle.qrcode_area.specs.Areas.{marks, block_in}
 use Rattle.qrcode_area.proofs.Beside.{distance_at_most, counted, zip_range, all_with, all_mapped}
 use Rattle.qrcode_area.proofs.Marked.{SameUnmarked, SameWord, UnmarkedSame, WordSame, unmarked_words, words_unmarked, codewords_related, none_in_block, all_in_block}
 use Rattle.qrcode_area.proofs.Shown.{streams_related, copy_inside}
-use Rattle.qrcode_damage.specs.Damage.{IsWrongBy, wrong_bits, version_copies, has_version_word, upper_place, lower_place, is_version_place}
+use Rattle.qrcode_damage.specs.Damage.{IsWrongBy, wrong_bits, version_copies, has_version_word, upper_place, lower_place}
 use Rattle.qrcode_damage.specs.Errors.{is_free_wrong, is_wrong, opposite_if, flipped_module, flipped, AreErrors}
 use Rattle.qrcode_damage.specs.declared.damage.Damage.{Damage}
 use Rattle.qrcode_damage.specs.declared.errors.Errors.{Errors}
@@ -187,6 +185,6 @@ wrong_by v l k d e s other errors f =
       version = all_with inside (λ places. number places ≡ d.version_bits) (λ places. wrong_bits v s other places ≡ d.version_bits) (version_copies v)
           (λ places i n. bits_wrong v wrong s other f places i ∙ n) (versions_inside v) (versions_counted v l d e f.valid errors);
       patterns = λ x y i j some apart.
-          sym (color_flipped v wrong s other f x y i j ∙ ap (λ a. opposite_if a (color_at v s x y)) (pattern_right v e x y f.valid some no));
+          sym (color_flipped v wrong s other f x y i j ∙ ap (λ a. opposite_if a (color_at v s x y)) (pattern_right v e x y f.valid some apart));
       remainder = rest_right v l k d e s other errors f;
     }

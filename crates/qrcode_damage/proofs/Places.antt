@@ -1,6 +1,6 @@
 -- Where the codewords of a block are.
-use Rattle.std.proofs.Common.{◌≡◌, ◌≢◌, ◌==◌, not, ℕ, zero, suc, ◌+◌, ◌-◌, ◌*◌, ◌/◌, ◌%◌, ◌<◌, ◌≤◌, nat_le, ltb, leb, cond, Bool, true, false, List, [], ◌∷◌, ◌++◌, length, map, take, replicate, get_or, get_or-set_same, get_or-set_other, below_more, slice_index, inl, inr, refl, sym, ap, ap₂, ◌∙◌, arith}
-use Rattle.std.specs.List.{range_with_len, sum_by, count_by}
+use Rattle.std.proofs.Common.{◌≡◌, ◌≢◌, ◌==◌, not, ℕ, zero, suc, ◌+◌, ◌-◌, ◌*◌, ◌/◌, ◌%◌, ◌<◌, ◌≤◌, ltb, leb, cond, Bool, false, List, [], ◌∷◌, ◌++◌, length, map, take, replicate, get_or, get_or-set_same, get_or-set_other, below_more, slice_index, inl, inr, refl, sym, ap, ap₂, ◌∙◌, arith}
+use Rattle.std.specs.List.{range_with_len}
 use Rattle.std.proofs.Math.ListN.{set}
 use Rattle.std.proofs.lemmas.Bool.{cases_lt, cases_eq, lt-ltb, le-ltb}
 use Rattle.std.proofs.lemmas.Bool.Decides.{leb_tells}
@@ -12,7 +12,7 @@ use Rattle.qrcode_types.specs.Blocks.{AreBlocks, count_of, data_length_of}
 use Rattle.qrcode_types.specs.declared.types.Version.{Version}
 use Rattle.qrcode_types.specs.declared.types.EcLevel.{EcLevel}
 use Rattle.qrcode_types.specs.declared.tables.Blocks.{Blocks}
-use Rattle.qrcode_types.specs.Versions.{block_lengths, blocks_entry}
+use Rattle.qrcode_types.specs.Versions.{block_lengths}
 use Rattle.qrcode_ec.specs.Blocks.{block}
 use Rattle.qrcode_ec.proofs.Places.{short_and_long, length_at}
 use Rattle.qrcode_reader.specs.Parts.{data_part, ec_part}

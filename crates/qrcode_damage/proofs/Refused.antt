@@ -1,8 +1,9 @@
 -- Which counts are refused.
-use Rattle.std.proofs.Common.{arith}
+use Rattle.std.proofs.Common.{ℕ, ◌≤◌, Bool, true, false, nat_le, cond, arith}
+use Rattle.qrcode_types.specs.Versions.{side}
 use Rattle.qrcode_types.specs.declared.types.Version.{Version}
 use Rattle.qrcode_types.specs.declared.types.EcLevel.{EcLevel}
-use Rattle.qrcode_damage.specs.Damage.{HasRoomFor, IsTooMuch}
+use Rattle.qrcode_damage.specs.Damage.{HasRoomFor, IsTooMuch, version_word_length}
 use Rattle.qrcode_damage.specs.declared.damage.Damage.{Damage}
 use Rattle.qrcode_damage.specs.declared.damage.TooMuch.{TooMuch}
 use Rattle.qrcode_damage.specs.declared.damage.TooMuch.TheVariants.{Codewords, FormatBits, VersionBits, OutOfMemory}
@@ -13,3 +14,9 @@ too_much_is_not v l d (Codewords most) x room = absurd (omega (arith, x.0, x.1, 
 too_much_is_not v l d FormatBits x room = absurd (omega (arith, x.1, room.format))
 too_much_is_not v l d (VersionBits most) x room = absurd (omega (arith, x.0, x.1.0, room.version))
 too_much_is_not v l d OutOfMemory x room = x
+
+pub at_most_18 : (v : Version) → version_word_length v ≤ 18
+at_most_18 v = go (nat_le 45 (side v)) where
+  go : (b : Bool) → cond {A = ℕ} b 18 0 ≤ 18
+  go true = omega arith
+  go false = omega arith

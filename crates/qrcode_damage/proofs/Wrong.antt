@@ -1,5 +1,5 @@
 -- Which modules are wrong, kind by kind.
-use Rattle.std.proofs.Common.{◌≡◌, ◌≢◌, ℕ, ◌+◌, ◌-◌, ◌*◌, ◌/◌, ◌%◌, ◌<◌, ◌≤◌, ◌==◌, nat_le, nat_lt, nat_abs, Bool, true, false, not, cond, ◌&&◌, ◌||◌, List, [], ◌∷◌, ◌++◌, map, get_or, Option, Some, None, is_some, pos, negsuc, true≢false, refl, sym, ap, ap₂, ◌∙◌, arith, subst, IsTrue}
+use Rattle.std.proofs.Common.{◌≡◌, ◌≢◌, ℕ, ◌+◌, ◌-◌, ◌*◌, ◌/◌, ◌%◌, ◌<◌, ◌≤◌, nat_le, nat_lt, Bool, true, false, cond, ◌&&◌, ◌||◌, List, [], ◌∷◌, ◌++◌, map, Option, Some, None, is_some, pos, negsuc, true≢false, refl, sym, ap, ◌∙◌, arith, subst, IsTrue}
 use Rattle.std.specs.List.{range_with_len, count_by, AllByRecursion}
 use Rattle.std.proofs.lemmas.Bool.{or_left, or_right, le-ltb}
 use Rattle.std.proofs.lemmas.Bool.Decides.{nat_tests}

@@ -1,10 +1,9 @@
 -- A symbol in which exactly so much is wrong.
-use Rattle.std.specs.Prelude.{◌≡◌, ◌+◌, ◌-◌, ◌*◌, ◌/◌, ◌%◌, ◌<◌, ◌≤◌, nat_le, nat_abs, ℕ, Bool, true, false, List, [], ◌∷◌, length, map, slice_index_or, is_some, IsTrue, if◌then◌else◌}
+use Rattle.std.specs.Prelude.{◌≡◌, ◌+◌, ◌-◌, ◌*◌, ◌/◌, ◌%◌, ◌<◌, ◌≤◌, nat_le, ℕ, Bool, false, List, [], ◌∷◌, length, map, slice_index_or, is_some, IsTrue, if◌then◌else◌}
 use Rattle.std.specs.List.{range_with_len, list_any, AllByRecursion, AllZip}
 use Rattle.qrcode_types.specs.Bits.{bit_distance}
 use Rattle.qrcode_types.specs.Versions.{side, capacity, ec_length, total_ec_length}
 use Rattle.qrcode_types.specs.declared.types.Version.{Version}
-use Rattle.qrcode_types.specs.declared.types.Version.TheVariants.{Normal, Micro}
 use Rattle.qrcode_types.specs.declared.types.EcLevel.{EcLevel}
 use Rattle.qrcode_types.specs.declared.types.Color.{Color}
 use Rattle.qrcode_ec.specs.Codes.{distance}

@@ -1,5 +1,5 @@
 -- Bytes that say what is wrong: a byte that is not zero stands for a wrong codeword or a wrong bit.
-use Rattle.std.specs.Prelude.{◌≡◌, ◌+◌, ◌-◌, ◌*◌, ◌%◌, ◌==◌, nat_lt, nat_le, ℕ, Bool, not, List, count_by, slice_index, if◌then◌else◌}
+use Rattle.std.specs.Prelude.{◌≡◌, ◌+◌, ◌-◌, ◌*◌, ◌%◌, ◌==◌, nat_lt, nat_le, ℕ, not, List, count_by, slice_index, if◌then◌else◌}
 use Rattle.qrcode_types.specs.Blocks.{count_of, data_length_of}
 use Rattle.qrcode_types.specs.Versions.{block_lengths, ec_length}
 use Rattle.qrcode_types.specs.declared.types.Version.{Version}

@@ -16,7 +16,7 @@ use crate::random::Random;
 use crate::words::{blocks_of, wrong_words};
 use qrcode_types::types::{Color, EcLevel, QrResult, Version};
 use qrcode_types::versions::side;
-use std::alloc::{AllocError, Global};
+use std::alloc::Global;
 use std::error::Error;
 use std::fmt;
 
@@ -69,14 +69,6 @@ impl fmt::Display for TooMuch {
 }
 
 impl Error for TooMuch {}
-
-impl From<AllocError> for TooMuch {
-    ghost from_gives = { λ _ e. e ≡ OutOfMemory };
-
-    fn from(_error: AllocError) -> TooMuch {
-        TooMuch::OutOfMemory
-    }
-}
 
 /// Returns how many wrong codewords of each block are within the promise: half as many as it has for
 /// error correction. `version` must have `ec_level`.
@@ -156,6 +148,32 @@ fn chosen_errors(
     })
 }
 
+// Returns these modules of a symbol with so much damage, for which there is room.
+fn with_errors(
+    alloc: Global,
+    version: Version,
+    ec_level: EcLevel,
+    modules: &[Color],
+    damage: Damage,
+) -> QrResult<Vec<Color>>
+    requires exists { IsTrue (has_level version ec_level) }
+    requires square { length modules.now ≡ side version * side version }
+    requires room { HasRoomFor version ec_level damage }
+    ensures square { IfOk result (λ colors. length colors.items ≡ length modules.now) }
+    ensures wrong { IfOk result (λ colors. (mask : MaskPattern)
+        → IsWrongBy version ec_level mask damage modules.now colors.items) }
+    ensures read { IsPromised version ec_level damage
+        → IfOk result (λ colors. (bits : List Bool) (bytes : List ℕ)
+        → EncodesBytes version ec_level bits bytes modules.now → ReadsOnly colors.items bytes) }
+    ensures read_bits { IsPromised version ec_level damage
+        → IfOk result (λ colors. (bits : List Bool)
+        → EncodesBits version ec_level bits modules.now
+        → ReadsBitsOnly colors.items version ec_level bits) }
+{
+    let errors = chosen_errors(alloc, version, ec_level, damage)?;
+    Ok(flipped(alloc, version, modules, &errors)?)
+}
+
 /// Returns these modules of a symbol, row by row, with exactly so much damage: wrong are so many
 /// codewords of each block, so many bits of each copy of the format and of the version information,
 /// and no other module. `damage.seed` decides which; equal seeds give equal squares. The version
@@ -193,11 +211,11 @@ pub fn damaged(
         → EncodesBits version ec_level bits modules.now
         → ReadsBitsOnly colors.items version ec_level bits) }
 {
-    if let Some(error) = damage.excess(version, ec_level) {
-        return Err(error);
+    match damage.excess(version, ec_level) {
+        Some(error) => Err(error),
+        None => match with_errors(alloc, version, ec_level, modules, damage) {
+            Ok(colors) => Ok(colors),
+            Err(_) => Err(TooMuch::OutOfMemory),
+        },
     }
-    let Ok(errors) = chosen_errors(alloc, version, ec_level, damage) else {
-        return Err(TooMuch::OutOfMemory);
-    };
-    Ok(flipped(alloc, version, modules, &errors)?)
 }

@@ -1,6 +1,6 @@
-use Rattle.std.proofs.Common.{◌≡◌, ◌≢◌, ◌+◌, ◌<◌, ℕ, get_or}
+use Rattle.std.proofs.Common.{◌≡◌, ◌≢◌, ◌<◌, ℕ, get_or}
 use Rattle.qrcode_types.specs.Blocks.{count_of}
-use Rattle.qrcode_damage.specs.Flips.{AreHigh, length_in, place_of}
+use Rattle.qrcode_damage.specs.Flips.{AreHigh, place_of}
 use Rattle.qrcode_damage.proofs.words.put_block.Given as goal
 
 abbrev pub invariant-loop-i : goal.invariant-loop-i
