@@ -9,10 +9,9 @@ from checked import blocks, form
 from room import empty, modules_of, put, run
 from spelling import spelled
 
-# The sum of the default exam: of answers.jsonl and all pictures, by name.
-SUM = ""
-# Pairs whose pictures are read.
+# Some pairs, and the sum of their answers.jsonl and pictures, by name.
 SOME = ["--pairs", "M1-L,M3-M,1-L,2-M,7-H,14-Q"]
+SUM = "753e30489ae23df2ad2b16ac5a35e52eb36ae153f11d2114bce26efadfb453a3"
 
 
 def _exam(program, folder, *words):
@@ -76,10 +75,10 @@ def exam_is_as_its_answers_say(program):
         return len(pairs) == 168 and all(_is_right(folder, it, whole) for it in answers)
 
 
-def default_exam_is_the_same(program):
-    """The files of the default exam have the stored sum."""
+def exam_is_the_same(program):
+    """The files of an exam have the stored sum."""
     with empty() as folder:
-        _exam(program, folder)
+        _exam(program, folder, *SOME)
         found = hashlib.sha256()
         for path in sorted(Path(folder).iterdir()):
             found.update(f"{path.name} {path.stat().st_size}\n".encode() + path.read_bytes())
