@@ -56,7 +56,7 @@ typedef uint32_t goq_answer;
     X(NO_SUCH_LEVEL, 1, "no such error correction level: use GOQ_L, GOQ_M, GOQ_Q or GOQ_H") \
     X(NO_SUCH_VERSION, 2, "no such version: use 1 to 40, or GOQ_MICRO(1) to GOQ_MICRO(4)") \
     X(LEVEL_NOT_IN_VERSION, 3, "the version has no such level: use level L or a Normal version") \
-    X(TOO_LONG, 4, "the data is longer than 1,048,576 bytes; no symbol holds more than 7,089") \
+    X(TOO_LONG, 4, "the data is longer than 1,048,576 bytes; no code holds more than 7,089") \
     X(NO_MODE, 5, "the Micro version lacks a mode that the data needs: use a Normal version") \
     X(NO_ROOM, 6, "the data does not fit: use a lower level or a larger version, or split it") \
     X(SMALL_BUFFER, 7, "an output buffer is too small for the result; nothing was written") \
@@ -69,21 +69,21 @@ typedef uint32_t goq_answer;
     X(NOT_IN_MODE, 14, "a segment has bytes that its mode cannot encode: use byte mode") \
     X(NO_SUCH_NUMBER, 15, "a number is too large: ECI ends at 999,999, FNC1 at 255, counts at 16") \
     X(NO_SUCH_SIDE, 16, "no version has that many modules: give them without a quiet zone") \
-    X(NO_FORMAT, 17, "the format information is too damaged, or the symbol is not upright") \
-    X(DAMAGED, 18, "the symbol is damaged: a block has more errors than can be corrected") \
+    X(NO_FORMAT, 17, "the format information is too damaged, or the code is not upright") \
+    X(DAMAGED, 18, "the code is damaged: a block has more errors than can be corrected") \
     X(NOT_SPELLED, 19, "the data bits are invalid, or have a header that this call does not take") \
     X(NO_SUCH_STRUCT, 20, "the field `size` is wrong: initialise with GOQ_OPTIONS or the like") \
     X(NO_SUCH_MANNER, 21, "no such manner: use one that the struct allows, as GOQ_AS_BYTES") \
     X(NO_SUCH_MASK, 22, "no such mask: Normal versions have 0 to 7, Micro versions 0 to 3") \
     X(NOT_IN_FORMAT, 23, "the format cannot have these colours, or dots per inch: use GOQ_PNG") \
     X(NOT_SHOWN, 24, "the data is not all UTF-8 text: goq_read may still give its bytes") \
-    X(NOT_SEVERAL, 25, "the symbol is not one of several: it lacks a structured append header") \
-    X(STRANGER, 26, "the symbol belongs to other data than the first one") \
-    X(MISSING, 27, "one of the symbols that the data was split over is missing") \
-    X(TWICE, 28, "one of the symbols that the data was split over was given twice") \
-    X(PARITY, 29, "the symbols do not belong together: the parity of their data is wrong") \
+    X(NOT_SEVERAL, 25, "the code is not one of several: it has no structured append header") \
+    X(STRANGER, 26, "the code belongs to other data than the first one") \
+    X(MISSING, 27, "one of the codes that the data was split over is missing") \
+    X(TWICE, 28, "one of the codes that the data was split over was given twice") \
+    X(PARITY, 29, "the codes do not belong together: the parity of their data is wrong") \
     X(NOT_READ, 30, "the square does not decode in any of the sixteen positions") \
-    X(NO_SUCH_AREA, 31, "the area has no rectangle, or one that is empty or leaves the symbol") \
+    X(NO_SUCH_AREA, 31, "the area has no rectangle, or one that is empty or leaves the code") \
     X(NO_SUCH_CONTENT, 32, "no such kind of payload: use GOQ_WIFI to GOQ_PROMPTPAY") \
     X(NO_SUCH_FIELD, 33, "there are more fields than this kind of payload has") \
     X(FIELD_EMPTY, 34, "the field must not be empty") \

@@ -21,7 +21,7 @@ export function payload(kind, fields) {
             buffers.structs("goq_field", rows), rows.length, out, BYTES_MAX, count, place);
         if (said === "SMALL_BUFFER")
             throw new QrError(
-                "NoRoom", `no symbol holds a text of more than ${grouped(BYTES_MAX)} bytes`);
+                "NoRoom", `no code holds a text of more than ${grouped(BYTES_MAX)} bytes`);
         if (CAUSES[said]?.[2])
             throw wrongField(said, names[buffers.sizes(place)[0]] ?? "text");
         refuse(said);
@@ -69,7 +69,7 @@ export function gs1(elements) {
         throw new QrError(CAUSES[said][0], `element ${at + 1}${wrongElement(said, pairs[at])}`,
             `elements[${at}]`);
     if (said === "SMALL_BUFFER")
-        throw refusal("NO_ROOM", `no symbol holds a text of more than ${grouped(BYTES_MAX)} bytes`);
+        throw refusal("NO_ROOM", `no code holds a text of more than ${grouped(BYTES_MAX)} bytes`);
     refuse(said);
     return data;
 }

@@ -73,7 +73,7 @@ function scaleOf({ scale, size, dpi }, format, across) {
         : Math.floor(Number(millimetres[1]) * checks.whole("dpi", dots, 1, MOST_SIDE) * 10 / 254),
         1, MOST_SIDE, "NoSuchSize");
     if (pixels < across)
-        throw new QrError("NoSuchSize", `a side of ${pixels} pixels: the symbol and its quiet zone `
+        throw new QrError("NoSuchSize", `a side of ${pixels} pixels: the code and its quiet zone `
             + `have ${across} modules a side: take a larger size, or a smaller quietZone`);
     return Math.floor(pixels / across);
 }
@@ -89,7 +89,7 @@ function inkOf(look, format) {
         throw new QrError("NotInFormat",
             `${name} has only opaque colours; PNG and SVG have transparent ones`);
     if (dark === light)
-        throw new RangeError(`dark and light are the same colour, ${shown(look.dark)}: the symbol `
+        throw new RangeError(`dark and light are the same colour, ${shown(look.dark)}: the code `
             + "would be invisible");
     if (look.dpi !== null && format !== "png")
         throw new QrError("NotInFormat", `${name} has no dots per inch: only PNG has dpi`);

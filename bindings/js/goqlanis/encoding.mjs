@@ -227,7 +227,7 @@ function noRoom(make, it, said) {
     const areHeld = isData && it.manner !== AS_MARKED_TEXT
         && ask(askParts(several), SEVERAL_MAX)[0] === "OK";
     return `${text}; no level holds them`
-        + (areHeld ? ": encodeSequence splits them over several symbols" : "");
+        + (areHeld ? ": encodeSequence splits them over several codes" : "");
 }
 
 /** Names the smallest version, and the highest level, that would hold the data. */
@@ -255,11 +255,11 @@ function mostBytes(it) {
 function refusedParts(it, found) {
     const last = versionName(it.max_version);
     if (found === "NO_ROOM")
-        return refusal(found, `${grouped(it.data.length)} bytes: ${it.wanted || 16} symbols up to `
+        return refusal(found, `${grouped(it.data.length)} bytes: ${it.wanted || 16} codes up to `
             + `version ${last} at level ${LEVELS[it.level]} do not hold them; take a larger version or `
-            + `a lower level${it.wanted % 16 ? ", or more symbols" : ""}`);
+            + `a lower level${it.wanted % 16 ? ", or more codes" : ""}`);
     return refusal(found, found !== "NO_SUCH_VERSION" ? "" : `versions ${versionName(it.min_version)} `
-        + `to ${last}: several symbols have versions 1 to 40, the smallest first`);
+        + `to ${last}: several codes have versions 1 to 40, the smallest first`);
 }
 
 /** Returns whether the module in column x and row y of a version belongs to a pattern or to the

@@ -12,12 +12,12 @@ import { LEVELS, shown, versionName } from "./checks.mjs";
 const PARTS = [...Object.keys(KINDS), "oneOfSeveral"];
 /* The ECI numbers of UTF-8, and of ASCII, which is part of it. */
 const UTF_8 = [26, 27, 170];
-const HEADED = "the data begins with a header, of several symbols, GS1 or a character set other "
-    + "than UTF-8: join reads several; read(code.png()) reads the others";
-const JOINS = { NOT_SEVERAL: "square # has no header of one of several symbols",
+const HEADED = "the data begins with a header, of structured append, GS1 or a character set other "
+    + "than UTF-8: join reads the first; read(code.png()) reads the others";
+const JOINS = { NOT_SEVERAL: "square # has no structured append header",
     STRANGER: "square # belongs to other data than the first", MISSING: "part # is missing",
     TWICE: "part # is there twice",
-    PARITY: "the symbols do not belong together: the parity of their data is wrong" };
+    PARITY: "the codes do not belong together: the parity of their data is wrong" };
 
 /** Returns the codes in a picture. */
 export function read(picture) {

@@ -45,7 +45,7 @@ lists them), and its message says what would help:
 Traceback (most recent call last):
     ...
 goqlanis.NoRoom: 3,000 bytes at level M: at most 2,331 fit, more of digits or capitals; no level \
-holds them: encode_sequence splits them over several symbols
+holds them: encode_sequence splits them over several codes
 
 help(goqlanis.encode), help(goqlanis.Symbol) and help(goqlanis.contents) explain all options,
 help(goqlanis.Code) and help(goqlanis.Reading) what is read, help(goqlanis.Check) what is checked.

@@ -105,7 +105,7 @@ def zone_of(look: Look, usual: int) -> int:
 def _scale(look: Look, kind: Kind) -> int:
     """Returns the pixels per module."""
     if _ending(look.scale) in KINDS:
-        raise TypeError(f"scale is a whole number: symbol.save({shown(look.scale)}) writes a file")
+        raise TypeError(f"scale is a whole number: code.save({shown(look.scale)}) writes a file")
     return kind.scale if look.scale is None else \
         _checks.whole("scale", look.scale, 1, MOST_SIDE, NoSuchSize)
 
@@ -121,7 +121,7 @@ def _fitted(look: Look, name: str, across: int) -> int:
     """Returns the most pixels per module with which `across` modules fit in a size."""
     pixels = _pixels(look, 72 if name in ("eps", "pdf") else look.dpi)
     if pixels < across:
-        raise NoSuchSize(f"a side of {pixels} pixels: the symbol and its quiet zone have {across} "
+        raise NoSuchSize(f"a side of {pixels} pixels: the code and its quiet zone have {across} "
                          "modules a side: take a larger size, or a smaller border")
     return pixels // across
 
@@ -148,7 +148,7 @@ def _ink(look: Look, name: str, has_colours: bool) -> Tuple[int, int, int]:
         raise NotInFormat(f"{name.upper()} has only opaque colours; PNG and SVG have transparent "
                           "ones")
     if dark == light:
-        raise NoSuchColour(f"dark and light are the same colour, {shown(look.dark)}: the symbol "
+        raise NoSuchColour(f"dark and light are the same colour, {shown(look.dark)}: the code "
                            "would be invisible")
     if look.dpi is not None and name != "png":
         raise NotInFormat(f"{name.upper()} has no dots per inch: only PNG has dpi")

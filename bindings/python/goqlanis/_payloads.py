@@ -193,7 +193,7 @@ def _refuse(answer: int, field: str) -> None:
     if answer in _CAUSES:
         raise _CAUSES[answer](field, _said(_CAUSES[answer], field))
     if answer == 7:
-        raise NoRoom(f"no symbol holds a text of more than {BYTES_MAX:,} bytes")
+        raise NoRoom(f"no code holds a text of more than {BYTES_MAX:,} bytes")
     refuse(answer)
 
 

@@ -72,7 +72,7 @@ def _no_room(asked: Any, said: str) -> str:
     if helps:
         return f"{text}; {helps} holds them"
     if isinstance(asked, Data) and asked.manner < AS_MARKED_TEXT and _are_held(asked):
-        return f"{text}; no level holds them: encode_sequence splits them over several symbols"
+        return f"{text}; no level holds them: encode_sequence splits them over several codes"
     return f"{text}; no level holds them"
 
 
@@ -108,10 +108,10 @@ def of_parts(asked: Parts, answer: int) -> Error:
     """Returns the error for several symbols."""
     level, last = LEVELS[asked.level], version_name(asked.max_version)
     if answer == NO_ROOM:
-        return refusal(answer, f"{len(asked.data):,} bytes: {asked.wanted or 16} symbols up to "
+        return refusal(answer, f"{len(asked.data):,} bytes: {asked.wanted or 16} codes up to "
                        f"version {last} at level {level} do not hold them; take a larger version "
-                       "or a lower level" + (", or more symbols" if asked.wanted % 16 else ""))
+                       "or a lower level" + (", or more codes" if asked.wanted % 16 else ""))
     if answer == NO_SUCH_VERSION:
         return refusal(answer, f"versions {version_name(asked.min_version)} to {last}: several "
-                       "symbols have versions 1 to 40, the smallest first")
+                       "codes have versions 1 to 40, the smallest first")
     return refusal(answer)

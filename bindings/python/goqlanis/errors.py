@@ -137,7 +137,7 @@ _CAUSES: Dict[int, Tuple[Type[Error], str]] = {
     goq.NO_SUCH_VERSION: (NoSuchVersion, "the versions are 1 to 40 and M1 to M4"),
     goq.LEVEL_NOT_IN_VERSION: (LevelNotInVersion, "the version has no such level: use level L or "
                                "a Normal version"),
-    goq.TOO_LONG: (TooLong, "no symbol holds more than 7,089 bytes"),
+    goq.TOO_LONG: (TooLong, "no code holds more than 7,089 bytes"),
     goq.NO_MODE: (NoMode, "the version lacks a mode that the data needs; M3, M4 and 1 to 40 have "
                   "all"),
     goq.NO_ROOM: (NoRoom, "the data does not fit: use a lower level or a larger version, or split "
@@ -152,7 +152,7 @@ _CAUSES: Dict[int, Tuple[Type[Error], str]] = {
                        "zone"),
     goq.NO_FORMAT: (NoFormat, "the format information cannot be read; read_any tries all "
                     "positions"),
-    goq.DAMAGED: (Damaged, "the symbol is damaged: a block has more errors than can be corrected"),
+    goq.DAMAGED: (Damaged, "the code is damaged: a block has more errors than can be corrected"),
     goq.NOT_SPELLED: (NotSpelled, "the bits are not segments and a terminator, e.g. after a "
                       "header; read_text reads a text that is marked as UTF-8"),
     goq.NO_SUCH_MASK: (NoSuchMask, "the masks are 0 to 7, for Micro QR 0 to 3"),
@@ -169,7 +169,7 @@ _CAUSES: Dict[int, Tuple[Type[Error], str]] = {
                     "finder patterns"),
     goq.LARGE_PICTURE: (BrokenPicture, "the picture is more than 67,108,864 bytes: cut it into "
                         "smaller ones"),
-    goq.NO_SUCH_AREA: (NoSuchArea, "an area is a rectangle inside the symbol, or several: left, "
+    goq.NO_SUCH_AREA: (NoSuchArea, "an area is a rectangle inside the code, or several: left, "
                        "top, width and height in modules"),
     goq.NO_AREA: (AreaTooLarge, "no central area leaves that reserve: use a higher level or less "
                   "reserve"),

@@ -20,8 +20,8 @@ from .encoding import KINDS
 from .errors import NoSuchSide, NotJoined, refusal, refuse
 from .symbol import Symbol
 
-HEADED = ("the data begins with a header, of several symbols, GS1 or a character set other than "
-          "UTF-8: join reads several; read(symbol.png()) reads the others")
+HEADED = ("the data begins with a header, of structured append, GS1 or a character set other than "
+          "UTF-8: join reads the first; read(code.png()) reads the others")
 # Answers after which another call may read the square, unless there is such a header.
 OTHERS = {goq.NOT_SPELLED: library.goq_read_text, goq.NOT_SHOWN: library.goq_read}
 # The most bytes of a picture that the library reads, and what else `read` takes.
@@ -36,10 +36,10 @@ PARTS = {**{number: name for name, number in KINDS.items()}, goq.ONE_OF_SEVERAL:
 # The positions in the order of their numbers.
 POSITIONS = ("upright", "rotated left", "upside down", "rotated right", "mirrored", "flipped",
              "transposed", "antitransposed")
-JOINS = {goq.NOT_SEVERAL: "square {place} has no header of one of several symbols",
+JOINS = {goq.NOT_SEVERAL: "square {place} has no structured append header",
          goq.STRANGER: "square {place} belongs to other data than the first",
          goq.MISSING: "part {place} is missing", goq.TWICE: "part {place} is there twice",
-         goq.PARITY: "the symbols do not belong together: the parity of their data is wrong"}
+         goq.PARITY: "the codes do not belong together: the parity of their data is wrong"}
 
 
 class Reading(NamedTuple):

@@ -188,7 +188,7 @@ fn push_header(text: &mut String, header: Header, is_json: bool) -> Result<(), A
         Header::Eci(number) => push_set(text, CharacterSet(number), is_json),
         Header::Fnc1First => push_either!(text, is_json;
             "{{\"fnc1\": \"first\"}}",
-            "header: FNC1 in first position, elements of GS1\n"
+            "header: FNC1 in first position, GS1 data\n"
         ),
         Header::Fnc1Second(indicator) => push_application(text, Application(indicator), is_json),
         Header::StructuredAppend {
@@ -199,7 +199,7 @@ fn push_header(text: &mut String, header: Header, is_json: bool) -> Result<(), A
             let (number, count) = (place.saturating_add(1), last.saturating_add(1));
             push_either!(text, is_json;
                 "{{\"symbol\": {number}, \"of\": {count}, \"parity\": {parity}}}",
-                "header: structured append, symbol {number} of {count}, parity {parity}\n"
+                "header: structured append, code {number} of {count}, parity {parity}\n"
             )
         }
     }

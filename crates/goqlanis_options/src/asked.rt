@@ -232,7 +232,7 @@ static CONFLICTS: &[(&str, &[&str], &str)] = &[
     ("--segment", &["--trim", "--lines", "--bytes", "--eci", "--boost"], "use one of them"),
     ("TEXT", &["--input"], "use one of them"),
     ("ELEMENTS", &["--input"], "use one of them"),
-    ("--application", &["--lines"], "--lines is for element strings of GS1"),
+    ("--application", &["--lines"], "--lines is for GS1 element strings"),
     ("--dry-run", &["--lines"], "try one line, without --lines"),
     ("--bytes", &["--eci"], "use one of them"),
     ("--symbol-version", &["--min-version", "--max-version"], "use one of them"),

@@ -63,9 +63,9 @@ def _headers_said(headers):
     words = ", ".join(headers)
     sets, other = {"ECI 0": "IBM437", "ECI 26": "UTF-8"}, "a character set without a known name"
     words = re.sub(r"ECI \d+", lambda it: f"{it[0]}, {sets.get(it[0], other)}", words)
-    words = words.replace("symbol", "structured append, symbol")
+    words = words.replace("symbol", "structured append, code")
     words = re.sub(r"FNC1 (\w+)", r"FNC1 in second position, application \1", words)
-    words = re.sub(r"FNC1$", "FNC1 in first position, elements of GS1", words)
+    words = re.sub(r"FNC1$", "FNC1 in first position, GS1 data", words)
     return [f"header: {words}"] if words else []
 
 

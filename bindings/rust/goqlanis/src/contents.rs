@@ -85,7 +85,7 @@ pub enum ContentError {
 says! { ContentError:
     ContentError::Refused(field, cause) => "{field}: {cause}";
     ContentError::Element(place, cause) => "element {place}: {cause}";
-    ContentError::DataTooLong => "no symbol holds a text of this length";
+    ContentError::DataTooLong => "no code holds a text of this length";
     ContentError::OutOfMemory => "out of memory";
 }
 

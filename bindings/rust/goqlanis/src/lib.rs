@@ -61,7 +61,7 @@ pub enum QrError {
 }
 
 says! { QrError:
-    QrError::DataTooLong => "data too long: take a larger version, a lower level, or several symbols";
+    QrError::DataTooLong => "data too long: take a larger version, a lower level, or several codes";
     QrError::InvalidVersion => "invalid version: take one that has the level and the mask";
     QrError::UnsupportedCharacterSet =>
         "unsupported character set: Normal versions, and Micro 3 and 4, hold any bytes";

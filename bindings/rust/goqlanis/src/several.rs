@@ -99,7 +99,7 @@ pub enum Unjoined {
 
 says! { Unjoined:
     Unjoined::Square(place, why) => "square {place}: {why}";
-    Unjoined::NotSeveral(place) => "square {place} is not one of several symbols";
+    Unjoined::NotSeveral(place) => "square {place} has no structured append header";
     Unjoined::Stranger(place) => "square {place} belongs to other data";
     Unjoined::Missing(place) => "part {place} is missing";
     Unjoined::Twice(place) => "part {place} is there twice";
