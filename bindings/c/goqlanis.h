@@ -388,7 +388,9 @@ enum { GOQ_SEVERAL_MAX = 16 };
 /* How modules are drawn. Initialise with GOQ_DRAWING, then change what you need. A colour is
    0xRRGGBB plus its transparency: 0 if opaque, 0x80000000 if half transparent, GOQ_TRANSPARENT if
    fully transparent. SVG and PNG take any colours, EPS, PDF and PPM opaque ones, other formats only
-   black on white. */
+   black on white. The colours of patterns and of data are GOQ_SAME, for the colour of all dark or
+   light modules, or a colour of their own: any in PNG, which then has at most 8,192 pixels a side,
+   and opaque ones in GOQ_SVG_PATH, EPS and PDF. */
 typedef struct {
     uint32_t size; /* must be sizeof(goq_drawing) */
     uint32_t format; /* GOQ_HALF_BLOCKS .. GOQ_ASCII */
@@ -397,11 +399,28 @@ typedef struct {
     uint32_t dark; /* the colour of dark modules; 0x000000 is black */
     uint32_t light; /* the colour of light modules and the quiet zone; 0xffffff is white */
     uint32_t dpi; /* dots per inch to store in a PNG file, up to 65,535; 0 for none */
+    uint32_t finder_dark; /* dark modules of the finder patterns */
+    uint32_t finder_light; /* light modules in and around the finder patterns */
+    uint32_t alignment_dark; /* dark modules of the alignment patterns */
+    uint32_t alignment_light; /* light modules of the alignment patterns */
+    uint32_t timing_dark; /* dark modules of the timing patterns */
+    uint32_t timing_light; /* light modules of the timing patterns */
+    uint32_t format_dark; /* dark modules of the format information */
+    uint32_t format_light; /* light modules of the format information */
+    uint32_t version_dark; /* dark modules of the version information */
+    uint32_t version_light; /* light modules of the version information */
+    uint32_t data_dark; /* dark modules of data and error correction */
+    uint32_t data_light; /* light modules of data and error correction */
 } goq_drawing;
 
-#define GOQ_DRAWING GOQ_INITIAL(goq_drawing, GOQ_PNG, 4, 8, 0x000000, 0xffffff, 0)
+#define GOQ_DRAWING GOQ_INITIAL(goq_drawing, GOQ_PNG, 4, 8, 0x000000, 0xffffff, 0, \
+    GOQ_SAME, GOQ_SAME, GOQ_SAME, GOQ_SAME, GOQ_SAME, GOQ_SAME, \
+    GOQ_SAME, GOQ_SAME, GOQ_SAME, GOQ_SAME, GOQ_SAME, GOQ_SAME)
 
 #define GOQ_TRANSPARENT 0xff000000u
+
+/* No colour of their own: these modules have the colour of all dark or light ones. */
+#define GOQ_SAME 0xffffffffu
 
 /* The most modules that a symbol has: a buffer of this size holds any symbol. */
 enum { GOQ_MODULES_MAX = 177 * 177 };
@@ -660,7 +679,9 @@ bool goq_is_functional(uint32_t version, uint32_t x, uint32_t y);
    scale is 1 to 65,535; a side has at most 177 modules, with the quiet zone 8,191. PNG has 1 to
    65,535 pixels a side, ESC/POS at most 65,535, and the text formats for terminals and pages (half
    blocks and GOQ_ASCII) at most 4,096. Errors: GOQ_NO_SUCH_STRUCT, GOQ_NO_SUCH_FORMAT,
-   GOQ_NOT_SQUARE, GOQ_NO_SUCH_SIZE, GOQ_NOT_IN_FORMAT, GOQ_SMALL_BUFFER; GOQ_OUT_OF_MEMORY. */
+   GOQ_NOT_SQUARE, GOQ_NO_SUCH_SIZE, GOQ_NOT_IN_FORMAT; GOQ_NO_SUCH_SIDE, if patterns or data have
+   colours of their own and no version has so many modules a side; GOQ_SMALL_BUFFER;
+   GOQ_OUT_OF_MEMORY. */
 goq_answer goq_draw_with(const uint8_t *modules, size_t modules_length, uint32_t width,
     const goq_drawing *drawing, void *out, size_t out_length, size_t *count);
 

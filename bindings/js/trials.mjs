@@ -94,6 +94,10 @@ const REFUSED = [
     [() => one.png({ scale: 99999 }), "NoSuchSize", "65,535"],
     [() => one.pbm({ dark: "navy" }), "NotInFormat", "black on white"],
     [() => one.svg({ dark: "nvy" }), "RangeError", "not a colour"],
+    [() => one.svg({ finderDark: "nvy" }), "RangeError", "finderDark"],
+    [() => one.pbm({ finderDark: "navy" }), "NotInFormat", "PBM has no finderDark"],
+    [() => one.svg({ dataLight: null }), "NotInFormat", "take PNG"],
+    [() => one.png({ scale: 283, dataLight: null }), "NoSuchSize", "8,192"],
     [() => one.svg({ size: "30mm" }), "RangeError", "how many pixels"],
     [() => one.withArea({ left: 0, top: 0, width: 21, height: 21 }), "AreaTooLarge", "smaller"],
     [() => one.withArea({ left: 20, top: 0, width: 2, height: 2 }), "NoSuchArea", "inside"],
@@ -103,7 +107,7 @@ const REFUSED = [
     [(it) => it.read("text"), "NotPicture", "convert it to PNG"],
     [(it) => it.read(7), "TypeError", "ImageData"],
     [(it) => it.readSquare([[1, 0], [1]]), "NoSuchSide", "not all of them"],
-    [(it) => it.join([one]), "NotJoined", "square 1 has no header"],
+    [(it) => it.join([one]), "NotJoined", "square 1 has no structured append header"],
 ];
 for (const [call, name, part] of REFUSED) {
     let said = "nothing is refused";

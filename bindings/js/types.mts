@@ -2,7 +2,7 @@
 import { check, encode, encodeSegments, load, read, wifi } from "goqlanis";
 await load();
 const code = encode("a", { level: "H", version: "M3", mask: 3 });
-const s: string = code.svg({ dark: null, size: "30mm" });
+const s: string = code.svg({ dark: null, size: "30mm", finderDark: "navy" });
 const b: Uint8Array = code.png({ dpi: 300 });
 encodeSegments([["eci", 26], ["byte", "x"], ["fnc1First"], ["kanji", new Uint8Array(2)]]);
 const t: string | null = read(b)[0].text;

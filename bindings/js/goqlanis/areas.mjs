@@ -143,7 +143,7 @@ function ratioOf(ratio) {
 export function withPicture(svg, { left, top, width, height, data }, zone) {
     const picture = `<image x="${zone + left}" y="${zone + top}" width="${width}" `
         + `height="${height}" href="${data}"/>`;
-    return svg.replace("</svg>", `${picture}</svg>`);
+    return `${svg.slice(0, svg.lastIndexOf("</svg>"))}${picture}</svg>`;
 }
 
 /** Returns bytes in base 64. */

@@ -3,19 +3,24 @@
 import * as checks from "./checks.mjs";
 import { QrError, refuse } from "./errors.mjs";
 import { answer, within } from "./memory.mjs";
-import { COLOURS, FORMATS, GREY, LIGHT_HALF_BLOCKS, SIDES } from "./numbers.mjs";
+import { COLOURS, FORMATS, GREY, LIGHT_HALF_BLOCKS, SIDES, STRUCTS } from "./numbers.mjs";
 import { grouped, shown } from "./checks.mjs";
 
 const KINDS = { ...FORMATS,
     light: { number: LIGHT_HALF_BLOCKS, isText: true, scale: 1, hasColours: false },
     grey: { number: GREY, isText: false, scale: 8, hasColours: false } };
 const TRANSPARENT = 0xff000000, BLACK = 0x000000, WHITE = 0xffffff, MOST_SIDE = 65535;
+/* No colour of its own, and the most pixels a side of a PNG file with colours of patterns. */
+const SAME = 0xffffffff, MOST_COLOURFUL = 8192;
+/* The options of colours of patterns and data, and their names in the struct; false is SAME. */
+const PARTS = new Map(STRUCTS.goq_drawing.split(" ").slice(7)
+    .map((it) => [it.replace(/_./, (part) => part[1].toUpperCase()), it]));
 /* The smallest difference of brightness, out of 255: two fifths, below which ISO/IEC 15415 grades
    the contrast of a symbol D or F. */
 const CONTRAST = 102;
 const NAMES = new Map(COLOURS.split(" ").map((it) => it.split("=")));
 const USUAL = { scale: null, size: null, quietZone: null, dark: "black", light: "white",
-    dpi: null };
+    dpi: null, ...Object.fromEntries([...PARTS.keys()].map((it) => [it, false])) };
 
 /** Returns the bytes of the picture of a code. */
 export function drawn(code, format, given) {
@@ -25,14 +30,16 @@ export function drawn(code, format, given) {
     const kind = KINDS[format], look = checks.options(format, given, USUAL);
     const zone = zoneOf(code, look), across = code.width + 2 * zone;
     const scale = scaleOf(look, format, across);
-    const { dark, light, dpi } = inkOf(look, format);
-    const side = across * scale, most = SIDES[kind.number] ?? side;
+    const own = ownOf(look, format), { dark, light, dpi } = inkOf(look, format, own);
+    const isColourful = format === "png" && Object.keys(own).length > 0;
+    const side = across * scale, most = isColourful ? MOST_COLOURFUL : SIDES[kind.number] ?? side;
     if (side > most)
         throw new QrError("NoSuchSize", `a side of ${grouped(side)} pixels: this format has at `
             + `most ${grouped(most)}: take ` + (across > most ? "a smaller quietZone"
                 : `scale: ${Math.floor(most / across)} or less`));
     return within((buffers) => {
-        const drawing = { format: kind.number, zone, scale, dark, light, dpi };
+        const drawing = { format: kind.number, zone, scale, dark, light, dpi,
+            ...Object.fromEntries(Object.entries(own).map(([it, ink]) => [PARTS.get(it), ink])) };
         const asked = [buffers.bytes(code.modules), code.modules.length, code.width,
             buffers.initial("goq_drawing", drawing)];
         const count = buffers.room(8);
@@ -78,8 +85,21 @@ function scaleOf({ scale, size, dpi }, format, across) {
     return Math.floor(pixels / across);
 }
 
+/** Returns the colours that patterns and data have of their own, by the names of the options. */
+function ownOf(look, format) {
+    const given = [...PARTS.keys()].filter((it) => look[it] !== false);
+    const own = given.map((it) => [it, Math.min(colour(it, look[it]), SAME - 1)]);
+    if (own.length > 0 && !["png", "svg", "eps", "pdf"].includes(format))
+        throw new QrError("NotInFormat", `${format.toUpperCase()} has no ${own[0][0]}: PNG, SVG, `
+            + "EPS and PDF have colours of patterns");
+    if (format !== "png" && own.some(([, ink]) => ink > WHITE))
+        throw new QrError("NotInFormat", "colours of patterns are drawn over dark and light in "
+            + "SVG, EPS and PDF: for transparent ones take PNG");
+    return Object.fromEntries(own);
+}
+
 /** Returns the colours of dark and light modules, and the dots per inch, 0 for none. */
-function inkOf(look, format) {
+function inkOf(look, format, own) {
     const dark = colour("dark", look.dark), light = colour("light", look.light);
     const name = format.toUpperCase();
     if (!KINDS[format].hasColours && (dark !== BLACK || light !== WHITE))
@@ -93,8 +113,11 @@ function inkOf(look, format) {
             + "would be invisible");
     if (look.dpi !== null && format !== "png")
         throw new QrError("NotInFormat", `${name} has no dots per inch: only PNG has dpi`);
-    if (areClose(look.dark, look.light))
-        console.warn(`dark modules in ${shown(look.dark)}, light ones in ${shown(look.light)}: `
+    const all = (tone) => [tone.toLowerCase(), ...Object.keys(own).filter((it) => it.endsWith(tone))];
+    const close = all("Dark").flatMap((one) => all("Light").map((other) => [look[one], look[other]]))
+        .find(([one, other]) => areClose(one, other));
+    if (close)
+        console.warn(`dark modules in ${shown(close[0])}, light ones in ${shown(close[1])}: `
             + "many readers need the dark ones to be much darker");
     return { dark, light,
         dpi: look.dpi === null ? 0 : checks.whole("dpi", look.dpi, 1, MOST_SIDE) };

@@ -80,6 +80,19 @@ export interface DrawOptions {
     light?: Colour;
     /** Dots per inch that a PNG file states. */
     dpi?: number | null;
+    /** Colours of patterns and data, in PNG, SVG, EPS and PDF; by default those of dark and light. */
+    finderDark?: Colour;
+    finderLight?: Colour;
+    alignmentDark?: Colour;
+    alignmentLight?: Colour;
+    timingDark?: Colour;
+    timingLight?: Colour;
+    formatDark?: Colour;
+    formatLight?: Colour;
+    versionDark?: Colour;
+    versionLight?: Colour;
+    dataDark?: Colour;
+    dataLight?: Colour;
 }
 /** The formats: "txt" and "light" are half blocks, "grey" is a byte per pixel, and "zpl", "tspl"
     and "escpos" are for printers. */

@@ -62,8 +62,9 @@ export const CAUSES = {
 export const STRUCTS = {
     "goq_options": "size level manner version min_version boost mask",
     "goq_several": "size level manner min_version max_version count",
-    "goq_drawing": "size format zone scale dark light dpi", "goq_symbol": "version level width",
-    "goq_segment": "kind number bytes:data length:size", "goq_field": "bytes:data length:size",
+    "goq_drawing": "size format zone scale dark light dpi finder_dark finder_light alignment_dark alignment_light timing_dark timing_light format_dark format_light version_dark version_light data_dark data_light",
+    "goq_symbol": "version level width", "goq_segment": "kind number bytes:data length:size",
+    "goq_field": "bytes:data length:size",
     "goq_element": "identifier:data identifier_length:size value:data value_length:size",
     "goq_reading": "version level mask wrong:size length:size",
     "goq_any_reading": "reading:goq_reading position",
@@ -81,8 +82,8 @@ export const STRUCTS = {
 };
 export const DEFAULTS = {
     "goq_options": [1, 0, 0, 1, 0, 0], "goq_several": [1, 0, 1, 40, 0],
-    "goq_drawing": [5, 4, 8, 0, 16777215, 0], "goq_scan": [0, 0, 0], "goq_checks": [0, 0],
-    "goq_wish": [1, 1, 4294967295, 0],
+    "goq_drawing": [5, 4, 8, 0, 16777215, 0, 4294967295, 4294967295, 4294967295, 4294967295, 4294967295, 4294967295, 4294967295, 4294967295, 4294967295, 4294967295, 4294967295, 4294967295],
+    "goq_scan": [0, 0, 0], "goq_checks": [0, 0], "goq_wish": [1, 1, 4294967295, 0],
 };
 export const CALLS = {
     "goq_version": "", "goq_encode_with": "wwwwww", "goq_encode_several": "wwwwwww",

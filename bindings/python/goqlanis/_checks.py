@@ -5,6 +5,7 @@ import numbers
 import operator
 from typing import Any, Callable, Iterable, List, Optional, Tuple, TypeVar
 
+from ._numbers import STRUCTS
 from .errors import NoSuchLevel, NoSuchVersion
 
 Call = TypeVar("Call", bound=Callable[..., Any])
@@ -17,9 +18,12 @@ OTHERS = {"error": "level='H'", "error_correction": "level='H'", "boost_error": 
           "back_color": "light='white'", "background": "light='white'",
           "invert": "dark='white', light='black'", "format": "kind='png'",
           "symbol_version": "version=7", "omitsize": "CSS: svg {width: 100%}",
-          "xmldecl": "svg_inline"}
+          "xmldecl": "svg_inline", "separator": "finder_light='white'",
+          "dark_module": "format_dark='black'"}
 # The options that all methods take that draw.
 LOOK = ("border", "dark", "light", "dpi", "size", "title")
+# Those of them that are colours of parts, in the order of the library's struct.
+PARTS = tuple(STRUCTS["goq_drawing"].split()[7:])
 LEVELS = "LMQH"
 BINARY = (bytes, bytearray, memoryview)
 
@@ -40,14 +44,16 @@ def shown(value: Any, write: Callable[[Any], str] = repr) -> str:
 def named(call: Call) -> Call:
     """Wraps a call so that it says what to use instead of an argument that it does not have."""
     known = list(inspect.signature(call).parameters)
-    known = [*known[:-1], *LOOK] if known[-1] == "look" else known
+    draws = known[-1] == "look"
+    known = [*known[:-1], *LOOK] if draws else known
 
     @functools.wraps(call)
     def checked(*given: Any, **more: Any) -> Any:
         for name in more:
-            if name not in known:
+            if name not in known and not (draws and name in PARTS):
                 helps = f"take {OTHERS[name]}" if name in OTHERS else \
-                    "it takes " + ", ".join(it for it in known if it != "self")
+                    "it takes " + ", ".join(it for it in known if it != "self") + \
+                    f", {PARTS[0]} .. {PARTS[-1]}" * draws
                 raise TypeError(f"{call.__name__} has no argument {shown(name)}: {helps}")
         return call(*given, **more)
     return checked  # type: ignore[return-value]

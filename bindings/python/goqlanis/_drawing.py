@@ -5,11 +5,12 @@ import re
 import warnings
 import xml.sax.saxutils as xml
 from fractions import Fraction
-from typing import Any, NamedTuple, Optional, Tuple, Union
+from itertools import product
+from typing import Any, Dict, NamedTuple, Optional, Tuple, Union
 
 from . import _checks
 from . import _numbers as goq
-from ._checks import shown
+from ._checks import PARTS, shown
 from ._colours import are_close, colour
 from ._formats import FORMATS, SIDES
 from ._library import Drawing, library
@@ -30,6 +31,10 @@ KINDS = {ending: Kind(*row) for ending, row in FORMATS.items()}
 OTHERS = {"light": Kind(goq.LIGHT_HALF_BLOCKS, True, 1, False),
           "grey": Kind(goq.GREY, False, 8, False)}
 MOST_SIDE = 65535
+# The most pixels a side of a PNG file with colours of parts.
+MOST_COLOURFUL = 8192
+# No colour of its own.
+SAME = 0xFFFFFFFF
 Size = Union[int, str, None]
 Length = Tuple[str, str]
 # Each unit in inches.
@@ -38,7 +43,8 @@ INCHES = {"mm": Fraction(10, 254), "cm": Fraction(100, 254), "in": Fraction(1),
 
 
 class Look(NamedTuple):
-    """The options of a drawing, as a caller gives them; `border` and `quiet_zone` are the same."""
+    """The options of a drawing, as a caller gives them; `border` and `quiet_zone` are the same.
+    Those of PARTS are False where parts have no colour of their own."""
     scale: Any = None
     border: Any = None
     quiet_zone: Any = None
@@ -47,6 +53,18 @@ class Look(NamedTuple):
     dpi: Any = None
     size: Any = None
     title: Any = None
+    finder_dark: Any = False
+    finder_light: Any = False
+    alignment_dark: Any = False
+    alignment_light: Any = False
+    timing_dark: Any = False
+    timing_light: Any = False
+    format_dark: Any = False
+    format_light: Any = False
+    version_dark: Any = False
+    version_light: Any = False
+    data_dark: Any = False
+    data_light: Any = False
 
 
 def drawn(modules: bytes, width: int, usual_zone: int, name: str, look: Look) -> bytes:
@@ -59,14 +77,16 @@ def drawn(modules: bytes, width: int, usual_zone: int, name: str, look: Look) ->
     length = _length(look.size) if name == "svg" else None
     scale = _scale(look, kind) if look.size is None else \
         1 if length else _fitted(look, name, across)
-    dark, light, dpi = _ink(look, name, kind.has_colours)
+    own = _own(look, name)
+    dark, light, dpi = _ink(look, name, kind.has_colours, own)
     side = across * scale
-    most = SIDES.get(kind.number, side)
+    most = MOST_COLOURFUL if own and name == "png" else SIDES.get(kind.number, side)
     if side > most:
         helps = "a smaller border" if across > most else f"scale={most // across} or less"
         raise NoSuchSize(f"a side of {side:,} pixels: this format has at most {most:,}: take "
                          f"{helps}")
-    drawing = Drawing(ctypes.sizeof(Drawing), kind.number, zone, scale, dark, light, dpi)
+    drawing = Drawing(ctypes.sizeof(Drawing), kind.number, zone, scale, dark, light, dpi,
+                      *(own.get(it, SAME) for it in PARTS))
     given, count = (modules, len(modules), width, ctypes.byref(drawing)), ctypes.c_size_t()
     refuse(library.goq_draw_with_length(*given, ctypes.byref(count)))
     out = _room(count.value)
@@ -138,7 +158,20 @@ def _pixels(look: Look, dots: Any) -> int:
     return _checks.whole("size in pixels, or as '30mm',", size, 1, MOST_SIDE, NoSuchSize)
 
 
-def _ink(look: Look, name: str, has_colours: bool) -> Tuple[int, int, int]:
+def _own(look: Look, name: str) -> Dict[str, int]:
+    """Returns the colours that parts have of their own."""
+    own = {it: min(colour(it, getattr(look, it)), SAME - 1)
+           for it in PARTS if getattr(look, it) is not False}
+    if own and name not in ("png", "svg", "eps", "pdf"):
+        raise NotInFormat(f"{name.upper()} has no {next(iter(own))}: PNG, SVG, EPS and PDF have "
+                          "colours of patterns")
+    if name != "png" and max(own.values(), default=0) > 0xFFFFFF:
+        raise NotInFormat("colours of patterns are drawn over dark and light in SVG, EPS and PDF: "
+                          "for transparent ones take PNG")
+    return own
+
+
+def _ink(look: Look, name: str, has_colours: bool, own: Dict[str, int]) -> Tuple[int, int, int]:
     """Returns the colours of dark and light modules, and the dots per inch, 0 for none."""
     dark, light = colour("dark", look.dark), colour("light", look.light)
     if not has_colours and (dark, light) != (0x000000, 0xFFFFFF):
@@ -154,9 +187,14 @@ def _ink(look: Look, name: str, has_colours: bool) -> Tuple[int, int, int]:
         raise NotInFormat(f"{name.upper()} has no dots per inch: only PNG has dpi")
     if look.title is not None and name != "svg":
         raise NotInFormat(f"{name.upper()} has no title: only SVG has one")
-    if are_close(dark, light):
-        warnings.warn(f"dark modules in {shown(look.dark)}, light ones in {shown(look.light)}: "
-                      "many readers need the dark ones to be much darker", stacklevel=6)
+    darks, lights = ([(name, it), *(row for row in own.items() if row[0].endswith(name))]
+                      for name, it in (("dark", dark), ("light", light)))
+    for (one, ink), (other, paper) in product(darks, lights):
+        if are_close(ink, paper):
+            warnings.warn(f"dark modules in {shown(getattr(look, one))}, light ones in "
+                          f"{shown(getattr(look, other))}: many readers need the dark ones to be "
+                          "much darker", stacklevel=6)
+            break
     if look.dpi is None:
         return dark, light, 0
     return dark, light, _checks.whole("dpi", look.dpi, 1, MOST_SIDE, NoSuchSize)

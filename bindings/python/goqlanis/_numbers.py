@@ -52,7 +52,9 @@ BLOCKS_MAX = 81
 STRUCTS = {
     "goq_options": "size level manner version min_version boost mask",
     "goq_several": "size level manner min_version max_version count",
-    "goq_drawing": "size format zone scale dark light dpi",
+    "goq_drawing": "size format zone scale dark light dpi finder_dark finder_light "
+        "alignment_dark alignment_light timing_dark timing_light format_dark format_light "
+        "version_dark version_light data_dark data_light",
     "goq_symbol": "version level width",
     "goq_segment": "kind number bytes:data length:size",
     "goq_field": "bytes:data length:size",

@@ -142,7 +142,7 @@ class Logo(NamedTuple):
         """Returns an SVG file, whose quiet zone has `zone` modules, with the picture added."""
         picture = (f'<image x="{zone + self.left}" y="{zone + self.top}" width="{self.width}" '
                    f'height="{self.height}" href="{self.data}"/>')
-        return svg.replace(b"</svg>", picture.encode() + b"</svg>")
+        return svg.rpartition(b"</svg>")[0] + picture.encode() + b"</svg>"
 
 
 def loaded(logo: Any) -> Tuple[str, Tuple[int, int]]:

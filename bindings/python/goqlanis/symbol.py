@@ -42,6 +42,8 @@ class Symbol:
       "#rrggbbaa", a tuple (red, green, blue) or (red, green, blue, opacity), each 0 to 255, or None
       for transparent. EPS, PDF and PPM have only opaque colours; PBM and others have none. Colours
       that many readers cannot tell apart give a UserWarning;
+    - `finder_dark`, `finder_light`, and so on for `alignment`, `timing`, `format`, `version` and
+      `data`: colours of these patterns and of the data, in PNG, SVG, EPS and PDF;
     - `dpi`: the dots per inch that a PNG file states;
     - `title`: the title of an SVG file, which screen readers read aloud.
 
@@ -132,7 +134,7 @@ class Symbol:
         would be too large, and OSError if writing fails.
 
         >>> encode("01234567").save("ticket.png", scale=8, border=4, dark="#008", light=None)
-        >>> encode("01234567").save("ticket.svg", size="30mm", title="A ticket")
+        >>> encode("01234567").save("ticket.svg", size="30mm", title="A ticket", finder_dark="navy")
         """
         if not hasattr(out, "write") and not isinstance(out, (str, bytes, os.PathLike)):
             raise TypeError(f"out is a path or a file that is open for writing, not {shown(out)}")

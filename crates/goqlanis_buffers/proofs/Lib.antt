@@ -13,4 +13,5 @@ pub mod Parts
 pub mod Refused
 pub mod Squares
 pub mod Told
+pub mod Tinted
 pub mod Masked

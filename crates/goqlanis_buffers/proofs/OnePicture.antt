@@ -1,37 +1,79 @@
 -- A drawing has one picture, in the formats whose definition is a text or bytes.
-use Rattle.std.proofs.Common.{◌≡◌, ◌≢◌, ℕ, List, [], ◌∷◌, ◌++◌, refl, sym, ap, ap₂, ◌∙◌}
+use Rattle.std.proofs.Common.{◌≡◌, ◌≢◌, ℕ, suc, ◌/◌, ◌%◌, ◌&&◌, List, [], ◌∷◌, ◌++◌, length, map, drop, get_or, refl, sym, ap, ap₂, ◌∙◌, arith}
+use Rattle.std.specs.List.{range_with_len}
+use Rattle.std.specs.Prelude.{◌==◌, slice_index_or}
+use Rattle.qrcode_types.specs.Colors.{color_of}
+use Rattle.qrcode_types.specs.Versions.{side}
+use Rattle.qrcode_types.specs.declared.types.Color.{Color}
+use Rattle.qrcode_types.specs.declared.types.Color.TheVariants.{Light}
+use Rattle.qrcode_render.specs.Drawn.{drawn}
+use Rattle.qrcode_render.specs.Eps.{eps_paint, eps_rect}
 use Rattle.goqlanis_core.specs.Formats.{eps_text, IsDrawn}
-use Rattle.goqlanis_core.specs.Layers.{AreLayers, AreOver}
-use Rattle.goqlanis_core.specs.Sheets.{Sheet}
+use Rattle.goqlanis_core.specs.Layers.{is_tone, layer, order, unit_layout, AreLayers, AreOver}
+use Rattle.goqlanis_core.specs.Parts.{part_of}
+use Rattle.goqlanis_core.specs.Sheets.{Sheet, eps_ink}
 use Rattle.goqlanis_core.specs.declared.layers.PartInk.{PartInk}
+use Rattle.goqlanis_buffers.specs.Drawings.{sheet, IsDrawn as IsDrawing}
+use Rattle.goqlanis_buffers.specs.Tints.{ink_paint, Paint}
+use Rattle.goqlanis_buffers.specs.declared.pictures.Drawing.{Drawing}
 use Rattle.qrcode_formats.specs.declared.Format.{Format}
 use Rattle.qrcode_formats.specs.declared.Format.TheVariants.{HalfBlocks, LightHalfBlocks, Terminal, Chars, Png, Svg, SvgPath, Eps, Pic, Pbm, Pgm, Grey, Pdf, Zpl, Tspl, EscPos, Xbm, Ppm, Ascii}
 
--- the colours of parts have one text in EPS
-layers_same : (t : Sheet) (inks : List PartInk) (a b : List ℕ) → AreLayers Eps t inks a → AreLayers Eps t inks b → a ≡ b
-layers_same t [] a b x y = x ∙ sym y
-layers_same t (k ∷ inks) a b x y = x.1.1.1.1 ∙ ap₂ (λ k l. k ++ l) (x.1.0 ∙ sym y.1.0) (layers_same t inks x.1.1.0 y.1.1.0 x.1.1.1.0 y.1.1.1.0) ∙ sym y.1.1.1.1
+-- a layer depends on the modules, and on which of them get its colour
+layer_alike : (t : Sheet) (us ws : List PartInk) (j k : PartInk) → ink_paint j ≡ ink_paint k
+    → layer (record t { parts = us }) j ≡ layer (record t { parts = ws }) k
+unfolding layer
+layer_alike t us ws j k same =
+    ap (λ (p : Paint). map (λ i. color_of (is_tone p.tone (slice_index_or t.modules i Light) && order p.part == order (part_of t.version (i % side t.version) (i / side t.version)))) (range_with_len 0 (length t.modules))) same
 
-over_same : (t : Sheet) (a b : List ℕ) → AreOver Eps t a → AreOver Eps t b → a ≡ b
-over_same t a b x y = x.1.1 ∙ ap (λ l. l ++ t.over) (layers_same t t.parts x.0 y.0 x.1.0 y.1.0) ∙ sym y.1.1
+-- the same colours of parts have one text in EPS
+layers_alike : (t : Sheet) (us ws js ks : List PartInk) (a b : List ℕ) → map ink_paint js ≡ map ink_paint ks
+    → AreLayers Eps (record t { parts = us }) js a → AreLayers Eps (record t { parts = ws }) ks b → a ≡ b
+layers_alike t us ws [] [] a b same x y = x ∙ sym y
+layers_alike t us ws [] (k ∷ ks) a b same x y =
+    let none : 0 ≡ suc (length (map ink_paint ks)) = ap length same in
+    absurd (omega (arith, none))
+layers_alike t us ws (j ∷ js) [] a b same x y =
+    let none : suc (length (map ink_paint js)) ≡ 0 = ap length same in
+    absurd (omega (arith, none))
+layers_alike t us ws (j ∷ js) (k ∷ ks) a b same x y =
+    let first : ink_paint j ≡ ink_paint k = ap (λ (l : List Paint). get_or l 0 (ink_paint j)) same in
+    let rest : map ink_paint js ≡ map ink_paint ks = ap (λ (l : List Paint). drop 1 l) same in
+    let text : x.0 ≡ y.0 = x.1.0 ∙ ap₂ (λ (l : List Color) (p : Paint). drawn eps_rect (unit_layout Eps t.at) l (eps_paint (eps_ink p.shade))) (layer_alike t us ws j k first) first ∙ sym y.1.0 in
+    x.1.1.1.1 ∙ ap₂ (λ k l. k ++ l) text (layers_alike t us ws js ks x.1.1.0 y.1.1.0 rest x.1.1.1.0 y.1.1.1.0) ∙ sym y.1.1.1.1
+
+over_alike : (t : Sheet) (us ws : List PartInk) (a b : List ℕ) → map ink_paint us ≡ map ink_paint ws
+    → AreOver Eps (record t { parts = us }) a → AreOver Eps (record t { parts = ws }) b → a ≡ b
+over_alike t us ws a b same x y = x.1.1 ∙ ap (λ l. l ++ t.over) (layers_alike t us ws us ws x.0 y.0 same x.1.0 y.1.0) ∙ sym y.1.1
+
+-- a drawing with the same colours of parts has one picture
+alike : (f : Format) (t : Sheet) (us ws : List PartInk) (a b : List ℕ) → map ink_paint us ≡ map ink_paint ws → f ≢ Png → f ≢ SvgPath → f ≢ Pdf → f ≢ Zpl
+    → IsDrawn f (record t { parts = us }) a → IsDrawn f (record t { parts = ws }) b → a ≡ b
+alike HalfBlocks t us ws a b same no_png no_path no_pdf no_zpl x y = x ∙ sym y
+alike LightHalfBlocks t us ws a b same no_png no_path no_pdf no_zpl x y = x ∙ sym y
+alike Terminal t us ws a b same no_png no_path no_pdf no_zpl x y = x ∙ sym y
+alike Chars t us ws a b same no_png no_path no_pdf no_zpl x y = x ∙ sym y
+alike Svg t us ws a b same no_png no_path no_pdf no_zpl x y = x ∙ sym y
+alike Eps t us ws a b same no_png no_path no_pdf no_zpl x y = x.1.1 ∙ ap (eps_text t) (over_alike t us ws x.0 y.0 same x.1.0 y.1.0) ∙ sym y.1.1
+alike Pic t us ws a b same no_png no_path no_pdf no_zpl x y = x ∙ sym y
+alike Pbm t us ws a b same no_png no_path no_pdf no_zpl x y = x ∙ sym y
+alike Pgm t us ws a b same no_png no_path no_pdf no_zpl x y = x ∙ sym y
+alike Grey t us ws a b same no_png no_path no_pdf no_zpl x y = x ∙ sym y
+alike Png t us ws a b same no_png no_path no_pdf no_zpl x y = absurd (no_png refl)
+alike SvgPath t us ws a b same no_png no_path no_pdf no_zpl x y = absurd (no_path refl)
+alike Zpl t us ws a b same no_png no_path no_pdf no_zpl x y = absurd (no_zpl refl)
+alike Tspl t us ws a b same no_png no_path no_pdf no_zpl x y = x ∙ sym y
+alike EscPos t us ws a b same no_png no_path no_pdf no_zpl x y = x ∙ sym y
+alike Xbm t us ws a b same no_png no_path no_pdf no_zpl x y = x ∙ sym y
+alike Ascii t us ws a b same no_png no_path no_pdf no_zpl x y = x ∙ sym y
+alike Ppm t us ws a b same no_png no_path no_pdf no_zpl x y = x ∙ sym y
+alike Pdf t us ws a b same no_png no_path no_pdf no_zpl x y = absurd (no_pdf refl)
 
 pub one_picture : (f : Format) (t : Sheet) (a b : List ℕ) → f ≢ Png → f ≢ SvgPath → f ≢ Pdf → f ≢ Zpl → IsDrawn f t a → IsDrawn f t b → a ≡ b
-one_picture HalfBlocks t a b no_png no_path no_pdf no_zpl x y = x ∙ sym y
-one_picture LightHalfBlocks t a b no_png no_path no_pdf no_zpl x y = x ∙ sym y
-one_picture Terminal t a b no_png no_path no_pdf no_zpl x y = x ∙ sym y
-one_picture Chars t a b no_png no_path no_pdf no_zpl x y = x ∙ sym y
-one_picture Svg t a b no_png no_path no_pdf no_zpl x y = x ∙ sym y
-one_picture Eps t a b no_png no_path no_pdf no_zpl x y = x.1.1 ∙ ap (eps_text t) (over_same t x.0 y.0 x.1.0 y.1.0) ∙ sym y.1.1
-one_picture Pic t a b no_png no_path no_pdf no_zpl x y = x ∙ sym y
-one_picture Pbm t a b no_png no_path no_pdf no_zpl x y = x ∙ sym y
-one_picture Pgm t a b no_png no_path no_pdf no_zpl x y = x ∙ sym y
-one_picture Grey t a b no_png no_path no_pdf no_zpl x y = x ∙ sym y
-one_picture Png t a b no_png no_path no_pdf no_zpl x y = absurd (no_png refl)
-one_picture SvgPath t a b no_png no_path no_pdf no_zpl x y = absurd (no_path refl)
-one_picture Zpl t a b no_png no_path no_pdf no_zpl x y = absurd (no_zpl refl)
-one_picture Tspl t a b no_png no_path no_pdf no_zpl x y = x ∙ sym y
-one_picture EscPos t a b no_png no_path no_pdf no_zpl x y = x ∙ sym y
-one_picture Xbm t a b no_png no_path no_pdf no_zpl x y = x ∙ sym y
-one_picture Ascii t a b no_png no_path no_pdf no_zpl x y = x ∙ sym y
-one_picture Ppm t a b no_png no_path no_pdf no_zpl x y = x ∙ sym y
-one_picture Pdf t a b no_png no_path no_pdf no_zpl x y = absurd (no_pdf refl)
+one_picture f t a b no_png no_path no_pdf no_zpl x y = alike f t t.parts t.parts a b refl no_png no_path no_pdf no_zpl x y
+
+-- what C asks for has one picture
+pub one_answer : (f : Format) (modules : List ℕ) (width : ℕ) (d : Drawing) (a b : List ℕ) → f ≢ Png → f ≢ SvgPath → f ≢ Pdf → f ≢ Zpl
+    → IsDrawing f modules width d a → IsDrawing f modules width d b → a ≡ b
+one_answer f modules width d a b no_png no_path no_pdf no_zpl x y =
+    alike f (sheet modules width d []) x.inks y.inks a b (x.own ∙ sym y.own) no_png no_path no_pdf no_zpl x.shown y.shown

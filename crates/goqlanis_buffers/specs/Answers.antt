@@ -16,6 +16,7 @@ use Rattle.goqlanis_buffers.specs.Names.{level_named, version_named}
 use Rattle.goqlanis_buffers.specs.Readings.{Anywhere, IsReadAnywhere, IsReadNowhere}
 use Rattle.goqlanis_buffers.specs.Segments.{HasNoRoom, HaveNoRoom, IsFirstRefused}
 use Rattle.goqlanis_buffers.specs.Symbols.{ExceedsRoom, IsSegmentsSymbol}
+use Rattle.goqlanis_buffers.specs.Tints.{has_parts, is_plain}
 use Rattle.goqlanis_buffers.specs.declared.segments.Segment as by_hand
 use Rattle.goqlanis_buffers.specs.declared.answers.Refusal.{Refusal}
 use Rattle.goqlanis_buffers.specs.declared.answers.Refusal.TheVariants.{NoSuchLevel, NoSuchVersion, LevelNotInVersion, TooLong, NoMode, NoRoom, SmallBuffer, OutOfMemory, NoSuchFormat, NotSquare, NoSuchSize, NotText, NoSuchKind, NotInMode, NoSuchNumber, NoSuchSide, NoFormat, Damaged, NotSpelled, NoSuchStruct, NoSuchManner, NoSuchMask, NotInFormat, NotShown, NotSeveral, Stranger, Missing, Twice, Parity, NotRead, NoSuchArea, NoArea, AreaBlock, AreaFormat, NotPicture, BrokenPicture, NoSquare, LargePicture}
@@ -73,7 +74,7 @@ IsLeastCause level segments refusal =
 
 -- the struct has the right size, the format exists, and the modules are a square of this width
 pub record IsOfSquare (modules : List ℕ) (width : ℕ) (d : Drawing) (f : Format) : Type 0 where
-  pub size : d.size ≡ 28
+  pub size : d.size ≡ 76
   pub format : format_numbered d.format ≡ Some f
   pub square : length modules ≡ width * width
 
@@ -83,7 +84,7 @@ pub record HasSize (width : ℕ) (d : Drawing) (f : Format) : Type 0 where
   pub side : width + 2 * d.zone < 2 ^ 13
   pub scale_least : 1 ≤ d.scale
   pub scale_most : d.scale < 2 ^ 16
-  pub pixels : IsTrue (has_side f ((width + 2 * d.zone) * d.scale))
+  pub pixels : IsTrue (has_side f (is_plain d) ((width + 2 * d.zone) * d.scale))
 
 -- the bytes are the picture that is asked for
 pub record IsPicture (modules : List ℕ) (width : ℕ) (d : Drawing) (bytes : List ℕ) : Type 0 where
@@ -94,13 +95,16 @@ pub record IsPicture (modules : List ℕ) (width : ℕ) (d : Drawing) (bytes : L
 
 -- why modules of a width are not drawn into a buffer of `room` bytes: the first of these causes that applies
 abbrev pub IsDrawingCause : List ℕ → ℕ → Drawing → ℕ → Refusal → Type 0
-IsDrawingCause modules width d room NoSuchStruct = d.size ≢ 28
-IsDrawingCause modules width d room NoSuchFormat = (d.size ≡ 28) × (format_numbered d.format ≡ None)
-IsDrawingCause modules width d room NotSquare = (d.size ≡ 28) × ((format_numbered d.format ≢ None) × (length modules ≢ width * width))
+IsDrawingCause modules width d room NoSuchStruct = d.size ≢ 76
+IsDrawingCause modules width d room NoSuchFormat = (d.size ≡ 76) × (format_numbered d.format ≡ None)
+IsDrawingCause modules width d room NotSquare = (d.size ≡ 76) × ((format_numbered d.format ≢ None) × (length modules ≢ width * width))
 IsDrawingCause modules width d room NoSuchSize = (f : Format) × (IsOfSquare modules width d f × (¬ HasSize width d f))
 IsDrawingCause modules width d room NotInFormat = (f : Format) × (IsOfSquare modules width d f × (HasSize width d f × (is_sayable f d ≡ false)))
+IsDrawingCause modules width d room NoSuchSide =
+    (f : Format) × (IsOfSquare modules width d f × (HasSize width d f × (IsTrue (is_sayable f d) × (has_parts width d ≡ false))))
 IsDrawingCause modules width d room SmallBuffer = (bytes : List ℕ) × (IsPicture modules width d bytes × (room < length bytes))
-IsDrawingCause modules width d room OutOfMemory = (f : Format) × (IsOfSquare modules width d f × (HasSize width d f × IsTrue (is_sayable f d)))
+IsDrawingCause modules width d room OutOfMemory =
+    (f : Format) × (IsOfSquare modules width d f × (HasSize width d f × (IsTrue (is_sayable f d) × IsTrue (has_parts width d))))
 IsDrawingCause modules width d room refusal = ⊥
 
 abbrev pub IsReadingCause : List ℕ → ℕ → Refusal → Type 0  -- why modules are not decoded into a buffer of `room` bytes

@@ -1,9 +1,10 @@
 -- Requests to draw, and the lengths of pictures.
-use Rattle.std.specs.Prelude.{◌≡◌, ◌+◌, ◌*◌, ◌/◌, ◌++◌, ℕ, List, [], codes, decimal, length, IsTrue}
+use Rattle.std.specs.Prelude.{◌≡◌, ◌+◌, ◌*◌, ◌/◌, ◌^◌, ◌<◌, ◌++◌, ℕ, List, [], codes, decimal, length, IsTrue}
 use Rattle.qrcode_render.specs.Printers.{bytes_across, escpos_head, tspl_head, tspl_tail, xbm_head, xbm_tail}
 use Rattle.qrcode_formats.specs.declared.Format.{Format}
 use Rattle.goqlanis_buffers.specs.Answers.{HasSize, IsDrawingCause, IsOfSquare, IsPicture}
 use Rattle.goqlanis_buffers.specs.Drawings.{is_sayable}
+use Rattle.goqlanis_buffers.specs.Tints.{has_parts}
 use Rattle.goqlanis_buffers.specs.declared.answers.Refusal.{Refusal}
 use Rattle.goqlanis_buffers.specs.declared.pictures.Asked.{Asked}
 
@@ -12,6 +13,8 @@ pub record IsDrawable (a : Asked) (f : Format) : Type 0 where
   pub asked : IsOfSquare a.modules.now a.width a.drawing.now f
   pub sized : HasSize a.width a.drawing.now f
   pub sayable : IsTrue (is_sayable f a.drawing.now)
+  pub dots : a.drawing.now.dpi < 2 ^ 16
+  pub known : IsTrue (has_parts a.width a.drawing.now)
 
 abbrev pub IsPictureFor : Asked → List ℕ → Type 0  -- the picture that is asked for
 IsPictureFor a bytes = IsPicture a.modules.now a.width a.drawing.now bytes

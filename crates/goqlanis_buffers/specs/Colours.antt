@@ -33,14 +33,17 @@ colour_name colour =
     else (if opacity_of colour == 255 then digits_of colour
     else (if opacity_of colour == 0 then codes "none" else digits_of colour ++ hex_text (opacity_of colour))))
 
-abbrev pub colour_shade : ℕ → Shade  -- a colour and its name
-colour_shade colour = record {
-  name = colour_name colour;
+abbrev pub named_shade : List ℕ → ℕ → Shade  -- a colour with this name
+named_shade name colour = record {
+  name = name;
   red = red_of colour;
   green = green_of colour;
   blue = blue_of colour;
   opacity = opacity_of colour;
 }
+
+abbrev pub colour_shade : ℕ → Shade  -- a colour and its name
+colour_shade colour = named_shade (colour_name colour) colour
 
 abbrev pub is_among : Colours → ℕ → ℕ → Bool  -- these colours of dark and light modules are among those that a format may have
 is_among Any dark light = true

@@ -1,24 +1,26 @@
 -- What the calls for C draw.
-use Rattle.std.specs.Prelude.{ℕ, ◌==◌, nat_le, ◌&&◌, Bool, false, List, [], IsTrue, Option, None, Some, pos, if◌then◌else◌}
-use Rattle.qrcode_types.specs.declared.types.Version.TheVariants.{Normal}
+use Rattle.std.specs.Prelude.{◌≡◌, ℕ, ◌==◌, nat_le, ◌&&◌, Bool, false, List, [], IsTrue, Option, None, Some, map, if◌then◌else◌}
 use Rattle.qrcode_render.specs.Layout.{layout}
 use Rattle.qrcode_render.specs.Paths.{plain}
 use Rattle.qrcode_render.specs.Shades.{colors_of}
 use Rattle.goqlanis_core.specs.Formats.{IsDrawn as IsSheetIn}
 use Rattle.goqlanis_core.specs.Sheets.{Sheet}
+use Rattle.goqlanis_core.specs.declared.layers.PartInk.{PartInk}
 use Rattle.qrcode_formats.specs.Formats.{row}
 use Rattle.qrcode_formats.specs.declared.Density.{Density}
 use Rattle.qrcode_formats.specs.declared.Density.TheVariants.{Stored}
 use Rattle.qrcode_formats.specs.declared.Format.{Format}
+use Rattle.qrcode_formats.specs.declared.Format.TheVariants.{Png}
 use Rattle.goqlanis_buffers.specs.Colours.{colour_shade, has_colours}
+use Rattle.goqlanis_buffers.specs.Tints.{has_parts, have_tints, ink_paint, paints, version_for}
 use Rattle.goqlanis_buffers.specs.declared.pictures.Drawing.{Drawing}
 
 abbrev pub density : ℕ → Option ℕ  -- the dots per inch; none for 0
 density dpi = if dpi == 0 then None else Some dpi
 
--- modules of a width as a drawing shows them, with nothing over them
-abbrev pub sheet : List ℕ → ℕ → Drawing → Sheet
-sheet modules width d = record {
+-- modules of a width as a drawing shows them, with these colours of parts and nothing over them
+abbrev pub sheet : List ℕ → ℕ → Drawing → List PartInk → Sheet
+sheet modules width d inks = record {
   modules = colors_of modules;
   at = layout width d.zone d.scale d.scale;
   dark = colour_shade d.dark;
@@ -29,8 +31,8 @@ sheet modules width d = record {
   dots = None;
   place = (0, 0);
   frame = plain;
-  version = Normal (pos 1);
-  parts = [];
+  version = version_for width;
+  parts = inks;
   over = [];
   inset = None;
 }
@@ -43,11 +45,22 @@ abbrev pub has_density : Format → ℕ → Bool  -- the format stores these dot
 has_density f dpi = nat_le dpi (most_dpi (row f).density)
 
 abbrev pub is_sayable : Format → Drawing → Bool  -- the format supports the colours and dots per inch
-is_sayable f d = has_density f d.dpi && has_colours f d.dark d.light
+is_sayable f d = has_density f d.dpi && has_colours f d.dark d.light && have_tints f d
 
--- the bytes are the picture of modules of a width, in a format that supports its colours and dots per inch
-abbrev pub IsDrawn : Format → List ℕ → ℕ → Drawing → List ℕ → Type 0
-IsDrawn f modules width d bytes = IsTrue (is_sayable f d) × IsSheetIn f (sheet modules width d) bytes
+-- the bytes are the picture of modules of a width, in a format that supports its colours and dots per inch; it is known which modules belong to parts that
+-- have a colour of their own
+pub record IsDrawn (f : Format) (modules : List ℕ) (width : ℕ) (d : Drawing) (bytes : List ℕ) : Type 0 where
+  pub inks : List PartInk
+  pub sayable : IsTrue (is_sayable f d)
+  pub known : IsTrue (has_parts width d)
+  pub own : map ink_paint inks ≡ paints d
+  pub shown : IsSheetIn f (sheet modules width d inks) bytes
 
-abbrev pub has_side : Format → ℕ → Bool  -- a picture in the format may have this many pixels a side
-has_side f side = nat_le (row f).least side && nat_le side (row f).most
+-- the most pixels a side: four bytes of memory are taken for each in a PNG file in full colour
+abbrev pub most_side : Format → Bool → ℕ
+most_side Png false = 8192
+most_side f _ = (row f).most
+
+-- a picture in the format may have this many pixels a side; `bare` says that no part has a colour of its own
+abbrev pub has_side : Format → Bool → ℕ → Bool
+has_side f bare side = nat_le (row f).least side && nat_le side (most_side f bare)

@@ -14,4 +14,5 @@ pub mod Scanning
 pub mod Segments
 pub mod Several
 pub mod Symbols
+pub mod Tints
 pub mod contents

@@ -4,7 +4,7 @@
 ghost use Rattle.std.specs.Prelude.{◌≡◌, ◌++◌, string_bytes, IfOk, OnOk, IsOkUnless};
 ghost use Rattle.qrcode_types.specs.declared.types.QrError.TheVariants.{OutOfMemory};
 ghost use Rattle.goqlanis_core.specs.Sheets.{shade_of};
-ghost use Rattle.goqlanis_buffers.specs.Colours.{blue_of, colour_name, colour_shade, green_of, has_colours, hex_text, opacity_of, red_of};
+ghost use Rattle.goqlanis_buffers.specs.Colours.{blue_of, colour_name, green_of, has_colours, hex_text, named_shade, opacity_of, red_of};
 
 use goqlanis_core::sheet::Ink;
 use qrcode::types::QrResult;
@@ -16,8 +16,8 @@ pub(crate) const BLACK: u32 = 0;
 
 pub(crate) const WHITE: u32 = 0x00ff_ffff;
 
-// The first colour that is not opaque.
-const CLEAR: u32 = 1 << 24;
+/// The first colour that is not opaque.
+pub(crate) const CLEAR: u32 = 1 << 24;
 
 /// Returns whether a format supports these colours of dark and light modules.
 pub(crate) fn has_colours(format: Format, dark: u32, light: u32) -> bool
@@ -30,9 +30,9 @@ pub(crate) fn has_colours(format: Format, dark: u32, light: u32) -> bool
     }
 }
 
-/// Returns the parts of a colour, with its name.
+/// Returns the channels of a colour, with its name.
 pub(crate) fn ink_of<'a>(name: &'a str, colour: u32) -> Ink<'a>
-    ensures value { name.now ≡ colour_name colour → shade_of result ≡ colour_shade colour }
+    ensures value { shade_of result ≡ named_shade name.now colour }
     ensures red { result.red ≡ red_of colour }
     ensures green { result.green ≡ green_of colour }
     ensures blue { result.blue ≡ blue_of colour }

@@ -5,8 +5,10 @@ ghost use Rattle.goqlanis_core.specs.Formats.{IsDrawn};
 ghost use Rattle.goqlanis_core.specs.Sheets.{Sheet};
 ghost use Rattle.qrcode_formats.specs.declared.Format.{Format};
 ghost use Rattle.qrcode_formats.specs.declared.Format.TheVariants.{Pdf, Png, SvgPath, Zpl};
+ghost use Rattle.goqlanis_buffers.specs.Drawings.{IsDrawn as IsDrawing};
 ghost use Rattle.goqlanis_buffers.specs.declared.answers.Refusal.{Refusal};
 ghost use Rattle.goqlanis_buffers.specs.declared.contents.answers.Refusal as of_contents;
+ghost use Rattle.goqlanis_buffers.specs.declared.pictures.Drawing.{Drawing};
 
 use crate::answers::Refusal;
 use crate::contents::answers::Refusal as ContentRefusal;
@@ -19,9 +21,13 @@ pub fn equality()
 {}
 
 /// Theorem: a drawing has only one picture in each format, except PNG, PDF, ZPL and SVG of one
-/// path, which are defined by what they show. So its length is the same whichever call draws it.
+/// path, which are defined by what they show; and so has what C asks for. So its length is the
+/// same whichever call draws it.
 #[tactic(auto, using(crate::proofs::OnePicture::one_picture))]
 pub fn pictures()
     ensures one { (f : Format) (t : Sheet) (a b : List ℕ) → f ≢ Png → f ≢ SvgPath → f ≢ Pdf
         → f ≢ Zpl → IsDrawn f t a → IsDrawn f t b → a ≡ b }
+    ensures in_c { (f : Format) (modules : List ℕ) (width : ℕ) (d : Drawing) (a b : List ℕ)
+        → f ≢ Png → f ≢ SvgPath → f ≢ Pdf → f ≢ Zpl → IsDrawing f modules width d a
+        → IsDrawing f modules width d b → a ≡ b }
 {}

@@ -18,3 +18,4 @@ pub mod scanning;
 pub mod segments;
 pub mod several;
 pub mod symbols;
+pub mod tints;

@@ -1,6 +1,6 @@
 //! Draws pictures into buffers.
 
-ghost use Rattle.std.specs.Prelude.{◌≡◌, ◌<◌, ◌↔◌, ◌^◌, ℕ, length, IfOk, IfErr, IsOkUnless, IsTrue};
+ghost use Rattle.std.specs.Prelude.{◌≡◌, ◌<◌, ◌↔◌, ◌^◌, ℕ, length, map, IfOk, IfErr, IsOkUnless, IsTrue};
 ghost use Rattle.std.specs.Bool.{OnTrue};
 ghost use Rattle.qrcode_types.specs.declared.types.QrError.TheVariants.{OutOfMemory};
 ghost use Rattle.qrcode_render.specs.Shades.{colors_of};
@@ -8,17 +8,19 @@ ghost use Rattle.goqlanis_buffers.specs.Colours.{colour_name};
 ghost use Rattle.goqlanis_buffers.specs.Calls.{TellsLength, WritesPicture};
 ghost use Rattle.goqlanis_buffers.specs.Answers.{HasSize};
 ghost use Rattle.goqlanis_buffers.specs.Asking.{IsCauseFor, IsDrawable, IsPictureFor};
-ghost use Rattle.goqlanis_buffers.specs.Drawings.{density, has_side, is_sayable, IsDrawn};
+ghost use Rattle.goqlanis_buffers.specs.Drawings.{density, has_side, is_sayable, most_side, IsDrawn};
+ghost use Rattle.goqlanis_buffers.specs.Tints.{named_paint, paints};
 
 use crate::answers::Refusal;
 use crate::colours::{has_colours, ink_of, name_of};
 use crate::lengths::known_length;
 use crate::symbols::{colors_of, fill};
-use goqlanis_core::PartInk;
+use crate::tints::{NamedTint, has_parts, have_tints, inks_of, is_plain, own_tints, version_for};
+use goqlanis_core::GREATEST_PAINTED;
 use goqlanis_core::render::draw;
 use goqlanis_core::sheet::Sheet;
 use qrcode::render::svg::Frame;
-use qrcode::types::{Color, QrResult, Version};
+use qrcode::types::{Color, QrResult};
 use qrcode_formats::{Density, Format, format_numbered};
 use std::alloc::Global;
 
@@ -41,13 +43,27 @@ pub struct Drawing {
     pub light: u32,
     /// The dots per inch to store in a PNG file, or 0 for none.
     pub dpi: u32,
+    /// The colours of the dark and the light modules of each part, or `0xffffffff` for none of
+    /// their own.
+    pub finder_dark: u32,
+    pub finder_light: u32,
+    pub alignment_dark: u32,
+    pub alignment_light: u32,
+    pub timing_dark: u32,
+    pub timing_light: u32,
+    pub format_dark: u32,
+    pub format_light: u32,
+    pub version_dark: u32,
+    pub version_light: u32,
+    pub data_dark: u32,
+    pub data_light: u32,
 }
 
-// C gives no colours of parts.
-static NO_PARTS: [PartInk<'static>; 0] = [];
+// Nothing lies over the modules that C gives.
+static NOTHING: [u8; 0] = [];
 
 // The size of a `Drawing` in bytes.
-const SIZE: u32 = 28;
+const SIZE: u32 = 76;
 
 /// What is to be drawn, as C gives it.
 #[derive(Clone, Copy)]
@@ -62,8 +78,8 @@ pub struct Asked<'a> {
 /// Draws a picture to the start of `out`, and returns its length.
 ///
 /// Errors, the first that applies: `NoSuchStruct`, `NoSuchFormat`, `NotSquare`, `NoSuchSize`,
-/// `NotInFormat`, `SmallBuffer`; or `OutOfMemory`. After an error `out` is unchanged. If the length
-/// follows from the side, a picture that does not fit is not drawn.
+/// `NotInFormat`, `NoSuchSide`, `SmallBuffer`; or `OutOfMemory`. After an error `out` is unchanged.
+/// If the length follows from the side, a picture that does not fit is not drawn.
 pub fn put_picture(alloc: Global, asked: &Asked<'_>, out: &mut [u8]) -> Result<usize, Refusal>
     ensures { WritesPicture asked.now.modules.now asked.now.width asked.now.drawing.now
         out.old out.new result }
@@ -90,7 +106,7 @@ pub fn put_picture(alloc: Global, asked: &Asked<'_>, out: &mut [u8]) -> Result<u
 /// Returns the length of a picture.
 ///
 /// Errors, the first that applies: `NoSuchStruct`, `NoSuchFormat`, `NotSquare`, `NoSuchSize`,
-/// `NotInFormat`; or `OutOfMemory`.
+/// `NotInFormat`, `NoSuchSide`; or `OutOfMemory`.
 pub fn length_of(alloc: Global, asked: &Asked<'_>) -> Result<usize, Refusal>
     ensures { TellsLength asked.now.modules.now asked.now.width asked.now.drawing.now result }
 {
@@ -130,6 +146,9 @@ fn format_of(asked: &Asked<'_>) -> Result<Format, Refusal>
     if !is_sayable(format, drawing) {
         return Err(Refusal::NotInFormat);
     }
+    if !has_parts(asked.width, drawing) {
+        return Err(Refusal::NoSuchSide);
+    }
     Ok(format)
 }
 
@@ -144,15 +163,25 @@ fn has_size(format: Format, width: u32, drawing: &Drawing) -> bool
     if drawing.scale == 0 || drawing.scale > 65_535 {
         return false;
     }
-    has_side(format, side * u64::from(drawing.scale))
+    has_side(format, is_plain(drawing), side * u64::from(drawing.scale))
 }
 
-// Whether a picture in a format may have this many pixels a side.
-fn has_side(format: Format, pixels: u64) -> bool
-    ensures value { result ≡ has_side format pixels }
+// Whether a picture in a format may have this many pixels a side; it is plain if no part has a
+// colour of its own.
+fn has_side(format: Format, is_plain: bool, pixels: u64) -> bool
+    ensures value { result ≡ has_side format is_plain pixels }
 {
-    let row = format.row();
-    u64::from(row.least) <= pixels && pixels <= u64::from(row.most)
+    u64::from(format.row().least) <= pixels && pixels <= u64::from(most_side(format, is_plain))
+}
+
+// The most pixels a side.
+fn most_side(format: Format, is_plain: bool) -> u32
+    ensures { result ≡ most_side format is_plain }
+{
+    match format {
+        Format::Png if !is_plain => GREATEST_PAINTED,
+        _ => format.row().most,
+    }
 }
 
 // Whether a format supports the colours, and the dots per inch if any.
@@ -164,7 +193,9 @@ fn is_sayable(format: Format, drawing: &Drawing) -> bool
         Density::Stored => 65_535,
         _ => 0,
     };
-    drawing.dpi <= most && has_colours(format, drawing.dark, drawing.light)
+    drawing.dpi <= most
+        && has_colours(format, drawing.dark, drawing.light)
+        && have_tints(format, drawing)
 }
 
 // Draws a picture. Errors: only `OutOfMemory`.
@@ -176,28 +207,44 @@ fn drawn(alloc: Global, asked: &Asked<'_>, format: Format) -> QrResult<Vec<u8>>
     let colors = colors_of(alloc, asked.modules)?;
     let dark = name_of(alloc, asked.drawing.dark)?;
     let light = name_of(alloc, asked.drawing.light)?;
-    draw_named(alloc, asked, format, &colors, (&dark, &light))
+    let own = own_tints(alloc, asked.drawing)?;
+    let names = Names {
+        dark: &dark,
+        light: &light,
+        own: &own,
+    };
+    draw_named(alloc, asked, format, &colors, names)
 }
 
-// Draws a picture with these modules and names of the dark and the light colour.
+// The names of colours: of dark and of light modules, and of those that parts have of their own.
+#[derive(Clone, Copy)]
+struct Names<'a> {
+    dark: &'a str,
+    light: &'a str,
+    own: &'a [NamedTint],
+}
+
+// Draws a picture with these modules and names of colours.
 fn draw_named<'a>(
     alloc: Global,
     asked: &Asked<'_>,
     format: Format,
     modules: &'a [Color],
-    names: (&'a str, &'a str),
+    names: Names<'a>,
 ) -> QrResult<Vec<u8>>
     requires drawable { IsDrawable asked.now format }
     requires modules { modules.now ≡ colors_of asked.now.modules.now }
-    requires dark { names.0.now ≡ colour_name asked.now.drawing.now.dark }
-    requires light { names.1.now ≡ colour_name asked.now.drawing.now.light }
+    requires dark { names.dark.now ≡ colour_name asked.now.drawing.now.dark }
+    requires light { names.light.now ≡ colour_name asked.now.drawing.now.light }
+    requires own { map named_paint names.own.now ≡ paints asked.now.drawing.now }
     ensures drawing { IfOk result (λ bytes. IsDrawn format asked.now.modules.now asked.now.width
         asked.now.drawing.now bytes.items) }
     ensures memory { IsOkUnless result OutOfMemory }
 {
     let drawing = asked.drawing;
-    let dark = ink_of(names.0, drawing.dark);
-    let light = ink_of(names.1, drawing.light);
+    let dark = ink_of(names.dark, drawing.dark);
+    let light = ink_of(names.light, drawing.light);
+    let inks = inks_of(alloc, names.own)?;
     let sheet = Sheet {
         modules,
         width: asked.width,
@@ -211,9 +258,9 @@ fn draw_named<'a>(
         dots: None,
         place: (0, 0),
         frame: Frame::plain(),
-        version: Version::Normal(1),
-        parts: &NO_PARTS,
-        over: &[],
+        version: version_for(asked.width),
+        parts: &inks,
+        over: &NOTHING,
         inset: None,
     };
     draw(alloc, format, &sheet)

@@ -10,8 +10,8 @@ use std::alloc::Global;
 /// `count`. The modules are bytes, row by row, dark if not zero. Text does not end with a zero.
 ///
 /// Returns 0, or the number of the first `Refusal` that applies: `NoSuchStruct`, `NoSuchFormat`,
-/// `NotSquare`, `NoSuchSize`, `NotInFormat`, `SmallBuffer`; or of `OutOfMemory`. After an error the
-/// outputs are unchanged.
+/// `NotSquare`, `NoSuchSize`, `NotInFormat`, `NoSuchSide`, `SmallBuffer`; or of `OutOfMemory`. After
+/// an error the outputs are unchanged.
 #[unsafe(no_mangle)]
 pub extern "C" fn goq_draw_with(
     alloc: Global,

@@ -94,7 +94,7 @@ fn sheet<'a>(
     modules: &'a [Color],
     over: &'a [u8],
     inset: Option<(Rectangle, Inset<'a>)>,
-) -> Sheet<'a>
+) -> Sheet<'a, 'a, 'a>
     requires { length modules.now ≡ length code.now.modules }
     ensures value { sheet_of result ≡ sheet_for request.now code.now.version modules.entry.now
         over.entry.now inset.entry }

@@ -27,7 +27,7 @@ pub struct PartInk<'a> {
 }
 
 /// Whether the module at `index`, in row order, gets this colour.
-pub(crate) fn is_painted(sheet: &Sheet<'_>, ink: &PartInk<'_>, index: usize) -> bool
+pub(crate) fn is_painted(sheet: &Sheet<'_, '_, '_>, ink: &PartInk<'_>, index: usize) -> bool
     requires { index < length sheet.now.modules.now }
     ensures { result ≡ is_painted (sheet_of sheet.now) ink.now index }
 {
@@ -37,7 +37,11 @@ pub(crate) fn is_painted(sheet: &Sheet<'_>, ink: &PartInk<'_>, index: usize) -> 
 }
 
 // Marks the modules that get this colour as dark, and the others as light.
-fn layer(alloc: Global, sheet: &Sheet<'_>, ink: &PartInk<'_>) -> Result<Vec<Color>, AllocError>
+fn layer(
+    alloc: Global,
+    sheet: &Sheet<'_, '_, '_>,
+    ink: &PartInk<'_>,
+) -> Result<Vec<Color>, AllocError>
     ensures { IfOk result (λ colors. colors.items ≡ layer (sheet_of sheet.now) ink.now) }
 {
     let mut colors = Vec::with_capacity(alloc, sheet.modules.len())?;
@@ -62,7 +66,7 @@ pub(crate) fn units(format: Format, pixels: u32) -> u32
 }
 
 /// Returns what a format draws over the modules: a layer for each colour, then `sheet.over`.
-pub(crate) fn over(alloc: Global, format: Format, sheet: &Sheet<'_>) -> QrResult<Vec<u8>>
+pub(crate) fn over(alloc: Global, format: Format, sheet: &Sheet<'_, '_, '_>) -> QrResult<Vec<u8>>
     ensures value { IfOk result (λ text. AreOver format (sheet_of sheet.now) text.items) }
     ensures memory { IsOkUnless result OutOfMemory }
 {
@@ -78,7 +82,7 @@ pub(crate) fn over(alloc: Global, format: Format, sheet: &Sheet<'_>) -> QrResult
 fn layer_in(
     alloc: Global,
     format: Format,
-    sheet: &Sheet<'_>,
+    sheet: &Sheet<'_, '_, '_>,
     ink: &PartInk<'_>,
 ) -> QrResult<Vec<u8>>
     ensures value { IfOk result (λ text. IsLayer format (sheet_of sheet.now) ink.now text.items) }
@@ -117,7 +121,7 @@ fn layer_in(
 }
 
 // PostScript that fills the dark modules with a colour.
-fn eps_layer(alloc: Global, sheet: &Sheet<'_>, ink: Ink<'_>) -> QrResult<Vec<u8>>
+fn eps_layer(alloc: Global, sheet: &Sheet<'_, '_, '_>, ink: Ink<'_>) -> QrResult<Vec<u8>>
     requires { sheet.now.is_inverted ≡ false }
     ensures value { IfOk result (λ text. text.items ≡ drawn eps_rect (sheet_of sheet.now).at
         sheet.now.modules.now (eps_paint (eps_ink (shade_of ink.entry)))) }

@@ -21,7 +21,7 @@ pub struct Inset<'a> {
 
 /// Returns the pixel in column `x` and row `y` of a drawing: `own`, with the sheet's picture over
 /// it if there is one and the pixel's module is in its area.
-pub(crate) fn with_inset(sheet: &Sheet<'_>, x: usize, y: usize, own: [u8; 4]) -> [u8; 4]
+pub(crate) fn with_inset(sheet: &Sheet<'_, '_, '_>, x: usize, y: usize, own: [u8; 4]) -> [u8; 4]
     ensures { rgba result ≡ shade_with (sheet_of sheet.now).at sheet.now.inset x y (rgba own) }
 {
     let Some((area, inset)) = sheet.inset else {
@@ -37,7 +37,7 @@ pub(crate) fn with_inset(sheet: &Sheet<'_>, x: usize, y: usize, own: [u8; 4]) ->
 }
 
 // Whether a pixel's module is in the area.
-fn is_in_area(sheet: &Sheet<'_>, area: Rectangle, x: usize, y: usize) -> bool
+fn is_in_area(sheet: &Sheet<'_, '_, '_>, area: Rectangle, x: usize, y: usize) -> bool
     ensures { result ≡ in_area (sheet_of sheet.now).at area x y }
 {
     let (zone, scale) = (sheet.zone as usize, sheet.scale as usize);

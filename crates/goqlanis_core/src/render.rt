@@ -31,7 +31,7 @@ use std::alloc::Global;
 /// Errors: only `OutOfMemory`, if memory runs out or the picture is too large: a PNG or ESC/POS
 /// picture of more than 65,535 pixels a side, or a PNG file with colours of parts or a picture of
 /// more than `GREATEST_PAINTED`, or a PNG file without pixels.
-pub fn draw(alloc: Global, format: Format, sheet: &Sheet<'_>) -> QrResult<Vec<u8>>
+pub fn draw(alloc: Global, format: Format, sheet: &Sheet<'_, '_, '_>) -> QrResult<Vec<u8>>
     ensures drawing { IfOk result (λ file. IsDrawn format (sheet_of sheet.now) file.items) }
     ensures memory { IsOkUnless result OutOfMemory }
 {
@@ -65,7 +65,7 @@ pub fn draw(alloc: Global, format: Format, sheet: &Sheet<'_>) -> QrResult<Vec<u8
 }
 
 // Draws black and white pixels, eight in a byte.
-fn bits<F: Packing>(alloc: Global, sheet: &Sheet<'_>) -> QrResult<Vec<u8>>
+fn bits<F: Packing>(alloc: Global, sheet: &Sheet<'_, '_, '_>) -> QrResult<Vec<u8>>
     ensures picture { IfOk result (λ file. file.items ≡ packed_file F.before F.row_of F.behind
         (dark_of (sheet_of sheet.now) true false) (light_of (sheet_of sheet.now) true false)
         (picture (sheet_of sheet.now).at sheet.now.modules.now)) }
@@ -82,7 +82,7 @@ fn bits<F: Packing>(alloc: Global, sheet: &Sheet<'_>) -> QrResult<Vec<u8>>
 /// Draws the modules of a sheet with these values for dark and light, exchanged if it is inverted.
 pub(crate) fn drawn<P: Pixel>(
     alloc: Global,
-    sheet: &Sheet<'_>,
+    sheet: &Sheet<'_, '_, '_>,
     dark: P,
     light: P,
 ) -> QrResult<P::Image>
@@ -93,7 +93,11 @@ pub(crate) fn drawn<P: Pixel>(
 }
 
 /// Returns the renderer of a sheet's modules, with these values for dark and light.
-pub(crate) fn renderer<'a, P: Pixel>(sheet: &Sheet<'a>, dark: P, light: P) -> Renderer<'a, P>
+pub(crate) fn renderer<'a, P: Pixel>(
+    sheet: &Sheet<'a, '_, '_>,
+    dark: P,
+    light: P,
+) -> Renderer<'a, P>
     ensures value { result ≡ setting_of sheet.now dark light }
     ensures fits { IsTrue (fits result) }
 {
@@ -110,7 +114,7 @@ pub(crate) fn renderer<'a, P: Pixel>(sheet: &Sheet<'a>, dark: P, light: P) -> Re
 }
 
 // Half blocks that are drawn where pixels are dark.
-fn half_blocks(alloc: Global, sheet: &Sheet<'_>) -> QrResult<String>
+fn half_blocks(alloc: Global, sheet: &Sheet<'_, '_, '_>) -> QrResult<String>
     ensures value { IfOk result (λ text.
         string_bytes text ≡ half_block_text (sheet_of sheet.now) true false) }
     ensures memory { IsOkUnless result OutOfMemory }
@@ -119,7 +123,7 @@ fn half_blocks(alloc: Global, sheet: &Sheet<'_>) -> QrResult<String>
 }
 
 // A PNG file.
-fn png(alloc: Global, sheet: &Sheet<'_>) -> QrResult<Vec<u8>>
+fn png(alloc: Global, sheet: &Sheet<'_, '_, '_>) -> QrResult<Vec<u8>>
     ensures shows { IfOk result (λ file. IsDrawn Png (sheet_of sheet.now) file.items) }
     ensures memory { IsOkUnless result OutOfMemory }
 {
@@ -130,14 +134,14 @@ fn png(alloc: Global, sheet: &Sheet<'_>) -> QrResult<Vec<u8>>
 }
 
 // Whether parts have their own colours, or a picture lies over the modules.
-fn has_layers(sheet: &Sheet<'_>) -> bool
+fn has_layers(sheet: &Sheet<'_, '_, '_>) -> bool
     ensures { result ≡ has_layers (sheet_of sheet.now) }
 {
     !sheet.parts.is_empty() || sheet.inset.is_some()
 }
 
 // A PNG file in two colours.
-fn two_colours(alloc: Global, sheet: &Sheet<'_>) -> QrResult<Vec<u8>>
+fn two_colours(alloc: Global, sheet: &Sheet<'_, '_, '_>) -> QrResult<Vec<u8>>
     ensures shows { IfOk result (λ file. IsPng false (sheet_of sheet.now) file.items) }
     ensures memory { IsOkUnless result OutOfMemory }
 {
@@ -149,14 +153,14 @@ fn two_colours(alloc: Global, sheet: &Sheet<'_>) -> QrResult<Vec<u8>>
 }
 
 // The pixels per inch of EPS and PDF, if they are given.
-fn dots_of(sheet: &Sheet<'_>) -> Option<u32>
+fn dots_of(sheet: &Sheet<'_, '_, '_>) -> Option<u32>
     ensures { result ≡ option_or sheet.now.dots sheet.now.dpi }
 {
     sheet.dots.or(sheet.dpi.map(|dpi| dpi as u32))
 }
 
 // An SVG file with one path, with the size and title of the sheet's frame.
-fn path(alloc: Global, sheet: &Sheet<'_>) -> QrResult<Vec<u8>>
+fn path(alloc: Global, sheet: &Sheet<'_, '_, '_>) -> QrResult<Vec<u8>>
     ensures shows { IfOk result (λ file. IsDrawn SvgPath (sheet_of sheet.now) file.items) }
     ensures memory { IsOkUnless result OutOfMemory }
 {
@@ -166,7 +170,7 @@ fn path(alloc: Global, sheet: &Sheet<'_>) -> QrResult<Vec<u8>>
 }
 
 // ZPL II, with the picture at the sheet's place on the label.
-fn zpl(alloc: Global, sheet: &Sheet<'_>) -> QrResult<Vec<u8>>
+fn zpl(alloc: Global, sheet: &Sheet<'_, '_, '_>) -> QrResult<Vec<u8>>
     ensures shows { IfOk result (λ file. IsDrawn Zpl (sheet_of sheet.now) file.items) }
     ensures memory { IsOkUnless result OutOfMemory }
 {
@@ -175,7 +179,7 @@ fn zpl(alloc: Global, sheet: &Sheet<'_>) -> QrResult<Vec<u8>>
 }
 
 // TSPL, with the picture at the sheet's place on the label.
-fn tspl(alloc: Global, sheet: &Sheet<'_>) -> QrResult<Vec<u8>>
+fn tspl(alloc: Global, sheet: &Sheet<'_, '_, '_>) -> QrResult<Vec<u8>>
     ensures value { IfOk result (λ file. IsDrawn Tspl (sheet_of sheet.now) file.items) }
     ensures memory { IsOkUnless result OutOfMemory }
 {
@@ -184,7 +188,7 @@ fn tspl(alloc: Global, sheet: &Sheet<'_>) -> QrResult<Vec<u8>>
 }
 
 // An EPS file. Without pixels per inch, a pixel is a point.
-fn eps(alloc: Global, sheet: &Sheet<'_>) -> QrResult<Vec<u8>>
+fn eps(alloc: Global, sheet: &Sheet<'_, '_, '_>) -> QrResult<Vec<u8>>
     ensures shows { IfOk result (λ file. IsDrawn Eps (sheet_of sheet.now) file.items) }
     ensures memory { IsOkUnless result OutOfMemory }
 {
@@ -195,7 +199,7 @@ fn eps(alloc: Global, sheet: &Sheet<'_>) -> QrResult<Vec<u8>>
 
 // A PDF file with the title of the sheet's frame, unless it is empty. Without pixels per inch, a
 // pixel is a point.
-fn pdf_file(alloc: Global, sheet: &Sheet<'_>) -> QrResult<Vec<u8>>
+fn pdf_file(alloc: Global, sheet: &Sheet<'_, '_, '_>) -> QrResult<Vec<u8>>
     ensures shows { IfOk result (λ file. IsDrawn Pdf (sheet_of sheet.now) file.items) }
     ensures memory { IsOkUnless result OutOfMemory }
 {
@@ -227,7 +231,7 @@ pub(crate) fn per_metre(dpi: u16) -> u32
 }
 
 // The bytes of a text, with a newline at the end if the sheet asks for one.
-fn lines(sheet: &Sheet<'_>, mut text: String) -> QrResult<Vec<u8>>
+fn lines(sheet: &Sheet<'_, '_, '_>, mut text: String) -> QrResult<Vec<u8>>
     ensures value { IfOk result (λ lines.
         lines.items ≡ ended (sheet_of sheet.now) (string_bytes text)) }
     ensures memory { IsOkUnless result OutOfMemory }

@@ -24,7 +24,7 @@ pub const GREATEST_PAINTED: u32 = 8_192;
 ///
 /// Errors: only `OutOfMemory`, if memory runs out, or if there would be no pixel or more than
 /// `GREATEST_PAINTED` along a side; that is tested before memory for pixels is requested.
-pub(crate) fn png_file(alloc: Global, sheet: &Sheet<'_>) -> QrResult<Vec<u8>>
+pub(crate) fn png_file(alloc: Global, sheet: &Sheet<'_, '_, '_>) -> QrResult<Vec<u8>>
     ensures shows { IfOk result (λ file. IsPaintedFile (sheet_of sheet.now) file.items) }
     ensures memory { IsOkUnless result OutOfMemory }
 {
@@ -38,7 +38,7 @@ pub(crate) fn png_file(alloc: Global, sheet: &Sheet<'_>) -> QrResult<Vec<u8>>
 }
 
 // The pixels of a sheet, row by row.
-fn pixels(alloc: Global, sheet: &Sheet<'_>) -> Result<Vec<[u8; 4]>, AllocError>
+fn pixels(alloc: Global, sheet: &Sheet<'_, '_, '_>) -> Result<Vec<[u8; 4]>, AllocError>
     ensures { IfOk result (λ pixels. map rgba pixels.items ≡ pixel_shades (sheet_of sheet.now)
         (pixels_across (sheet_of sheet.now).at * pixels_across (sheet_of sheet.now).at)) }
 {
@@ -54,7 +54,7 @@ fn pixels(alloc: Global, sheet: &Sheet<'_>) -> Result<Vec<[u8; 4]>, AllocError>
 }
 
 // The pixel in column `x` and row `y`, from the colours of the modules alone.
-fn pixel(sheet: &Sheet<'_>, modules: &[[u8; 4]], x: usize, y: usize) -> [u8; 4]
+fn pixel(sheet: &Sheet<'_, '_, '_>, modules: &[[u8; 4]], x: usize, y: usize) -> [u8; 4]
     requires { length modules.now ≡ length sheet.now.modules.now }
     ensures { result ≡ pixel_in (sheet_of sheet.now).at (λ i. slice_index_or modules.now i [])
         (shade_bytes (light_shade (sheet_of sheet.now))) x y }
@@ -70,7 +70,7 @@ fn pixel(sheet: &Sheet<'_>, modules: &[[u8; 4]], x: usize, y: usize) -> [u8; 4]
 }
 
 // The colours of the modules, row by row.
-fn module_colors(alloc: Global, sheet: &Sheet<'_>) -> Result<Vec<[u8; 4]>, AllocError>
+fn module_colors(alloc: Global, sheet: &Sheet<'_, '_, '_>) -> Result<Vec<[u8; 4]>, AllocError>
     ensures { IfOk result (λ modules. modules.items ≡ module_bytes (sheet_of sheet.now)) }
 {
     let mut modules = Vec::with_capacity(alloc, sheet.modules.len())?;
@@ -82,7 +82,7 @@ fn module_colors(alloc: Global, sheet: &Sheet<'_>) -> Result<Vec<[u8; 4]>, Alloc
 
 // The colour of the module at `index`: the last of its parts' colours, or the plain one.
 #[tactic(auto, using(std::proofs::lemmas::List::Sums::fold_more))]
-fn module_color(sheet: &Sheet<'_>, index: usize) -> [u8; 4]
+fn module_color(sheet: &Sheet<'_, '_, '_>, index: usize) -> [u8; 4]
     requires { index < length sheet.now.modules.now }
     ensures { result ≡ shade_bytes (module_shade (sheet_of sheet.now) index) }
 {
@@ -96,7 +96,7 @@ fn module_color(sheet: &Sheet<'_>, index: usize) -> [u8; 4]
 }
 
 // The plain colour of dark or light modules, exchanged if the sheet is inverted.
-fn plain(sheet: &Sheet<'_>, tone: Color) -> [u8; 4]
+fn plain(sheet: &Sheet<'_, '_, '_>, tone: Color) -> [u8; 4]
     ensures { result ≡ shade_bytes (select_of tone (dark_shade (sheet_of sheet.now))
         (light_shade (sheet_of sheet.now))) }
 {

@@ -20,9 +20,10 @@ pub struct Ink<'a> {
     pub opacity: u8,
 }
 
-/// A square of modules, and how it is drawn. A format leaves out what it does not have.
+/// A square of modules, and how it is drawn. A format leaves out what it does not have. The list of
+/// colours of parts (`'b`) and their names (`'c`) may live for less long than the rest.
 #[derive(Clone, Copy)]
-pub struct Sheet<'a> {
+pub struct Sheet<'a, 'b, 'c> {
     /// The modules, row by row.
     pub modules: &'a [Color],
     /// The modules along a side.
@@ -50,7 +51,7 @@ pub struct Sheet<'a> {
     pub version: Version,
     /// The colours of parts, in `SvgPath`, EPS, PDF and PNG: a layer over the modules for each. If
     /// several colour the same modules, the last wins.
-    pub parts: &'a [PartInk<'a>],
+    pub parts: &'b [PartInk<'c>],
     /// What is drawn over all modules in `SvgPath`, EPS and PDF: elements, PostScript or operators.
     pub over: &'a [u8],
     /// A picture over the modules of an area, in PNG.

@@ -13,5 +13,8 @@ macro_rules! constants {
 /// A `reserve` of half of the codewords that may be lost.
 pub const GOQ_HALF: u32 = 0xffff_ffff;
 
+/// No colour of their own: these modules have the colour of all dark or light ones.
+pub const GOQ_SAME: u32 = 0xffff_ffff;
+
 // The constants, structs and calls of goqlanis.h, as bindings/same writes them.
 include!("header.in");

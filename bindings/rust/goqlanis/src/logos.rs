@@ -57,7 +57,7 @@ impl Logo {
         let (x, y) = (unit * (zone + left), unit * (zone + top));
         let (width, height, data) = (unit * width, unit * height, &self.data);
         let image = format!(r#"<image x="{x}" y="{y}" width="{width}" height="{height}" href="{data}"/></svg>"#);
-        svg.replace("</svg>", &image)
+        svg[..svg.rfind("</svg>").unwrap_or(svg.len())].to_owned() + &image
     }
 }
 

@@ -9,14 +9,17 @@ use goqlanis_sys as sys;
 pub enum RenderError {
     /// A PNG file would have more than 65,535 pixels per side, rows of pixels or dots more than
     /// 16,384, half blocks or characters more than 4,096, or any picture more than 65,535 modules
-    /// per side.
+    /// per side. With colours of patterns, a PNG file has at most 8,192.
     TooLarge,
+    /// Patterns have colours, and no version has that many modules per side.
+    NoPatterns,
     /// Memory ran out.
     OutOfMemory,
 }
 
 says! { RenderError:
     RenderError::TooLarge => "the picture would be too large: take a smaller module size";
+    RenderError::NoPatterns => "no version has that many modules: only codes have patterns";
     RenderError::OutOfMemory => "out of memory";
 }
 
@@ -116,6 +119,31 @@ impl<P: Pixel> Canvas for OfLibrary<P> {
     }
 }
 
+/// A pattern of a code, or its data, for `Renderer::pattern_color`.
+#[derive(Clone, Copy, Debug, PartialEq, Eq)]
+pub enum Pattern {
+    /// Finder patterns, and the light modules around them.
+    Finder,
+    /// Alignment patterns.
+    Alignment,
+    /// Timing patterns.
+    Timing,
+    /// Format information, and the dark module next to it.
+    Format,
+    /// Version information.
+    Version,
+    /// Data and error correction.
+    Data,
+}
+
+/// A format in which patterns may have colours of their own.
+pub trait HasPatterns: Pixel {}
+
+impl HasPatterns for png::Color {}
+impl HasPatterns for svg_path::Color<'_> {}
+impl HasPatterns for eps::Color {}
+impl HasPatterns for pdf::Color {}
+
 /// Draws a symbol with its settings; `QrCode::render` makes one.
 #[derive(Clone, Copy, Debug)]
 pub struct Renderer<'a, P> {
@@ -127,6 +155,8 @@ pub struct Renderer<'a, P> {
     down: u32,
     dark: P,
     light: P,
+    // Of dark and of light modules of each pattern.
+    own: [Option<P>; 12],
     dpi: u32,
     logo: Option<&'a Logo>,
 }
@@ -160,6 +190,7 @@ impl<'a, P: Pixel> Renderer<'a, P> {
             down,
             dark: P::default_color(Color::Dark),
             light: P::default_color(Color::Light),
+            own: [None; 12],
             dpi: 0,
             logo: None,
         }
@@ -251,10 +282,24 @@ impl<'a, P: Pixel> Renderer<'a, P> {
         if is_too_large { Err(RenderError::TooLarge) } else { Ok(()) }
     }
 
+    // Draws the picture in a format of the library; `word` returns its number of a colour.
+    fn colored(&self, format: u32, word: impl Fn(P) -> u32) -> Result<Vec<u8>, RenderError> {
+        // The highest two numbers are both of transparent colours.
+        let own = self.own.map(|it| it.map_or(sys::GOQ_SAME, |it| word(it).min(sys::GOQ_SAME - 1)));
+        self.drawn(format, word(self.dark), word(self.light), own)
+    }
+
     // Draws the picture in a format of the library, in these colours.
-    fn drawn(&self, format: u32, dark: u32, light: u32) -> Result<Vec<u8>, RenderError> {
+    fn drawn(&self, format: u32, dark: u32, light: u32, own: [u32; 12]) -> Result<Vec<u8>, RenderError> {
         self.check_side(format)?;
-        let drawing = sys::goq_drawing { format, zone: self.zone, scale: self.across, dark, light, dpi: self.dpi, ..sys::GOQ_DRAWING };
+        let [finder_dark, finder_light, alignment_dark, alignment_light, timing_dark, timing_light, ..] = own;
+        let [.., format_dark, format_light, version_dark, version_light, data_dark, data_light] = own;
+        let (size, zone, scale, dpi) = (sys::GOQ_DRAWING.size, self.zone, self.across, self.dpi);
+        let drawing = sys::goq_drawing {
+            size, format, zone, scale, dark, light, dpi,
+            finder_dark, finder_light, alignment_dark, alignment_light, timing_dark, timing_light,
+            format_dark, format_light, version_dark, version_light, data_dark, data_light,
+        };
         let (modules, length, width) = (self.modules.as_ptr(), self.modules.len(), self.width as u32);
         let mut count = 0;
         // SAFETY: the lengths are those of the buffers.
@@ -270,7 +315,7 @@ impl<'a, P: Pixel> Renderer<'a, P> {
 
     // Draws the picture in a format of the library, black on white.
     fn plain(&self, format: u32) -> Result<Vec<u8>, RenderError> {
-        self.drawn(format, sys::GOQ_DRAWING.dark, sys::GOQ_DRAWING.light)
+        self.drawn(format, sys::GOQ_DRAWING.dark, sys::GOQ_DRAWING.light, [sys::GOQ_SAME; 12])
     }
 
     // Draws the picture in a text format of the library, black on white.
@@ -283,6 +328,7 @@ fn accepted(answer: u32) -> Result<(), RenderError> {
     match answer {
         sys::GOQ_OK => Ok(()),
         sys::GOQ_NO_SUCH_SIZE => Err(RenderError::TooLarge),
+        sys::GOQ_NO_SUCH_SIDE => Err(RenderError::NoPatterns),
         _ => Err(RenderError::OutOfMemory),
     }
 }
@@ -359,8 +405,7 @@ macro_rules! colour_format {
         pixel! { $module::Color: Vec<u8>, 8,
             |is_dark| $module::Color([grey(is_dark); 3]),
             |renderer| {
-                let word = |$module::Color([red, green, blue])| word([0, red, green, blue]);
-                renderer.drawn(sys::$number, word(renderer.dark), word(renderer.light))
+                renderer.colored(sys::$number, |$module::Color([red, green, blue])| word([0, red, green, blue]))
             }
         }
     };
@@ -388,10 +433,15 @@ macro_rules! svg_format {
             #[derive(Clone, Copy, Debug, PartialEq, Eq)]
             pub struct Color<'a>(pub &'a str);
         }
+        impl Named for $module::Color<'_> {
+            fn name(&self) -> &str {
+                self.0
+            }
+        }
         pixel! { $module::Color<'_>: String, 8,
             |is_dark| $module::Color(if is_dark { "#000" } else { "#fff" }),
             |renderer| {
-                let text = filled(&renderer.text(sys::$number)?, renderer.dark.0, renderer.light.0);
+                let text = filled(renderer, sys::$number)?;
                 let (zone, unit) = (renderer.zone as usize, $unit(renderer.across as usize));
                 Ok(match renderer.logo {
                     Some(logo) => logo.over(&text, zone, unit),
@@ -405,16 +455,32 @@ macro_rules! svg_format {
 svg_format!("A CSS colour in an SVG file, e.g. `svg::Color(\"#800000\")` or `svg::Color(\"navy\")`.", svg, GOQ_SVG, |pixels| pixels);
 svg_format!("A CSS colour in an SVG file with one path.", svg_path, GOQ_SVG_PATH, |_| 1);
 
-// Returns a black and white SVG file in other colours.
-fn filled(text: &str, dark: &str, light: &str) -> String {
+// A colour as SVG writes it.
+trait Named: Pixel {
+    fn name(&self) -> &str;
+}
+
+// Draws an SVG file in the colours of a renderer. The library draws it in black and white, and in a
+// number from 1 on for each colour of patterns.
+fn filled<P: Named>(renderer: &Renderer<'_, P>, format: u32) -> Result<String, RenderError> {
+    let own = std::array::from_fn(|at| renderer.own[at].map_or(sys::GOQ_SAME, |_| at as u32 + 1));
+    let bytes = renderer.drawn(format, sys::GOQ_DRAWING.dark, sys::GOQ_DRAWING.light, own)?;
+    let text = String::from_utf8(bytes).expect("the library writes UTF-8");
     let escaped = |color: &str| color.replace('&', "&amp;").replace('"', "&quot;").replace('<', "&lt;");
-    let parts: Vec<&str> = text.split("fill=\"#").collect();
-    let mut colored = String::from(parts[0]);
-    for part in &parts[1..] {
-        let color = if part.starts_with("000\"") { dark } else { light };
-        colored += &format!("fill=\"{}{}", escaped(color), &part[3..]);
+    let mut pieces = text.split("fill=\"#");
+    let mut colored = String::from(pieces.next().unwrap_or_default());
+    for (digits, rest) in pieces.filter_map(|it| it.split_once('"')) {
+        let color = match digits {
+            "000" => &renderer.dark,
+            "fff" => &renderer.light,
+            _ => {
+                let number = usize::from_str_radix(digits, 16).expect("the library writes a number");
+                renderer.own[number - 1].as_ref().expect("a colour of that number")
+            }
+        };
+        colored += &format!("fill=\"{}\"{rest}", escaped(color.name()));
     }
-    colored
+    Ok(colored)
 }
 
 /// Encapsulated PostScript.
@@ -434,8 +500,7 @@ pub mod eps {
 pixel! { eps::Color: String, 8,
     |is_dark| eps::Color { red: grey(is_dark), green: grey(is_dark), blue: grey(is_dark) },
     |renderer| {
-        let word = |it: eps::Color| word([0, it.red, it.green, it.blue]);
-        let bytes = renderer.drawn(sys::GOQ_EPS, word(renderer.dark), word(renderer.light))?;
+        let bytes = renderer.colored(sys::GOQ_EPS, |it| word([0, it.red, it.green, it.blue]))?;
         Ok(String::from_utf8(bytes).expect("the library writes UTF-8"))
     }
 }
@@ -450,8 +515,24 @@ pub mod png {
 pixel! { png::Color: Vec<u8>, 8,
     |is_dark| png::Color([grey(is_dark), grey(is_dark), grey(is_dark), 255]),
     |renderer| {
-        let word = |png::Color([red, green, blue, opacity])| word([255 - opacity, red, green, blue]);
-        renderer.drawn(sys::GOQ_PNG, word(renderer.dark), word(renderer.light))
+        renderer.colored(sys::GOQ_PNG, |png::Color([red, green, blue, opacity])| word([255 - opacity, red, green, blue]))
+    }
+}
+
+impl<P: HasPatterns> Renderer<'_, P> {
+    /// Sets the colour of the dark or the light modules of a pattern, or of the data.
+    ///
+    /// ```
+    /// use goqlanis::render::{svg_path, Pattern};
+    /// use goqlanis::{Color, QrCode};
+    ///
+    /// let code = QrCode::new(b"01234567").unwrap();
+    /// let svg = code.render().pattern_color(Pattern::Finder, Color::Dark, svg_path::Color("navy")).build();
+    /// assert!(svg.contains("<path fill=\"navy\""));
+    /// ```
+    pub fn pattern_color(&mut self, pattern: Pattern, tone: Color, color: P) -> &mut Self {
+        self.own[2 * pattern as usize + tone.select(0, 1)] = Some(color);
+        self
     }
 }
 

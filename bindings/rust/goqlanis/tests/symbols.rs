@@ -1,4 +1,5 @@
-use goqlanis::render::{eps, pbm, pgm, pic, png, svg, svg_path, unicode, Luma, RenderError};
+use goqlanis::render::{eps, pbm, pdf, pgm, pic, png, svg, svg_path, unicode};
+use goqlanis::render::{Luma, Pattern, RenderError, Renderer};
 use goqlanis::several::{encode_several, join, Several, Unjoined};
 use goqlanis::areas::{Excess, Rectangle};
 use goqlanis::logos::{LogoError, LogoOptions};
@@ -82,6 +83,32 @@ fn colours() {
     let red = eps::Color { red: 255, green: 0, blue: 0 };
     assert!(code.render().dark_color(red).build().contains("255 255 div 0 255 div 0 255 div setrgbcolor"));
     assert!(code.render::<svg::Color>().build().contains("fill=\"#000\""));
+}
+
+#[test]
+fn colours_of_patterns() {
+    let code = QrCode::new(b"01234567").unwrap();
+    let paths = |tone| {
+        let mut renderer = code.render();
+        renderer.pattern_color(Pattern::Finder, tone, svg_path::Color("a<")).pattern_color(Pattern::Data, tone, svg_path::Color("navy"));
+        let text = renderer.build();
+        let fills = text.split("fill=\"").skip(1).filter_map(|it| it.split('"').next().map(str::to_owned));
+        fills.filter(|it| it != "none").collect::<Vec<_>>()
+    };
+    assert_eq!(paths(Color::Dark), ["#fff", "#000", "a&lt;", "navy"]);
+    assert_eq!(paths(Color::Light), ["#fff", "#000", "a&lt;", "navy"]);
+    // The top left module is of a finder pattern; the quiet zone is of none.
+    let (red, none) = (png::Color([255, 0, 0, 255]), png::Color([255, 255, 255, 0]));
+    let file = code.render().pattern_color(Pattern::Finder, Color::Dark, red).pattern_color(Pattern::Timing, Color::Light, none).build();
+    assert_eq!(read_picture(&file).unwrap()[0].reading.data, b"01234567");
+    let large = |size| code.render().module_size(size).pattern_color(Pattern::Finder, Color::Dark, red).try_build();
+    assert_eq!((large(283), large(282).is_ok()), (Err(RenderError::TooLarge), true));
+    let blue = eps::Color { red: 0, green: 0, blue: 255 };
+    assert!(code.render().pattern_color(Pattern::Format, Color::Dark, blue).build().contains("\n0 255 div 0 255 div 255 255 div setrgbcolor\n"));
+    let file = code.render().pattern_color(Pattern::Finder, Color::Dark, pdf::Color([255, 0, 0])).build();
+    assert!(String::from_utf8_lossy(&file).contains("\n1.000000 0.000000 0.000000 rg\n4 4 7 1 re\n18 4 7 1 re\n"));
+    let (dark, three) = (Color::Dark, [Color::Dark; 9]);
+    assert!(Renderer::new(&three, 3, 0).pattern_color(Pattern::Data, dark, red).try_build() == Err(RenderError::NoPatterns));
 }
 
 #[test]
@@ -271,6 +298,8 @@ fn logos() {
     assert!(path.contains(r#"<image x="14" y="14" width="1" height="1" href="data:image/svg+xml;base64,PHN2Zy"#));
     let text = covered.render::<svg::Color>().module_size(2).quiet_zone(false).build();
     assert!(text.contains(r#"<image x="20" y="20" width="2" height="2" href="#) && text.ends_with("/></svg>"));
+    let text = covered.render().pattern_color(Pattern::Finder, Color::Dark, svg_path::Color("navy")).build();
+    assert_eq!(text.matches("<image").count(), 1);
     assert_eq!(covered.render::<Luma>().build(), code.with_area(&[area.unwrap()]).unwrap().render::<Luma>().build());
     assert_eq!(read(&covered.to_colors()).unwrap().data, b"01234567");
     assert!(code.with_logo(b"\x89PNG\r\n\x1a\n\0\0\0\x0dIHDR\0\0\0\x10\0\0\0\x09\x08", &LogoOptions::default()).is_ok());

@@ -1,0 +1,30 @@
+-- Colours that parts of a code have of their own.
+use Rattle.std.proofs.Common.{◌≡◌, ◌&&◌, Bool, true, false, true≢false, IsTrue, List, [], ◌∷◌, flat_map, refl, sym, ap, ◌∙◌}
+use Rattle.std.specs.List.{list_all}
+use Rattle.qrcode_formats.specs.Formats.{row}
+use Rattle.qrcode_formats.specs.declared.Colours.TheVariants.{Fixed}
+use Rattle.qrcode_formats.specs.declared.Format.{Format}
+use Rattle.goqlanis_buffers.specs.Colours.{has_colours}
+use Rattle.goqlanis_buffers.specs.Drawings.{has_density, is_sayable}
+use Rattle.goqlanis_buffers.specs.Tints.{is_same, have_tints, may_be, paint_in, paints, tints}
+use Rattle.goqlanis_buffers.specs.declared.pictures.Drawing.{Drawing}
+use Rattle.goqlanis_buffers.specs.declared.tints.Tint.{Tint}
+
+-- if no colour is one of its own, none is drawn
+none_of : (test : Tint → Bool) → ((t : Tint) → test t ≡ is_same t) → (ts : List Tint) → list_all test ts ≡ true → flat_map paint_in ts ≡ []
+none_of test same [] all = refl
+none_of test same (t ∷ ts) all =
+    elim (is_same t) as (λ b. is_same t ≡ b → (b && list_all test ts) ≡ true → flat_map paint_in (t ∷ ts) ≡ []) [
+      | true ↦ λ is rest. rw is (none_of test same ts rest)
+      | false ↦ λ is rest. absurd (true≢false (sym rest))
+    ] refl (ap (λ b. b && list_all test ts) (sym (same t)) ∙ all)
+
+third : (a b c : Bool) → IsTrue (a && b && c) → c ≡ true
+third true true c is = is
+third true false c is = absurd (true≢false (sym is))
+third false b c is = absurd (true≢false (sym is))
+
+-- a format without colours of parts draws none
+pub no_paints : (f : Format) (d : Drawing) → (row f).parts ≡ Fixed → IsTrue (is_sayable f d) → paints d ≡ []
+no_paints f d fixed is =
+    none_of (may_be (row f).parts) (λ t. ap (λ c. may_be c t) fixed) (tints d) (third (has_density f d.dpi) (has_colours f d.dark d.light) (have_tints f d) is)

@@ -1,0 +1,181 @@
+//! The colours that parts of a code have of their own.
+
+ghost use Rattle.std.specs.Prelude.{◌≡◌, ◌++◌, flat_map, map, IfOk, IfSome, IsOkUnless, IsTrue, OnOk};
+ghost use Rattle.qrcode_types.specs.Versions.{is_valid, side};
+ghost use Rattle.qrcode_types.specs.declared.types.QrError.TheVariants.{OutOfMemory};
+ghost use Rattle.goqlanis_buffers.specs.Tints.{has_parts, have_tints, ink_paint, is_plain, is_same, may_be, named_paint, paint_in, paints, tints, version_across, version_for};
+
+use crate::colours::{CLEAR, ink_of, name_of};
+use crate::pictures::Drawing;
+use goqlanis_core::{Part, PartInk};
+use qrcode::types::{Color, QrResult, Version};
+use qrcode_formats::{Colours, Format};
+use std::alloc::{AllocError, Global};
+
+/// The colour of the dark or the light modules of a part, as C gives it.
+#[derive(Clone, Copy)]
+pub struct Tint {
+    pub part: Part,
+    pub tone: Color,
+    /// `SAME` if these modules have the colour of all dark or light ones.
+    pub colour: u32,
+}
+
+/// A tint, and the name of its colour in SVG.
+#[derive(Drop)]
+pub struct NamedTint {
+    pub tint: Tint,
+    pub name: String,
+}
+
+// No colour of its own.
+const SAME: u32 = 0xffff_ffff;
+
+// The colours of a drawing, for the dark and the light modules of each part.
+#[rattlefmt::skip]
+fn tints(drawing: &Drawing) -> [Tint; 12]
+    ensures { result ≡ tints drawing.now }
+{
+    [
+        Tint { part: Part::Finder, tone: Color::Dark, colour: drawing.finder_dark },
+        Tint { part: Part::Finder, tone: Color::Light, colour: drawing.finder_light },
+        Tint { part: Part::Alignment, tone: Color::Dark, colour: drawing.alignment_dark },
+        Tint { part: Part::Alignment, tone: Color::Light, colour: drawing.alignment_light },
+        Tint { part: Part::Timing, tone: Color::Dark, colour: drawing.timing_dark },
+        Tint { part: Part::Timing, tone: Color::Light, colour: drawing.timing_light },
+        Tint { part: Part::FormatWord, tone: Color::Dark, colour: drawing.format_dark },
+        Tint { part: Part::FormatWord, tone: Color::Light, colour: drawing.format_light },
+        Tint { part: Part::VersionWord, tone: Color::Dark, colour: drawing.version_dark },
+        Tint { part: Part::VersionWord, tone: Color::Light, colour: drawing.version_light },
+        Tint { part: Part::Data, tone: Color::Dark, colour: drawing.data_dark },
+        Tint { part: Part::Data, tone: Color::Light, colour: drawing.data_light },
+    ]
+}
+
+// Whether modules have the colour of all dark or light ones.
+fn is_same(tint: Tint) -> bool
+    ensures { result ≡ is_same tint }
+{
+    tint.colour == SAME
+}
+
+/// Returns whether no part has a colour of its own.
+pub(crate) fn is_plain(drawing: &Drawing) -> bool
+    ensures value { result ≡ is_plain drawing.now }
+{
+    let tints = tints(drawing);
+    tints.iter().all(|tint| is_same(*tint))
+}
+
+/// Returns whether a format supports the colours that parts have of their own.
+pub(crate) fn have_tints(format: Format, drawing: &Drawing) -> bool
+    ensures value { result ≡ have_tints format drawing.now }
+{
+    let colours = format.row().parts;
+    let tints = tints(drawing);
+    tints.iter().all(|tint| may_be(colours, *tint))
+}
+
+// Whether a part may have this colour, or has none of its own.
+fn may_be(colours: Colours, tint: Tint) -> bool
+    ensures { result ≡ may_be colours tint }
+{
+    match colours {
+        Colours::Any => true,
+        Colours::Opaque => tint.colour < CLEAR || is_same(tint),
+        Colours::Fixed => is_same(tint),
+    }
+}
+
+/// Returns whether it is known which modules belong to parts, if any has a colour of its own: a
+/// version has so many modules along a side.
+pub(crate) fn has_parts(width: u32, drawing: &Drawing) -> bool
+    ensures value { result ≡ has_parts width drawing.now }
+{
+    version_across(width).is_some() || is_plain(drawing)
+}
+
+/// Returns the version with so many modules along a side; version 1 if none has.
+pub(crate) fn version_for(width: u32) -> Version
+    ensures value { result ≡ version_for width }
+    ensures valid { IsTrue (is_valid result) }
+{
+    match version_across(width) {
+        Some(version) => version,
+        None => Version::Normal(1),
+    }
+}
+
+// The version with so many modules along a side.
+fn version_across(width: u32) -> Option<Version>
+    ensures value { result ≡ version_across width }
+    ensures side { IfSome result (λ version. side version ≡ width) }
+    ensures valid { IfSome result (λ version. IsTrue (is_valid version)) }
+{
+    if 21 <= width && width <= 177 && width % 4 == 1 {
+        return Some(Version::Normal(((width - 17) / 4) as i16));
+    }
+    if 11 <= width && width <= 17 && width % 2 == 1 {
+        return Some(Version::Micro(((width - 9) / 2) as i16));
+    }
+    None
+}
+
+/// Returns the colours that parts have of their own, with their names. Errors: only `OutOfMemory`.
+pub(crate) fn own_tints(alloc: Global, drawing: &Drawing) -> QrResult<Vec<NamedTint>>
+    ensures value { IfOk result (λ own. map named_paint own.items ≡ paints drawing.now) }
+    ensures memory { IsOkUnless result OutOfMemory }
+{
+    named(alloc, &tints(drawing))
+}
+
+// Those of the tints that are colours of their own, with their names.
+#[tactic(auto, using(crate::proofs::Joined::flat_map_more))]
+fn named(alloc: Global, tints: &[Tint]) -> QrResult<Vec<NamedTint>>
+    ensures value { IfOk result (λ own. map named_paint own.items ≡ flat_map paint_in tints.now) }
+    ensures memory { IsOkUnless result OutOfMemory }
+{
+    let mut own = Vec::new(alloc);
+    for tint in tints {
+        push_own(alloc, &mut own, *tint)?;
+    }
+    Ok(own)
+}
+
+// Appends a colour with its name, unless it is none of its own.
+fn push_own(alloc: Global, own: &mut Vec<NamedTint>, tint: Tint) -> QrResult<()>
+    ensures appends { OnOk result (map named_paint own.new.items
+        ≡ map named_paint own.old.items ++ paint_in tint) }
+    ensures memory { IsOkUnless result OutOfMemory }
+{
+    if !is_same(tint) {
+        let name = name_of(alloc, tint.colour)?;
+        own.push(NamedTint { tint, name })?;
+    }
+    Ok(())
+}
+
+/// Returns the colours as a sheet has them. Errors: only `AllocError`.
+pub(crate) fn inks_of<'a>(
+    alloc: Global,
+    own: &'a [NamedTint],
+) -> Result<Vec<PartInk<'a>>, AllocError>
+    ensures value { IfOk result (λ inks. map ink_paint inks.items ≡ map named_paint own.now) }
+{
+    let mut inks = Vec::with_capacity(alloc, own.len())?;
+    for i in 0..own.len() {
+        inks.push(part_ink(&own[i]))?;
+    }
+    Ok(inks)
+}
+
+// A colour as a sheet has it.
+fn part_ink<'a>(own: &'a NamedTint) -> PartInk<'a>
+    ensures { ink_paint result ≡ named_paint own.now }
+{
+    PartInk {
+        part: own.tint.part,
+        tone: own.tint.tone,
+        ink: ink_of(&own.name, own.tint.colour),
+    }
+}
