@@ -907,6 +907,14 @@ static inline goq_answer goq_draw_length(const uint8_t *modules, size_t modules_
     return goq_draw_with_length(modules, modules_length, width, &drawing, count);
 }
 
+/* Returns the fewest pixels per module with which a print of so many dots per inch has the 0.25 mm
+   per module that many readers need. A side is then (width + 2 * zone) times as long. */
+static inline uint32_t goq_smallest_scale(uint32_t dpi)
+{
+    uint32_t scale = (uint32_t)((dpi * (uint64_t)25 + 2539) / 2540);
+    return scale != 0 ? scale : 1;
+}
+
 /* Writes to `count` how many bytes goq_read would write. Errors: GOQ_NO_SUCH_SIDE, GOQ_NO_FORMAT,
    GOQ_DAMAGED, GOQ_NOT_SPELLED, GOQ_OUT_OF_MEMORY. */
 static inline goq_answer goq_read_length(const uint8_t *modules, size_t modules_length,

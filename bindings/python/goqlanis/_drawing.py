@@ -74,9 +74,9 @@ def drawn(modules: bytes, width: int, usual_zone: int, name: str, look: Look) ->
         raise TypeError("scale and size: give one of them")
     zone = zone_of(look, usual_zone)
     across = width + 2 * zone
-    length = _length(look.size) if name == "svg" else None
-    scale = _scale(look, kind) if look.size is None else \
-        1 if length else _fitted(look, name, across)
+    length = _length(look.size) or _fraction(look.scale, across) if name == "svg" else None
+    scale = 1 if length else _scale(look, kind) if look.size is None else \
+        _fitted(look, name, across)
     own = _own(look, name)
     dark, light, dpi = _ink(look, name, kind.has_colours, own)
     side = across * scale
@@ -135,6 +135,12 @@ def _length(size: Any) -> Optional[Length]:
     length = r"([0-9]{1,9}(?:[.][0-9]{1,9})?)(mm|cm|in|pt)"
     found = isinstance(size, str) and re.fullmatch(length, size)
     return (found[1], found[2]) if found and float(found[1]) > 0 else None
+
+
+def _fraction(scale: Any, across: int) -> Optional[Length]:
+    """Returns the side in pixels if a module has a fraction of them."""
+    is_one = isinstance(scale, float) and 1 <= scale <= MOST_SIDE and not scale.is_integer()
+    return (f"{across * scale:.9g}", "") if is_one else None
 
 
 def _fitted(look: Look, name: str, across: int) -> int:

@@ -248,6 +248,18 @@ def smallest_version_of_segments(segments: Segments, level: str = "M") -> str:
     return encode_segments(segments, level).version
 
 
+def smallest_scale(dpi: int) -> int:
+    """Returns the fewest pixels per module with which a print of `dpi` dots per inch has the 0.25 mm
+    per module that many readers need.
+
+    >>> symbol, scale = encode("https://example.org"), smallest_scale(300)
+    >>> symbol.save("code.png", scale=scale, dpi=300)
+    >>> print(f"{(symbol.width + 2 * symbol.quiet_zone) * scale / 300 * 25.4:.1f} mm")
+    8.4 mm
+    """
+    return -(-_checks.whole("dpi", dpi, 1, 65535) * 25 // 2540)
+
+
 def is_functional(version: Version, x: int, y: int) -> bool:
     """Returns whether the module in column x and row y of a version belongs to a pattern or to the
     format information; False if the version has no such module.

@@ -33,7 +33,7 @@ class Symbol:
 
     All methods that draw it take the same arguments (`look`), as far as the format has them:
 
-    - `scale`: pixels per module; the default is 8, for text and PIC 1;
+    - `scale`: pixels per module, in SVG also e.g. 2.5; the default is 8, for text and PIC 1;
     - `size`: instead of `scale`, the most pixels that a side may have, or a length, e.g. "30mm"
       ("cm", "in", "pt"). A side of SVG is exactly as long; in EPS, PDF and, with `dpi`, PNG,
       modules are as large as fits;

@@ -65,13 +65,8 @@ fn value_help(
     for (_, entry) in &task.all_options(alloc)? {
         if let (true, Takes::Number(_, least, most)) = (Some(entry.long) == name, entry.takes) {
             let (long, most) = (entry.long, Grouped(most as usize));
-            let tip = if (task.word, long) == ("wifi", "scale") {
-                "; the name of the network is --ssid"
-            } else {
-                ""
-            };
             return Ok(Some(format!(in alloc;
-                "--{long} {value}: use a whole number, {least} to {most}{tip}"
+                "--{long} {value}: use a whole number, {least} to {most}"
             )?));
         }
     }

@@ -38,7 +38,7 @@ pub fn sizes_of(
     let row = format.row();
     let is_exact = dpi.is_none() && row.is_exact;
     let mut sizes = Sizes {
-        scale: given.get_one::<u16>("scale").unwrap_or(row.pixels),
+        scale: row.pixels,
         side: None,
         hundredths: None,
         dots: if row.density == Density::Unit {
@@ -48,8 +48,26 @@ pub fn sizes_of(
         },
         length: None,
     };
+    if let Some(text) = given.get_str("scale") {
+        if let Err(why) = take_scale(&mut sizes, text, format, is_exact) {
+            let tip = scale_tip(task, text);
+            return usage!(alloc; "--scale {text}: {why}{tip}");
+        }
+    }
+    take_lengths(alloc, task, given, &mut sizes, is_exact)?;
+    Ok(sizes)
+}
+
+// Parses the lengths of a side and of a module, if they are given.
+fn take_lengths(
+    alloc: Global,
+    task: &Task,
+    given: &ArgMatches<'_>,
+    sizes: &mut Sizes,
+    is_exact: bool,
+) -> Result<(), Failure> {
     // A size of the payload's format stands where no option says otherwise.
-    let has_own = (row.is_exact || dpi.is_some())
+    let has_own = (is_exact || given.contains_id("dpi"))
         && !given.get_flag("no-size")
         && !given.contains_id("scale")
         && !given.contains_id("module");
@@ -58,11 +76,52 @@ pub fn sizes_of(
         let Some(text) = given.get_str(option).or(own) else {
             continue;
         };
-        if let Err(why) = take_size(&mut sizes, text, is_exact, is_side) {
+        if let Err(why) = take_size(sizes, text, is_exact, is_side) {
             return usage!(alloc; "--{option} {text}: {why}");
         }
     }
-    Ok(sizes)
+    Ok(())
+}
+
+// Parses the pixels of a module into `sizes`, or explains what to write instead. A number with a
+// decimal makes an exact length: an inch has 96 pixels in SVG, and 72 in EPS and PDF.
+fn take_scale(
+    sizes: &mut Sizes,
+    text: &str,
+    format: Format,
+    is_exact: bool,
+) -> Result<(), &'static str> {
+    let dots = if format == Format::SvgPath { 960 } else { 720 };
+    match (decimal(text, 0), decimal(text, 1)) {
+        (Some(whole), _) if 1 <= whole && whole <= 1_000 => sizes.scale = whole as u16,
+        (None, Some(tenths)) if is_exact && 10 <= tenths && tenths <= 10_000 => {
+            sizes.scale = tenths as u16;
+            sizes.dots = None;
+            sizes.length = Some(Length {
+                dots,
+                is_side: false,
+            });
+        }
+        _ if is_exact => return Err("use a number, 1 to 1,000, with at most one decimal"),
+        (None, Some(_)) if format.row().is_exact => {
+            return Err("use a whole number, 1 to 1,000, or leave out --dpi");
+        }
+        (None, Some(_)) => return Err(
+            "pixels are whole; use a whole number, 1 to 1,000, or --format svg, eps or pdf",
+        ),
+        _ => return Err("use a whole number, 1 to 1,000"),
+    }
+    Ok(())
+}
+
+// What else to say about a scale that is wrong: -s is no name of a network.
+fn scale_tip(task: &Task, text: &str) -> &'static str {
+    let is_number = text.starts_with(|first: char| first.is_ascii_digit() || first == '-');
+    if task.word == "wifi" && !is_number {
+        "; the name of the network is --ssid"
+    } else {
+        ""
+    }
 }
 
 // Parses the size of a side or a module into `sizes`, or explains what to write instead.

@@ -112,8 +112,9 @@ pub static LOOKS: &[Entry] = &[
         to a terminal: terminal; else half-blocks]"),
     entry!("quiet-zone", 'q', Number("MODULES", 0, 255),
         "Quiet zone on each side, 0 to 255 [default: 4, Micro QR 2]"),
-    entry!("scale", 's', Number("PIXELS", 1, 1000),
-        "Pixels per module, 1 to 1,000 [default: 8; 1 in PIC, half-blocks, terminal, text, ascii]"),
+    entry!("scale", 's', Text("PIXELS"),
+        "Pixels per module, 1 to 1,000; in SVG, EPS and PDF also e.g. 2.5 [default: 8; 1 in PIC, \
+        half-blocks, terminal, text, ascii]"),
     entry!("size", Text("SIZE"),
         "Maximum side in pixels, e.g. 300, or a length (30mm; cm, in, pt). SVG, EPS and PDF have \
         exactly that size unless --dpi is given; other formats need --dpi"),
