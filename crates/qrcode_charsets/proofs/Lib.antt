@@ -1,0 +1,11 @@
+pub mod Causes
+pub mod Chosen
+pub mod Cuts
+pub mod Given
+pub mod Held
+pub mod Leasts
+pub mod Lists
+pub mod Marks
+pub mod Rows
+pub mod Shown
+pub mod Writings

@@ -1,0 +1,85 @@
+-- The character sets in which texts are written.
+use Rattle.std.specs.Prelude.{◌≡◌, ℕ, ◌+◌, ◌-◌, ◌==◌, nat_lt, not, Bool, true, List, [], ◌++◌, Option, Some, None, map, slice_index, slice_index_or, encode_utf8_all, IsTrue, if◌then◌else◌}
+use Rattle.std.specs.Str.{all_scalars}
+use Rattle.qrcode_types.specs.Bits.{number_bits}
+use Rattle.qrcode_types.specs.Versions.{is_micro}
+use Rattle.qrcode_types.specs.declared.types.Version.{Version}
+use Rattle.qrcode_bits.specs.Written.{eci_bits}
+use Rattle.qrcode_bits.specs.declared.bits.manner.Manner.{Manner}
+use Rattle.qrcode_bits.specs.declared.bits.manner.Manner.TheVariants.{Text, MarkedText}
+use Rattle.qrcode_charsets.specs.Table.{character_table}
+use Rattle.qrcode_charsets.specs.declared.sets.Charset.{Charset}
+use Rattle.qrcode_charsets.specs.declared.sets.Charset.TheVariants.{Unmarked, Utf8, Iso8859}
+use Rattle.qrcode_charsets.specs.declared.sets.Part.{Part}
+use Rattle.qrcode_charsets.specs.declared.sets.Part.TheVariants.{Latin1, Latin2, Latin3, Latin4, Cyrillic, Arabic, Greek, Hebrew, Latin5, Latin6, Thai, Latin7, Latin8, Latin9, Latin10}
+
+abbrev pub part_number : Part → ℕ  -- the number of the part in the standard
+part_number Latin1 = 1
+part_number Latin2 = 2
+part_number Latin3 = 3
+part_number Latin4 = 4
+part_number Cyrillic = 5
+part_number Arabic = 6
+part_number Greek = 7
+part_number Hebrew = 8
+part_number Latin5 = 9
+part_number Latin6 = 10
+part_number Thai = 11
+part_number Latin7 = 13
+part_number Latin8 = 14
+part_number Latin9 = 15
+part_number Latin10 = 16
+
+unfoldable pub characters : Part → List ℕ  -- the characters of the bytes from 160 on, 0 for a byte that has none
+characters p = slice_index_or character_table (part_number p - 1) []
+
+-- The character of a byte, if it has one: below 128 that of ASCII, from 128 to 159 none, as the standard leaves these bytes to
+-- control characters, and from 160 on that of the table.
+abbrev pub character : Part → ℕ → Option ℕ
+character p b =
+    if nat_lt b 128 then Some b else
+    (if nat_lt b 160 then None else
+    (if slice_index (characters p) (b - 160) == 0 then None else Some (slice_index (characters p) (b - 160))))
+
+-- no two bytes of a part have the same character
+abbrev pub CharactersAreApart : Type 0
+CharactersAreApart = (p : Part) (a b c : ℕ) → character p a ≡ Some c → character p b ≡ Some c → a ≡ b
+
+abbrev pub IsWritten : Charset → (text bytes : List ℕ) → Type 0  -- the bytes are the text in the set, and the text is what a reader decodes them to
+IsWritten Unmarked text bytes = IsTrue (all_scalars text) × (encode_utf8_all text ≡ bytes)
+IsWritten Utf8 text bytes = IsTrue (all_scalars text) × (encode_utf8_all text ≡ bytes)
+IsWritten (Iso8859 p) text bytes = map (character p) bytes ≡ map Some text
+
+abbrev pub Has : Charset → List ℕ → Type 0  -- the set has all characters of the text
+Has c text = (bytes : List ℕ) × IsWritten c text bytes
+
+-- in each set a text is written as one list of bytes, and these are the bytes of one text
+abbrev pub TextsAreWrittenOneWay : Type 0
+TextsAreWrittenOneWay = (c : Charset) (text bytes others : List ℕ) → IsWritten c text bytes → IsWritten c text others → others ≡ bytes
+
+abbrev pub BytesAreReadOneWay : Type 0
+BytesAreReadOneWay = (c : Charset) (text others bytes : List ℕ) → IsWritten c text bytes → IsWritten c others bytes → others ≡ text
+
+-- the ECI designator of a set, if one comes before the segments; that of a part of ISO/IEC 8859 is its number and two
+abbrev pub designator : Charset → Option ℕ
+designator Unmarked = None
+designator Utf8 = Some 26
+designator (Iso8859 p) = Some (part_number p + 2)
+
+abbrev pub designator_bits : Option ℕ → List Bool  -- the mode indicator of ECI and the designator
+designator_bits None = []
+designator_bits (Some n) = number_bits 4 7 ++ eci_bits n
+
+abbrev pub front : Charset → List Bool  -- the bits before the segments
+front c = designator_bits (designator c)
+
+abbrev pub has_front : Version → Charset → Bool  -- the version allows them: Micro has no ECI
+has_front v Unmarked = true
+has_front v Utf8 = not (is_micro v)
+has_front v (Iso8859 p) = not (is_micro v)
+
+-- the manner in which bytes take as many bits: each designator takes as many as that of UTF-8
+abbrev pub manner_of : Charset → Manner
+manner_of Unmarked = Text
+manner_of Utf8 = MarkedText
+manner_of (Iso8859 p) = MarkedText

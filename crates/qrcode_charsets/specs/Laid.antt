@@ -1,0 +1,124 @@
+-- The results of the search for a set and a version.
+use Rattle.std.specs.Prelude.{◌≡◌, ℕ, ◌<◌, ◌≤◌, ◌+◌, nat_lt, Bool, List, ◌++◌, length, IsTrue, Option, Some, None, if◌then◌else◌}
+use Rattle.qrcode_types.specs.Versions.{has_level, capacity}
+use Rattle.qrcode_types.specs.declared.types.Version.{Version}
+use Rattle.qrcode_types.specs.declared.types.EcLevel.{EcLevel}
+use Rattle.qrcode_bits.specs.Cuts.{IsCutIn, IsLeastCutIn}
+use Rattle.qrcode_bits.specs.Manners.{rank}
+use Rattle.qrcode_bits.specs.ModeSets.{text_modes}
+use Rattle.qrcode_bits.specs.Segments.{total_cost}
+use Rattle.qrcode_bits.specs.Written.{pieces_of, written, terminated}
+use Rattle.qrcode_bits.specs.declared.optimize.Segment.{Segment}
+use Rattle.qrcode.specs.Code.{Code}
+use Rattle.qrcode.specs.Reading.{EncodesBits}
+use Rattle.qrcode_charsets.specs.Charsets.{IsWritten, front, has_front}
+use Rattle.qrcode_charsets.specs.Shortest.{IsAt}
+use Rattle.qrcode_charsets.specs.declared.sets.Charset.{Charset}
+use Rattle.qrcode_charsets.specs.declared.shortest.measuring.Measured.{Measured}
+
+-- the bits of a text in a set: what names the set, and the segments
+abbrev pub bits_of : Version → Measured → List Bool
+bits_of v m = front m.set ++ written v (pieces_of m.bytes.items m.segments.items)
+
+-- what names the set, and some segments of the text in it, take that many bits
+pub record IsLaid (c : Charset) (v : Version) (text : List ℕ) (used : ℕ) : Type 0 where
+  pub front_exists : IsTrue (has_front v c)
+  pub bytes : List ℕ
+  pub written : IsWritten c text bytes
+  pub segments : List Segment
+  pub cut : IsCutIn text_modes v bytes segments
+  pub length : used ≡ length (front c) + total_cost v segments
+
+-- these bytes in segments of the fewest bits
+pub record IsCutOf (c : Charset) (v : Version) (given : List ℕ) (m : Measured) : Type 0 where
+  pub set : m.set ≡ c
+  pub bytes : m.bytes.items ≡ given
+  pub least : IsLeastCutIn text_modes v m.bytes.items m.segments.items
+  pub length : m.used ≡ length (front m.set) + total_cost v m.segments.items
+
+-- the text in a set, in segments of the fewest bits
+pub record IsMeasured (v : Version) (text : List ℕ) (m : Measured) : Type 0 where
+  pub front_exists : IsTrue (has_front v m.set)
+  pub written : IsWritten m.set text m.bytes.items
+  pub least : IsLeastCutIn text_modes v m.bytes.items m.segments.items
+  pub length : m.used ≡ length (front m.set) + total_cost v m.segments.items
+
+-- of numbers that sets may have: none of the first sets has one
+abbrev pub NoneHave : List Charset → (Charset → ℕ → Type 0) → ℕ → Type 0
+NoneHave sets P count = (place k : ℕ) (d : Charset) → place < count → IsAt sets place d → ¬ P d k
+
+-- c is the first of the first sets that has the smallest number
+pub record IsFirstLeast (sets : List Charset) (P : Charset → ℕ → Type 0) (count : ℕ) (c : Charset) (n : ℕ) : Type 0 where
+  pub place : ℕ
+  pub before : place < count
+  pub at : IsAt sets place c
+  pub least : (other k : ℕ) (d : Charset) → other < count → IsAt sets other d → P d k → n ≤ k
+  pub first : (other k : ℕ) (d : Charset) → other < place → IsAt sets other d → P d k → n < k
+
+-- the text can be written in none of the first sets
+abbrev pub NoneLaid : List Charset → Version → List ℕ → ℕ → Type 0
+NoneLaid sets v text count = NoneHave sets (λ d used. IsLaid d v text used) count
+
+-- the first of the first sets in which the text takes the fewest bits
+pub record IsLeastLaid (sets : List Charset) (v : Version) (text : List ℕ) (count : ℕ) (m : Measured) : Type 0 where
+  pub measured : IsMeasured v text m
+  pub chosen : IsFirstLeast sets (λ d used. IsLaid d v text used) count m.set m.used
+
+-- the same in a version that has room for them
+pub record IsFitting (sets : List Charset) (v : Version) (l : EcLevel) (text : List ℕ) (m : Measured) : Type 0 where
+  pub exists : IsTrue (has_level v l)
+  pub least : IsLeastLaid sets v text (length sets) m
+  pub room : m.used ≤ capacity v l
+
+-- its symbol
+pub record IsDrawnOf (v : Version) (l : EcLevel) (m : Measured) (c : Charset) (code : Code) : Type 0 where
+  pub set : c ≡ m.set
+  pub version : code.version ≡ v
+  pub level : code.level ≡ l
+  pub encodes : EncodesBits v l (terminated v l (bits_of v m)) code.modules
+
+-- a symbol has room for the text in the set
+pub record IsHeld (c : Charset) (v : Version) (l : EcLevel) (text : List ℕ) : Type 0 where
+  pub exists : IsTrue (has_level v l)
+  pub used : ℕ
+  pub laid : IsLaid c v text used
+  pub room : used ≤ capacity v l
+
+-- a symbol has room for the text in one of the sets
+pub record HasRoom (sets : List Charset) (v : Version) (l : EcLevel) (text : List ℕ) : Type 0 where
+  pub place : ℕ
+  pub set : Charset
+  pub at : IsAt sets place set
+  pub held : IsHeld set v l text
+
+-- a symbol from `from` on of this rank has room for the text in the set
+pub record IsHeldAt (from : Version) (l : EcLevel) (text : List ℕ) (c : Charset) (r : ℕ) : Type 0 where
+  pub version : Version
+  pub is : rank version ≡ r
+  pub at_least : rank from ≤ r
+  pub held : IsHeld c version l text
+
+-- the smallest such version
+pub record IsLeastHolding (from : Version) (l : EcLevel) (text : List ℕ) (c : Charset) (v : Version) : Type 0 where
+  pub held : IsHeld c v l text
+  pub at_least : rank from ≤ rank v
+  pub least : (r : ℕ) → IsHeldAt from l text c r → rank v ≤ r
+
+-- the smallest version that has room for the text in one of the first sets
+pub record IsLeastVersion (sets : List Charset) (from : Version) (l : EcLevel) (text : List ℕ) (count : ℕ) (v : Version) : Type 0 where
+  pub set : Charset
+  pub held : IsHeld set v l text
+  pub at_least : rank from ≤ rank v
+  pub chosen : IsFirstLeast sets (IsHeldAt from l text) count set (rank v)
+
+-- the smaller of two versions, the second if they are the same
+abbrev pub smaller_of : (found least : Option Version) → Option Version
+smaller_of found None = found
+smaller_of None (Some k) = Some k
+smaller_of (Some v) (Some k) = if nat_lt (rank v) (rank k) then Some v else Some k
+
+-- the one with fewer bits of two, the second if they have as many
+abbrev pub less_of : (found least : Option Measured) → Option Measured
+less_of found None = found
+less_of None (Some k) = Some k
+less_of (Some m) (Some k) = if nat_lt m.used k.used then Some m else Some k

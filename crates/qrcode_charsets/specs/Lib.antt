@@ -1,0 +1,6 @@
+pub mod Charsets
+pub mod Given
+pub mod Laid
+pub mod Shortest
+pub mod Shown
+pub mod Table

@@ -1,0 +1,15 @@
+//! Theorems about the character sets, as contracts of functions that do nothing.
+
+ghost use Rattle.qrcode_charsets.specs.Charsets.{CharactersAreApart, TextsAreWrittenOneWay, BytesAreReadOneWay};
+
+/// Theorem: in each part of ISO/IEC 8859, no two bytes have the same character.
+pub fn characters()
+    ensures { CharactersAreApart }
+{}
+
+/// Theorem: in each set a text is written as one list of bytes, and these are the bytes of no other
+/// text.
+pub fn texts()
+    ensures written { TextsAreWrittenOneWay }
+    ensures read { BytesAreReadOneWay }
+{}

@@ -1,0 +1,123 @@
+//! Finds the set and the segments in which a text takes the fewest bits in a version.
+
+ghost use Rattle.std.specs.Prelude.{◌≡◌, ℕ, ◌≤◌, chars, length, IfOk, IsOkUnless, IsTrue, MatchOption};
+ghost use Rattle.qrcode_types.specs.Versions.{is_valid};
+ghost use Rattle.qrcode_types.specs.declared.types.QrError.TheVariants.{OutOfMemory};
+ghost use Rattle.qrcode_bits.specs.Cuts.{IsCutIn, NeedsCut};
+ghost use Rattle.qrcode_bits.specs.ModeSets.{text_modes};
+ghost use Rattle.qrcode_bits.specs.Refusals.{data_limit};
+ghost use Rattle.qrcode_charsets.specs.Charsets.{front, has_front};
+ghost use Rattle.qrcode_charsets.specs.Laid.{IsLaid, IsCutOf, IsMeasured, NoneLaid, IsLeastLaid, less_of};
+
+use crate::sets::Charset;
+use qrcode_bits::optimize::{Modes, Segment, least_segments_in, total_encoded_len};
+use qrcode_types::types::{QrError, QrResult, Version};
+use std::alloc::Global;
+
+// A text in a set, in segments of the fewest bits, and the bits that it takes together with what
+// names the set.
+#[derive(Drop)]
+pub(super) struct Measured {
+    pub(super) set: Charset,
+    pub(super) bytes: Vec<u8>,
+    pub(super) segments: Vec<Segment>,
+    pub(super) used: usize,
+}
+
+// Returns how many bits come before the segments.
+fn front_length(set: Charset) -> usize
+    ensures value { result ≡ length (front set) }
+    ensures at_most { result ≤ 12 }
+{
+    match set.designator() {
+        Some(_) => 12,
+        None => 0,
+    }
+}
+
+// Returns whether `version` allows what comes before the segments.
+fn has_front(set: Charset, version: Version) -> bool
+    ensures { result ≡ has_front version set }
+{
+    match set {
+        Charset::Unmarked => true,
+        Charset::Utf8 | Charset::Iso8859(_) => !version.is_micro(),
+    }
+}
+
+// Measures `text` in `set` for a version, or returns `None` if the set lacks one of its characters,
+// or the version a mode that it needs.
+fn measure(alloc: Global, text: &str, set: Charset, version: Version) -> QrResult<Option<Measured>>
+    requires valid { IsTrue (is_valid version) }
+    requires length_at_most { length text.now ≤ data_limit }
+    ensures measured { IfOk result (λ found. MatchOption found
+        ((used : ℕ) → ¬ IsLaid set version (chars text.now) used)
+        (λ found. (found.set ≡ set) × IsMeasured version (chars text.now) found)) }
+    ensures memory { IsOkUnless result OutOfMemory }
+{
+    if !has_front(set, version) {
+        return Ok(None);
+    }
+    let Some(bytes) = set.encode(alloc, text)? else {
+        return Ok(None);
+    };
+    match cut(alloc, set, bytes, version) {
+        Ok(measured) => Ok(Some(measured)),
+        Err(QrError::UnsupportedCharacterSet) => Ok(None),
+        Err(error) => Err(error),
+    }
+}
+
+// Divides `bytes` into the segments with the fewest bits, in modes for text. Fails with
+// `UnsupportedCharacterSet` if the version lacks a mode that they need.
+fn cut(alloc: Global, set: Charset, bytes: Vec<u8>, version: Version) -> QrResult<Measured>
+    requires valid { IsTrue (is_valid version) }
+    requires length_at_most { length bytes.items ≤ data_limit }
+    ensures measured { IfOk result (IsCutOf set version bytes.items) }
+    ensures refusals { NeedsCut (IsCutIn text_modes version bytes.items) result }
+{
+    let segments = least_segments_in(alloc, &bytes, version, Modes::TEXT)?;
+    let used = front_length(set) + total_encoded_len(&segments, version);
+    Ok(Measured {
+        set,
+        bytes,
+        segments,
+        used,
+    })
+}
+
+// Measures `text` for a version in the first of `sets` in which it takes the fewest bits, or
+// returns `None` if it can be written in none of them.
+pub(super) fn measure_least(
+    alloc: Global,
+    text: &str,
+    sets: &[Charset],
+    version: Version,
+) -> QrResult<Option<Measured>>
+    requires valid { IsTrue (is_valid version) }
+    requires length_at_most { length text.now ≤ data_limit }
+    ensures measured { IfOk result (λ found. MatchOption found
+        (NoneLaid sets.now version (chars text.now) (length sets.now))
+        (IsLeastLaid sets.now version (chars text.now) (length sets.now))) }
+    ensures memory { IsOkUnless result OutOfMemory }
+{
+    let mut least: Option<Measured> = None;
+    for set in sets {
+        let found = measure(alloc, text, *set, version)?;
+        least = less_of(found, least);
+    }
+    Ok(least)
+}
+
+// Returns the one with fewer bits of two, the second if they have as many.
+fn less_of(found: Option<Measured>, least: Option<Measured>) -> Option<Measured>
+    ensures { result ≡ less_of found least }
+{
+    let Some(known) = least else {
+        return found;
+    };
+    match found {
+        Some(measured) if measured.used < known.used => Some(measured),
+        _ => Some(known),
+    }
+}
