@@ -1,4 +1,5 @@
 pub mod Areas
+pub mod Charsets
 pub mod Colours
 pub mod Drawings
 pub mod Elements

@@ -3,6 +3,7 @@
 #![tactic(auto)]
 
 pub mod areas;
+mod charsets;
 pub mod colours;
 mod drawing;
 mod elements;
@@ -20,6 +21,7 @@ mod shades;
 pub mod sheet;
 mod terminal;
 
+pub use charsets::symbol_among;
 pub use drawing::{Drawing, dots, drawing_of, drawn, quiet_zone, scale, symbol_in};
 pub use elements::{symbol_for_application, symbol_of_elements};
 pub use layers::PartInk;

@@ -7,6 +7,7 @@ ghost use Rattle.goqlanis_core.specs.Drawings.{IsShownIn};
 ghost use Rattle.goqlanis_core.specs.Elements.{IsApplicationIn, IsElementsIn};
 ghost use Rattle.goqlanis_draw.specs.Labels.{label_text};
 
+use crate::charsets::text_code;
 use crate::contents::Elements;
 use crate::damaging::draw_damaged;
 use crate::middle::{draw_with_middle, has_pixels, middle_of, warn_of_logo};
@@ -41,6 +42,11 @@ pub(crate) fn draw_one(
 ) -> Result<ExitCode, Failure> {
     let alloc = rt.alloc();
     check_empty(alloc, asked, bytes)?;
+    if let Some(name) = asked.input.charset {
+        let (code, coded) = text_code(alloc, asked, name, bytes)?;
+        let coded = Some(coded);
+        return write_code(rt, &Asked { coded, ..*asked }, code);
+    }
     let request = Request {
         manner: manner(alloc, asked, bytes)?,
         ..asked.request

@@ -1,6 +1,7 @@
 //! Makes and draws codes, and writes them to files.
 #![tactic(auto)]
 
+mod charsets;
 mod contents;
 mod damaging;
 mod drawing;

@@ -2,6 +2,7 @@
 
 use crate::pictures::{picture_name, pictures_in};
 use crate::reports::{object_of, other_set, report};
+use crate::texts::text_of;
 use goqlanis_files::failure::{Failure, warn_of_more};
 use goqlanis_files::streams::{MOST_PICTURE, read_file, read_standard_input, shown, write_data};
 use goqlanis_files::{refused, warning};
@@ -49,7 +50,7 @@ fn read_one(
         let _ = eprint!(rt; "{text}");
     }
     for scan in scans {
-        warn_of_data(rt, scan);
+        warn_of_data(rt, scan)?;
     }
     if wanted == Report::Json {
         push_objects(rt.alloc(), data, scans, file)?;
@@ -59,8 +60,8 @@ fn read_one(
     Ok(is_whole)
 }
 
-// Warns of data that may be wrong, or is in another character set.
-fn warn_of_data(rt: &HostRuntime, scan: &Scan) {
+// Warns of data that may be wrong, or is in a character set that is not known here.
+fn warn_of_data(rt: &HostRuntime, scan: &Scan) -> Result<(), Failure> {
     let read = &scan.any.reading;
     if read.version == Version::Micro(1) && !read.wrong.is_empty() {
         warning!(rt;
@@ -68,22 +69,35 @@ fn warn_of_data(rt: &HostRuntime, scan: &Scan) {
         );
     }
     if let Some(set) = other_set(&scan.parts) {
-        warning!(rt; "the data has text in {set}, which is written as its bytes");
+        if text_of(rt.alloc(), scan)?.is_none() {
+            warning!(rt; "the data has text in {set}, which is written as its bytes");
+        }
     }
+    Ok(())
 }
 
-// Appends the data of a picture's only code unchanged; of several codes, or after the name of the
-// file, each on a line.
+// Appends the data of a code: its text if a header names a set of ISO/IEC 8859, else its bytes.
+fn push_data(data: &mut Vec<u8>, scan: &Scan) -> Result<(), Failure> {
+    if other_set(&scan.parts).is_some() {
+        if let Some(text) = text_of(*data.allocator(), scan)? {
+            return Ok(data.extend_from_slice(text.as_bytes())?);
+        }
+    }
+    Ok(data.extend_from_slice(&scan.any.reading.data)?)
+}
+
+// Appends the data of a picture's only code; of several codes, or after the name of the file, each
+// on a line.
 fn push_all(data: &mut Vec<u8>, scans: &[Scan], file: &str) -> Result<(), Failure> {
     if let ([only], "") = (scans, file) {
-        return Ok(data.extend_from_slice(&only.any.reading.data)?);
+        return push_data(data, only);
     }
     for scan in scans {
         if !file.is_empty() {
             data.extend_from_slice(file.as_bytes())?;
             data.extend_from_slice(b": ")?;
         }
-        data.extend_from_slice(&scan.any.reading.data)?;
+        push_data(data, scan)?;
         data.push(b'\n')?;
     }
     Ok(())

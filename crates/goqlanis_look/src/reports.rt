@@ -1,5 +1,6 @@
 //! Reports on decoded codes, as text or JSON.
 
+use crate::texts::text_of;
 use goqlanis_core::VersionName;
 use goqlanis_files::streams::is_unseen;
 use goqlanis_options::modes::mode_name;
@@ -57,15 +58,6 @@ pub(crate) fn other_set(parts: &[Part]) -> Option<CharacterSet> {
         }
     }
     None
-}
-
-// Whether headers and modes allow UTF-8: no other character set is named, and no segment is Kanji.
-fn is_in_utf8(parts: &[Part]) -> bool {
-    parts.iter().all(|part| match *part {
-        Part::Front(Header::Eci(number)) => matches!(number, 26 | 27 | 170),
-        Part::Bytes(mode, _) => mode != Mode::Kanji,
-        _ => true,
-    })
 }
 
 /// Reports on decoded codes as lines of text, under the name of their file unless it is empty.
@@ -257,13 +249,13 @@ fn position_text(position: Position) -> &'static str {
     }
 }
 
-// Ends the JSON object of a code with its data: as text if it is UTF-8, and in hex.
+// Ends the JSON object of a code with its data: as text if it is one, and in hex.
 fn push_data(text: &mut String, scan: &Scan) -> Result<(), AllocError> {
     let data = scan.any.reading.data.as_slice();
     text.push_str("], ")?;
-    if let (true, Ok(known)) = (is_in_utf8(&scan.parts), str::from_utf8(data)) {
+    if let Some(known) = text_of(*text.allocator(), scan)? {
         text.push_str("\"text\": \"")?;
-        push_string(text, known)?;
+        push_string(text, known.as_str())?;
         text.push_str("\", ")?;
     }
     let data = hex::encode(*text.allocator(), data)?;

@@ -82,7 +82,7 @@ fn between<'a>(text: &'a str, start: &str, end: &str) -> Option<&'a str> {
 
 // Options that do not apply to payloads whose format fixes level, version and encoding.
 const CODE_OPTIONS: &str =
-    "-l --level -v --symbol-version --min-version --micro --boost --eci --segment --bytes";
+    "-l --level -v --symbol-version --min-version --micro --boost --eci --charset --segment --bytes";
 
 // Advice on a word that other programs accept.
 fn known_help(alloc: Global, task: &Task, word: &str) -> Result<Option<String>, AllocError> {
@@ -147,7 +147,7 @@ fn other_help(
             "{word}: --version is the program's; for the code's version, use -v"
         ),
         _ if has_number(words, "--eci") => format!(in alloc;
-            "{word}: --eci takes no number: it marks UTF-8, ECI 26; for another, --segment eci:3"
+            "{word}: --eci takes no number: it marks UTF-8, ECI 26; for another, --charset iso-8859-1"
         ),
         Some(("TEXT", _)) => format!(in alloc;
             "{word}: only one TEXT; put quotes around one with spaces, e.g. \"hello world\""

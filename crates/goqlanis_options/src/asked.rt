@@ -1,5 +1,6 @@
 //! Turns the command line into a request.
 
+use crate::charsets::Coded;
 use crate::colours::{check_colours, ink_of, part_colour, part_inks};
 use crate::exams::{AskedDamage, AskedExam, damage_of, exam_of};
 use crate::fields::Fields;
@@ -66,6 +67,8 @@ pub struct Input<'a, 'w> {
     pub is_bytes: bool,
     /// Whether it is marked as UTF-8.
     pub is_eci: bool,
+    /// The name of its character set, or `shortest`.
+    pub charset: Option<&'a str>,
     /// The indicator of an industry's own format instead of GS1.
     pub application: Option<&'a str>,
 }
@@ -96,6 +99,8 @@ pub struct Asked<'a, 'w> {
     /// The request; its `manner` is a placeholder until the data is known.
     pub request: Request<'a>,
     pub input: Input<'a, 'w>,
+    /// The character set of the code, with `--charset`.
+    pub coded: Option<Coded>,
     /// The options that give the fields of a payload.
     pub fields: Fields<'a, 'w>,
     pub split: Split,
@@ -136,6 +141,7 @@ pub fn asked_for<'a, 'w>(
     let asked = Asked {
         request: request_of(alloc, task, given, format, &sizes)?,
         input: input_of(alloc, given)?,
+        coded: None,
         fields: Fields::of(given),
         split: Split {
             count: given.get_one::<u8>("count"),
@@ -183,6 +189,7 @@ fn input_of<'a, 'w>(alloc: Global, given: &'a ArgMatches<'w>) -> Result<Input<'a
         allows_empty: given.get_flag("allow-empty"),
         is_bytes: given.get_flag("bytes"),
         is_eci: given.get_flag("eci"),
+        charset: given.get_str("charset"),
         application: given.get_str("application"),
     })
 }
@@ -229,12 +236,15 @@ pub fn check_one_behind_another(alloc: Global, asked: &Asked<'_, '_>) -> Result<
 #[rattlefmt::skip]
 static CONFLICTS: &[(&str, &[&str], &str)] = &[
     ("--segment", &["TEXT", "--input"], "--segment gives the data"),
-    ("--segment", &["--trim", "--lines", "--bytes", "--eci", "--boost"], "use one of them"),
+    ("--segment", &["--trim", "--lines", "--bytes", "--eci", "--charset", "--boost"],
+        "use one of them"),
     ("TEXT", &["--input"], "use one of them"),
     ("ELEMENTS", &["--input"], "use one of them"),
     ("--application", &["--lines"], "--lines is for GS1 element strings"),
     ("--dry-run", &["--lines"], "try one line, without --lines"),
     ("--bytes", &["--eci"], "use one of them"),
+    ("--charset", &["--bytes"], "bytes have no character set"),
+    ("--charset", &["--eci"], "--eci is --charset utf-8"),
     ("--symbol-version", &["--min-version", "--max-version"], "use one of them"),
     ("--symbol-version", &["--micro"], "M1 to M4 are Micro QR"),
     ("--symbol-version", &["--boost"], "use --min-version instead"),

@@ -3,6 +3,7 @@
 
 pub mod advice;
 pub mod asked;
+pub mod charsets;
 pub mod colours;
 pub mod command;
 pub mod completions;

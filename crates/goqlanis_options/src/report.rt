@@ -1,6 +1,7 @@
 //! The report on a code: `--verbose`, `--json` and `--dry-run`.
 
 use crate::asked::{Asked, Report as Wanted, Target};
+use crate::charsets::{CharsetName, Coded};
 use crate::warnings::{Decimal, hundredths_of, warn_of_sizes};
 use goqlanis_core::{VersionName, dots, quiet_zone, scale};
 use goqlanis_files::failure::Failure;
@@ -41,6 +42,8 @@ struct Report {
     least: Option<u32>,
     // Whether the size is an exact length, so that pixels mean nothing.
     is_length: bool,
+    // The character set, with `--charset`.
+    coded: Option<Coded>,
     // The area reserved in the middle.
     area: Option<Rectangle>,
 }
@@ -92,6 +95,7 @@ fn report_of(asked: &Asked<'_, '_>, code: &QrCode, area: Option<Rectangle>) -> R
             .filter(|_| asked.is_dry)
             .map(|dots| least_scale(dots as u32)),
         is_length: request.length.is_some(),
+        coded: asked.coded,
         area,
     }
 }
@@ -122,6 +126,7 @@ fn text_of(alloc: Global, report: &Report, is_json: bool) -> Result<String, Allo
     )?;
     push_sizes(&mut text, report, is_json)?;
     push_least(&mut text, report, is_json)?;
+    push_set(&mut text, report.coded, is_json)?;
     if let Some(area) = report.area {
         let (width, height, left, top) = (area.width, area.height, area.left, area.top);
         push_either!(text, is_json;
@@ -163,4 +168,28 @@ fn push_least(text: &mut String, report: &Report, is_json: bool) -> Result<(), A
         ", \"least_scale\": {least}, \"least_millimetres\": {length}",
         "\nsmallest for most readers: {length} mm, {least} pixels per module"
     )
+}
+
+// Appends the character set of `--charset`, and the version that UTF-8 would have taken.
+fn push_set(text: &mut String, coded: Option<Coded>, is_json: bool) -> Result<(), AllocError> {
+    let Some(coded) = coded else {
+        return Ok(());
+    };
+    let set = CharsetName(coded.set);
+    push_either!(text, is_json;
+        ", \"charset\": \"{set}\"",
+        "\ncharacter set: {set}"
+    )?;
+    match (coded.set.designator(), is_json) {
+        (Some(number), true) => write!(text, ", \"eci\": {number}")?,
+        (Some(number), false) => write!(text, ", ECI {number}")?,
+        (None, _) => {}
+    }
+    match coded.utf8 {
+        Some(version) => push_either!(text, is_json;
+            ", \"utf8_version\": \"{version}\"",
+            "; in UTF-8 without ECI: version {version}"
+        ),
+        None => Ok(()),
+    }
 }

@@ -88,10 +88,13 @@ pub static TEXTS: &[Entry] = &[
         "Use the highest level, from --level up, that fits the same version; not with -v"),
 ];
 
-/// The option that marks data as UTF-8.
+/// Options of the character set.
 #[rattlefmt::skip]
 pub static MARKS: &[Entry] = &[
     entry!("eci", Nothing, "Mark the data as UTF-8 (ECI 26); helps if readers show it wrongly"),
+    entry!("charset", Text("NAME"),
+        "Character set of the text, with its ECI: utf-8 or iso-8859-1 to -16; shortest: that of the \
+        fewest bits [default: UTF-8 without ECI]"),
 ];
 
 /// The mask option.
