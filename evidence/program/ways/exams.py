@@ -93,10 +93,10 @@ def exam_is_the_same(program):
 
 
 def exam_is_passed(program):
-    """goqlanis passes an exam; with other data, or nothing, in place of one reading it does not."""
+    """goqlanis reads what it promises to; with other data, or nothing, for one picture it fails."""
     with empty() as folder:
         answers = _exam(program, folder, *SOME)
-        names = [it["name"] for it in answers]
+        names = [it["name"] for it in answers if it["goqlanis_reads"]]
         said = json.loads(run(program, ["read", "--json", *names], folder).stdout)
         held = {it["file"]: it["hex"] for it in said}
         first = answers[0]["name"]
@@ -106,4 +106,4 @@ def exam_is_passed(program):
             ran = run(program, ["exam", "--grade", "answers.jsonl", "results"], folder)
             if ran.returncode != status or (first in ran.stdout.decode()) != bool(status):
                 return False
-        return set(it["name"] for it in answers if it["goqlanis_reads"]) <= set(held)
+        return set(names) == set(held)
