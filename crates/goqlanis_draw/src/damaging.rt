@@ -45,7 +45,8 @@ pub(crate) fn draw_damaged(
     let damage = damage_in(code, wanted);
     if !damage.is_promised(code.version(), code.error_correction_level()) {
         doubted!(rt, asked.is_strict;
-            "beyond what can be corrected: readers read nothing or, in small codes, perhaps other data"
+            "beyond what can be corrected: readers read nothing or, in small codes, perhaps other \
+            data"
         )?;
     }
     damaged_drawing(alloc, &asked.request, code, damage)
