@@ -113,8 +113,10 @@ function inkOf(look, format, own) {
             + "would be invisible");
     if (look.dpi !== null && format !== "png")
         throw new QrError("NotInFormat", `${name} has no dots per inch: only PNG has dpi`);
-    const all = (tone) => [tone.toLowerCase(), ...Object.keys(own).filter((it) => it.endsWith(tone))];
-    const close = all("Dark").flatMap((one) => all("Light").map((other) => [look[one], look[other]]))
+    const all = (tone) => [tone.toLowerCase(),
+        ...Object.keys(own).filter((it) => it.endsWith(tone))];
+    const close = all("Dark")
+        .flatMap((one) => all("Light").map((other) => [look[one], look[other]]))
         .find(([one, other]) => areClose(one, other));
     if (close)
         console.warn(`dark modules in ${shown(close[0])}, light ones in ${shown(close[1])}: `
