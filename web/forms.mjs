@@ -11,7 +11,7 @@ const MODES = { phone: "tel", number: "tel", mobile: "tel", workPhone: "tel", ho
     some, the level and the largest version that the format wants. */
 export const FORMS = {
     text: { name: "Text", about: "", fields: { text: "" },
-        make: ({ text }, options) => encode(text, options) },
+        make: ({ text }, options) => encode(filled("text", text), options) },
     link: { name: "Link", about: "", fields: { link: "as https://example.org" },
         make: ({ link }, options) => encode(linked(link), options) },
     ...Object.fromEntries(Object.entries(PAYLOADS).map(([kind, row]) => [kind, formOf(kind, row)])),
@@ -29,10 +29,14 @@ function formOf(kind, { about, more, fields }) {
         make: (values, options) => encode(payload(kind, values), options) };
 }
 
-function linked(link) {
-    const text = link.trim();
+function filled(name, text) {
     if (text === "")
-        throw new QrError("EmptyField", "link: it may not be empty", "link");
+        throw new QrError("EmptyField", `${name}: it may not be empty`, name);
+    return text;
+}
+
+function linked(link) {
+    const text = filled("link", link.trim());
     if (!/^[a-z][a-z0-9+.-]*:\S+$/i.test(text))
         throw new QrError("WrongCharacter", "link: write it as https://example.org", "link");
     return text;
@@ -57,6 +61,12 @@ const words = (name) => (SHORT.includes(name) ? name.toUpperCase()
     : name.replace(/[A-Z]/g, (it) => ` ${it.toLowerCase()}`)
         .replace(/^./, (it) => it.toUpperCase()));
 
+/** Returns what an error says, with its field as the form calls it. */
+export function saidOf({ field, message }) {
+    return field && message.startsWith(`${field}: `)
+        ? words(field) + message.slice(field.length) : message;
+}
+
 /** Returns the element of a field, with its label, hint and place for an error. */
 export function fieldOf(name, hint) {
     const box = document.createElement("div");
@@ -71,7 +81,8 @@ export function fieldOf(name, hint) {
     [below.className, wrong.className, label.textContent] = ["hint", "error", words(name)];
     const chosen = input.localName === "select";
     below.textContent = input.type === "checkbox" ? hint.replace(/^"true" /, "")
-        : chosen ? hint.replace(/^.*?; empty/, "default") : hint;
+        : chosen ? hint.replace(/^.*?; empty/, "default")
+            : hint === words(name).toLowerCase() ? "" : hint;
     box.className = input.type === "checkbox" ? "" : "field";
     if (input.type === "checkbox") {
         label.className = "box";

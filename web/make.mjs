@@ -1,7 +1,7 @@
 /* Makes codes: shows the code of what is typed, and saves it. */
 
 import { QrError, areClose } from "./goqlanis/index.mjs";
-import { FORMS, fieldOf } from "./forms.mjs";
+import { FORMS, fieldOf, saidOf } from "./forms.mjs";
 
 const at = (id) => document.getElementById(id);
 const TYPES = { svg: "image/svg+xml", png: "image/png", pdf: "application/pdf",
@@ -127,11 +127,11 @@ function showWrong(error) {
         const isWrong = error?.field?.replace(/\[\d+\]$/, "") === input.name
             && touched.has(input.name);
         input.setAttribute("aria-invalid", isWrong);
-        at(`error-${input.name}`).textContent = isWrong ? error.message : "";
+        at(`error-${input.name}`).textContent = isWrong ? saidOf(error) : "";
     }
     at("said").classList.toggle("wrong", error !== null && error.name !== "EmptyField");
     if (error !== null)
-        at("said").textContent = error.message;
+        at("said").textContent = saidOf(error);
 }
 
 /** Says what the code is, and how large it will be. */
@@ -139,9 +139,10 @@ function aboutOf({ version, level, mask, width, quietZone }) {
     const { scale, quietZone: zone } = drawOptions("png");
     const across = width + 2 * (zone ?? quietZone), pixels = across * scale, dots = whole("dpi");
     const wide = (count, perInch) => `${(count * 25.4 / perInch).toFixed(1)} mm`;
+    const png = `${pixels} pixels a side${dots ? `, ${wide(pixels, dots)}` : ""}`;
     return `Version ${version}, level ${level}, mask ${mask}: ${width} modules a side, ${across} `
-        + `with the quiet zone.\nPNG: ${pixels} pixels a side${dots ? `, ${wide(pixels, dots)}` : ""}. `
-        + `PDF and EPS: ${wide(pixels, 72)}.${logo === null ? "" : `\n${areaOf()}`}`;
+        + `with the quiet zone.\nPNG: ${png}. PDF and EPS: ${wide(pixels, 72)}.`
+        + `${logo === null ? "" : `\n${areaOf()}`}`;
 }
 
 /** Says which area the logo takes, and what that leaves. */

@@ -4,6 +4,8 @@ import { check, read } from "./goqlanis/index.mjs";
 
 const at = (id) => document.getElementById(id);
 const LINK = /^(https?|mailto|tel|sms|geo|upi):/i;
+const SHARP = ". Codes must be flat and sharp: take the picture anew, or cut it to one code";
+const HELP = { NoSquare: SHARP, NoSuchSide: SHARP, NoFormat: SHARP, Damaged: SHARP };
 /* The most pixels of a side that a canvas is made for. */
 const MOST = 8192;
 
@@ -74,7 +76,7 @@ function readingOf(picture) {
         failure ??= error;
     }
     if (failure !== null && checks.length === 0)
-        throw failure;
+        throw new Error(`${failure.message}${HELP[failure.name] ?? ""}`);
     const said = failure !== null
         ? `No code was read: ${failure.message}. What it shows was checked:`
         : found.length === 1 ? "1 code:" : `${found.length} codes:`;
@@ -112,6 +114,6 @@ function itemOf(code, checked) {
 function partOf({ kind, number, place, symbols, length }) {
     const names = { eci: `character set (ECI) ${number}`, fnc1First: "GS1 (FNC1 in first position)",
         fnc1Second: `FNC1 in second position, application ${number}`,
-        oneOfSeveral: `symbol ${place + 1} of ${symbols}, parity ${number}` };
+        oneOfSeveral: `code ${place + 1} of ${symbols}, parity ${number}` };
     return names[kind] ?? `${length} bytes in ${kind} mode`;
 }

@@ -27,9 +27,6 @@ export function read(picture) {
         const bytes = buffers.room(most * BYTES_MAX), scan = buffers.initial("goq_scan");
         const said = answer("goq_read_picture", ...file, codes, most, parts, most * PARTS_MAX,
             bytes, most * BYTES_MAX, scan);
-        if (said === "NO_SUCH_SIDE")
-            throw refusal(said,
-                "the picture shows no code: what it shows is not the size of a code");
         let part = 0, at = bytes;
         const count = () => ({ length: buffers.struct("goq_scan", scan).codes });
         return [said, () => Array.from(count(), (_, code) => {
@@ -52,6 +49,9 @@ function withCodes(picture, ask) {
             const [said, make] = ask(buffers, [buffers.bytes(file), file.length], most);
             if (said === "SMALL_BUFFER")
                 return null;
+            if (said === "NO_SUCH_SIDE")
+                throw refusal(said,
+                    "the picture shows no code: what it shows is not the size of a code");
             refuse(said);
             return make();
         });

@@ -8,7 +8,7 @@ from ._checks import LEVELS, version_name
 from ._library import Checked, Checks, library
 from ._numbers import BLOCKS_MAX
 from .errors import refuse
-from .reading import PICTURES, Modules, Picture, _file_of, _modules_of
+from .reading import PICTURES, Modules, Picture, _file_of, _modules_of, _refuse_picture
 
 LINES = """\
 version {0.version}, level {0.level}, mask {0.mask}
@@ -124,7 +124,7 @@ def _checks(picture: bytes) -> Iterator[Check]:
         answer = library.goq_check(picture, len(picture), checks, len(checks), wrong, len(wrong),
                                    ctypes.byref(counts))
         count *= 8
-    refuse(answer)
+    _refuse_picture(answer)
     numbers = iter(wrong)
     for known in checks[:counts.codes]:
         yield _check(known, list(islice(numbers, known.blocks)))

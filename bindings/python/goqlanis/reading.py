@@ -188,15 +188,20 @@ def _codes(picture: bytes, of: str = "") -> Iterator[Code]:
         answer = library.goq_read_picture(picture, len(picture), codes, len(codes), parts,
                                           len(parts), out, len(out), ctypes.byref(scan))
         count *= 8
-    if answer == goq.NO_SUCH_SIDE:
-        raise refusal(answer, "the picture shows no code: what it shows is not the size of a code",
-                      of)
-    refuse(answer, of)
+    _refuse_picture(answer, of)
     said, data = iter(parts[:scan.parts]), io.BytesIO(out[:scan.length])
     for code in codes[:scan.codes]:
         own = tuple(_part(next(said)) for _ in range(code.parts))
         found = _reading(data.read(code.reading.length), code.reading)
         yield Code(*found, *_position(code.position), own)
+
+
+def _refuse_picture(answer: int, of: str = "") -> None:
+    """Raises the exception for an answer on a picture, unless that is success."""
+    if answer == goq.NO_SUCH_SIDE:
+        raise refusal(answer, "the picture shows no code: what it shows is not the size of a code",
+                      of)
+    refuse(answer, of)
 
 
 def _part(part: KnownPart) -> Part:
