@@ -1,6 +1,6 @@
 /* Makes codes: shows the code of what is typed, and saves it. */
 
-import { QrError, areClose } from "./goqlanis/index.mjs";
+import { QrCode, QrError, areClose } from "./goqlanis/index.mjs";
 import { FORMS, fieldOf, saidOf } from "./forms.mjs";
 
 const at = (id) => document.getElementById(id);
@@ -177,9 +177,14 @@ function tell(text) {
     at("done").textContent = text;
 }
 
+/** Returns the code as a format shows it: only SVG has the logo, others a light area. */
+function shownIn(format) {
+    return format === "svg" ? code : new QrCode(code.modules, code.version, code.level);
+}
+
 function save(format) {
     try {
-        const data = code.draw(format, drawOptions(format));
+        const data = shownIn(format).draw(format, drawOptions(format));
         const link = document.createElement("a");
         link.href = URL.createObjectURL(new Blob([data], { type: TYPES[format] }));
         link.download = `code.${format}`;
@@ -193,7 +198,7 @@ function save(format) {
 
 async function copy() {
     try {
-        const picture = new Blob([code.png(drawOptions("png"))], { type: "image/png" });
+        const picture = new Blob([shownIn("png").png(drawOptions("png"))], { type: "image/png" });
         await navigator.clipboard.write([new ClipboardItem({ "image/png": picture })]);
         tell("Copied as an image.");
     } catch (error) {

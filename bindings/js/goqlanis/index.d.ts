@@ -168,7 +168,8 @@ export class QrCode {
         decodes to the same data. Throws NoSuchArea or AreaTooLarge. */
     withArea(area?: Rectangle | Rectangle[]): QrCode;
     /** The code with a logo, the bytes or the text of an SVG or PNG file, in an area, by default
-        the largest in its ratio. Only SVG shows it; other formats leave the area light. */
+        the largest in its ratio. Only SVG shows it; half blocks leave the area light, and other
+        formats throw NotInFormat: for these, take withArea. */
     withLogo(logo: Data,
         options?: AreaOptions & { area?: Rectangle | null; margin?: number }): QrCode;
 }
