@@ -305,8 +305,9 @@ fn place_of(grid: &Grid) -> Place
     let parts = grid.parts.max(1);
     let width = grid.count * inner_side(grid.across, grid.fall);
     let height = grid.count * inner_side(grid.down, grid.lean);
-    let x = (2 * grid.left + grid.count * grid.across).saturating_sub(grid.count * grid.lean);
-    let y = 2 * grid.top + grid.count * grid.down + grid.count * grid.fall;
+    let steps = grid.count.saturating_sub(1);
+    let x = (2 * grid.left + steps * grid.across).saturating_sub(steps * grid.lean);
+    let y = 2 * grid.top + steps * grid.down + steps * grid.fall;
     let (left, right) = ends(x, width, parts);
     let (top, bottom) = ends(y, height, parts);
     Place {
