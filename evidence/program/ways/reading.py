@@ -280,6 +280,19 @@ def codes_of_uneven_pixels_beside_another_are_read(program):
     return True
 
 
+def codes_that_nearly_touch_are_read(program):
+    """One pixel below and to the right of a code of four pixels a module stand two of one pixel."""
+    texts = ["large", "below", "beside"]
+    large, below, beside = (_square(program, "-v", "1", it) for it in texts)
+    rows = [[ink for ink in row for _ in range(4)] + [0] for row in large for _ in range(4)]
+    rows = [row + more for row, more in zip(rows, beside + [[0] * 21] * 63)]
+    rows += [[0], *below]
+    rows = [[0] * 4 + row + [0] * (110 - len(row)) for row in [[]] * 4 + rows + [[]] * 4]
+    text = "\n".join("".join(map(str, it)) for it in rows)
+    picture = f"P1\n114 {len(rows)}\n{text}".encode()
+    return _lines_read(program, picture) == sorted(texts)
+
+
 def no_micro_code_is_read_inside_an_unread_code(program):
     """A code with a Micro QR code over its data, too large to be corrected, is not read at all."""
     rows = _square(program, "-v", "5", "-l", "L", "unread")
