@@ -19,7 +19,7 @@ loop-scan-preserved c =
     let i = c.loop-scan.scan-index in
     let item = c.scan-item.result in
     let same = c.deref-scan-items.ensures.value in
-    let apart : IsApartFrom g item = search rules in
+    let apart : IsApartFrom g item = c.if-is_over.ensures.apart (search rules) in
     let is = subst (λ (ys : List Scan). item ≡ get_or ys i item) same c.scan-item.is in
     All-more (IsApartFrom g) xs i item (subst (λ (ys : List Scan). i < length ys) same c.loop-scan-test.true) c.loop-scan.invariant (subst (IsApartFrom g) is apart)
 
