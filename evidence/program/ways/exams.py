@@ -15,12 +15,22 @@ PARTS = ["micro", *(",".join(f"{version}-{level}" for version in range(first, fi
 # Some pairs, and the sum of their answers.jsonl and pictures, by name.
 SOME = ["--pairs", "M1-L,M3-M,1-L,2-M,7-H,14-Q"]
 SUM = "753e30489ae23df2ad2b16ac5a35e52eb36ae153f11d2114bce26efadfb453a3"
+# The sums of exams in which the judge found nothing wrong: it takes minutes, so it looks once.
+RIGHT = set()
 
 
 def _exam(program, folder, *words):
     """Makes an exam, and returns its answers."""
     run(program, ["exam", *words, folder], "/")
     return [json.loads(line) for line in Path(folder, "answers.jsonl").read_text().splitlines()]
+
+
+def _sum(folder):
+    """Returns the sum of the files of an exam."""
+    found = hashlib.sha256()
+    for path in sorted(Path(folder).iterdir()):
+        found.update(f"{path.name} {path.stat().st_size}\n".encode() + path.read_bytes())
+    return found.hexdigest()
 
 
 def _version_copies(shape):
@@ -77,8 +87,10 @@ def exam_is_as_its_answers_say(program):
         with empty() as folder:
             answers, whole = _exam(program, folder, "-f", "pbm", "-s", "1", "-q", "0", "--pairs", pairs), {}
             found |= {(it["version"], it["level"]) for it in answers}
-            if not all(_is_right(folder, it, whole) for it in answers):
+            made = _sum(folder)
+            if made not in RIGHT and not all(_is_right(folder, it, whole) for it in answers):
                 return False
+            RIGHT.add(made)
     return len(found) == 168
 
 
@@ -86,10 +98,7 @@ def exam_is_the_same(program):
     """The files of an exam have the stored sum."""
     with empty() as folder:
         _exam(program, folder, *SOME)
-        found = hashlib.sha256()
-        for path in sorted(Path(folder).iterdir()):
-            found.update(f"{path.name} {path.stat().st_size}\n".encode() + path.read_bytes())
-        return found.hexdigest() == SUM
+        return _sum(folder) == SUM
 
 
 def exam_is_passed(program):
