@@ -166,10 +166,6 @@ reached_light g i c r light =
           absurd (true≢false (sym (dark_at g c r both.0).4 ∙ ap (λ k. is_dark (get_or g.cells k Light)) same ∙ light))
     ])
 
--- no cell is before the first
-pub reached_none : (g : Grid) (c r : ℕ) → is_reached g 0 c r ≡ false
-reached_none g c r = not_true _ (λ h. let below = ltb-true ((r - g.zone) * g.columns + (c - g.zone)) 0 (both_from _ _ h).1 in absurd (omega (arith, below)))
-
 -- all cells are before the end
 pub reached_all : (g : Grid) (n c r : ℕ) → g.rows * g.columns ≤ n → is_reached g n c r ≡ is_dark_cell g c r
 reached_all g n c r end =

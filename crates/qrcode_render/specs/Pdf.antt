@@ -23,7 +23,7 @@ ten_digits n =
     digit_at n 1000000000 ∷ digit_at n 100000000 ∷ digit_at n 10000000 ∷ digit_at n 1000000 ∷ digit_at n 100000 ∷ digit_at n 10000 ∷ digit_at n 1000 ∷ digit_at n 100 ∷ digit_at n 10 ∷ digit_at n 1 ∷ []
 
 -- a picture on its page: the modules across and down, the pixels of a module, those of the picture, and those to an inch
-pub record Sheet : Type 0 where
+pub record Paper : Type 0 where
   pub columns : ℕ
   pub rows : ℕ
   pub across : ℕ
@@ -32,16 +32,16 @@ pub record Sheet : Type 0 where
   pub high : ℕ
   pub dots : ℕ
 
-abbrev pub sheet : ℕ → ℕ → ℕ → ℕ → ℕ → Sheet
+abbrev pub sheet : ℕ → ℕ → ℕ → ℕ → ℕ → Paper
 sheet columns rows across down dots =
     record { columns = columns; rows = rows; across = across; down = down; wide = columns * across; high = rows * down; dots = dots }
 
 -- a length of n pixels in points, 1/72 of an inch
-abbrev pub points : Sheet → ℕ → List ℕ
+abbrev pub points : Paper → ℕ → List ℕ
 points s n = millionths (n * 72000000 / s.dots)
 
 -- the coordinates: the unit is a module, and rows count from the top
-abbrev pub turn : Sheet → List ℕ
+abbrev pub turn : Paper → List ℕ
 turn s = points s s.across ++ (codes " 0 0 -" ++ (points s s.down ++ (codes " 0 " ++ (points s s.high ++ codes " cm\n"))))
 
 -- a component of a colour, from 0 to 255, as a fraction of 1
@@ -53,7 +53,7 @@ abbrev pub paint : List ℕ → List ℕ
 paint parts = flat_map part parts ++ codes "rg\n"
 
 -- fills the background
-abbrev pub ground : Sheet → List ℕ
+abbrev pub ground : Paper → List ℕ
 ground s = codes "0 0 " ++ (decimal s.columns ++ (codes " " ++ (decimal s.rows ++ codes " re f\n")))
 
 -- the rectangle of a run: its left, its top, its width and its height of one module
@@ -61,7 +61,7 @@ abbrev pub run_box : Run → List ℕ
 run_box r = decimal r.left ++ (codes " " ++ (decimal r.top ++ (codes " " ++ (decimal r.width ++ codes " 1 re\n"))))
 
 -- the operators before the runs
-abbrev pub under : Sheet → List ℕ → List ℕ → List ℕ
+abbrev pub under : Paper → List ℕ → List ℕ → List ℕ
 under s dark light = turn s ++ (paint light ++ (ground s ++ paint dark))
 
 -- the runs, filled as one path
@@ -69,7 +69,7 @@ abbrev pub filled : List Run → List ℕ
 filled runs = flat_map run_box runs ++ codes "f\n"
 
 -- the operators of the page: the light background, the runs, and what is drawn over them
-abbrev pub content : Sheet → List ℕ → List ℕ → List Run → List ℕ → List ℕ
+abbrev pub content : Paper → List ℕ → List ℕ → List Run → List ℕ → List ℕ
 content s dark light runs over = (under s dark light ++ filled runs) ++ over
 
 -- a file that is being written: its objects, and the cross-reference table of where they begin
@@ -92,11 +92,11 @@ abbrev pub pages : List ℕ
 pages = codes "2 0 obj\n<</Type/Pages/Kids[3 0 R]/Count 1>>\nendobj\n"
 
 -- the width and height of the page
-abbrev pub sides : Sheet → List ℕ
+abbrev pub sides : Paper → List ℕ
 sides s = points s s.wide ++ (codes " " ++ points s s.high)
 
 -- the page object, of the picture's size
-abbrev pub page : Sheet → List ℕ
+abbrev pub page : Paper → List ℕ
 page s = codes "3 0 obj\n<</Type/Page/Parent 2 0 R/Resources<<>>/Contents 4 0 R/MediaBox[0 0 " ++ (sides s ++ codes "]>>\nendobj\n")
 
 -- the content stream of the page, with its length
@@ -116,11 +116,11 @@ abbrev pub information : List ℕ → List ℕ
 information title = codes "5 0 obj\n<<" ++ (if length title == 0 then [] else codes "/Title" ++ title_text title) ++ codes ">>\nendobj\n"
 
 -- the file with its five objects
-abbrev pub body : Sheet → List ℕ → List ℕ → Body
+abbrev pub body : Paper → List ℕ → List ℕ → Body
 body s drawn title = with_object (information title) (with_object (stream drawn) (with_object (page s) (with_object pages (with_object catalog start))))
 
 -- the objects of a page with these runs
-abbrev pub page_body : Sheet → List ℕ → List ℕ → List Run → List ℕ → List ℕ → Body
+abbrev pub page_body : Paper → List ℕ → List ℕ → List Run → List ℕ → List ℕ → Body
 page_body s dark light runs over title = body s (content s dark light runs over) title
 
 -- the cross-reference table and the trailer, which says where the table begins

@@ -38,9 +38,6 @@ tspl_row bytes = map (λ b. 255 - b) bytes
 abbrev pub tspl_tail : List ℕ
 tspl_tail = codes "\r\nPRINT 1\r\n"
 
-abbrev pub tspl_file : Bool → Bool → Bitmap → List ℕ
-tspl_file = packed_file tspl_head tspl_row tspl_tail
-
 abbrev pub tspl_file_at : ℕ × ℕ → Bool → Bool → Bitmap → List ℕ
 tspl_file_at place = packed_file (tspl_head_at place) tspl_row tspl_tail
 

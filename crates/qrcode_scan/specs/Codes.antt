@@ -43,15 +43,15 @@ abbrev pub inner_side : ℕ → ℕ → ℕ
 inner_side one other = (one * one + other * other) / max (one + other) 1
 
 -- The place of a grid in pixels: the square of its modules. Of a turned grid it is the largest upright square in that one with the same middle. x and y
--- are twice the middle, in fractions of a pixel; it is halfway between the centres of the first and the last module.
+-- are twice the middle, in fractions of a pixel: halfway between the middles of the pixels at the centres of the first and the last module.
 abbrev pub place_of : Grid → Place
 place_of g =
     let parts = max g.parts 1 in
     let width = g.count * inner_side g.across g.fall in
     let height = g.count * inner_side g.down g.lean in
     let steps = g.count - 1 in
-    let x = 2 * g.left + steps * g.across - steps * g.lean in
-    let y = 2 * g.top + steps * g.down + steps * g.fall in
+    let x = 2 * g.left + parts + steps * g.across - steps * g.lean in
+    let y = 2 * g.top + parts + steps * g.down + steps * g.fall in
     record {
       left = (x - width) / parts / 2;
       top = (y - height) / parts / 2;

@@ -306,8 +306,8 @@ fn place_of(grid: &Grid) -> Place
     let width = grid.count * inner_side(grid.across, grid.fall);
     let height = grid.count * inner_side(grid.down, grid.lean);
     let steps = grid.count.saturating_sub(1);
-    let x = (2 * grid.left + steps * grid.across).saturating_sub(steps * grid.lean);
-    let y = 2 * grid.top + steps * grid.down + steps * grid.fall;
+    let x = (2 * grid.left + parts + steps * grid.across).saturating_sub(steps * grid.lean);
+    let y = 2 * grid.top + parts + steps * grid.down + steps * grid.fall;
     let (left, right) = ends(x, width, parts);
     let (top, bottom) = ends(y, height, parts);
     Place {

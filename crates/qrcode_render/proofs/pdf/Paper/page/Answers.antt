@@ -1,7 +1,7 @@
 use Rattle.std.proofs.Common.{◌++◌, ap, ◌∙◌, append_assoc}
 use Rattle.std.specs.Prelude.{codes}
 use Rattle.qrcode_render.specs.Pdf.{sides}
-use Rattle.qrcode_render.proofs.pdf.Sheet.page.Goals as goal
+use Rattle.qrcode_render.proofs.pdf.Paper.page.Goals as goal
 
 pub returns-clause-value : goal.returns-clause-value
 returns-clause-value c =
