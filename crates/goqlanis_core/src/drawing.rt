@@ -70,11 +70,11 @@ pub fn drawing_of(alloc: Global, request: &Request<'_>, code: QrCode) -> QrResul
 /// Draws these modules of a symbol as requested.
 ///
 /// Errors: only `OutOfMemory`, as `draw` says.
-pub fn drawn(
+pub fn drawn<'a>(
     alloc: Global,
-    request: &Request<'_>,
+    request: &Request<'a>,
     code: &QrCode,
-    modules: &[Color],
+    modules: &'a [Color],
 ) -> QrResult<Vec<u8>>
     requires { length modules.now ≡ length code.now.modules }
     ensures shown { IfOk result (λ file. IsDrawn request.now.format (sheet_for request.now

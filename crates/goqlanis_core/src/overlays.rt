@@ -166,12 +166,12 @@ pub enum Inside<'a> {
 ///
 /// Errors: `InvalidVersion` if the version of `code` lacks the requested mask; `OutOfMemory` if
 /// memory runs out, or if the picture is larger than its format allows, as `draw` says.
-pub fn with_logo(
+pub fn with_logo<'a>(
     alloc: Global,
-    request: &Request<'_>,
+    request: &Request<'a>,
     code: &QrCode,
     area: Rectangle,
-    inside: Inside<'_>,
+    inside: Inside<'a>,
 ) -> QrResult<Option<Vec<u8>>>
     ensures shown { IfOk result (λ drawn. IfSome drawn (λ bytes.
         IsShownWith request.now code.now area inside.entry bytes.items)) }
