@@ -2,6 +2,7 @@
 
 ghost use Rattle.std.specs.Prelude.{◌≡◌, ◌+◌, ◌-◌, ◌<◌, ◌≤◌, ◌≢◌, ℕ, Some, IfSome, MatchOption, slice_index};
 ghost use Rattle.qrcode_charsets.specs.Charsets as charsets;
+ghost use Rattle.qrcode_charsets.specs.declared.sets.Charset.{Charset};
 
 use crate::table::CHARACTERS;
 use qrcode_bits::bits::Manner;
@@ -76,6 +77,34 @@ impl Charset {
             Charset::Utf8 => Some(26),
             Charset::Iso8859(part) => Some(part.number() as u32 + 2),
         }
+    }
+
+    /// Returns the set whose ECI designator is `number`, or `None` if there is none.
+    pub fn numbered(number: u32) -> Option<Charset>
+        ensures { MatchOption result
+            ((set : Charset) → charsets.designator set ≢ Some number)
+            (λ set. charsets.designator set ≡ Some number) }
+    {
+        let part = match number {
+            3 => Part::Latin1,
+            4 => Part::Latin2,
+            5 => Part::Latin3,
+            6 => Part::Latin4,
+            7 => Part::Cyrillic,
+            8 => Part::Arabic,
+            9 => Part::Greek,
+            10 => Part::Hebrew,
+            11 => Part::Latin5,
+            12 => Part::Latin6,
+            13 => Part::Thai,
+            15 => Part::Latin7,
+            16 => Part::Latin8,
+            17 => Part::Latin9,
+            18 => Part::Latin10,
+            26 => return Some(Charset::Utf8),
+            _ => return None,
+        };
+        Some(Charset::Iso8859(part))
     }
 
     // Returns the manner in which bytes take as many bits.
