@@ -11,6 +11,8 @@ use goqlanis_options::exams::{AskedDamage, Wrong};
 use qrcode::QrCode;
 use qrcode::types::Color;
 use qrcode_damage::damage::{Damage, TooMuch, damaged, most_codewords};
+use qrcode_damage::laid::laid;
+use qrcode_reader::Position;
 use std::alloc::Global;
 
 /// Returns the damage that is asked for, in this code.
@@ -49,29 +51,31 @@ pub(crate) fn draw_damaged(
             data"
         )?;
     }
-    damaged_drawing(alloc, &asked.request, code, damage)
+    damaged_drawing(alloc, &asked.request, asked.position, code, damage)
 }
 
-/// Draws a code with this damage.
+/// Draws a code with this damage, in this position.
 ///
 /// Errors: `Refused` if the code has too few codewords or bits, or lacks the mask; `OutOfMemory`.
 pub(crate) fn damaged_drawing(
     alloc: Global,
     request: &Request<'_>,
+    position: Position,
     code: &QrCode,
     damage: Damage,
 ) -> Result<Vec<u8>, Failure> {
-    let modules = damaged_modules(alloc, request, code, damage)?;
+    let modules = damaged_modules(alloc, request, position, code, damage)?;
     match drawn(alloc, request, code, &modules, &[], None) {
         Ok(drawing) => Ok(drawing),
         Err(_) => Err(Failure::OutOfMemory),
     }
 }
 
-// Returns the modules of a code, under the requested mask, with this damage.
+// Returns the modules of a code, under the requested mask, with this damage and in this position.
 fn damaged_modules(
     alloc: Global,
     request: &Request<'_>,
+    position: Position,
     code: &QrCode,
     damage: Damage,
 ) -> Result<Vec<Color>, Failure>
@@ -82,7 +86,7 @@ fn damaged_modules(
     let modules = masked_modules(alloc, request, code)?;
     let (version, level) = (code.version(), code.error_correction_level());
     match damaged(alloc, version, level, &modules, damage) {
-        Ok(modules) => Ok(modules),
+        Ok(modules) => Ok(laid(alloc, version, position, &modules)?),
         Err(TooMuch::OutOfMemory) => Err(Failure::OutOfMemory),
         Err(error) => refused!(alloc; "{error}"),
     }

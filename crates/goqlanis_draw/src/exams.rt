@@ -2,6 +2,7 @@
 
 use crate::damaging::{damage_in, damaged_drawing};
 use crate::drawing::check_side;
+use crate::questions::{CONTENTS, Content, Question};
 use goqlanis_core::{Request, VersionName};
 use goqlanis_files::failure::Failure;
 use goqlanis_files::streams::{shown, write_file};
@@ -10,7 +11,6 @@ use goqlanis_options::asked::{Asked, Target};
 use goqlanis_options::exams::{AskedDamage, Wrong};
 use qrcode::types::{EcLevel, Version};
 use qrcode_damage::damage::{Damage, most_codewords};
-use qrcode_damage::exam::{CONTENTS, Content, Question};
 use qrcode_damage::random::Random;
 use qrcode_layout::masks::mask_count;
 use std::alloc::Global;
@@ -195,7 +195,7 @@ fn write_picture(
     let ending = request.format.row().ending.unwrap_or("txt");
     let name = format!(in rt.alloc(); "{}-{damage_name}.{ending}", case.name)?;
     let path = format!(in rt.alloc(); "{}/{name}", asked.exam.path)?;
-    let drawing = damaged_drawing(rt.alloc(), &request, code, damage)?;
+    let drawing = damaged_drawing(rt.alloc(), &request, asked.position, code, damage)?;
     write_file(rt, path.as_str(), &drawing)?;
     push_answer(answers, case, damage_name, name.as_str(), damage)
 }

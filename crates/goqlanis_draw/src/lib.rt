@@ -12,6 +12,7 @@ mod logos;
 mod making;
 mod middle;
 mod names;
+mod questions;
 mod rows;
 mod segments;
 mod shrinking;

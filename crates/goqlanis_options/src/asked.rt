@@ -2,7 +2,7 @@
 
 use crate::charsets::Coded;
 use crate::colours::{check_colours, ink_of, part_colour, part_inks};
-use crate::exams::{AskedDamage, AskedExam, damage_of, exam_of};
+use crate::exams::{AskedDamage, AskedExam, damage_of, exam_of, position_of};
 use crate::fields::Fields;
 use crate::frames::{frame_of, place_of};
 use crate::logos::{AskedLogo, logo_of};
@@ -19,6 +19,7 @@ use qrcode::bits::Manner;
 use qrcode::types::{EcLevel, Version};
 use qrcode_append::Versions;
 use qrcode_formats::{Colours, Density, FORMATS, Format, Middle, format_named, format_of_ending};
+use qrcode_reader::Position;
 use std::alloc::Global;
 use std::fs;
 
@@ -107,6 +108,8 @@ pub struct Asked<'a, 'w> {
     pub exam: AskedExam<'a>,
     /// What is wrong in the code, if it is to be damaged.
     pub damage: Option<AskedDamage>,
+    /// How codes of exams and damaged codes lie in their pictures.
+    pub position: Position,
     pub target: Target<'a>,
     /// The side of the picture in hundredths of a millimetre, if `--size` is a length in pixels.
     pub hundredths: Option<u64>,
@@ -152,6 +155,7 @@ pub fn asked_for<'a, 'w>(
             Purpose::Damage => Some(damage_of(alloc, given)?),
             _ => None,
         },
+        position: position_of(alloc, given)?,
         target,
         hundredths: sizes.hundredths,
         dots: sizes.dots,

@@ -55,7 +55,7 @@ fn arguments<'a>(alloc: Global, task: &Task) -> Result<Vec<Arg<'a>>, AllocError>
         })?;
     }
     for (heading, entry) in task.all_options(alloc)? {
-        let is_hidden = !task.word.is_empty() && task.draws() && is_common(heading, &entry);
+        let is_hidden = !task.word.is_empty() && task.draws() && is_common(task, heading, &entry);
         arguments.push(
             argument(alloc, entry)?
                 .help_heading(heading)
@@ -71,8 +71,10 @@ fn arguments<'a>(alloc: Global, task: &Task) -> Result<Vec<Arg<'a>>, AllocError>
 }
 
 // Whether an option is the same for all codes, so that the help of a command need not repeat it.
-fn is_common(heading: &str, entry: &Entry) -> bool {
-    heading != "Input" && heading != "Code" && !matches!(entry.long, "output" | "format")
+// (Exams refuse `--output`.)
+fn is_common(task: &Task, heading: &str, entry: &Entry) -> bool {
+    let is_shown = matches!(entry.long, "output" | "format") && task.own_format().is_none();
+    heading != "Input" && heading != "Code" && !is_shown
 }
 
 // Builds an option. A negative number after it is its value.

@@ -1,8 +1,10 @@
 //! The options of damaged codes, and of exams for readers.
 
+use crate::colours::part_colour;
 use clap::ArgMatches;
 use goqlanis_files::failure::Failure;
 use goqlanis_files::usage;
+use qrcode_reader::Position;
 use std::alloc::Global;
 
 /// How many codewords of each block are wrong.
@@ -69,6 +71,28 @@ pub fn exam_of<'a>(given: &ArgMatches<'a>) -> AskedExam<'a> {
         answers: given.get_str("grade"),
         pairs: given.get_str("pairs"),
         seed: seed_of(given),
+    }
+}
+
+/// Returns how codes lie in their pictures: mirrored if asked for, and then turned.
+///
+/// Errors: `Usage` with a colour of a part, unless codes lie upright; `OutOfMemory`.
+pub(crate) fn position_of(alloc: Global, given: &ArgMatches<'_>) -> Result<Position, Failure> {
+    let position = match (given.get_str("turn"), given.get_flag("mirror")) {
+        (Some("90"), false) => Position::TurnedRight,
+        (Some("180"), false) => Position::UpsideDown,
+        (Some("270"), false) => Position::TurnedLeft,
+        (Some("90"), true) => Position::Antitransposed,
+        (Some("180"), true) => Position::Flipped,
+        (Some("270"), true) => Position::Transposed,
+        (_, true) => Position::Mirrored,
+        (_, false) => Position::Upright,
+    };
+    match part_colour(given) {
+        Some(part) if position != Position::Upright => {
+            usage!(alloc; "--{part}: only upright codes have colours of parts")
+        }
+        _ => Ok(position),
     }
 }
 

@@ -196,7 +196,8 @@ impl Task {
     }
 
     /// Returns the task's own options and the drawing options that apply: no input options if its
-    /// own options give the data, and no level if the payload's format fixes it.
+    /// own options give the data, no level if the payload's format fixes it, and none with the name
+    /// of an own one.
     ///
     /// Errors: only `AllocError`.
     pub fn all_options(&self, alloc: Global) -> Result<Vec<Headed>, AllocError> {
@@ -284,7 +285,9 @@ fn push_under(
     options: &[Entry],
 ) -> Result<(), AllocError> {
     for entry in options {
-        all.push((heading, *entry))?;
+        if !all.iter().any(|(_, known)| known.long == entry.long) {
+            all.push((heading, *entry))?;
+        }
     }
     Ok(())
 }

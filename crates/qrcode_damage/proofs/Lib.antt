@@ -4,4 +4,5 @@ pub mod Flipped
 pub mod Places
 pub mod Promised
 pub mod Refused
+pub mod Turned
 pub mod Wrong

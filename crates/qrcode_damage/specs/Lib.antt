@@ -1,4 +1,5 @@
 pub mod Damage
 pub mod Errors
 pub mod Flips
+pub mod Laid
 pub mod Laws

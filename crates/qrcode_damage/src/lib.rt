@@ -4,8 +4,8 @@
 pub mod damage;
 mod drawn;
 mod errors;
-pub mod exam;
 mod flips;
+pub mod laid;
 pub mod laws;
 pub mod random;
 mod words;

@@ -54,7 +54,7 @@ const LEVEL: Takes = Word("LEVEL", &["L", "M", "Q", "H"]);
 
 // The value of `--format`: the names in the table of formats, which `bindings/same` compares.
 #[rattlefmt::skip]
-const FORMAT: Takes = Word("FORMAT", &[
+pub(super) const FORMAT: Takes = Word("FORMAT", &[
     "half-blocks", "terminal", "text", "png", "svg", "eps", "pic", "pbm", "pgm", "pdf", "zpl", "tspl", "escpos", "xbm",
     "ppm", "ascii",
 ]);

@@ -1,7 +1,8 @@
 //! The commands, in the order of help and manual.
 
-use super::Takes::{self, Nothing, Number, Path, Text, Wanted};
+use super::Takes::{self, Nothing, Number, Path, Text, Wanted, Word};
 use super::fields::option_of;
+use super::symbols::FORMAT;
 use super::{Entry, Purpose, Task};
 use qrcode_contents::fields::errors::Field;
 use qrcode_payloads::kinds::Kind;
@@ -17,6 +18,15 @@ macro_rules! task {
         }
     };
 }
+
+// How a code lies in its picture.
+const MIRROR: Entry = entry!("mirror", Nothing, "Swap left and right");
+
+const TURN: Entry = entry!(
+    "turn",
+    Word("DEGREES", &["0", "90", "180", "270"]),
+    "Turn the code clockwise, after --mirror [default: 0]"
+);
 
 /// The tasks of the commands.
 #[rattlefmt::skip]
@@ -44,13 +54,18 @@ pub static TASKS: &[Task] = &[
         entry!("wrong-version", Number("N", 0, 18),
             "Wrong bits in each copy of the version information, which versions 7 to 40 have \
             [default: 0]"),
-        entry!("seed", Number("N", 0, u64::MAX), "Which ones are wrong [default: 0]")),
+        entry!("seed", Number("N", 0, u64::MAX), "Which ones are wrong [default: 0]"),
+        MIRROR, TURN),
     task!("exam", Purpose::Exam, "Make pictures of whole and damaged codes, with the right answers",
         entry!("pairs", Text("LIST"),
             "Versions and levels, e.g. 1-L,40-H,M2-L; normal or micro for all of these [default: all]"),
         entry!("seed", Number("N", 0, u64::MAX), "Another exam [default: 0]"),
         entry!("grade", Path,
-            "Compare a file of results with these answers: FILE is answers.jsonl of an exam")),
+            "Compare a file of results with these answers: FILE is answers.jsonl of an exam"),
+        MIRROR, TURN,
+        entry!("mask", Number("0-7", 0, 7),
+            "Mask pattern of all codes; Micro QR has only 0 to 3 [default: chosen by --seed]"),
+        entry!("format", 'f', FORMAT, "Output format [default: png]")),
     task!("wifi", Purpose::Content(Kind::Wifi), "Wi-Fi network"),
     task!("mecard", Purpose::Content(Kind::Mecard), "Contact (MECARD)"),
     task!("vcard", Purpose::Content(Kind::Vcard), "Contact (vCard 3.0)"),

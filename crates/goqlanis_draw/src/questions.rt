@@ -1,11 +1,11 @@
-//! Codes with known data for exams of readers: of each mode, with each header, full and not.
+//! Codes with known data for `goqlanis exam`: of each mode, with each header, full and not.
 
 ghost use Rattle.std.specs.Prelude.{◌≡◌, ◌≤◌, IfOk};
 
-use crate::random::Random;
 use qrcode::QrCode;
 use qrcode::bits::Bits;
 use qrcode::types::{EcLevel, Mode, QrError, QrResult, Version};
+use qrcode_damage::random::Random;
 use std::alloc::{AllocError, Global};
 
 // The header before the segments.
@@ -22,9 +22,9 @@ enum Header {
 
 /// What codes of an exam hold.
 #[derive(Copy, Clone)]
-pub struct Content {
+pub(crate) struct Content {
     /// Its name.
-    pub name: &'static str,
+    pub(crate) name: &'static str,
     header: Header,
     modes: &'static [Mode],
     // The smallest Micro version that has the header and the modes; 5 if none has.
@@ -44,7 +44,7 @@ macro_rules! content {
 
 /// All contents.
 #[rattlefmt::skip]
-pub static CONTENTS: &[Content] = &[
+pub(crate) static CONTENTS: &[Content] = &[
     content!("empty", Header::Nothing, &[], 1),
     content!("numeric", Header::Nothing, &[Mode::Numeric], 1),
     content!("alphanumeric", Header::Nothing, &[Mode::Alphanumeric], 2),
@@ -69,23 +69,23 @@ static KANJI: [(&[u8], &str); 4] = [
 
 /// The data of a code.
 #[derive(Drop)]
-pub struct Data {
+pub(crate) struct Data {
     /// The bytes in the code.
-    pub bytes: Vec<u8>,
+    pub(crate) bytes: Vec<u8>,
     /// The same in UTF-8: other bytes for characters of Kanji mode.
-    pub text: Vec<u8>,
+    pub(crate) text: Vec<u8>,
 }
 
 /// A code of an exam, and its data.
 #[derive(Drop)]
-pub struct Question {
-    pub code: QrCode,
-    pub answer: Data,
+pub(crate) struct Question {
+    pub(crate) code: QrCode,
+    pub(crate) answer: Data,
 }
 
 impl Content {
     /// Returns whether codes of `version` can hold it.
-    pub fn exists_in(&self, version: Version) -> bool {
+    pub(crate) fn exists_in(&self, version: Version) -> bool {
         match version {
             Version::Normal(_) => true,
             Version::Micro(number) => self.least <= number,
@@ -97,7 +97,7 @@ impl Content {
     ///
     /// Errors: `InvalidVersion` if the version lacks the level; `UnsupportedCharacterSet` if it
     /// cannot hold the content; `OutOfMemory` if memory runs out.
-    pub fn question(
+    pub(crate) fn question(
         &self,
         alloc: Global,
         version: Version,
