@@ -98,7 +98,8 @@ const REFUSED = [
     [() => one.pbm({ finderDark: "navy" }), "NotInFormat", "PBM has no finderDark"],
     [() => one.svg({ dataLight: null }), "NotInFormat", "take PNG"],
     [() => one.png({ scale: 283, dataLight: null }), "NoSuchSize", "8,192"],
-    [() => one.svg({ size: "30mm" }), "RangeError", "how many pixels"],
+    [() => one.png({ size: "30mm" }), "RangeError", "how many pixels"],
+    [() => one.svg({ size: "0mm" }), "TypeError", "size in pixels"],
     [() => one.withArea({ left: 0, top: 0, width: 21, height: 21 }), "AreaTooLarge", "smaller"],
     [() => one.withArea({ left: 20, top: 0, width: 2, height: 2 }), "NoSuchArea", "inside"],
     [(it) => it.wifi({ ssid: "a", pasword: "b" }), "TypeError", "it takes ssid, password"],
@@ -120,6 +121,9 @@ for (const [call, name, part] of REFUSED) {
         note(`${call}`, false, said);
 }
 note(`${REFUSED.length} wrong calls say what would help`, counts[1] === 0);
+const long = one.svg({ size: "2.5cm" });
+note("SVG has exactly the length that is asked for",
+    long.includes(' width="2.5cm" height="2.5cm" viewBox="0 0 29 29"'), long.slice(0, 200));
 
 /* With too little memory a call says so, or makes what it always makes. */
 const found = { right: 0, OutOfMemory: 0 };

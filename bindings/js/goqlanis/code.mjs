@@ -2,7 +2,7 @@
 
 import * as checks from "./checks.mjs";
 import * as areas from "./areas.mjs";
-import { drawn, zoneOf } from "./drawing.mjs";
+import { drawn, withLength, zoneOf } from "./drawing.mjs";
 import { QrError, refuse } from "./errors.mjs";
 import { answer, number, within } from "./memory.mjs";
 import { FORMATS } from "./numbers.mjs";
@@ -52,8 +52,11 @@ export class QrCode {
         if (!FORMATS[format]?.isText && format !== "light")
             return bytes;
         const text = checks.textOf(bytes);
-        return this.logo === null || format !== "svg" ? text
-            : areas.withPicture(text, this.logo, zoneOf(this, options));
+        if (format !== "svg")
+            return text;
+        const svg = withLength(text, options);
+        return this.logo === null ? svg
+            : areas.withPicture(svg, this.logo, zoneOf(this, options));
     }
 
     /** Returns SVG without the XML declaration, for an HTML page. */

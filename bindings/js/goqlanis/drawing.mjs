@@ -18,6 +18,8 @@ const PARTS = new Map(STRUCTS.goq_drawing.split(" ").slice(7)
 /* The smallest difference of brightness, out of 255: two fifths, below which ISO/IEC 15415 grades
    the contrast of a symbol D or F. */
 const CONTRAST = 102;
+/* Each unit in inches, as a fraction. */
+const INCHES = { mm: [10n, 254n], cm: [100n, 254n], in: [1n, 1n], pt: [1n, 72n] };
 const NAMES = new Map(COLOURS.split(" ").map((it) => it.split("=")));
 const USUAL = { scale: null, size: null, quietZone: null, dark: "black", light: "white",
     dpi: null, ...Object.fromEntries([...PARTS.keys()].map((it) => [it, false])) };
@@ -64,6 +66,25 @@ export function zoneOf(code, { quietZone = null }) {
         : checks.whole("quietZone", quietZone, 0, 32000, "NoSuchSize");
 }
 
+/** Returns SVG with its sides as a length, if the size is one. */
+export function withLength(svg, { size = null }) {
+    return lengthOf(size) === null ? svg
+        : svg.replace(/width="[0-9]+" height="[0-9]+"/, `width="${size}" height="${size}"`);
+}
+
+/** Returns the parts of a length: all of it, digits, decimals and unit; null if it is none. */
+function lengthOf(size) {
+    const found = /^([0-9]{1,9})(?:[.]([0-9]{1,9}))?(mm|cm|in|pt)$/.exec(size);
+    return found !== null && parseFloat(size) > 0 ? found : null;
+}
+
+/** Returns the whole pixels of a length, with `dots` per inch. */
+function pixelsOf([, digits, decimals = "", unit], dots) {
+    const [inches, units] = INCHES[unit];
+    return Number(BigInt(digits + decimals) * BigInt(dots) * inches
+        / (units * 10n ** BigInt(decimals.length)));
+}
+
 /** Returns the pixels per module. */
 function scaleOf({ scale, size, dpi }, format, across) {
     if (size === null)
@@ -71,14 +92,15 @@ function scaleOf({ scale, size, dpi }, format, across) {
             : checks.whole("scale", scale, 1, MOST_SIDE, "NoSuchSize");
     if (scale !== null)
         throw new RangeError("scale and size: give one of them");
+    const length = lengthOf(size);
+    if (format === "svg" && length !== null)
+        return 1;
     const dots = format === "eps" || format === "pdf" ? 72 : dpi;
-    const millimetres = /^([0-9]{1,9}([.][0-9]{1,9})?)mm$/.exec(size);
-    if (millimetres !== null && dots === null)
-        throw new RangeError(`size: '${size}': how many pixels are these? Take PNG and dpi: 300, `
-            + "or EPS or PDF, in points");
-    const pixels = checks.whole("size in pixels, or as '30mm',", millimetres === null ? size
-        : Math.floor(Number(millimetres[1]) * checks.whole("dpi", dots, 1, MOST_SIDE) * 10 / 254),
-        1, MOST_SIDE, "NoSuchSize");
+    if (length !== null && dots === null)
+        throw new RangeError(`size: '${size}': how many pixels are these? Take SVG, EPS or PDF, or `
+            + "PNG with dpi: 300");
+    const pixels = checks.whole("size in pixels, or as '30mm',", length === null ? size
+        : pixelsOf(length, checks.whole("dpi", dots, 1, MOST_SIDE)), 1, MOST_SIDE, "NoSuchSize");
     if (pixels < across)
         throw new QrError("NoSuchSize", `a side of ${pixels} pixels: the code and its quiet zone `
             + `have ${across} modules a side: take a larger size, or a smaller quietZone`);

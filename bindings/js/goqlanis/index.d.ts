@@ -70,8 +70,8 @@ export type Colour = string | number[] | null;
 export interface DrawOptions {
     /** Pixels per module; the default is 8, for text and PIC 1. */
     scale?: number | null;
-    /** In place of `scale`: the most pixels of a side, or millimetres, as "30mm", for EPS, PDF and,
-        with `dpi`, PNG. */
+    /** In place of `scale`: the most pixels of a side, or a length, as "30mm" (cm, in, pt): SVG has
+        it exactly, EPS, PDF and, with `dpi`, PNG at most. */
     size?: number | string | null;
     /** Light modules on each side; the default is 4, for Micro QR 2. */
     quietZone?: number | null;

@@ -46,7 +46,7 @@ pub(crate) fn draw_damaged(
     }
     let damage = damage_in(code, wanted);
     if !damage.is_promised(code.version(), code.error_correction_level()) {
-        doubted!(rt, asked.is_strict;
+        doubted!(rt, asked.doubts;
             "beyond what can be corrected: readers read nothing or, in small codes, perhaps other \
             data"
         )?;

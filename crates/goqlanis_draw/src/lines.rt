@@ -5,7 +5,7 @@ use crate::making::{draw_elements, draw_payload};
 use crate::names::{check_made, check_names, has_text, name_of, take_name};
 use crate::rows::{Columns, Line, Row, fields_of};
 use goqlanis_core::Grouped;
-use goqlanis_files::failure::Failure;
+use goqlanis_files::failure::{Doubts, Failure, Place};
 use goqlanis_files::progress::Progress;
 use goqlanis_files::streams::{ask, shown, unread};
 use goqlanis_files::{doubted, refused, usage};
@@ -39,12 +39,23 @@ struct Taking<'a> {
     lines: Lines<'a>,
     // The name of the input in messages.
     name: &'a str,
+    file: Option<&'a str>,
     progress: Progress,
 }
 
+impl<'a> Taking<'a> {
+    // Returns the place of a line.
+    fn place(self, line: usize) -> Place<'a> {
+        Place {
+            file: self.file,
+            line,
+        }
+    }
+}
+
 /// Draws a code of each line as it arrives, without its LF or CR LF. A line that is refused is
-/// reported by number and skipped; if a drawing cannot be written, the remaining lines are not
-/// drawn.
+/// reported, by file and number, and skipped; if a drawing cannot be written, the remaining lines
+/// are not drawn.
 pub(crate) fn draw_lines(
     rt: &HostRuntime,
     asked: &Asked<'_, '_>,
@@ -56,6 +67,10 @@ pub(crate) fn draw_lines(
         what,
         lines,
         name: name_of_source(asked.input.source),
+        file: match asked.input.source {
+            Source::File(path) => Some(path),
+            _ => None,
+        },
         progress: Progress::new(rt, !goes_to_file && rt.stdout().is_terminal()),
     };
     match asked.input.source {
@@ -111,7 +126,13 @@ fn columns_of<R: BufRead>(
         return Ok(Columns::none(alloc));
     }
     let text = String::from_utf8_lossy(alloc, text_of(line, 1))?;
-    Columns::read(alloc, text.as_str(), taking.lines.delimiter)
+    match Columns::read(alloc, text.as_str(), taking.lines.delimiter) {
+        Err(Failure::Refused(why)) => {
+            let place = taking.place(1);
+            refused!(alloc; "{place}{why}")
+        }
+        read => read,
+    }
 }
 
 // Warns of columns that are neither encoded nor part of a file name, and refuses payloads without
@@ -135,7 +156,7 @@ fn check_columns(
         let name = name.as_str();
         if !is_field(kind, name) && !is_in_path(rt.alloc(), asked.target, name)? {
             let name = shown(name);
-            doubted!(rt, asked.is_strict;
+            doubted!(rt, asked.doubts;
                 "column {name} is no option of this command, so it is not encoded"
             )?;
         }
@@ -172,12 +193,18 @@ fn draw_each<R: BufRead>(
             return Ok(code);
         }
         let text = text_of(line, place);
-        match draw_line(rt, asked, taking, columns, &mut taken, (text, number)) {
+        let place = taking.place(place);
+        let doubts = Doubts {
+            place: Some(place),
+            ..asked.doubts
+        };
+        let asked = Asked { doubts, ..*asked };
+        match draw_line(rt, &asked, taking, columns, &mut taken, (text, number)) {
             Ok(_) => taking.progress.show(rt, number),
             Err(Failure::Refused(why)) => {
                 taking.progress.clear(rt);
                 let why = shown(why.as_str());
-                let _ = eprintln!(rt; "goqlanis: line {place}: {why}");
+                let _ = eprintln!(rt; "goqlanis: {place}{why}");
                 code = ExitCode::FAILURE;
             }
             Err(failure) => return Err(failure),

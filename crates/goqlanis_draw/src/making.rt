@@ -81,10 +81,10 @@ pub(crate) fn draw_payload<G: Given>(
         return draw_bill(rt, asked, text.as_str());
     }
     if matches!(kind, Kind::Wifi) {
-        warn_of_password(rt, asked.is_strict, given)?;
+        warn_of_password(rt, asked.doubts, given)?;
     }
     if matches!(kind, Kind::Payment) && !text.as_str().is_ascii() {
-        doubted!(rt, asked.is_strict;
+        doubted!(rt, asked.doubts;
             "some readers show letters outside ASCII wrong in a credit transfer, and the format \
             allows no hint; write e.g. Maerz for März to be safe"
         )?;
@@ -100,12 +100,12 @@ fn draw_bill(rt: &HostRuntime, asked: &Asked<'_, '_>, text: &str) -> Result<Exit
     }
     let logo = has_cross(asked.request.format).then_some(SWISS_CROSS);
     if logo.is_none() {
-        doubted!(rt, asked.is_strict;
+        doubted!(rt, asked.doubts;
             "this format lacks the Swiss cross of a bill; png, svg, eps and pdf have it"
         )?;
     }
     if asked.request.is_inverted {
-        doubted!(rt, asked.is_strict; "a bill is dark on light: leave out --invert")?;
+        doubted!(rt, asked.doubts; "a bill is dark on light: leave out --invert")?;
     }
     draw_one(rt, &Asked { logo, ..*asked }, text.as_bytes())
 }

@@ -47,9 +47,9 @@ pub(crate) fn read_logo(rt: &HostRuntime, asked: &Asked<'_, '_>) -> Result<Optio
     };
     let file = read_file(rt, path, MOST_LOGO)?;
     Ok(Some(if asked.request.format.row().middle == Drawn::Pixels {
-        pixels_of(rt, asked.is_strict, path, &file)?
+        pixels_of(rt, asked.doubts.is_error, path, &file)?
     } else {
-        element_of(rt, asked.is_strict, path, &file)?
+        element_of(rt, asked.doubts.is_error, path, &file)?
     }))
 }
 
@@ -125,7 +125,7 @@ pub(crate) fn warn_of_logo(
     if width.min(height).saturating_mul(10) >= code.width() {
         return Ok(());
     }
-    doubted!(rt, asked.is_strict;
+    doubted!(rt, asked.doubts;
         "the logo gets only {width} by {height} modules; for more, use --logo-size 40% or a \
         larger version with -v"
     )

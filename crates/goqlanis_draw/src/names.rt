@@ -13,10 +13,11 @@ use std::fs;
 // The maximum length of a file name on Linux, in bytes.
 const MOST_IN_NAME: usize = 255;
 
-// A placeholder in a path: `{}`, `{text}` or `{1}`.
+// A placeholder in a path: `{}`, `{:04}`, `{text}` or `{1}`.
 #[derive(Clone, Copy)]
 enum Place {
-    Number,
+    /// The number of the line, with zeros before it up to this width.
+    Number(usize),
     Text,
     /// A field of the line, counted from 1.
     Field(usize),
@@ -37,7 +38,7 @@ pub(crate) fn check_names(
             "--output {path}: each code gets its own file; name one, e.g. a.png, or leave out \
             --output for text"
         )
-    } else if folder.contains("{}") || has_text(folder, columns) {
+    } else if has_place(folder, columns) {
         usage!(rt.alloc();
             "--output: {{}}, {{text}} and {{1}} are for the file name, not for its folder"
         )
@@ -45,8 +46,8 @@ pub(crate) fn check_names(
         usage!(rt.alloc(); "--output: {{text}} and {{1}} are for --lines; {{}} is the number")
     } else if let Some(word) = unknown_word(path, columns) {
         usage!(rt.alloc();
-            "--output: {{{word}}} is unknown; {{}} is the number, {{text}} the line, {{1}} its \
-            first field; --header or --columns name others"
+            "--output: {{{word}}} is unknown; {{}} is the number, {{:04}} the same with zeros, \
+            {{text}} the line, {{1}} its first field; --header or --columns name others"
         )
     } else {
         Ok(())
@@ -105,7 +106,7 @@ pub(crate) fn name_of(
     columns: &Columns,
     line: &Line,
 ) -> Result<String, Failure> {
-    if !path.contains("{}") && !has_text(path, columns) {
+    if !has_place(path, columns) {
         return Ok(numbered(alloc, path, line.number)?);
     }
     let mut name = String::from_str(alloc, path.split('{').next().unwrap_or(""))?;
@@ -117,10 +118,12 @@ pub(crate) fn name_of(
 }
 
 // Checks the file name of a generated path: not too long, not empty, not `.` or `..`, none that
-// Windows changes or reserves, and not hidden unless the pattern says so, since a field was empty.
+// Windows changes or reserves, and unless the pattern says so, since a field was empty, neither
+// hidden nor like an option.
 fn check_name(alloc: Global, pattern: &str, path: &str) -> Result<(), Failure> {
-    let name = file_name(path);
-    let is_hidden = name.starts_with('.') && !file_name(pattern).starts_with('.');
+    let (name, pattern) = (file_name(path), file_name(pattern));
+    let odd = ['.', '-'].iter().find(|sign| name.starts_with(**sign)
+        && !pattern.starts_with(**sign));
     if name.len() > MOST_IN_NAME {
         refused!(alloc; "its file name would have more than 255 bytes")
     } else if matches!(name, "" | "." | "..") {
@@ -129,8 +132,11 @@ fn check_name(alloc: Global, pattern: &str, path: &str) -> Result<(), Failure> {
         refused!(alloc; "its file would be {name}, a name that Windows reserves")
     } else if name.ends_with('.') || name.ends_with(' ') {
         refused!(alloc; "its file name would end with a dot or a space, which Windows drops")
-    } else if is_hidden {
-        refused!(alloc; "its file name would begin with a dot, since the field is empty")
+    } else if let Some(sign) = odd {
+        refused!(alloc;
+            "its file name would begin with \"{sign}\", since a field is empty; {{}} in --output is \
+            the number of the line"
+        )
     } else {
         Ok(())
     }
@@ -166,6 +172,13 @@ pub(crate) fn numbered(alloc: Global, path: &str, number: usize) -> Result<Strin
     }
 }
 
+// Whether a path has a placeholder.
+fn has_place(path: &str, columns: &Columns) -> bool {
+    path.split('{')
+        .skip(1)
+        .any(|piece| place_of(piece, columns).is_some())
+}
+
 /// Whether a path has a placeholder for text of the line.
 pub(crate) fn has_text(path: &str, columns: &Columns) -> bool {
     path.split('{').skip(1).any(|piece| matches!(
@@ -178,11 +191,11 @@ pub(crate) fn has_text(path: &str, columns: &Columns) -> bool {
 fn place_of<'a>(piece: &'a str, columns: &Columns) -> Option<(Place, &'a str)> {
     let (word, rest) = piece.split_once('}')?;
     let place = match (word, word.parse::<usize>(), columns.number_of(word)) {
-        ("", _, _) => Place::Number,
+        ("", _, _) => Place::Number(0),
         (_, _, Some(number)) => Place::Field(number),
         ("text", _, _) => Place::Text,
         (_, Ok(number), _) if number > 0 && !word.starts_with('+') => Place::Field(number),
-        _ => return None,
+        _ => Place::Number(word.strip_prefix(":0")?.parse::<u8>().ok()? as usize),
     };
     Some((place, rest))
 }
@@ -200,7 +213,7 @@ fn push_piece(
     };
     let number = line.number;
     match place {
-        Place::Number => write!(name, "{number}")?,
+        Place::Number(width) => write!(name, "{number:0width$}")?,
         Place::Text => push_clean(name, line.text.as_str())?,
         Place::Field(number) => push_clean(name, line.field(*name.allocator(), number)?)?,
     }

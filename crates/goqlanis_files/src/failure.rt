@@ -4,7 +4,7 @@ ghost use Rattle.std.specs.Prelude.{IsErr};
 
 use crate::streams::shown;
 use std::alloc::{AllocError, AllocFailed, Global};
-use std::fmt::Display;
+use std::fmt::{self, Display};
 use std::process::ExitCode;
 
 /// Why the program fails.
@@ -34,6 +34,33 @@ impl<T: Drop> From<AllocFailed<T>> for Failure {
     }
 }
 
+/// A line of an input, which messages name.
+#[derive(Clone, Copy)]
+pub struct Place<'a> {
+    /// The file, unless the lines are an argument or standard input.
+    pub file: Option<&'a str>,
+    /// The number of the line in its input, from 1.
+    pub line: usize,
+}
+
+impl fmt::Display for Place<'_> {
+    fn fmt<W: fmt::Write>(&self, f: &mut fmt::Formatter<W>) -> fmt::Result {
+        if let Some(file) = self.file {
+            write!(f, "{}: ", shown(file))?;
+        }
+        write!(f, "line {}: ", self.line)
+    }
+}
+
+/// What becomes of warnings.
+#[derive(Clone, Copy)]
+pub struct Doubts<'a> {
+    /// Whether they are errors.
+    pub is_error: bool,
+    /// The line that they are about, if there are several.
+    pub place: Option<Place<'a>>,
+}
+
 /// Returns the exit status of a run, and reports a failure in one line on standard error, except
 /// `Unheard`.
 pub fn status(rt: &HostRuntime, run: Result<ExitCode, Failure>) -> ExitCode {
@@ -51,24 +78,31 @@ pub fn status(rt: &HostRuntime, run: Result<ExitCode, Failure>) -> ExitCode {
 
 /// Warns, or fails like `doubted`, since the file `name` has more than its picture.
 pub fn warn_of_more(rt: &HostRuntime, is_error: bool, name: &str) -> Result<(), Failure> {
+    let doubts = Doubts {
+        is_error,
+        place: None,
+    };
     doubted(
         rt,
-        is_error,
+        doubts,
         format_args!("{name} has data after its picture, which is ignored"),
     )
 }
 
-/// Prints a warning on standard error; if warnings are errors, fails with `Refused` instead. If
-/// memory runs out then, fails with `OutOfMemory`.
+/// Prints a warning on standard error, with the line that it is about; if warnings are errors,
+/// fails with `Refused` instead. If memory runs out then, fails with `OutOfMemory`.
 pub fn doubted<D: Display + Drop>(
     rt: &HostRuntime,
-    is_error: bool,
+    doubts: Doubts<'_>,
     what: D,
 ) -> Result<(), Failure> {
-    if is_error {
+    if doubts.is_error {
         return refused(rt.alloc(), what);
     }
-    let _ = eprintln!(rt; "goqlanis: warning: {what}");
+    let _ = match doubts.place {
+        Some(place) => eprintln!(rt; "goqlanis: warning: {place}{what}"),
+        None => eprintln!(rt; "goqlanis: warning: {what}"),
+    };
     Ok(())
 }
 
@@ -106,8 +140,8 @@ macro_rules! refused {
 /// Warns or fails like the function `doubted`, with a message as for `format!`.
 #[macro_export]
 macro_rules! doubted {
-    ($rt:expr, $is_error:expr; $($what:tt)+) => {
-        $crate::failure::doubted($rt, $is_error, format_args!($($what)+))
+    ($rt:expr, $doubts:expr; $($what:tt)+) => {
+        $crate::failure::doubted($rt, $doubts, format_args!($($what)+))
     };
 }
 

@@ -1,7 +1,7 @@
 //! Advice on command lines that `clap` rejects, and help wrapped at 80 columns.
 
 use crate::nearest::nearest;
-use crate::options::{ADVICE, OTHER_NAMES, Takes, Task, task_named, task_words};
+use crate::options::{ADVICE, Entry, OTHER_NAMES, Purpose, Takes, Task, task_named, task_words};
 use clap::error::Error;
 use goqlanis_core::Grouped;
 use std::alloc::{AllocError, Global};
@@ -19,6 +19,9 @@ pub fn advice(
     let text = format!(in alloc; "{error}")?;
     let text = text.as_str();
     if let Some(help) = twice_help(alloc, task, text)? {
+        return Ok(Some(help));
+    }
+    if let Some(help) = letter_help(alloc, task, words, text)? {
         return Ok(Some(help));
     }
     if let Some(value) = between(text, "invalid value '", "' for") {
@@ -51,6 +54,57 @@ fn twice_help(alloc: Global, task: &Task, text: &str) -> Result<Option<String>, 
     Ok(Some(String::from_str(alloc, help)?))
 }
 
+// Advice on a short option where a field was meant, e.g. -p for --password.
+fn letter_help(
+    alloc: Global,
+    task: &Task,
+    words: &[String],
+    text: &str,
+) -> Result<Option<String>, AllocError> {
+    if !matches!(task.purpose, Purpose::Content(_)) {
+        return Ok(None);
+    }
+    let fields = task.own_options(alloc)?;
+    for (word, value) in words.iter().zip(words.iter().skip(1)) {
+        let mut absent = fields.iter().filter(|field| !has_option(words, field.long));
+        let pair = (word.as_str(), value.as_str());
+        if let Some(field) = absent.find(|field| is_meant(field, pair, text)) {
+            let name = field.long;
+            return Ok(Some(format!(in alloc;
+                "{word}: fields have no short options; write --{name}"
+            )?));
+        }
+    }
+    Ok(None)
+}
+
+// Whether a command line has the option `name`.
+fn has_option(words: &[String], name: &str) -> bool {
+    words.iter().any(|word| {
+        let given = word.as_str().strip_prefix("--").unwrap_or("");
+        given.split('=').next() == Some(name)
+    })
+}
+
+// Whether a short option, for which `clap`'s error is `text`, was meant for a field: it does not
+// exist, or does not take such a value, or takes any text and the field is required and absent.
+fn is_meant(field: &Entry, pair: (&str, &str), text: &str) -> bool {
+    let (word, value) = pair;
+    let is_initial = word.strip_prefix('-').is_some_and(|letter| letter.len() == 1
+        && field.long.starts_with(letter));
+    let is_wanted = matches!(field.takes, Takes::Wanted(_));
+    let is_number = value.starts_with(|first: char| first.is_ascii_digit());
+    is_initial
+        && if between(text, "unexpected argument '", "' found") == Some(word) {
+            true
+        } else if between(text, "invalid value '", "' for") == Some(value) {
+            is_wanted || text.contains("invalid digit")
+        } else {
+            let is_absent = text.contains("required arguments were not provided");
+            is_wanted && is_absent && !is_number && matches!(word, "-s" | "-i")
+        }
+}
+
 // Advice on an invalid value of an option, found in the text of `clap`'s error.
 fn value_help(
     alloc: Global,
@@ -64,10 +118,16 @@ fn value_help(
     let name = between(text, "for '--", " <").filter(|_| text.contains("invalid digit"));
     for (_, entry) in &task.all_options(alloc)? {
         if let (true, Takes::Number(_, least, most)) = (Some(entry.long) == name, entry.takes) {
-            let (long, most) = (entry.long, Grouped(most as usize));
-            return Ok(Some(format!(in alloc;
-                "--{long} {value}: use a whole number, {least} to {most}"
-            )?));
+            let long = entry.long;
+            return Ok(Some(match u16::try_from(most).map(usize::from) {
+                Ok(most) => {
+                    let most = Grouped(most);
+                    format!(in alloc; "--{long} {value}: use a whole number, {least} to {most}")?
+                }
+                Err(_) => {
+                    format!(in alloc; "--{long} {value}: use a whole number, {least} to {most}")?
+                }
+            }));
         }
     }
     Ok(None)

@@ -12,7 +12,7 @@ use crate::warnings::warn;
 use clap::ArgMatches;
 use clap::parser::ValueSource;
 use goqlanis_core::{Choice, Request};
-use goqlanis_files::failure::Failure;
+use goqlanis_files::failure::{Doubts, Failure};
 use goqlanis_files::streams::has_colours;
 use goqlanis_files::usage;
 use qrcode::bits::Manner;
@@ -122,8 +122,7 @@ pub struct Asked<'a, 'w> {
     pub report: Report,
     /// Whether the code is only reported, and not drawn.
     pub is_dry: bool,
-    /// Whether warnings are errors.
-    pub is_strict: bool,
+    pub doubts: Doubts<'a>,
 }
 
 /// Turns the options in `given` into a request, and warns on standard error of doubtful ones.
@@ -138,7 +137,9 @@ pub fn asked_for<'a, 'w>(
     let alloc = rt.alloc();
     check_conflicts(alloc, given)?;
     let target = target_of(alloc, given)?;
-    let format = format(rt, given.get_str("format").or(task.own_format()), target)?;
+    let is_dry = given.get_flag("dry-run");
+    let name = given.get_str("format").or(task.own_format());
+    let format = format(rt, name, target, is_dry)?;
     check_format(alloc, given, format)?;
     let sizes = sizes_of(alloc, task, given, format)?;
     let asked = Asked {
@@ -162,8 +163,11 @@ pub fn asked_for<'a, 'w>(
         logo: logo_of(alloc, given)?,
         logo_file: given.get_str("logo"),
         report: report_of(given),
-        is_dry: given.get_flag("dry-run"),
-        is_strict: given.get_flag("werror"),
+        is_dry,
+        doubts: Doubts {
+            is_error: given.get_flag("werror"),
+            place: None,
+        },
     };
     if asked.input.lines.is_some() {
         check_one_behind_another(alloc, &asked)?;
@@ -442,12 +446,21 @@ fn version(name: &str) -> Option<Version> {
     version.ok().filter(|version| version.is_valid())
 }
 
-// Returns the format: the given one, or that of the file extension, or the one for terminals.
-fn format(rt: &HostRuntime, name: Option<&str>, target: Target<'_>) -> Result<Format, Failure> {
+// Returns the format: the given one, or that of the file extension, or the one for terminals; PNG
+// if nothing is drawn.
+fn format(
+    rt: &HostRuntime,
+    name: Option<&str>,
+    target: Target<'_>,
+    is_dry: bool,
+) -> Result<Format, Failure> {
     if let Some(format) = name.and_then(format_named) {
         return Ok(format);
     }
     let Target::File(path) = target else {
+        if is_dry {
+            return Ok(Format::Png);
+        }
         let is_coloured = matches!(target, Target::Terminal) && has_colours(rt);
         return Ok(if is_coloured {
             Format::Terminal

@@ -3,7 +3,7 @@
 use crate::asked::{Asked, Target, ending_format};
 use goqlanis_core::{Grouped, Ink, Request};
 use goqlanis_files::doubted;
-use goqlanis_files::failure::Failure;
+use goqlanis_files::failure::{Doubts, Failure};
 use goqlanis_files::streams::shown;
 use qrcode::types::Color;
 use qrcode_contents::fields::errors::Field;
@@ -16,15 +16,15 @@ use std::fmt;
 ///
 /// Errors: `Refused` with the first warning if warnings are errors; `OutOfMemory`.
 pub fn warn(rt: &HostRuntime, asked: &Asked<'_, '_>) -> Result<(), Failure> {
-    let is_error = asked.is_strict;
-    warn_of_colours(rt, is_error, &asked.request)?;
+    let doubts = asked.doubts;
+    warn_of_colours(rt, doubts, &asked.request)?;
     if let Some(words) = asked.input.segments {
-        warn_of_character_set(rt, is_error, words)?;
+        warn_of_character_set(rt, doubts, words)?;
     }
     if let Target::File(path) = asked.target {
         if is_named_otherwise(path, asked.request.format) {
             let path = shown(path);
-            return doubted!(rt, is_error;
+            return doubted!(rt, doubts;
                 "{path} has the file extension of another format than --format"
             );
         }
@@ -34,7 +34,11 @@ pub fn warn(rt: &HostRuntime, asked: &Asked<'_, '_>) -> Result<(), Failure> {
 
 // Warns of a dark and a light colour that are too close, or else of a colour on the wrong side of
 // the threshold that readers use.
-fn warn_of_colours(rt: &HostRuntime, is_error: bool, request: &Request<'_>) -> Result<(), Failure> {
+fn warn_of_colours(
+    rt: &HostRuntime,
+    doubts: Doubts<'_>,
+    request: &Request<'_>,
+) -> Result<(), Failure> {
     let dark = extremes(request, Color::Dark);
     let light = extremes(request, Color::Light);
     if let Some((dark, light)) = close_colours(dark, light, request.is_inverted) {
@@ -44,10 +48,10 @@ fn warn_of_colours(rt: &HostRuntime, is_error: bool, request: &Request<'_>) -> R
             "have less than 40 % contrast, which many readers need"
         };
         let (dark, light) = (name_of(dark), name_of(light));
-        doubted!(rt, is_error; "dark modules {dark} on light modules {light} {why}")
+        doubted!(rt, doubts; "dark modules {dark} on light modules {light} {why}")
     } else if let Some((ink, better)) = stray_colour(dark, light) {
         let name = name_of(ink);
-        doubted!(rt, is_error;
+        doubted!(rt, doubts;
             "readers may take {name} for the other kind of module; use a {better} colour"
         )
     } else {
@@ -57,7 +61,11 @@ fn warn_of_colours(rt: &HostRuntime, is_error: bool, request: &Request<'_>) -> R
 
 // Warns of the first `--segment byte:` with more than ASCII after an ECI that is not UTF-8, since
 // arguments are UTF-8. ECI numbers from 899 on name no character set.
-fn warn_of_character_set(rt: &HostRuntime, is_error: bool, words: &[&str]) -> Result<(), Failure> {
+fn warn_of_character_set(
+    rt: &HostRuntime,
+    doubts: Doubts<'_>,
+    words: &[&str],
+) -> Result<(), Failure> {
     let mut set = 26;
     for word in words {
         let (name, text) = word.split_once(':').unwrap_or(("", ""));
@@ -65,7 +73,7 @@ fn warn_of_character_set(rt: &HostRuntime, is_error: bool, words: &[&str]) -> Re
             set = text.parse::<u32>().unwrap_or(26);
         } else if set != 26 && set < 899 && name.eq_ignore_ascii_case("byte") && !text.is_ascii() {
             let word = shown(word);
-            return doubted!(rt, is_error;
+            return doubted!(rt, doubts;
                 "--segment {word}: this text is UTF-8, but eci:{set} names another character set, \
                 so readers show it wrongly; use eci:26"
             );
@@ -80,7 +88,7 @@ fn warn_of_character_set(rt: &HostRuntime, is_error: bool, words: &[&str]) -> Re
 /// Errors: `Refused` if warnings are errors; `OutOfMemory`.
 pub fn warn_of_password<G: Given>(
     rt: &HostRuntime,
-    is_error: bool,
+    doubts: Doubts<'_>,
     given: &G,
 ) -> Result<(), Failure> {
     let (password, security) = (given.text(Field::Password), given.text(Field::Security));
@@ -93,9 +101,9 @@ pub fn warn_of_password<G: Given>(
     let length = password.chars().count();
     let is_key = length == 64 && password.bytes().all(|byte| byte.is_ascii_hexdigit());
     if length < 8 {
-        doubted!(rt, is_error; "--password has fewer than 8 characters, which WPA and WPA2 need")
+        doubted!(rt, doubts; "--password has fewer than 8 characters, which WPA and WPA2 need")
     } else if length > 63 && !is_key {
-        doubted!(rt, is_error;
+        doubted!(rt, doubts;
             "--password has more than 63 characters, which WPA and WPA2 do not allow"
         )
     } else {
@@ -120,13 +128,13 @@ pub fn warn_of_sizes(
     scale: u32,
     dots: Option<u32>,
 ) -> Result<(), Failure> {
-    let is_error = asked.is_strict;
+    let doubts = asked.doubts;
     let side = modules.saturating_mul(scale);
     if let Some(dots) = dots.filter(|_| asked.input.lines.is_none()) {
         let (wanted, made) = (asked.hundredths.unwrap_or(0), hundredths_of(side, dots));
         if made.saturating_add(10) <= wanted {
             let (wanted, made) = (Decimal(wanted), Decimal(made));
-            doubted!(rt, is_error;
+            doubted!(rt, doubts;
                 "--size {wanted}mm comes out at {made} mm: {modules} modules of {scale} whole \
                 pixels"
             )?;
@@ -134,7 +142,7 @@ pub fn warn_of_sizes(
         let module = hundredths_of(scale, dots);
         if module < 25 {
             let module = Decimal(module);
-            doubted!(rt, is_error;
+            doubted!(rt, doubts;
                 "modules of {module} mm are under the 0.25 mm that many readers need"
             )?;
         }
@@ -142,7 +150,7 @@ pub fn warn_of_sizes(
     let bytes = side.div_ceil(8).saturating_mul(side);
     if asked.request.format == Format::Zpl && bytes > MOST_FIELD {
         let most = Grouped(MOST_FIELD as usize);
-        return doubted!(rt, is_error;
+        return doubted!(rt, doubts;
             "ZPL takes at most {most} bytes of a picture, and this one has more; use a smaller \
             --scale, --size, --module or --dpi"
         );

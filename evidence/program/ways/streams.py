@@ -72,8 +72,9 @@ def a_line_says_how_many_lines_are_done(program):
     sequences; the message of a line that fails replaces it."""
     with room() as folder:
         words = ["--lines", "-i", f"{folder}/lines", "-o", f"{folder}/a.svg"]
-        refusal = (b"goqlanis: line 2: 3,000 bytes at level M: at most 2,331 fit, more of digits "
-                   b"or capitals; goqlanis split splits them over several codes\n")
+        refusal = (b"goqlanis: %s/lines: line 2: 3,000 bytes at level M: at most 2,331 fit, more of "
+                   b"digits or capitals; goqlanis split splits them over several codes\n"
+                   % folder.encode())
         shown, status = in_terminal(program, words)
         dumb = in_terminal(program, words, TERM="dumb")
         drawn = in_terminal(program, ["--lines", "-i", f"{folder}/kept"])[0]

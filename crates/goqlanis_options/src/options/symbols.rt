@@ -39,8 +39,8 @@ pub static SEGMENTS: &[Entry] = &[
 #[rattlefmt::skip]
 pub static LINES: &[Entry] = &[
     entry!("lines", Nothing,
-        "Make one code per input line. In --output, {} stands for the line number, {text} for the \
-        line, {1} for its first field; without them a number is added"),
+        "Make one code per input line. In --output, {} stands for the line number, {:04} for it in \
+        four digits, {text} for the line, {1} for its first field; without them a number is added"),
     entry!("header", Nothing,
         "With --lines: the first line names the columns, e.g. ssid,password for wifi or 01,10 for \
         gs1; {ssid} in --output is that field"),
@@ -153,7 +153,8 @@ pub static LOOKS: &[Entry] = &[
         on standard error"),
     entry!("werror", Nothing, "Treat warnings as errors"),
     entry!("dry-run", Nothing,
-        "Print the report only, with the smallest size that readers need at --dpi; write no code"),
+        "Print the report only, with the smallest size that readers need at --dpi; write no code \
+        [default format: png]"),
 ];
 
 /// Options that print something about the program.
