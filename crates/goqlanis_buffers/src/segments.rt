@@ -2,7 +2,6 @@
 
 ghost use Rattle.std.specs.Prelude.{◌≡◌, ◌⊎◌, ◌++◌, ◌≤◌, ℕ, [], length, Some, None, IfOk, IfErr, OnOk, IsTrue};
 ghost use Rattle.qrcode_types.specs.Versions.{is_valid, has_level, capacity};
-ghost use Rattle.qrcode_bits.specs.Pushes.{PushesPiece};
 ghost use Rattle.goqlanis_buffers.specs.Answers.{IsSegmentsCause};
 ghost use Rattle.goqlanis_buffers.specs.Calls.{TellsLeastOfSegments, WritesSegments};
 ghost use Rattle.goqlanis_buffers.specs.Names.{level_named, version_named};
@@ -12,6 +11,7 @@ ghost use Rattle.goqlanis_buffers.specs.declared.answers.Refusal.TheVariants.{Ou
 use crate::answers::Refusal;
 use crate::names::{level_named, version_named};
 use crate::symbols::{Symbol, write_symbol};
+use goqlanis_core::push_data;
 use qrcode::QrCode;
 use qrcode::bits::Bits;
 use qrcode::types::{EcLevel, Mode, QrResult, Version};
@@ -198,16 +198,4 @@ fn push(bits: &mut Bits, segment: &Segment<'_>) -> Result<(), Refusal>
         }
     }
     Ok(())
-}
-
-// Appends a segment of bytes in a mode.
-fn push_data(bits: &mut Bits, mode: Mode, bytes: &[u8]) -> QrResult<()>
-    ensures { PushesPiece mode bytes.now bits.old bits.new result }
-{
-    match mode {
-        Mode::Numeric => bits.push_numeric_data(bytes),
-        Mode::Alphanumeric => bits.push_alphanumeric_data(bytes),
-        Mode::Byte => bits.push_byte_data(bytes),
-        Mode::Kanji => bits.push_kanji_data(bytes),
-    }
 }

@@ -1,6 +1,6 @@
 //! Makes symbols, and draws them as requested.
 
-ghost use Rattle.std.specs.Prelude.{◌≡◌, ◌≤◌, ◌⊎◌, [], None, length, unwrap_or, IfOk, IfErr, IsOkUnless};
+ghost use Rattle.std.specs.Prelude.{◌≡◌, ◌≤◌, ◌⊎◌, length, unwrap_or, IfOk, IfErr, IsOkUnless};
 ghost use Rattle.qrcode_types.specs.declared.types.QrError.TheVariants.{InvalidVersion, OutOfMemory};
 ghost use Rattle.qrcode.specs.Pictures.{quiet_zone};
 ghost use Rattle.goqlanis_core.specs.Formats.{IsDrawn};
@@ -63,11 +63,11 @@ pub fn drawing_of(alloc: Global, request: &Request<'_>, code: QrCode) -> QrResul
         ⊎ ((e ≡ InvalidVersion) × LacksMask request.now.mask code.version)) }
 {
     let modules = modules_under(alloc, &code, request.mask)?;
-    let bytes = drawn(alloc, request, &code, &modules)?;
+    let bytes = drawn(alloc, request, &code, &modules, &[], None)?;
     Ok(Drawing { code, bytes })
 }
 
-/// Draws these modules of a symbol as requested.
+/// Draws these modules of a symbol as requested, with `over` or a picture over them.
 ///
 /// Errors: only `OutOfMemory`, as `draw` says.
 pub fn drawn(
@@ -75,18 +75,20 @@ pub fn drawn(
     request: &Request<'_>,
     code: &QrCode,
     modules: &[Color],
+    over: &[u8],
+    inset: Option<(Rectangle, Inset<'_>)>,
 ) -> QrResult<Vec<u8>>
     requires { length modules.now ≡ length code.now.modules }
     ensures shown { IfOk result (λ file. IsDrawn request.now.format (sheet_for request.now
-        code.now.version modules.now [] None) file.items) }
+        code.now.version modules.now over.now inset.entry) file.items) }
     ensures memory { IsOkUnless result OutOfMemory }
 {
-    let sheet = sheet(request, code, modules, &[], None);
+    let sheet = sheet(request, code, modules, over, inset);
     draw(alloc, request.format, &sheet)
 }
 
-/// Returns the sheet for these modules of a symbol, with `over` or a picture over them.
-pub(crate) fn sheet<'a>(
+// Returns the sheet for these modules of a symbol, with `over` or a picture over them.
+fn sheet<'a>(
     request: &Request<'a>,
     code: &QrCode,
     modules: &'a [Color],

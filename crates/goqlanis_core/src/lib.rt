@@ -31,6 +31,6 @@ pub use refusal::{
     segments_refusal_text,
 };
 pub use request::{Choice, Length, Request, manner_of};
-pub use segments::{Segment, symbol_of, unwritable};
+pub use segments::{Segment, push_data, symbol_of, unwritable};
 pub use shades::GREATEST_PAINTED;
 pub use sheet::Ink;

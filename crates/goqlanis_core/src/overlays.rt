@@ -9,11 +9,10 @@ ghost use Rattle.goqlanis_core.specs.Drawings.{scale_for};
 ghost use Rattle.goqlanis_core.specs.Masks.{LacksMask};
 ghost use Rattle.goqlanis_core.specs.Overlays.{AreBeside, IsCrossSize, IsCrossWidth, IsShownWith, LacksRoom, cross_for, cross_shade, cross_text, element_for, inset_for, is_black_unit, is_in_bar, lies_between, svg_element};
 
-use crate::drawing::{quiet_zone, scale, sheet, unit};
+use crate::drawing::{drawn, quiet_zone, scale, unit};
 use crate::masking::modules_under;
 use crate::pasting::Inset;
 use crate::places::{Place, place_in};
-use crate::render::draw;
 use crate::request::Request;
 use qrcode::QrCode;
 use qrcode::types::{Color, QrResult};
@@ -185,8 +184,7 @@ pub fn with_logo(
     };
     let light = modules_beside(alloc, request, code, area)?;
     let inset = inset_in(area, inside);
-    let sheet = sheet(request, code, &light, element.as_bytes(), inset);
-    let bytes = draw(alloc, request.format, &sheet)?;
+    let bytes = drawn(alloc, request, code, &light, element.as_bytes(), inset)?;
     Ok(Some(bytes))
 }
 

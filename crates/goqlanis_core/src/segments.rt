@@ -174,8 +174,10 @@ fn push(bits: &mut Bits, segment: &Segment<'_>) -> QrResult<()>
     }
 }
 
-// Appends bytes in a mode.
-fn push_data(bits: &mut Bits, mode: Mode, bytes: &[u8]) -> QrResult<()>
+/// Appends bytes in a mode.
+///
+/// Errors: those of the method of `Bits` for this mode, `OutOfMemory` among them.
+pub fn push_data(bits: &mut Bits, mode: Mode, bytes: &[u8]) -> QrResult<()>
     ensures { PushesPiece mode bytes.now bits.old bits.new result }
 {
     match mode {

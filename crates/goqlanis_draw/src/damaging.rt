@@ -62,7 +62,7 @@ pub(crate) fn damaged_drawing(
     damage: Damage,
 ) -> Result<Vec<u8>, Failure> {
     let modules = damaged_modules(alloc, request, code, damage)?;
-    match drawn(alloc, request, code, &modules) {
+    match drawn(alloc, request, code, &modules, &[], None) {
         Ok(drawing) => Ok(drawing),
         Err(_) => Err(Failure::OutOfMemory),
     }

@@ -1,6 +1,5 @@
 //! The text of decoded codes.
 
-use goqlanis_options::charsets::charset_of;
 use qrcode::types::Mode;
 use qrcode_charsets::sets::Charset;
 use qrcode_reader::spell::{Header, Part};
@@ -59,7 +58,7 @@ fn push_decoded(text: &mut String, set: Charset, bytes: Option<&[u8]>) -> Result
 fn set_of(number: u32) -> Option<Charset> {
     match number {
         26 | 27 | 170 => Some(Charset::Unmarked),
-        1 => charset_of(3),
-        _ => charset_of(number),
+        1 => Charset::numbered(3),
+        _ => Charset::numbered(number),
     }
 }

@@ -1,7 +1,7 @@
 //! The names of character sets.
 
 use goqlanis_core::VersionName;
-use qrcode_charsets::sets::{CHARSETS, Charset};
+use qrcode_charsets::sets::Charset;
 use std::fmt;
 
 /// The character set of a code.
@@ -24,7 +24,7 @@ pub fn charset_named(name: &str) -> Option<Charset> {
     }
     let (family, part) = name.rsplit_once('-')?;
     match part.parse::<u32>() {
-        Ok(number) if number <= 16 && is_among(family, ISO) => charset_of(number + 2),
+        Ok(number) if number <= 16 && is_among(family, ISO) => Charset::numbered(number + 2),
         _ => None,
     }
 }
@@ -32,14 +32,6 @@ pub fn charset_named(name: &str) -> Option<Charset> {
 // Whether `name` is one of these, ignoring case.
 fn is_among(name: &str, names: &[&str]) -> bool {
     names.iter().any(|known| known.eq_ignore_ascii_case(name))
-}
-
-/// Returns the character set with this ECI number.
-pub fn charset_of(number: u32) -> Option<Charset> {
-    CHARSETS
-        .iter()
-        .find(|set| set.designator() == Some(number))
-        .copied()
 }
 
 /// Displays the name of a character set.

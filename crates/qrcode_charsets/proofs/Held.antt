@@ -7,27 +7,27 @@ use Rattle.qrcode_bits.specs.Manners as manners
 use Rattle.qrcode_bits.specs.Manners.{modes_of, rank, HoldsAs, IsLeastFrom}
 use Rattle.qrcode_bits.specs.ModeSets.{text_modes}
 use Rattle.qrcode_bits.specs.Segments.{total_cost}
-use Rattle.qrcode_charsets.specs.Charsets.{part_number, manner_of, IsWritten, Has, front, has_front}
+use Rattle.qrcode_charsets.specs.Charsets.{page_designator, manner_of, IsWritten, Has, front, has_front}
 use Rattle.qrcode_charsets.specs.Laid.{IsHeld, IsHeldAt, IsLeastHolding}
 use Rattle.qrcode_charsets.specs.declared.sets.Charset.{Charset}
-use Rattle.qrcode_charsets.specs.declared.sets.Charset.TheVariants.{Unmarked, Utf8, Iso8859}
+use Rattle.qrcode_charsets.specs.declared.sets.Charset.TheVariants.{Unmarked, Utf8, OneByte}
 use Rattle.qrcode_charsets.proofs.Marks.{length_some}
 use Rattle.qrcode_charsets.proofs.Writings.{written_one_way}
 
 modes_same : (c : Charset) → modes_of (manner_of c) ≡ text_modes
 modes_same Unmarked = refl
 modes_same Utf8 = refl
-modes_same (Iso8859 p) = refl
+modes_same (OneByte p) = refl
 
 front_same : (v : Version) (c : Charset) → manners.has_front v (manner_of c) ≡ has_front v c
 front_same v Unmarked = refl
 front_same v Utf8 = refl
-front_same v (Iso8859 p) = refl
+front_same v (OneByte p) = refl
 
 length_same : (c : Charset) → length (manners.front (manner_of c)) ≡ length (front c)
 length_same Unmarked = refl
 length_same Utf8 = refl
-length_same (Iso8859 p) = sym (length_some Utf8 26 refl) ∙ length_some (Iso8859 p) (part_number p + 2) refl
+length_same (OneByte p) = sym (length_some Utf8 26 refl) ∙ length_some (OneByte p) (page_designator p) refl
 
 module _ (c : Charset) (v : Version) (l : EcLevel) (text bytes : List ℕ) (is : IsWritten c text bytes) where
   as_manner : IsHeld c v l text → HoldsAs (manner_of c) v l bytes

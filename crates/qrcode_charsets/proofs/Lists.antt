@@ -24,8 +24,8 @@ use Rattle.qrcode_charsets.specs.Laid.{bits_of, IsLaid, IsMeasured, IsLeastLaid,
 use Rattle.qrcode_charsets.specs.Shortest.{IsWriting, CanShow}
 use Rattle.qrcode_charsets.specs.Shown.{ArePiecesShown, ShowsIn}
 use Rattle.qrcode_charsets.specs.declared.sets.Charset.{Charset}
-use Rattle.qrcode_charsets.specs.declared.sets.Charset.TheVariants.{Unmarked, Utf8, Iso8859}
-use Rattle.qrcode_charsets.specs.declared.sets.Part.{Part}
+use Rattle.qrcode_charsets.specs.declared.sets.Charset.TheVariants.{Unmarked, Utf8, OneByte}
+use Rattle.qrcode_charsets.specs.declared.sets.Page.{Page}
 use Rattle.qrcode_charsets.specs.declared.shortest.measuring.Measured.{Measured}
 use Rattle.qrcode_charsets.proofs.Cuts.{chunks, AreOfText, pieces_cut, readable_all, written_within}
 use Rattle.qrcode_charsets.proofs.Shown.{shown_written, shown_modes}
@@ -40,13 +40,13 @@ in_utf8 c is (p ∷ ps) text h =
     let own = more.1.0 in
     (h.0, h.1, (more.0, (record { mode = own.mode; written = is h.0 p.chunk own.characters own.utf8 }, in_utf8 c is ps h.1 more.1.1)))
 
--- segments that are shown in a part
-in_part : (part : Part) (ps : List Piece) (text : List ℕ) → AreOfText ps → map (character part) (chunks ps) ≡ map Some text → ArePiecesShown (Iso8859 part) ps text
-in_part part [] [] a e = refl
-in_part part [] (c ∷ text) a e = cc
-in_part part (p ∷ ps) text a e =
-    let r = written_split part p.chunk (chunks ps) text e in
-    (r.0, r.1, (r.2, (record { mode = a.0; written = r.3 }, in_part part ps r.1 a.1 r.4)))
+-- segments that are shown in a set of one byte
+in_page : (page : Page) (ps : List Piece) (text : List ℕ) → AreOfText ps → map (character page) (chunks ps) ≡ map Some text → ArePiecesShown (OneByte page) ps text
+in_page page [] [] a e = refl
+in_page page [] (c ∷ text) a e = cc
+in_page page (p ∷ ps) text a e =
+    let r = written_split page p.chunk (chunks ps) text e in
+    (r.0, r.1, (r.2, (record { mode = a.0; written = r.3 }, in_page page ps r.1 a.1 r.4)))
 
 modes_of_pieces : (bytes : List ℕ) (ss : List Segment) → AreAmong text_modes ss → AreOfText (pieces_of bytes ss)
 modes_of_pieces bytes [] a = tt
@@ -63,9 +63,9 @@ utf8_shown v text bytes ss s e least =
 pub segments_are_shown : (c : Charset) (v : Version) (text bytes : List ℕ) (ss : List Segment) → IsWritten c text bytes → IsLeastCutIn text_modes v bytes ss → ArePiecesShown c (pieces_of bytes ss) text
 segments_are_shown Unmarked v text bytes ss w least = in_utf8 Unmarked (λ text bytes s e. (s, e)) (pieces_of bytes ss) text (utf8_shown v text bytes ss w.0 w.1 least)
 segments_are_shown Utf8 v text bytes ss w least = in_utf8 Utf8 (λ text bytes s e. (s, e)) (pieces_of bytes ss) text (utf8_shown v text bytes ss w.0 w.1 least)
-segments_are_shown (Iso8859 part) v text bytes ss w least =
+segments_are_shown (OneByte page) v text bytes ss w least =
     let cut = least.reached in
-    in_part part (pieces_of bytes ss) text (modes_of_pieces bytes ss cut.among) (ap (map (character part)) (cut_joined v bytes ss cut.cut) ∙ w)
+    in_page page (pieces_of bytes ss) text (modes_of_pieces bytes ss cut.among) (ap (map (character page)) (cut_joined v bytes ss cut.cut) ∙ w)
 
 -- ---- the list of a measured text
 back_readable : (v : Version) (ps : List Piece) → AllByRecursion (IsReadBack v) ps → AllByRecursion (IsReadable v) ps

@@ -1,4 +1,4 @@
--- Each part gives a character to one byte at most.
+-- Each set of one byte gives a character to one byte at most.
 use Rattle.std.proofs.Common.{◌≡◌, ◌⊎◌, ℕ, zero, suc, ◌-◌, ◌<◌, ◌≤◌, ◌==◌, nat_le, nat_lt, Bool, true, ◌&&◌, ◌||◌, not, List, [], ◌∷◌, length, get_or, Option, Some, None, refl, sym, ap, ◌∙◌, arith, inl, inr}
 use Rattle.std.specs.Prelude.{slice_index_or}
 use Rattle.std.specs.Char.{IsScalar, InScalarRange}
@@ -8,8 +8,8 @@ use Rattle.std.proofs.lemmas.Bool.{and_parts, or_cases, not-true, both_ways, eqb
 use Rattle.std.proofs.Math.Utf8.{low_scalar}
 use Rattle.std.proofs.lemmas.List.{get_or_past}
 use Rattle.qrcode_charsets.specs.Table.{character_table}
-use Rattle.qrcode_charsets.specs.Charsets.{part_number, characters, character, CharactersAreApart}
-use Rattle.qrcode_charsets.specs.declared.sets.Part.{Part}
+use Rattle.qrcode_charsets.specs.Charsets.{page_designator, characters, character, CharactersAreApart}
+use Rattle.qrcode_charsets.specs.declared.sets.Page.{Page}
 use Rattle.qrcode_charsets.specs.declared.table.TheConstants.{CHARACTERS}
 
 -- the table in the code is the one of the definition
@@ -28,32 +28,32 @@ abbrev is_apart : List ℕ → Bool
 is_apart [] = true
 is_apart (c ∷ row) = (c == 0 || list_all (λ d. not (d == c)) row) && is_apart row
 
--- a cell has no character, or one that is no control character, no byte below 160 and no surrogate
+-- a cell has no character, or one that is no byte of ASCII and no surrogate
 abbrev is_cell : ℕ → Bool
-is_cell c = c == 0 || (nat_le 160 c && nat_lt c 0xD800)
+is_cell c = c == 0 || (nat_le 128 c && nat_lt c 0xD800)
 
 abbrev is_row : List ℕ → Bool
-is_row row = is_apart row && (list_all is_cell row && nat_le (length row) 96)
+is_row row = is_apart row && (list_all is_cell row && nat_le (length row) 128)
 
 all_rows : list_all is_row character_table ≡ true
 unfolding character_table
 all_rows = refl
 
-row_of : (p : Part) → (is_apart (characters p) ≡ true) × (list_all is_cell (characters p) ≡ true) × (length (characters p) ≤ 96)
+row_of : (p : Page) → (is_apart (characters p) ≡ true) × (list_all is_cell (characters p) ≡ true) × (length (characters p) ≤ 128)
 unfolding characters
 row_of p =
-    let row = slice_index_or character_table (part_number p - 1) [] in
-    let two = and_parts (is_apart row) (list_all is_cell row && nat_le (length row) 96) (read_passes is_row character_table [] (part_number p - 1) all_rows refl) in
-    let three = and_parts (list_all is_cell row) (nat_le (length row) 96) two.1 in
-    (two.0, three.0, leb-true (length row) 96 three.1)
+    let row = slice_index_or character_table (page_designator p - 3) [] in
+    let two = and_parts (is_apart row) (list_all is_cell row && nat_le (length row) 128) (read_passes is_row character_table [] (page_designator p - 3) all_rows refl) in
+    let three = and_parts (list_all is_cell row) (nat_le (length row) 128) two.1 in
+    (two.0, three.0, leb-true (length row) 128 three.1)
 
 -- a character in a cell
-pub cell_bounds : (p : Part) (i : ℕ) → ¬ (get_or (characters p) i 0 ≡ 0) → (160 ≤ get_or (characters p) i 0) × (get_or (characters p) i 0 < 0xD800)
+pub cell_bounds : (p : Page) (i : ℕ) → ¬ (get_or (characters p) i 0 ≡ 0) → (128 ≤ get_or (characters p) i 0) × (get_or (characters p) i 0 < 0xD800)
 cell_bounds p i some =
     let c = get_or (characters p) i 0 in
     elim (or_cases _ _ (read_passes is_cell (characters p) 0 i (row_of p).1 refl)) [
       | inl none ↦ absurd (some (eqb-true c 0 none))
-      | inr within ↦ let both = and_parts (nat_le 160 c) (nat_lt c 0xD800) within in (leb-true 160 c both.0, ltb-true c 0xD800 both.1)
+      | inr within ↦ let both = and_parts (nat_le 128 c) (nat_lt c 0xD800) within in (leb-true 128 c both.0, ltb-true c 0xD800 both.1)
     ]
 
 not_among : (xs : List ℕ) (c i : ℕ) → list_all (λ d. not (d == c)) xs ≡ true → get_or xs i 0 ≡ c → c ≡ 0
@@ -75,22 +75,17 @@ apart_at (x ∷ xs) (suc i) zero h e some = elim (or_cases (x == 0) _ (and_parts
 apart_at (x ∷ xs) (suc i) (suc j) h e some = ap suc (apart_at xs i j (and_parts _ (is_apart xs) h).1 e some)
 
 -- what it means that a byte has a character
-abbrev pub HasCharacter : Part → ℕ → ℕ → Type 0
-HasCharacter p b c = ((b < 128) × (b ≡ c)) ⊎ ((160 ≤ b) × (get_or (characters p) (b - 160) 0 ≡ c) × ¬ (c ≡ 0))
+abbrev pub HasCharacter : Page → ℕ → ℕ → Type 0
+HasCharacter p b c = ((b < 128) × (b ≡ c)) ⊎ ((128 ≤ b) × (get_or (characters p) (b - 128) 0 ≡ c) × ¬ (c ≡ 0))
 
-above : (p : Part) (b : ℕ) → 128 ≤ b → 160 ≤ b → ¬ (get_or (characters p) (b - 160) 0 ≡ 0) → character p b ≡ Some (get_or (characters p) (b - 160) 0)
-above p b h k some =
-    cond-false (nat_lt b 128) _ _ (le-ltb b 128 h) ∙ cond-false (nat_lt b 160) _ _ (le-ltb b 160 k) ∙ cond-false (get_or (characters p) (b - 160) 0 == 0) _ _ (ne_eqb _ 0 some)
+above : (p : Page) (b : ℕ) → 128 ≤ b → ¬ (get_or (characters p) (b - 128) 0 ≡ 0) → character p b ≡ Some (get_or (characters p) (b - 128) 0)
+above p b high some = cond-false (nat_lt b 128) _ _ (le-ltb b 128 high) ∙ cond-false (get_or (characters p) (b - 128) 0 == 0) _ _ (ne_eqb _ 0 some)
 
-nothing : (p : Part) (b : ℕ) → 128 ≤ b → 160 ≤ b → get_or (characters p) (b - 160) 0 ≡ 0 → character p b ≡ None
-nothing p b h k none =
-    cond-false (nat_lt b 128) _ _ (le-ltb b 128 h) ∙ cond-false (nat_lt b 160) _ _ (le-ltb b 160 k) ∙ cond-true (get_or (characters p) (b - 160) 0 == 0) _ _ (eq-eqb _ 0 none)
+nothing : (p : Page) (b : ℕ) → 128 ≤ b → get_or (characters p) (b - 128) 0 ≡ 0 → character p b ≡ None
+nothing p b high none = cond-false (nat_lt b 128) _ _ (le-ltb b 128 high) ∙ cond-true (get_or (characters p) (b - 128) 0 == 0) _ _ (eq-eqb _ 0 none)
 
-low_is : (p : Part) (b : ℕ) → b < 128 → character p b ≡ Some b
+low_is : (p : Page) (b : ℕ) → b < 128 → character p b ≡ Some b
 low_is p b low = cond-true (nat_lt b 128) (Some b) _ (lt-ltb b 128 low)
-
-control_is : (p : Part) (b : ℕ) → 128 ≤ b → b < 160 → character p b ≡ None
-control_is p b high control = cond-false (nat_lt b 128) _ _ (le-ltb b 128 high) ∙ cond-true (nat_lt b 160) _ _ (lt-ltb b 160 control)
 
 same_item : (o : Option ℕ) (a b : ℕ) → o ≡ Some a → o ≡ Some b → a ≡ b
 same_item o a b e f = cc
@@ -98,32 +93,26 @@ same_item o a b e f = cc
 no_item : (o : Option ℕ) (a : ℕ) → o ≡ None → o ≡ Some a → ⊥
 no_item o a e f = cc
 
-has_cell : (p : Part) (b c : ℕ) → 128 ≤ b → 160 ≤ b → ¬ (get_or (characters p) (b - 160) 0 ≡ 0) → character p b ≡ Some c → HasCharacter p b c
-has_cell p b c high cell some e =
-    let is : get_or (characters p) (b - 160) 0 ≡ c = same_item (character p b) (get_or (characters p) (b - 160) 0) c (above p b high cell some) e in
-    inr (cell, is, λ none. some (is ∙ none))
-
-pub has_character : (p : Part) (b c : ℕ) → character p b ≡ Some c → HasCharacter p b c
+pub has_character : (p : Page) (b c : ℕ) → character p b ≡ Some c → HasCharacter p b c
 has_character p b c e = elim (cases_lt b 128) [
   | inl low ↦ inl (low, same_item (character p b) b c (low_is p b low) e)
-  | inr high ↦ elim (cases_lt b 160) [
-    | inl control ↦ absurd (no_item (character p b) c (control_is p b high control) e)
-    | inr cell ↦ elim (cases_eq (get_or (characters p) (b - 160) 0) 0) [
-      | inl none ↦ absurd (no_item (character p b) c (nothing p b high cell none) e)
-      | inr some ↦ has_cell p b c high cell some e
-    ]
+  | inr high ↦ elim (cases_eq (get_or (characters p) (b - 128) 0) 0) [
+    | inl none ↦ absurd (no_item (character p b) c (nothing p b high none) e)
+    | inr some ↦
+        let is : get_or (characters p) (b - 128) 0 ≡ c = same_item (character p b) (get_or (characters p) (b - 128) 0) c (above p b high some) e in
+        inr (high, is, λ none. some (is ∙ none))
   ]
 ]
 
-pub is_character : (p : Part) (b c : ℕ) → HasCharacter p b c → character p b ≡ Some c
+pub is_character : (p : Page) (b c : ℕ) → HasCharacter p b c → character p b ≡ Some c
 is_character p b c h = elim h [
   | inl low ↦ cond-true (nat_lt b 128) (Some b) _ (lt-ltb b 128 low.0) ∙ ap Some low.1
-  | inr cell ↦ above p b (omega (arith, cell.0)) cell.0 (λ none. cell.2 (sym cell.1 ∙ none)) ∙ ap Some cell.1
+  | inr cell ↦ above p b cell.0 (λ none. cell.2 (sym cell.1 ∙ none)) ∙ ap Some cell.1
 ]
 
 -- an ASCII character is in no cell
-not_both : (p : Part) (a b c : ℕ) → a < 128 → a ≡ c → get_or (characters p) (b - 160) 0 ≡ c → ¬ (c ≡ 0) → ⊥
-not_both p a b c low e f some = omega (arith, low, e, f, (cell_bounds p (b - 160) (λ none. some (sym f ∙ none))).0)
+not_both : (p : Page) (a b c : ℕ) → a < 128 → a ≡ c → get_or (characters p) (b - 128) 0 ≡ c → ¬ (c ≡ 0) → ⊥
+not_both p a b c low e f some = omega (arith, low, e, f, (cell_bounds p (b - 128) (λ none. some (sym f ∙ none))).0)
 
 pub characters_apart : CharactersAreApart
 characters_apart p a b c e f = elim (has_character p a c e) [
@@ -134,18 +123,18 @@ characters_apart p a b c e f = elim (has_character p a c e) [
   | inr cell ↦ elim (has_character p b c f) [
     | inl low ↦ absurd (not_both p b a c low.0 low.1 cell.1 cell.2)
     | inr both ↦
-        let same = apart_at (characters p) (a - 160) (b - 160) (row_of p).0 (cell.1 ∙ sym both.1) (λ none. cell.2 (sym cell.1 ∙ none)) in
+        let same = apart_at (characters p) (a - 128) (b - 128) (row_of p).0 (cell.1 ∙ sym both.1) (λ none. cell.2 (sym cell.1 ∙ none)) in
         omega (arith, same, cell.0, both.0)
   ]
 ]
 
 -- a character that is no ASCII and in no cell has no byte
-pub no_byte : (p : Part) (c : ℕ) → 128 ≤ c → ((i : ℕ) → i < 96 → ¬ (get_or (characters p) i 0 ≡ c)) → (b : ℕ) → ¬ (character p b ≡ Some c)
+pub no_byte : (p : Page) (c : ℕ) → 128 ≤ c → ((i : ℕ) → i < 128 → ¬ (get_or (characters p) i 0 ≡ c)) → (b : ℕ) → ¬ (character p b ≡ Some c)
 no_byte p c high none b e = elim (has_character p b c e) [
   | inl low ↦ omega (arith, low.0, low.1, high)
-  | inr cell ↦ elim (cases_lt (b - 160) 96) [
-    | inl inside ↦ none (b - 160) inside cell.1
-    | inr past ↦ cell.2 (sym cell.1 ∙ get_or_past (characters p) (b - 160) 0 (omega (arith, past, (row_of p).2)))
+  | inr cell ↦ elim (cases_lt (b - 128) 128) [
+    | inl inside ↦ none (b - 128) inside cell.1
+    | inr past ↦ cell.2 (sym cell.1 ∙ get_or_past (characters p) (b - 128) 0 (omega (arith, past, (row_of p).2)))
   ]
 ]
 
@@ -154,16 +143,16 @@ some_is (Some x) u value some = ap Some value.1
 some_is None u value some = cc
 
 -- what is read from a cell is the character of the byte
-pub character_read : (p : Part) (b code number : ℕ) (r : Option ℕ) → 160 ≤ b → code ≡ get_or (characters p) (b - 160) 0 → ¬ (code ≡ 0) → number ≡ code
+pub character_read : (p : Page) (b code number : ℕ) (r : Option ℕ) → 128 ≤ b → code ≡ get_or (characters p) (b - 128) 0 → ¬ (code ≡ 0) → number ≡ code
     → SomeIff r (IsScalar number) number → (InScalarRange number → IsSome r) → r ≡ character p b
 character_read p b code number r high cell some same value succeeds =
-    let some' : ¬ (get_or (characters p) (b - 160) 0 ≡ 0) = λ none. some (cell ∙ none) in
-    let small : number < 0xD800 = omega (arith, same, cell, (cell_bounds p (b - 160) some').1) in
-    some_is r number value (succeeds (inl small)) ∙ ap Some (same ∙ cell) ∙ sym (above p b (omega (arith, high)) high some')
+    let some' : ¬ (get_or (characters p) (b - 128) 0 ≡ 0) = λ none. some (cell ∙ none) in
+    let small : number < 0xD800 = omega (arith, same, cell, (cell_bounds p (b - 128) some').1) in
+    some_is r number value (succeeds (inl small)) ∙ ap Some (same ∙ cell) ∙ sym (above p b high some')
 
 -- a character of a byte is one of Unicode
-pub character_scalar : (p : Part) (b c : ℕ) → character p b ≡ Some c → IsScalar c
+pub character_scalar : (p : Page) (b c : ℕ) → character p b ≡ Some c → IsScalar c
 character_scalar p b c e = elim (has_character p b c e) [
   | inl low ↦ low_scalar c (omega (arith, low.0, low.1))
-  | inr cell ↦ low_scalar c (omega (arith, cell.1, (cell_bounds p (b - 160) (λ none. cell.2 (sym cell.1 ∙ none))).1))
+  | inr cell ↦ low_scalar c (omega (arith, cell.1, (cell_bounds p (b - 128) (λ none. cell.2 (sym cell.1 ∙ none))).1))
 ]

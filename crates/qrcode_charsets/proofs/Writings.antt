@@ -8,15 +8,15 @@ use Rattle.std.proofs.lemmas.List.{append-nil, take_more, map_push, map-append, 
 use Rattle.std.proofs.lemmas.Str.{chars-encodes, encodes-append, length-encode, len_utf8_bounds, length-le-encodes, encodes-chars, scalars-chars, chars-append, chars-nil, chars_past_char, IsUtf8-encode}
 use Rattle.qrcode_charsets.specs.Charsets.{character, IsWritten, Has, TextsAreWrittenOneWay, BytesAreReadOneWay}
 use Rattle.qrcode_charsets.specs.declared.sets.Charset.{Charset}
-use Rattle.qrcode_charsets.specs.declared.sets.Charset.TheVariants.{Unmarked, Utf8, Iso8859}
-use Rattle.qrcode_charsets.specs.declared.sets.Part.{Part}
+use Rattle.qrcode_charsets.specs.declared.sets.Charset.TheVariants.{Unmarked, Utf8, OneByte}
+use Rattle.qrcode_charsets.specs.declared.sets.Page.{Page}
 use Rattle.qrcode_charsets.proofs.Rows.{characters_apart, character_scalar}
 
 -- two lists with the same characters have the same length
-lengths : (p : Part) (text bytes : List ℕ) → map (character p) bytes ≡ map Some text → length bytes ≡ length text
+lengths : (p : Page) (text bytes : List ℕ) → map (character p) bytes ≡ map Some text → length bytes ≡ length text
 lengths p text bytes e = sym (length-map bytes (character p)) ∙ ap length e ∙ length-map text Some
 
-one_spelling : (p : Part) (text bytes others : List ℕ) → map (character p) bytes ≡ map Some text → map (character p) others ≡ map Some text → others ≡ bytes
+one_spelling : (p : Page) (text bytes others : List ℕ) → map (character p) bytes ≡ map Some text → map (character p) others ≡ map Some text → others ≡ bytes
 one_spelling p [] [] [] e f = refl
 one_spelling p [] [] (o ∷ others) e f = cc
 one_spelling p [] (b ∷ bytes) others e f = cc
@@ -41,7 +41,7 @@ same_items (c ∷ text) (o ∷ others) e =
 pub written_one_way : TextsAreWrittenOneWay
 written_one_way Unmarked text bytes others e f = sym f.1 ∙ e.1
 written_one_way Utf8 text bytes others e f = sym f.1 ∙ e.1
-written_one_way (Iso8859 p) text bytes others e f = one_spelling p text bytes others e f
+written_one_way (OneByte p) text bytes others e f = one_spelling p text bytes others e f
 
 same_utf8 : (text others bytes : List ℕ) → all_scalars text ≡ true → all_scalars others ≡ true → encode_utf8_all text ≡ bytes → encode_utf8_all others ≡ bytes → others ≡ text
 same_utf8 text others bytes s t e f = sym (chars-encodes others t) ∙ ap chars (f ∙ sym e) ∙ chars-encodes text s
@@ -49,7 +49,7 @@ same_utf8 text others bytes s t e f = sym (chars-encodes others t) ∙ ap chars 
 pub read_one_way : BytesAreReadOneWay
 read_one_way Unmarked text others bytes e f = same_utf8 text others bytes e.0 f.0 e.1 f.1
 read_one_way Utf8 text others bytes e f = same_utf8 text others bytes e.0 f.0 e.1 f.1
-read_one_way (Iso8859 p) text others bytes e f = same_items text others (sym e ∙ f)
+read_one_way (OneByte p) text others bytes e f = same_items text others (sym e ∙ f)
 
 pub utf8_written : (utf8 : List ℕ) → IsUtf8 utf8 → IsTrue (all_scalars (chars utf8)) × (encode_utf8_all (chars utf8) ≡ utf8)
 utf8_written utf8 u = (scalars-chars utf8 u, encodes-chars utf8 u)
@@ -61,7 +61,7 @@ chars_push utf8 c u s =
     chars-append utf8 (encode_utf8 c) u ∙ ap (λ (x : List ℕ). chars utf8 ++ x) (own ∙ ap (λ (x : List ℕ). c ∷ x) chars-nil)
 
 -- a character of a text has a byte
-pub has_byte : (p : Part) (text bytes : List ℕ) (i c : ℕ) → map (character p) bytes ≡ map Some text → i < length text → c ≡ get_or text i c → (b : ℕ) × (character p b ≡ Some c)
+pub has_byte : (p : Page) (text bytes : List ℕ) (i c : ℕ) → map (character p) bytes ≡ map Some text → i < length text → c ≡ get_or text i c → (b : ℕ) × (character p b ≡ Some c)
 has_byte p [] bytes i c e inside is = absurd (omega arith)
 has_byte p (d ∷ text) [] i c e inside is = cc
 has_byte p (d ∷ text) (b ∷ bytes) zero c e inside is = (b, cc)
@@ -77,12 +77,12 @@ all_both (c ∷ a) b h k = let r = and_parts _ (all_scalars a) h in and_from _ (
 pub written-nil : (c : Charset) → IsWritten c [] []
 written-nil Unmarked = (refl, refl)
 written-nil Utf8 = (refl, refl)
-written-nil (Iso8859 p) = refl
+written-nil (OneByte p) = refl
 
 pub written-append : (c : Charset) (text others bytes more : List ℕ) → IsWritten c text bytes → IsWritten c others more → IsWritten c (text ++ others) (bytes ++ more)
 written-append Unmarked text others bytes more e f = (all_both text others e.0 f.0, encodes-append text others ∙ ap₂ (λ (a b : List ℕ). a ++ b) e.1 f.1)
 written-append Utf8 text others bytes more e f = (all_both text others e.0 f.0, encodes-append text others ∙ ap₂ (λ (a b : List ℕ). a ++ b) e.1 f.1)
-written-append (Iso8859 p) text others bytes more e f = map-append (character p) bytes more ∙ ap₂ (λ (a b : List (Option ℕ)). a ++ b) e f ∙ sym (map-append Some text others)
+written-append (OneByte p) text others bytes more e f = map-append (character p) bytes more ∙ ap₂ (λ (a b : List (Option ℕ)). a ++ b) e f ∙ sym (map-append Some text others)
 
 encodes_at_most : (text : List ℕ) → length (encode_utf8_all text) ≤ 4 * length text
 encodes_at_most [] = omega arith
@@ -94,15 +94,15 @@ encodes_at_most (c ∷ text) =
 pub written_at_least : (c : Charset) (text bytes : List ℕ) → IsWritten c text bytes → length (encode_utf8_all text) ≤ 4 * length bytes
 written_at_least Unmarked text bytes e = omega (arith, ap length e.1)
 written_at_least Utf8 text bytes e = omega (arith, ap length e.1)
-written_at_least (Iso8859 p) text bytes e = omega (arith, lengths p text bytes e, encodes_at_most text)
+written_at_least (OneByte p) text bytes e = omega (arith, lengths p text bytes e, encodes_at_most text)
 
 pub written_at_most : (c : Charset) (text bytes : List ℕ) → IsWritten c text bytes → length bytes ≤ length (encode_utf8_all text)
 written_at_most Unmarked text bytes e = omega (arith, ap length e.1)
 written_at_most Utf8 text bytes e = omega (arith, ap length e.1)
-written_at_most (Iso8859 p) text bytes e = omega (arith, lengths p text bytes e, length-le-encodes text)
+written_at_most (OneByte p) text bytes e = omega (arith, lengths p text bytes e, length-le-encodes text)
 
 -- the characters of the first bytes, and of the others
-pub written_split : (p : Part) (bytes more text : List ℕ) → map (character p) (bytes ++ more) ≡ map Some text
+pub written_split : (p : Page) (bytes more text : List ℕ) → map (character p) (bytes ++ more) ≡ map Some text
     → (first rest : List ℕ) × (text ≡ first ++ rest) × (map (character p) bytes ≡ map Some first) × (map (character p) more ≡ map Some rest)
 written_split p [] more text e = ([], text, refl, refl, e)
 written_split p (b ∷ bytes) more [] e = cc
@@ -113,7 +113,7 @@ written_split p (b ∷ bytes) more (c ∷ text) e =
     (c ∷ r.0, r.1, ap (λ (x : List ℕ). c ∷ x) r.2, ap₂ (λ (x : Option ℕ) (xs : List (Option ℕ)). x ∷ xs) head r.3, r.4)
 
 -- a text up to a character without a byte has no bytes
-pub lacks_first : (p : Part) (text : List ℕ) (i c : ℕ) → i < length text → c ≡ get_or text i c → ((b : ℕ) → ¬ (character p b ≡ Some c)) → ¬ Has (Iso8859 p) (take (i + 1) text)
+pub lacks_first : (p : Page) (text : List ℕ) (i c : ℕ) → i < length text → c ≡ get_or text i c → ((b : ℕ) → ¬ (character p b ≡ Some c)) → ¬ Has (OneByte p) (take (i + 1) text)
 lacks_first p text i c inside is none has =
     let first : i < length (take (i + 1) text) = omega (arith, length-take (i + 1) text, inside) in
     let same : c ≡ get_or (take (i + 1) text) i c = is ∙ sym (get_or-take (i + 1) text i c (omega arith)) in
@@ -121,7 +121,7 @@ lacks_first p text i c inside is none has =
     none found.0 found.1
 
 -- nor has the whole text
-pub lacks_whole : (p : Part) (text : List ℕ) (i c : ℕ) → i < length text → c ≡ get_or text i c → ((b : ℕ) → ¬ (character p b ≡ Some c)) → ¬ Has (Iso8859 p) text
+pub lacks_whole : (p : Page) (text : List ℕ) (i c : ℕ) → i < length text → c ≡ get_or text i c → ((b : ℕ) → ¬ (character p b ≡ Some c)) → ¬ Has (OneByte p) text
 lacks_whole p text i c inside is none has = let found = has_byte p text has.0 i c has.1 inside is in none found.0 found.1
 
 -- the bytes of a text are within the limit if those in UTF-8 are
@@ -134,7 +134,7 @@ pub in_utf8 : (c : Charset) → (c ≡ Unmarked) ⊎ (c ≡ Utf8) → (text byte
 in_utf8 c is text bytes w = elim is [ inl e ↦ subst (λ d. IsWritten d text bytes) (sym e) w | inr e ↦ subst (λ d. IsWritten d text bytes) (sym e) w ]
 
 -- a byte without a character is in no text
-pub no_text : (p : Part) (bytes text : List ℕ) (i : ℕ) → i < length bytes → character p (get_or bytes i 0) ≡ None → map (character p) bytes ≡ map Some text → ⊥
+pub no_text : (p : Page) (bytes text : List ℕ) (i : ℕ) → i < length bytes → character p (get_or bytes i 0) ≡ None → map (character p) bytes ≡ map Some text → ⊥
 no_text p [] text i inside none e = omega (arith, inside)
 no_text p (b ∷ bytes) [] i inside none e = cc
 no_text p (b ∷ bytes) (c ∷ text) zero inside none e =
@@ -146,7 +146,7 @@ no_text p (b ∷ bytes) (c ∷ text) (suc i) inside none e =
     no_text p bytes text i (omega (arith, inside)) none tail
 
 -- one more byte is read
-pub read_more : (p : Part) (bytes : List ℕ) (i c : ℕ) (old new : List ℕ) → i < length bytes → character p (get_or bytes i 0) ≡ Some c → IsUtf8 old → new ≡ old ++ encode_utf8 c
+pub read_more : (p : Page) (bytes : List ℕ) (i c : ℕ) (old new : List ℕ) → i < length bytes → character p (get_or bytes i 0) ≡ Some c → IsUtf8 old → new ≡ old ++ encode_utf8 c
     → map (character p) (take i bytes) ≡ map Some (chars old) → map (character p) (take (i + 1) bytes) ≡ map Some (chars new)
 read_more p bytes i c old new inside is utf8 pushed before =
     let b = get_or bytes i 0 in

@@ -1,5 +1,5 @@
 -- The character sets in which texts are written.
-use Rattle.std.specs.Prelude.{◌≡◌, ℕ, ◌+◌, ◌-◌, ◌==◌, nat_lt, not, Bool, true, List, [], ◌++◌, Option, Some, None, map, slice_index, slice_index_or, encode_utf8_all, IsTrue, if◌then◌else◌}
+use Rattle.std.specs.Prelude.{◌≡◌, ℕ, ◌-◌, ◌==◌, nat_lt, not, Bool, true, List, [], ◌++◌, Option, Some, None, map, slice_index, slice_index_or, encode_utf8_all, IsTrue, if◌then◌else◌}
 use Rattle.std.specs.Str.{all_scalars}
 use Rattle.qrcode_types.specs.Bits.{number_bits}
 use Rattle.qrcode_types.specs.Versions.{is_micro}
@@ -9,46 +9,48 @@ use Rattle.qrcode_bits.specs.declared.bits.manner.Manner.{Manner}
 use Rattle.qrcode_bits.specs.declared.bits.manner.Manner.TheVariants.{Text, MarkedText}
 use Rattle.qrcode_charsets.specs.Table.{character_table}
 use Rattle.qrcode_charsets.specs.declared.sets.Charset.{Charset}
-use Rattle.qrcode_charsets.specs.declared.sets.Charset.TheVariants.{Unmarked, Utf8, Iso8859}
-use Rattle.qrcode_charsets.specs.declared.sets.Part.{Part}
-use Rattle.qrcode_charsets.specs.declared.sets.Part.TheVariants.{Latin1, Latin2, Latin3, Latin4, Cyrillic, Arabic, Greek, Hebrew, Latin5, Latin6, Thai, Latin7, Latin8, Latin9, Latin10}
+use Rattle.qrcode_charsets.specs.declared.sets.Charset.TheVariants.{Unmarked, Utf8, OneByte}
+use Rattle.qrcode_charsets.specs.declared.sets.Page.{Page}
+use Rattle.qrcode_charsets.specs.declared.sets.Page.TheVariants.{Latin1, Latin2, Latin3, Latin4, Cyrillic, Arabic, Greek, Hebrew, Latin5, Latin6, Thai, Latin7, Latin8, Latin9, Latin10, Windows1250, Windows1251, Windows1252, Windows1256}
 
-abbrev pub part_number : Part → ℕ  -- the number of the part in the standard
-part_number Latin1 = 1
-part_number Latin2 = 2
-part_number Latin3 = 3
-part_number Latin4 = 4
-part_number Cyrillic = 5
-part_number Arabic = 6
-part_number Greek = 7
-part_number Hebrew = 8
-part_number Latin5 = 9
-part_number Latin6 = 10
-part_number Thai = 11
-part_number Latin7 = 13
-part_number Latin8 = 14
-part_number Latin9 = 15
-part_number Latin10 = 16
+abbrev pub page_designator : Page → ℕ  -- the ECI designator of a set of one byte
+page_designator Latin1 = 3
+page_designator Latin2 = 4
+page_designator Latin3 = 5
+page_designator Latin4 = 6
+page_designator Cyrillic = 7
+page_designator Arabic = 8
+page_designator Greek = 9
+page_designator Hebrew = 10
+page_designator Latin5 = 11
+page_designator Latin6 = 12
+page_designator Thai = 13
+page_designator Latin7 = 15
+page_designator Latin8 = 16
+page_designator Latin9 = 17
+page_designator Latin10 = 18
+page_designator Windows1250 = 21
+page_designator Windows1251 = 22
+page_designator Windows1252 = 23
+page_designator Windows1256 = 24
 
-unfoldable pub characters : Part → List ℕ  -- the characters of the bytes from 160 on, 0 for a byte that has none
-characters p = slice_index_or character_table (part_number p - 1) []
+unfoldable pub characters : Page → List ℕ  -- the characters of the bytes from 128 on, 0 for a byte that has none
+characters p = slice_index_or character_table (page_designator p - 3) []
 
--- The character of a byte, if it has one: below 128 that of ASCII, from 128 to 159 none, as the standard leaves these bytes to
--- control characters, and from 160 on that of the table.
-abbrev pub character : Part → ℕ → Option ℕ
+-- The character of a byte, if it has one: below 128 that of ASCII, from 128 on that of the table.
+abbrev pub character : Page → ℕ → Option ℕ
 character p b =
     if nat_lt b 128 then Some b else
-    (if nat_lt b 160 then None else
-    (if slice_index (characters p) (b - 160) == 0 then None else Some (slice_index (characters p) (b - 160))))
+    (if slice_index (characters p) (b - 128) == 0 then None else Some (slice_index (characters p) (b - 128)))
 
--- no two bytes of a part have the same character
+-- no two bytes of a set of one byte have the same character
 abbrev pub CharactersAreApart : Type 0
-CharactersAreApart = (p : Part) (a b c : ℕ) → character p a ≡ Some c → character p b ≡ Some c → a ≡ b
+CharactersAreApart = (p : Page) (a b c : ℕ) → character p a ≡ Some c → character p b ≡ Some c → a ≡ b
 
 abbrev pub IsWritten : Charset → (text bytes : List ℕ) → Type 0  -- the bytes are the text in the set, and the text is what a reader decodes them to
 IsWritten Unmarked text bytes = IsTrue (all_scalars text) × (encode_utf8_all text ≡ bytes)
 IsWritten Utf8 text bytes = IsTrue (all_scalars text) × (encode_utf8_all text ≡ bytes)
-IsWritten (Iso8859 p) text bytes = map (character p) bytes ≡ map Some text
+IsWritten (OneByte p) text bytes = map (character p) bytes ≡ map Some text
 
 abbrev pub Has : Charset → List ℕ → Type 0  -- the set has all characters of the text
 Has c text = (bytes : List ℕ) × IsWritten c text bytes
@@ -60,11 +62,11 @@ TextsAreWrittenOneWay = (c : Charset) (text bytes others : List ℕ) → IsWritt
 abbrev pub BytesAreReadOneWay : Type 0
 BytesAreReadOneWay = (c : Charset) (text others bytes : List ℕ) → IsWritten c text bytes → IsWritten c others bytes → others ≡ text
 
--- the ECI designator of a set, if one comes before the segments; that of a part of ISO/IEC 8859 is its number and two
+-- the ECI designator of a set, if one comes before the segments
 abbrev pub designator : Charset → Option ℕ
 designator Unmarked = None
 designator Utf8 = Some 26
-designator (Iso8859 p) = Some (part_number p + 2)
+designator (OneByte p) = Some (page_designator p)
 
 abbrev pub designator_bits : Option ℕ → List Bool  -- the mode indicator of ECI and the designator
 designator_bits None = []
@@ -76,10 +78,10 @@ front c = designator_bits (designator c)
 abbrev pub has_front : Version → Charset → Bool  -- the version allows them: Micro has no ECI
 has_front v Unmarked = true
 has_front v Utf8 = not (is_micro v)
-has_front v (Iso8859 p) = not (is_micro v)
+has_front v (OneByte p) = not (is_micro v)
 
 -- the manner in which bytes take as many bits: each designator takes as many as that of UTF-8
 abbrev pub manner_of : Charset → Manner
 manner_of Unmarked = Text
 manner_of Utf8 = MarkedText
-manner_of (Iso8859 p) = MarkedText
+manner_of (OneByte p) = MarkedText

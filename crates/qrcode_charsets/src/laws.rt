@@ -2,7 +2,7 @@
 
 ghost use Rattle.qrcode_charsets.specs.Charsets.{CharactersAreApart, TextsAreWrittenOneWay, BytesAreReadOneWay};
 
-/// Theorem: in each part of ISO/IEC 8859, no two bytes have the same character.
+/// Theorem: in each set of one byte, no two bytes have the same character.
 pub fn characters()
     ensures { CharactersAreApart }
 {}

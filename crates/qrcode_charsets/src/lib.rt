@@ -1,4 +1,4 @@
-//! Texts in character sets other than UTF-8: the parts of ISO/IEC 8859, and which set takes the
+//! Texts in character sets other than UTF-8: ISO/IEC 8859 and Windows sets, and which takes the
 //! fewest bits.
 #![tactic(auto)]
 

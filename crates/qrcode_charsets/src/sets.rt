@@ -2,44 +2,52 @@
 
 ghost use Rattle.std.specs.Prelude.{◌≡◌, ◌+◌, ◌-◌, ◌<◌, ◌≤◌, ◌≢◌, ℕ, Some, IfSome, MatchOption, slice_index};
 ghost use Rattle.qrcode_charsets.specs.Charsets as charsets;
+ghost use Rattle.qrcode_charsets.specs.declared.sets.Charset.{Charset};
 
 use crate::table::CHARACTERS;
 use qrcode_bits::bits::Manner;
 
-/// A part of ISO/IEC 8859: a character set of one byte for each character. The first 128 are those
-/// of ASCII.
+/// A character set of one byte for each character. The first 128 are those of ASCII.
 #[derive(PartialEq, Eq, Debug, Copy, Clone)]
-pub enum Part {
-    /// Part 1: Latin alphabet No. 1, for Western Europe.
+pub enum Page {
+    /// ISO/IEC 8859-1: Latin alphabet No. 1, for Western Europe.
     Latin1,
-    /// Part 2: Latin alphabet No. 2, for Central Europe.
+    /// ISO/IEC 8859-2: Latin alphabet No. 2, for Central Europe.
     Latin2,
-    /// Part 3: Latin alphabet No. 3, for Southern Europe.
+    /// ISO/IEC 8859-3: Latin alphabet No. 3, for Southern Europe.
     Latin3,
-    /// Part 4: Latin alphabet No. 4, for Northern Europe.
+    /// ISO/IEC 8859-4: Latin alphabet No. 4, for Northern Europe.
     Latin4,
-    /// Part 5: the Latin and Cyrillic alphabets.
+    /// ISO/IEC 8859-5: the Latin and Cyrillic alphabets.
     Cyrillic,
-    /// Part 6: the Latin and Arabic alphabets.
+    /// ISO/IEC 8859-6: the Latin and Arabic alphabets.
     Arabic,
-    /// Part 7: the Latin and Greek alphabets.
+    /// ISO/IEC 8859-7: the Latin and Greek alphabets.
     Greek,
-    /// Part 8: the Latin and Hebrew alphabets.
+    /// ISO/IEC 8859-8: the Latin and Hebrew alphabets.
     Hebrew,
-    /// Part 9: Latin alphabet No. 5, for Turkish.
+    /// ISO/IEC 8859-9: Latin alphabet No. 5, for Turkish.
     Latin5,
-    /// Part 10: Latin alphabet No. 6, for Northern Europe.
+    /// ISO/IEC 8859-10: Latin alphabet No. 6, for Northern Europe.
     Latin6,
-    /// Part 11: the Latin and Thai alphabets.
+    /// ISO/IEC 8859-11: the Latin and Thai alphabets.
     Thai,
-    /// Part 13: Latin alphabet No. 7, for the Baltic.
+    /// ISO/IEC 8859-13: Latin alphabet No. 7, for the Baltic.
     Latin7,
-    /// Part 14: Latin alphabet No. 8, for Celtic languages.
+    /// ISO/IEC 8859-14: Latin alphabet No. 8, for Celtic languages.
     Latin8,
-    /// Part 15: Latin alphabet No. 9, Part 1 with the euro sign.
+    /// ISO/IEC 8859-15: Latin alphabet No. 9, ISO/IEC 8859-1 with the euro sign.
     Latin9,
-    /// Part 16: Latin alphabet No. 10, for South-Eastern Europe.
+    /// ISO/IEC 8859-16: Latin alphabet No. 10, for South-Eastern Europe.
     Latin10,
+    /// Windows-1250: for Central Europe.
+    Windows1250,
+    /// Windows-1251: the Latin and Cyrillic alphabets.
+    Windows1251,
+    /// Windows-1252: for Western Europe.
+    Windows1252,
+    /// Windows-1256: the Latin and Arabic alphabets.
+    Windows1256,
 }
 
 /// How a text is encoded, and whether an ECI designator tells a reader so.
@@ -49,20 +57,21 @@ pub enum Charset {
     Unmarked,
     /// UTF-8 after its designator.
     Utf8,
-    /// A part of ISO/IEC 8859 after its designator.
-    Iso8859(Part),
+    /// A set of one byte for each character, after its designator.
+    OneByte(Page),
 }
 
-/// All sets: UTF-8 without a designator first, then in the order of their designators.
+/// UTF-8 without a designator, then, in the order of their designators, the sets that zxing and
+/// zbar show: ISO/IEC 8859 and UTF-8.
 #[rattlefmt::skip]
 pub static CHARSETS: [Charset; 17] = [
-    Charset::Unmarked, Charset::Iso8859(Part::Latin1), Charset::Iso8859(Part::Latin2),
-    Charset::Iso8859(Part::Latin3), Charset::Iso8859(Part::Latin4),
-    Charset::Iso8859(Part::Cyrillic), Charset::Iso8859(Part::Arabic),
-    Charset::Iso8859(Part::Greek), Charset::Iso8859(Part::Hebrew), Charset::Iso8859(Part::Latin5),
-    Charset::Iso8859(Part::Latin6), Charset::Iso8859(Part::Thai), Charset::Iso8859(Part::Latin7),
-    Charset::Iso8859(Part::Latin8), Charset::Iso8859(Part::Latin9),
-    Charset::Iso8859(Part::Latin10), Charset::Utf8,
+    Charset::Unmarked, Charset::OneByte(Page::Latin1), Charset::OneByte(Page::Latin2),
+    Charset::OneByte(Page::Latin3), Charset::OneByte(Page::Latin4),
+    Charset::OneByte(Page::Cyrillic), Charset::OneByte(Page::Arabic),
+    Charset::OneByte(Page::Greek), Charset::OneByte(Page::Hebrew), Charset::OneByte(Page::Latin5),
+    Charset::OneByte(Page::Latin6), Charset::OneByte(Page::Thai), Charset::OneByte(Page::Latin7),
+    Charset::OneByte(Page::Latin8), Charset::OneByte(Page::Latin9),
+    Charset::OneByte(Page::Latin10), Charset::Utf8,
 ];
 
 impl Charset {
@@ -74,8 +83,40 @@ impl Charset {
         match self {
             Charset::Unmarked => None,
             Charset::Utf8 => Some(26),
-            Charset::Iso8859(part) => Some(part.number() as u32 + 2),
+            Charset::OneByte(page) => Some(page.designator()),
         }
+    }
+
+    /// Returns the set whose ECI designator is `number`, or `None` if there is none.
+    pub fn numbered(number: u32) -> Option<Charset>
+        ensures { MatchOption result
+            ((set : Charset) → charsets.designator set ≢ Some number)
+            (λ set. charsets.designator set ≡ Some number) }
+    {
+        let page = match number {
+            3 => Page::Latin1,
+            4 => Page::Latin2,
+            5 => Page::Latin3,
+            6 => Page::Latin4,
+            7 => Page::Cyrillic,
+            8 => Page::Arabic,
+            9 => Page::Greek,
+            10 => Page::Hebrew,
+            11 => Page::Latin5,
+            12 => Page::Latin6,
+            13 => Page::Thai,
+            15 => Page::Latin7,
+            16 => Page::Latin8,
+            17 => Page::Latin9,
+            18 => Page::Latin10,
+            21 => Page::Windows1250,
+            22 => Page::Windows1251,
+            23 => Page::Windows1252,
+            24 => Page::Windows1256,
+            26 => return Some(Charset::Utf8),
+            _ => return None,
+        };
+        Some(Charset::OneByte(page))
     }
 
     // Returns the manner in which bytes take as many bits.
@@ -84,34 +125,38 @@ impl Charset {
     {
         match self {
             Charset::Unmarked => Manner::Text,
-            Charset::Utf8 | Charset::Iso8859(_) => Manner::MarkedText,
+            Charset::Utf8 | Charset::OneByte(_) => Manner::MarkedText,
         }
     }
 }
 
-impl Part {
-    /// Returns the number of the part, from 1 to 16.
-    pub fn number(self) -> usize
-        ensures value { result ≡ charsets.part_number self }
-        ensures at_least { 1 ≤ result }
-        ensures at_most { result ≤ 16 }
+impl Page {
+    /// Returns the ECI designator of the set.
+    pub fn designator(self) -> u32
+        ensures value { result ≡ charsets.page_designator self }
+        ensures at_least { 3 ≤ result }
+        ensures at_most { result ≤ 24 }
     {
         match self {
-            Part::Latin1 => 1,
-            Part::Latin2 => 2,
-            Part::Latin3 => 3,
-            Part::Latin4 => 4,
-            Part::Cyrillic => 5,
-            Part::Arabic => 6,
-            Part::Greek => 7,
-            Part::Hebrew => 8,
-            Part::Latin5 => 9,
-            Part::Latin6 => 10,
-            Part::Thai => 11,
-            Part::Latin7 => 13,
-            Part::Latin8 => 14,
-            Part::Latin9 => 15,
-            Part::Latin10 => 16,
+            Page::Latin1 => 3,
+            Page::Latin2 => 4,
+            Page::Latin3 => 5,
+            Page::Latin4 => 6,
+            Page::Cyrillic => 7,
+            Page::Arabic => 8,
+            Page::Greek => 9,
+            Page::Hebrew => 10,
+            Page::Latin5 => 11,
+            Page::Latin6 => 12,
+            Page::Thai => 13,
+            Page::Latin7 => 15,
+            Page::Latin8 => 16,
+            Page::Latin9 => 17,
+            Page::Latin10 => 18,
+            Page::Windows1250 => 21,
+            Page::Windows1251 => 22,
+            Page::Windows1252 => 23,
+            Page::Windows1256 => 24,
         }
     }
 
@@ -122,11 +167,8 @@ impl Part {
         if byte < 128 {
             return Some(char::from(byte));
         }
-        if byte < 160 {
-            return None;
-        }
         let column = usize::from(byte);
-        let code = self.cell(column - 160);
+        let code = self.cell(column - 128);
         if code == 0 {
             return None;
         }
@@ -134,7 +176,7 @@ impl Part {
         char::from_u32(number)
     }
 
-    /// Returns the byte of `character`, or `None` if the part lacks the character.
+    /// Returns the byte of `character`, or `None` if the set lacks the character.
     pub fn byte(self, character: char) -> Option<u8>
         ensures { MatchOption result
             ((byte : ℕ) → charsets.character self byte ≢ Some character)
@@ -144,19 +186,19 @@ impl Part {
         if code < 128 {
             return Some(code as u8);
         }
-        for place in 0..96 {
+        for place in 0..128 {
             if u32::from(self.cell(place)) == code {
-                return Some(160 + place as u8);
+                return Some(128 + place as u8);
             }
         }
         None
     }
 
-    // Returns the character of the byte 160 + `place`, or 0 if it has none.
+    // Returns the character of the byte 128 + `place`, or 0 if it has none.
     fn cell(self, place: usize) -> u16
-        requires { place < 96 }
+        requires { place < 128 }
         ensures { result ≡ slice_index (charsets.characters self) place }
     {
-        CHARACTERS[self.number() - 1][place]
+        CHARACTERS[self.designator() as usize - 3][place]
     }
 }

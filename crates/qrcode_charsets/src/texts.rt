@@ -2,9 +2,9 @@
 
 ghost use Rattle.std.specs.Prelude.{ℕ, ◌+◌, ◌<◌, List, chars, string_bytes, take, length, IfOk, IfSome, MatchOption};
 ghost use Rattle.qrcode_charsets.specs.Charsets.{IsWritten, Has};
-ghost use Rattle.qrcode_charsets.specs.declared.sets.Charset.TheVariants.{Iso8859};
+ghost use Rattle.qrcode_charsets.specs.declared.sets.Charset.TheVariants.{OneByte};
 
-use crate::sets::{Charset, Part};
+use crate::sets::{Charset, Page};
 use std::alloc::{AllocError, Global};
 
 impl Charset {
@@ -19,7 +19,7 @@ impl Charset {
     {
         match self {
             Charset::Unmarked | Charset::Utf8 => None,
-            Charset::Iso8859(part) => part.lacks(text),
+            Charset::OneByte(page) => page.lacks(text),
         }
     }
 
@@ -33,7 +33,7 @@ impl Charset {
     {
         match self {
             Charset::Unmarked | Charset::Utf8 => Ok(Some(text.as_bytes().to_vec(alloc)?)),
-            Charset::Iso8859(part) => part.encode(alloc, text),
+            Charset::OneByte(page) => page.encode(alloc, text),
         }
     }
 
@@ -50,19 +50,19 @@ impl Charset {
                 Ok(text) => Ok(Some(String::from_str(alloc, text)?)),
                 Err(_) => Ok(None),
             },
-            Charset::Iso8859(part) => part.decode(alloc, bytes),
+            Charset::OneByte(page) => page.decode(alloc, bytes),
         }
     }
 }
 
-impl Part {
-    // Returns the place of the first character of `text` that this part lacks.
+impl Page {
+    // Returns the place of the first character of `text` that this set lacks.
     fn lacks(self, text: &str) -> Option<usize>
-        ensures has { MatchOption result (Has (Iso8859 self) (chars text.now))
-            (λ _. ¬ Has (Iso8859 self) (chars text.now)) }
+        ensures has { MatchOption result (Has (OneByte self) (chars text.now))
+            (λ _. ¬ Has (OneByte self) (chars text.now)) }
         ensures first { IfSome result (λ place. (place < length (chars text.now))
-            × Has (Iso8859 self) (take place (chars text.now))
-            × ¬ Has (Iso8859 self) (take (place + 1) (chars text.now))) }
+            × Has (OneByte self) (take place (chars text.now))
+            × ¬ Has (OneByte self) (take (place + 1) (chars text.now))) }
     {
         let mut place = 0;
         for character in text.chars() {
@@ -74,11 +74,11 @@ impl Part {
         None
     }
 
-    // Returns the bytes of `text` in this part, or `None` if the part lacks one of its characters.
+    // Returns the bytes of `text` in this set, or `None` if the set lacks one of its characters.
     fn encode(self, alloc: Global, text: &str) -> Result<Option<Vec<u8>>, AllocError>
         ensures { IfOk result (λ found. MatchOption found
-            (¬ Has (Iso8859 self) (chars text.now))
-            (λ bytes. IsWritten (Iso8859 self) (chars text.now) bytes.items)) }
+            (¬ Has (OneByte self) (chars text.now))
+            (λ bytes. IsWritten (OneByte self) (chars text.now) bytes.items)) }
     {
         let mut bytes = Vec::new(alloc);
         for character in text.chars() {
@@ -90,11 +90,11 @@ impl Part {
         Ok(Some(bytes))
     }
 
-    // Returns the text that `bytes` are in this part, or `None` if one of them has no character.
+    // Returns the text that `bytes` are in this set, or `None` if one of them has no character.
     fn decode(self, alloc: Global, bytes: &[u8]) -> Result<Option<String>, AllocError>
         ensures { IfOk result (λ found. MatchOption found
-            ((text : List ℕ) → ¬ IsWritten (Iso8859 self) text bytes.now)
-            (λ text. IsWritten (Iso8859 self) (chars (string_bytes text)) bytes.now)) }
+            ((text : List ℕ) → ¬ IsWritten (OneByte self) text bytes.now)
+            (λ text. IsWritten (OneByte self) (chars (string_bytes text)) bytes.now)) }
     {
         let mut text = String::new(alloc);
         for byte in bytes {

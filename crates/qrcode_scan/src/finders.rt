@@ -154,15 +154,19 @@ fn is_same(finder: Finder, other: Finder) -> bool {
         && 7 * finder.y.abs_diff(other.y) <= 2 * finder.height.min(other.height) + 7
 }
 
-// Returns the finder pattern around a pixel, about `width` pixels wide. Neither side may be more
+// Returns the finder pattern around a pixel, about `width` pixels wide: its sides are those of the
+// row through its middle or, if that has a wrong pixel, of the pixel's row. Neither side may be more
 // than twice as long as the other.
 fn finder_at(pixels: &Pixels, x: usize, y: usize, width: usize) -> Option<Finder>
     requires inside { (x ≤ pixels.now.across) × (y ≤ pixels.now.down) × (x ≤ 65535) }
     requires width { width ≤ 65535 }
 {
     let (top, bottom) = finder_through(pixels, column_of(pixels, x), y, 2 * width)?;
-    let row = row_of(pixels, (top + bottom) / 2);
-    let (left, right) = finder_through(pixels, row, x, 2 * width)?;
+    let middle = row_of(pixels, (top + bottom) / 2);
+    let (left, right) = match finder_through(pixels, middle, x, 2 * width) {
+        Some(ends) => ends,
+        None => finder_through(pixels, row_of(pixels, y), x, 2 * width)?,
+    };
     let (width, height) = (right - left, bottom - top);
     if width > 2 * height || height > 2 * width {
         return None;

@@ -39,7 +39,7 @@ pub struct Grid {
     /// How many such fractions make a pixel.
     pub parts: usize,
     pub ghost fits: { (count ≤ 177) × (left < 2 ^ 28) × (top < 2 ^ 28) × (across < 2 ^ 18)
-        × (down < 2 ^ 18) × (lean < 2 ^ 18) × (fall < 2 ^ 18) },
+        × (down < 2 ^ 18) × (lean < 2 ^ 18) × (fall < 2 ^ 18) × (parts < 2 ^ 18) },
 }
 
 // Three finder patterns: one in the corner, one left or right of it, one above or below it. Of a

@@ -41,7 +41,7 @@ fn has_front(set: Charset, version: Version) -> bool
 {
     match set {
         Charset::Unmarked => true,
-        Charset::Utf8 | Charset::Iso8859(_) => !version.is_micro(),
+        Charset::Utf8 | Charset::OneByte(_) => !version.is_micro(),
     }
 }
 

@@ -10,7 +10,7 @@ returns-in-Unmarked c =
     let text = c.args.text.now in
     record { has = (text, in_utf8 c.args.self c.in-Unmarked.is (chars text) text (utf8_written text c.utf8.text)); first = tt }
 
-pub returns-in-Iso8859-clause-first : goal.returns-in-Iso8859-clause-first
-returns-in-Iso8859-clause-first c =
+pub returns-in-OneByte-clause-first : goal.returns-in-OneByte-clause-first
+returns-in-OneByte-clause-first c =
     let text = chars c.args.text.now in
-    subst (λ (d : Charset). IfSome c.lacks.result (λ place. (place < length text) × Has d (take place text) × ¬ Has d (take (place + 1) text))) (sym c.in-Iso8859.is) c.lacks.ensures.first
+    subst (λ (d : Charset). IfSome c.lacks.result (λ place. (place < length text) × Has d (take place text) × ¬ Has d (take (place + 1) text))) (sym c.in-OneByte.is) c.lacks.ensures.first

@@ -4,7 +4,7 @@ use Rattle.std.proofs.lemmas.Iterator.{YieldsList-from_chars}
 use Rattle.std.proofs.lemmas.Iterator.Consumers.{YieldsList-turn, YieldsList-end}
 use Rattle.std.proofs.lemmas.List.{map-id}
 use Rattle.qrcode_charsets.proofs.Writings.{has_byte}
-use Rattle.qrcode_charsets.proofs.sets.Part.encode.Goals as goal
+use Rattle.qrcode_charsets.proofs.sets.Page.encode.Goals as goal
 
 pub returns-in-None-byte : goal.returns-in-None-byte
 returns-in-None-byte c = λ has.

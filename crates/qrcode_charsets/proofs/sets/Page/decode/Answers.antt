@@ -2,7 +2,7 @@ use Rattle.std.proofs.Common.{List, ℕ, Some, sym, ap, ◌∙◌}
 use Rattle.std.specs.Prelude.{map, chars, string_bytes}
 use Rattle.std.proofs.lemmas.Str.{chars-nil, IsUtf8-string_bytes}
 use Rattle.qrcode_charsets.proofs.Writings.{no_text, read_more}
-use Rattle.qrcode_charsets.proofs.sets.Part.decode.Goals as goal
+use Rattle.qrcode_charsets.proofs.sets.Page.decode.Goals as goal
 
 pub loop-byte-init : goal.loop-byte-init
 loop-byte-init c = sym (ap (λ (b : List ℕ). map Some (chars b)) c.new-text.ensures.bytes ∙ ap (λ (x : List ℕ). map Some x) chars-nil)

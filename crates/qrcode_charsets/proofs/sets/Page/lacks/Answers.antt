@@ -5,9 +5,9 @@ use Rattle.std.proofs.lemmas.Iterator.Consumers.{YieldsList-so_far, YieldsList-t
 use Rattle.std.proofs.lemmas.List.{map-id, map_push, length_push}
 use Rattle.std.proofs.lemmas.Str.{length-le-encodes, encodes-chars}
 use Rattle.qrcode_charsets.specs.Charsets.{Has, character}
-use Rattle.qrcode_charsets.specs.declared.sets.Charset.TheVariants.{Iso8859}
+use Rattle.qrcode_charsets.specs.declared.sets.Charset.TheVariants.{OneByte}
 use Rattle.qrcode_charsets.proofs.Writings.{lacks_first, lacks_whole}
-use Rattle.qrcode_charsets.proofs.sets.Part.lacks.Goals as goal
+use Rattle.qrcode_charsets.proofs.sets.Page.lacks.Goals as goal
 
 pub loop-character-init : goal.loop-character-init
 loop-character-init c = record { count = refl; has = ([], refl) }
@@ -47,12 +47,12 @@ returns-in-None-byte c =
       has = lacks_whole p (chars text) (length c.loop-character.yielded) c.in-Some.character t.0 t.1 c.in-None-byte.ensures;
       first = (
         subst (λ k. k < length (chars text)) (sym n) t.0,
-        subst (Has (Iso8859 p)) front c.loop-character.invariant.has,
-        subst (λ k. ¬ Has (Iso8859 p) (take (k + 1) (chars text))) (sym n) (lacks_first p (chars text) (length c.loop-character.yielded) c.in-Some.character t.0 t.1 c.in-None-byte.ensures),
+        subst (Has (OneByte p)) front c.loop-character.invariant.has,
+        subst (λ k. ¬ Has (OneByte p) (take (k + 1) (chars text))) (sym n) (lacks_first p (chars text) (length c.loop-character.yielded) c.in-Some.character t.0 t.1 c.in-None-byte.ensures),
       );
     }
 
 pub returns : goal.returns
 returns c =
     let t = YieldsList-end (YieldsList-from_chars c.args.text.now c.utf8.text cc) c.loop-character.yielded _ c.loop-character.yielded_by _ _ c.in-None.is c.next.ensures.steps in
-    record { has = subst (Has (Iso8859 c.args.self)) (sym (map-id c.loop-character.yielded) ∙ t.0) c.loop-character.invariant.has; first = tt }
+    record { has = subst (Has (OneByte c.args.self)) (sym (map-id c.loop-character.yielded) ∙ t.0) c.loop-character.invariant.has; first = tt }
