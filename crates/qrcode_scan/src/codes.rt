@@ -29,7 +29,10 @@ pub struct Missed {
 
 impl Missed {
     /// Returns the pixel column and row of its upper left corner.
-    pub fn corner(&self) -> (usize, usize) {
+    pub fn corner(&self) -> (usize, usize)
+        ensures left { result.0 ≡ (place_of self.now.grid).left }
+        ensures top { result.1 ≡ (place_of self.now.grid).top }
+    {
         let place = place_of(&self.grid);
         (place.left, place.top)
     }
