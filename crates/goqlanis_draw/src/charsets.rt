@@ -31,7 +31,8 @@ pub(crate) fn text_code(
         }
         None if name.eq_ignore_ascii_case("shortest") => made(alloc, request, &CHARSETS, text)?,
         None => return usage!(alloc;
-            "--charset {name}: use shortest, utf-8 or iso-8859-1 to iso-8859-16, without 12"
+            "--charset {name}: use shortest, utf-8, iso-8859-1 to iso-8859-16, without 12, or \
+            windows-1250, -1251, -1252 or -1256"
         ),
     };
     let (code, set) = made;

@@ -3,6 +3,7 @@
 use crate::texts::text_of;
 use goqlanis_core::VersionName;
 use goqlanis_files::streams::is_unseen;
+use goqlanis_options::charsets::eci_name;
 use goqlanis_options::modes::mode_name;
 use goqlanis_options::push_either;
 use qrcode::types::Mode;
@@ -13,35 +14,14 @@ use qrcode_scan::Scan;
 use std::alloc::{AllocError, Global};
 use std::fmt;
 
-// ECI numbers of character sets, as AIM assigns them, with the names that IANA registers.
-#[rattlefmt::skip]
-static CHARACTER_SETS: &[(u32, &str)] = &[
-    (0, "IBM437"), (1, "ISO-8859-1"), (2, "IBM437"), (3, "ISO-8859-1"), (4, "ISO-8859-2"),
-    (5, "ISO-8859-3"), (6, "ISO-8859-4"), (7, "ISO-8859-5"), (8, "ISO-8859-6"), (9, "ISO-8859-7"),
-    (10, "ISO-8859-8"), (11, "ISO-8859-9"), (12, "ISO-8859-10"), (13, "ISO-8859-11"),
-    (15, "ISO-8859-13"), (16, "ISO-8859-14"), (17, "ISO-8859-15"), (18, "ISO-8859-16"),
-    (20, "Shift_JIS"), (21, "windows-1250"), (22, "windows-1251"), (23, "windows-1252"),
-    (24, "windows-1256"), (25, "UTF-16BE"), (26, "UTF-8"), (27, "US-ASCII"), (28, "Big5"),
-    (29, "GB2312"), (30, "EUC-KR"), (31, "GBK"), (32, "GB18030"), (33, "UTF-16LE"),
-    (34, "UTF-32BE"), (35, "UTF-32LE"), (170, "ISO 646 invariant"), (899, "bytes"),
-];
-
 /// The ECI number of a character set; displayed with its name.
 #[derive(Clone, Copy)]
 pub(crate) struct CharacterSet(u32);
 
-impl CharacterSet {
-    // Returns the name, if it is known.
-    fn name(self) -> Option<&'static str> {
-        let (_, name) = CHARACTER_SETS.iter().find(|(known, _)| *known == self.0)?;
-        Some(*name)
-    }
-}
-
 impl fmt::Display for CharacterSet {
     fn fmt<W: fmt::Write>(&self, f: &mut fmt::Formatter<W>) -> fmt::Result {
         let number = self.0;
-        match self.name() {
+        match eci_name(number) {
             Some(name) => write!(f, "ECI {number}, {name}"),
             None => write!(f, "ECI {number}, a character set without a known name"),
         }
@@ -200,7 +180,7 @@ fn push_header(text: &mut String, header: Header, is_json: bool) -> Result<(), A
 // Appends the header of a character set.
 fn push_set(text: &mut String, set: CharacterSet, is_json: bool) -> Result<(), AllocError> {
     let number = set.0;
-    match set.name() {
+    match eci_name(number) {
         _ if !is_json => write!(text, "header: {set}\n"),
         Some(name) => write!(text, "{{\"eci\": {number}, \"name\": \"{name}\"}}"),
         None => write!(text, "{{\"eci\": {number}}}"),

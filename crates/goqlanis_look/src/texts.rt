@@ -6,8 +6,8 @@ use qrcode_reader::spell::{Header, Part};
 use qrcode_scan::Scan;
 use std::alloc::{AllocError, Global};
 
-/// Returns the text of a code, if all of its segments are in UTF-8 or in sets of ISO/IEC 8859 that
-/// ECI headers name.
+/// Returns the text of a code, if all of its segments are in UTF-8 or in sets that ECI headers name
+/// and `Charset` has.
 ///
 /// Errors: only `AllocError`.
 pub(crate) fn text_of(alloc: Global, scan: &Scan) -> Result<Option<String>, AllocError> {

@@ -93,8 +93,8 @@ pub static TEXTS: &[Entry] = &[
 pub static MARKS: &[Entry] = &[
     entry!("eci", Nothing, "Mark the data as UTF-8 (ECI 26); helps if readers show it wrongly"),
     entry!("charset", Text("NAME"),
-        "Character set of the text, with its ECI: utf-8 or iso-8859-1 to -16; shortest: that of the \
-        fewest bits [default: UTF-8 without ECI]"),
+        "Character set of the text, with its ECI: utf-8, iso-8859-1 to -16, windows-1250 to -1252 or \
+        -1256; shortest: that of the fewest bits, without windows [default: UTF-8 without ECI]"),
 ];
 
 /// The mask option.
