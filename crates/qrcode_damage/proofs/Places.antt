@@ -1,9 +1,9 @@
 -- Where the codewords of a block are.
-use Rattle.std.proofs.Common.{◌≡◌, ◌≢◌, ◌==◌, not, ℕ, zero, suc, ◌+◌, ◌-◌, ◌*◌, ◌/◌, ◌%◌, ◌<◌, ◌≤◌, ltb, leb, cond, Bool, false, List, [], ◌∷◌, ◌++◌, length, map, take, replicate, get_or, get_or-set_same, get_or-set_other, below_more, slice_index, inl, inr, refl, sym, ap, ap₂, ◌∙◌, arith}
+use Rattle.std.proofs.Common.{◌≡◌, ◌≢◌, ◌==◌, not, ℕ, zero, suc, ◌+◌, ◌-◌, ◌*◌, ◌/◌, ◌%◌, ◌<◌, ◌≤◌, leb, cond, Bool, false, List, [], ◌∷◌, ◌++◌, length, map, take, replicate, get_or, get_or-set_same, get_or-set_other, below_more, slice_index, inl, inr, refl, sym, ap, ap₂, ◌∙◌, ◌⊎◌, arith}
 use Rattle.std.specs.List.{range_with_len}
 use Rattle.std.proofs.Math.ListN.{set}
-use Rattle.std.proofs.lemmas.Bool.{cases_lt, cases_eq, lt-ltb, le-ltb}
-use Rattle.std.proofs.lemmas.Bool.Decides.{leb_tells}
+use Rattle.std.proofs.lemmas.Bool.{cases_lt, cases_eq}
+use Rattle.std.proofs.lemmas.Bool.Decides.{leb_tells, nat_tests}
 use Rattle.std.proofs.lemmas.List.{append-nil, get_or-take, get_or_past, length-take}
 use Rattle.std.proofs.lemmas.List.FromFn.{map-range_with_len_more, length-map-range_with_len, get_or-map-range_with_len, fill_by_all}
 use Rattle.std.proofs.lemmas.List.Sums.{sum_by-append}
@@ -20,32 +20,14 @@ use Rattle.qrcode_reader.proofs.Interleaved.{block_is}
 use Rattle.qrcode_area.proofs.Beside.{count-cons}
 use Rattle.qrcode_damage.specs.Flips.{count_wrong, AreHigh, shortest_block, length_in, place_of}
 
-abbrev at_end : Blocks → ℕ → ℕ
-at_end b k = b.short_length * count_of b + (k - b.short_blocks)
-
-abbrev at_ec : Blocks → ℕ → ℕ → ℕ
-at_ec b k i = data_length_of b + i * count_of b + k
-
-long_has : (b : Blocks) (k : ℕ) → b.short_blocks ≤ k → length_in b k ≡ b.short_length + 1
-long_has b k long = elim (leb_tells b.short_blocks k) [ inl most ↦ ap (λ t. b.short_length + cond {A = ℕ} t 1 0) most.0 | inr less ↦ absurd (omega (arith, less.1)) ]
-
 pub row_at : (b : Blocks) (k i : ℕ) → i < b.short_length → place_of b k i ≡ i * count_of b + k
-row_at b k i below = ap (λ t. cond {A = ℕ} t (i * count_of b + k) (cond (ltb i (length_in b k)) (at_end b k) (at_ec b k (i - length_in b k)))) (lt-ltb i b.short_length below)
+row_at b k i below = grind (arith, nat_tests)
 
 pub end_at : (b : Blocks) (k : ℕ) → b.short_blocks ≤ k → place_of b k b.short_length ≡ b.short_length * count_of b + (k - b.short_blocks)
-end_at b k long =
-    let i = b.short_length in
-    let more = long_has b k long in
-    ap (λ t. cond {A = ℕ} t (i * count_of b + k) (cond (ltb i (length_in b k)) (at_end b k) (at_ec b k (i - length_in b k)))) (le-ltb i b.short_length (omega arith))
-    ∙ ap (λ t. cond {A = ℕ} t (at_end b k) (at_ec b k (i - length_in b k))) (lt-ltb i (length_in b k) (omega (arith, more)))
+end_at b k long = grind (arith, nat_tests)
 
 pub ec_at : (b : Blocks) (k i : ℕ) → place_of b k (length_in b k + i) ≡ data_length_of b + i * count_of b + k
-ec_at b k i =
-    let j = length_in b k + i in
-    let back : j - length_in b k ≡ i = omega arith in
-    ap (λ t. cond {A = ℕ} t (j * count_of b + k) (cond (ltb j (length_in b k)) (at_end b k) (at_ec b k (j - length_in b k)))) (le-ltb j b.short_length (omega arith))
-    ∙ ap (λ t. cond {A = ℕ} t (at_end b k) (at_ec b k (j - length_in b k))) (le-ltb j (length_in b k) (omega arith))
-    ∙ ap (at_ec b k) back
+ec_at b k i = grind (arith, nat_tests)
 
 -- a range in two parts
 split : (f : ℕ → ℕ) (a m n : ℕ) → map f (range_with_len a (m + n)) ≡ map f (range_with_len a m) ++ map f (range_with_len (a + m) n)
@@ -101,94 +83,53 @@ block_by_places v l b words k are below =
 
 -- Each place belongs to one codeword of one block.
 
--- the block and the codeword at a place
-abbrev owner : Blocks → ℕ → ℕ × ℕ
-owner b p =
-    let n = count_of b in
-    let d = data_length_of b in
-    cond (ltb p (b.short_length * n)) (p % n, p / n)
-    (cond (ltb p d) (b.short_blocks + (p - b.short_length * n), b.short_length) ((p - d) % n, length_in b ((p - d) % n) + (p - d) / n))
+unique : (n i k h j : ℕ) → k < n → j < n → i * n + k ≡ h * n + j → (k ≡ j) × (i ≡ h)
+unique n i k h j below under e =
+    (sym (mod-mul-add i n k below) ∙ ap (λ p. p % n) e ∙ mod-mul-add h n j under, sym (div-mul-add i n k below) ∙ ap (λ p. p / n) e ∙ div-mul-add h n j under)
 
-owner_row : (b : Blocks) (k i : ℕ) → k < count_of b → i < b.short_length → owner b (place_of b k i) ≡ (k, i)
-owner_row b k i below inside =
-    let n = count_of b in
-    let p = i * n + k in
-    ap (owner b) (row_at b k i inside)
-    ∙ ap (λ t. cond {A = ℕ × ℕ} t (p % n, p / n) (cond (ltb p (data_length_of b)) (b.short_blocks + (p - b.short_length * n), b.short_length) ((p - data_length_of b) % n, length_in b ((p - data_length_of b) % n) + (p - data_length_of b) / n)))
-    (lt-ltb p (b.short_length * n) (omega (arith, mul-add-lt i n k b.short_length inside below)))
-    ∙ ap₂ (λ (x y : ℕ). (x, y)) (mod-mul-add i n k below) (div-mul-add i n k below)
-
-owner_end : (b : Blocks) (k : ℕ) → k < count_of b → b.short_blocks ≤ k → owner b (place_of b k b.short_length) ≡ (k, b.short_length)
-owner_end b k below long =
-    let n = count_of b in
-    let p = b.short_length * n + (k - b.short_blocks) in
-    let back : b.short_blocks + (p - b.short_length * n) ≡ k = omega arith in
-    ap (owner b) (end_at b k long)
-    ∙ ap (λ t. cond {A = ℕ × ℕ} t (p % n, p / n) (cond (ltb p (data_length_of b)) (b.short_blocks + (p - b.short_length * n), b.short_length) ((p - data_length_of b) % n, length_in b ((p - data_length_of b) % n) + (p - data_length_of b) / n)))
-    (le-ltb p (b.short_length * n) (omega arith))
-    ∙ ap (λ t. cond {A = ℕ × ℕ} t (b.short_blocks + (p - b.short_length * n), b.short_length) ((p - data_length_of b) % n, length_in b ((p - data_length_of b) % n) + (p - data_length_of b) / n))
-    (lt-ltb p (data_length_of b) (omega arith))
-    ∙ ap {B = ℕ × ℕ} (λ (x : ℕ). (x, b.short_length)) back
-
-owner_ec : (b : Blocks) (k i : ℕ) → k < count_of b → owner b (place_of b k (length_in b k + i)) ≡ (k, length_in b k + i)
-owner_ec b k i below =
-    let n = count_of b in
-    let d = data_length_of b in
-    let p = d + i * n + k in
-    let back : p - d ≡ i * n + k = omega arith in
-    ap (owner b) (ec_at b k i)
-    ∙ ap (λ t. cond {A = ℕ × ℕ} t (p % n, p / n) (cond (ltb p d) (b.short_blocks + (p - b.short_length * n), b.short_length) ((p - d) % n, length_in b ((p - d) % n) + (p - d) / n)))
-    (le-ltb p (b.short_length * n) (omega arith))
-    ∙ ap (λ t. cond {A = ℕ × ℕ} t (b.short_blocks + (p - b.short_length * n), b.short_length) ((p - d) % n, length_in b ((p - d) % n) + (p - d) / n))
-    (le-ltb p d (omega arith))
-    ∙ ap {B = ℕ × ℕ} (λ (q : ℕ). (q % n, length_in b (q % n) + q / n)) back
-    ∙ ap₂ (λ (x y : ℕ). (x, length_in b x + y)) (mod-mul-add i n k below) (div-mul-add i n k below)
-
-owner_of_place : (b : Blocks) (k i : ℕ) → k < count_of b → owner b (place_of b k i) ≡ (k, i)
-owner_of_place b k i below =
-    elim (cases_lt i b.short_length) [
-      | inl row ↦ owner_row b k i below row
-      | inr behind ↦ elim (cases_lt i (length_in b k)) [
-        | inl last ↦
-            elim (leb_tells b.short_blocks k) [
-              | inl most ↦
-                  let one = long_has b k most.1 in
-                  let same : b.short_length ≡ i = omega (arith, one) in
-                  ap (λ j. owner b (place_of b k j)) (sym same) ∙ owner_end b k below most.1 ∙ ap {B = ℕ × ℕ} (λ (j : ℕ). (k, j)) same
-              | inr less ↦ absurd (let none : length_in b k ≡ b.short_length + 0 = ap (λ t. b.short_length + cond {A = ℕ} t 1 0) less.0 in omega arith)
-            ]
-        | inr ec ↦
-            let same : length_in b k + (i - length_in b k) ≡ i = omega arith in
-            ap (λ j. owner b (place_of b k j)) (sym same) ∙ owner_ec b k (i - length_in b k) below ∙ ap {B = ℕ × ℕ} (λ (j : ℕ). (k, j)) same
-      ]
-    ]
+-- a place lies in a row of data, behind the rows, or in a row of error correction
+place_cases : (b : Blocks) (k i : ℕ) → ((i < b.short_length) × (place_of b k i ≡ i * count_of b + k))
+    ⊎ ((((i ≡ b.short_length) × (b.short_blocks ≤ k)) × (place_of b k i ≡ b.short_length * count_of b + (k - b.short_blocks)))
+    ⊎ ((length_in b k ≤ i) × (place_of b k i ≡ data_length_of b + (i - length_in b k) * count_of b + k)))
+place_cases b k i = grind (arith, nat_tests)
 
 pub same_place : (b : Blocks) (k j i h : ℕ) → k < count_of b → j < count_of b → place_of b k i ≡ place_of b j h → (k ≡ j) × (i ≡ h)
 same_place b k j i h below under e =
-    let same : ◌≡◌ {A = ℕ × ℕ} (k, i) (j, h) = sym (owner_of_place b k i below) ∙ ap (owner b) e ∙ owner_of_place b j h under in
-    (ap (λ (p : ℕ × ℕ). p.0) same, ap (λ (p : ℕ × ℕ). p.1) same)
+    let n = count_of b in
+    let s = b.short_length in
+    elim (place_cases b k i) [
+      | inl row ↦
+          let less = mul-add-lt i n k s row.0 below in
+          elim (place_cases b j h) [
+            | inl other ↦ unique n i k h j below under (sym row.1 ∙ e ∙ other.1)
+            | inr o ↦ elim o [ inl other ↦ absurd (omega (arith, less, row.1, other.1, e)) | inr other ↦ absurd (omega (arith, less, row.1, other.1, e)) ]
+          ]
+      | inr o ↦ elim o [
+        | inl last ↦ elim (place_cases b j h) [
+          | inl row ↦ absurd (omega (arith, mul-add-lt h n j s row.0 under, row.1, last.1, e))
+          | inr o ↦ elim o [ inl other ↦ (omega (arith, last, other, e), omega (arith, last, other)) | inr other ↦ absurd (omega (arith, last, other, e, below)) ]
+        ]
+        | inr ec ↦ elim (place_cases b j h) [
+          | inl row ↦ absurd (omega (arith, mul-add-lt h n j s row.0 under, row.1, ec.1, e))
+          | inr o ↦ elim o [
+            | inl other ↦ absurd (omega (arith, ec, other, e, under))
+            | inr other ↦
+                let same = unique n (i - length_in b k) k (h - length_in b j) j below under (omega (arith, ec.1, other.1, e)) in
+                (same.0, omega (arith, same.1, ec.0, other.0, ap (length_in b) same.0))
+          ]
+        ]
+      ]
+    ]
 
 -- and all places are inside
 pub place_inside : (b : Blocks) (k i : ℕ) → k < count_of b → i < length_in b k + b.ec_length → place_of b k i < data_length_of b + b.ec_length * count_of b
-place_inside b k i below inside =
-    elim (cases_lt i b.short_length) [
-      | inl row ↦ omega (arith, row_at b k i row, mul-add-lt i (count_of b) k b.short_length row below)
-      | inr behind ↦ elim (cases_lt i (length_in b k)) [
-        | inl last ↦
-            elim (leb_tells b.short_blocks k) [
-              | inl most ↦
-                  let one = long_has b k most.1 in
-                  let same : i ≡ b.short_length = omega (arith, one) in
-                  let at = ap (place_of b k) same ∙ end_at b k most.1 in
-                  omega (arith, at, most.1)
-              | inr less ↦ absurd (let none : length_in b k ≡ b.short_length + 0 = ap (λ t. b.short_length + cond {A = ℕ} t 1 0) less.0 in omega arith)
-            ]
-        | inr ec ↦
-            let same : i ≡ length_in b k + (i - length_in b k) = omega arith in
-            let at = ap (place_of b k) same ∙ ec_at b k (i - length_in b k) in
-            omega (arith, at, mul-add-lt (i - length_in b k) (count_of b) k b.ec_length (omega arith) below)
-      ]
-    ]
+place_inside b k i below inside = elim (place_cases b k i) [
+  | inl row ↦ omega (arith, row.1, mul-add-lt i (count_of b) k b.short_length row.0 below)
+  | inr o ↦ elim o [
+    | inl last ↦ omega (arith, last, below)
+    | inr ec ↦ omega (arith, ec.1, mul-add-lt (i - length_in b k) (count_of b) k b.ec_length (omega (arith, ec.0, inside)) below)
+  ]
+]
 
 -- no block is shorter than a short one
 pub shortest_is : (v : Version) (l : EcLevel) (b : Blocks) → AreBlocks v l b → shortest_block v l ≡ b.short_length + b.ec_length
