@@ -63,8 +63,9 @@ pub extern "C" fn goq_encode_charset(
         (length modules.old) result place.old place.new }
 {
     let why = match encode_charset(alloc, text, designators, options, modules) {
-        Ok(made) => {
-            (*symbol, *designator) = made;
+        Ok((made, number)) => {
+            *symbol = made;
+            *designator = number;
             return 0;
         }
         Err(why) => why,
