@@ -104,7 +104,9 @@ typedef uint32_t goq_answer;
     X(NOT_PICTURE, 49, "it is neither a PNG, PBM or PGM file nor half blocks: convert it to PNG") \
     X(BROKEN_PICTURE, 50, "the picture is cut off, damaged, interlaced or too big: save it again") \
     X(NO_SQUARE, 51, "no code was found in the picture: crop it to the code and an even margin") \
-    X(LARGE_PICTURE, 52, "the picture is larger than 67,108,864 bytes: cut it into smaller ones")
+    X(LARGE_PICTURE, 52, "the picture is larger than 67,108,864 bytes: cut it into smaller ones") \
+    X(NO_SUCH_SET, 53, "no such character set: use GOQ_UNMARKED to GOQ_UTF_8") \
+    X(NOT_IN_SET, 54, "the character set has no such character: use another, as GOQ_UTF_8")
 
 enum {
 #define GOQ_NAMED(name, number, text) GOQ_##name = number,
@@ -347,6 +349,27 @@ enum {
     GOQ_AS_TEXT = 1, /* like goq_encode_text: the data must be UTF-8 */
     GOQ_AS_MARKED_TEXT = 2 /* like goq_encode_marked_text: the data must be UTF-8, and the
                               version a Normal one */
+};
+
+/* Character sets for text, by their ECI designators. */
+enum {
+    GOQ_UNMARKED = 0, /* UTF-8 without a header */
+    GOQ_ISO_8859_1 = 3, /* for Western Europe */
+    GOQ_ISO_8859_2 = 4, /* for Central Europe */
+    GOQ_ISO_8859_3 = 5, /* for Southern Europe */
+    GOQ_ISO_8859_4 = 6, /* for Northern Europe */
+    GOQ_ISO_8859_5 = 7, /* with Cyrillic letters */
+    GOQ_ISO_8859_6 = 8, /* with Arabic letters */
+    GOQ_ISO_8859_7 = 9, /* with Greek letters */
+    GOQ_ISO_8859_8 = 10, /* with Hebrew letters */
+    GOQ_ISO_8859_9 = 11, /* for Turkish */
+    GOQ_ISO_8859_10 = 12, /* for Northern Europe */
+    GOQ_ISO_8859_11 = 13, /* with Thai letters */
+    GOQ_ISO_8859_13 = 15, /* for the Baltic */
+    GOQ_ISO_8859_14 = 16, /* for Celtic languages */
+    GOQ_ISO_8859_15 = 17, /* part 1 with the euro sign */
+    GOQ_ISO_8859_16 = 18, /* for South-Eastern Europe */
+    GOQ_UTF_8 = 26 /* UTF-8 after its header */
 };
 
 /* A mask, for the field `mask` of goq_options: 0 to 7, in Micro 0 to 3. goq_mask reads the number
@@ -637,6 +660,20 @@ enum { GOQ_BLOCKS_MAX = 81 };
 goq_answer goq_encode_with(const void *data, size_t data_length, const goq_options *options,
     uint8_t *modules, size_t modules_length, goq_symbol *symbol);
 
+/* Encodes UTF-8 text in one of some character sets, in the smallest version that any of them
+   allows, and there in the fewest bits. `designators` are those of the sets; without them UTF-8 and
+   ISO 8859 are tried. `options` are those of goq_encode_with; `manner` has no effect. `modules` and
+   `symbol` are written as by goq_encode, and the set goes to `designator`. Readers that follow ECI,
+   and assume UTF-8 without it, show exactly the text. Errors: GOQ_NO_SUCH_STRUCT,
+   GOQ_NO_SUCH_LEVEL, GOQ_NO_SUCH_VERSION, GOQ_NO_SUCH_MANNER; GOQ_NO_SUCH_SET with the index of the
+   designator in `place`; GOQ_NOT_TEXT; GOQ_NO_ROOM for more than 1,048,576 bytes; if each set lacks
+   a character, GOQ_NOT_IN_SET with the place of the first one that the first set lacks, counted in
+   characters from 0; if `options` names a version, GOQ_LEVEL_NOT_IN_VERSION and GOQ_NO_MODE (Micro
+   has no ECI); GOQ_NO_ROOM, GOQ_NO_SUCH_MASK, GOQ_SMALL_BUFFER; GOQ_OUT_OF_MEMORY. */
+goq_answer goq_encode_charset(const void *text, size_t text_length, const uint32_t *designators,
+    size_t designators_length, const goq_options *options, uint8_t *modules, size_t modules_length,
+    goq_symbol *symbol, uint32_t *designator, size_t *place);
+
 /* Splits `data` over several symbols (structured append). Their modules go to `modules`, one symbol
    after the other, each with symbol->width * symbol->width modules; `symbol` describes each of
    them, and their number goes to `count`. A single symbol has no structured append header. Errors:
@@ -714,6 +751,14 @@ goq_answer goq_read_any(const uint8_t *modules, size_t modules_length, void *byt
    GOQ_SMALL_BUFFER; GOQ_OUT_OF_MEMORY. */
 goq_answer goq_read_text(const uint8_t *modules, size_t modules_length, void *text,
     size_t text_length, goq_reading *reading);
+
+/* Decodes bytes in the character set GOQ_UNMARKED .. GOQ_UTF_8 into UTF-8 text, such as the
+   segments after a header of goq_read_picture. The text goes to the start of `text` (three times as
+   many bytes are always enough), and its length to `count`. The designators 1 (ISO 8859-1), 27 and
+   170 (ASCII) are taken too. Errors: GOQ_NO_SUCH_SET, GOQ_NOT_IN_SET if the bytes are no text in
+   that set, GOQ_SMALL_BUFFER; GOQ_OUT_OF_MEMORY. */
+goq_answer goq_decode(const void *bytes, size_t bytes_length, uint32_t designator, void *text,
+    size_t text_length, size_t *count);
 
 /* Writes the number of the mask that the format information of a square names to `mask`: 0 to 7, in
    Micro 0 to 3. Errors: GOQ_NO_SUCH_SIDE, GOQ_NO_FORMAT; GOQ_OUT_OF_MEMORY. */

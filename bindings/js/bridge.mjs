@@ -1,7 +1,7 @@
 /* Makes calls of the package for a script in another language: bridge.mjs FOLDER reads lines of
    JSON, [call, arguments], and writes for each {"made": ..} or {"error": [name, field, message]}.
    Bytes are {"$b": hex}, large numbers {"$n": digits}, dates {"$d": text}, codes {"$c": [modules,
-   version, level]}. */
+   version, level]}, on the way back with their character set. */
 
 import { createInterface } from "node:readline";
 import { pathToFileURL } from "node:url";
@@ -61,7 +61,7 @@ function made(it) {
     if (it instanceof Uint8Array)
         return { $b: Buffer.from(it).toString("hex") };
     if (it instanceof QrCode)
-        return { $c: [made(it.modules), it.version, it.level] };
+        return { $c: [made(it.modules), it.version, it.level, it.charset] };
     if (Array.isArray(it))
         return it.map(made);
     if (it === null || typeof it !== "object")

@@ -33,8 +33,8 @@ class WrongField(Error):
 
 
 class Symbol:
-    def __init__(self, modules, version, level):
-        self.modules, self.version, self.level = modules, version, level
+    def __init__(self, modules, version, level, charset=None):
+        self.modules, self.version, self.level, self.charset = modules, version, level, charset
 
     width = property(lambda self: math.isqrt(len(self.modules)))
     mask = property(lambda self: ask("mask", self))

@@ -47,6 +47,7 @@ function limited(pages) {
 const text = "The quick brown fox jumps over the lazy dog. ".repeat(30);
 const TRIALS = {
     encode: (it) => it.encode(text).modules,
+    charset: (it) => it.encode("Привет, мир", { charset: "shortest" }).modules,
     several: (it) => it.encodeSequence(text, { count: 4 }).map((code) => code.modules).flat(),
     segments: (it) => it.encodeSegments([["eci", 26], ["byte", text]]).modules,
     gs1: (it) => it.encodeGs1([["01", "09501101530003"], ["10", "ABC"]]).modules,
@@ -88,6 +89,11 @@ const REFUSED = [
     [(it) => it.encode("1", { mask: 8 }), "NoSuchMask", "not 8"],
     [(it) => it.encode("1", { boost: 1 }), "TypeError", "true or false"],
     [(it) => it.encode("1", { eci: 7 }), "RangeError", "is for bytes"],
+    [(it) => it.encode("1", { charset: "latin9" }), "NoSuchSet", "take 'shortest'"],
+    [(it) => it.encode("złoty", { charset: "iso-8859-1" }), "NotInSet", "2, 'ł' (U+0142)"],
+    [(it) => it.encode("1", { charset: "utf-8", marked: true }), "RangeError", "one of them"],
+    [(it) => it.encode(new Uint8Array(1), { charset: "utf-8" }), "TypeError", "eci: 7"],
+    [(it) => it.encode("ж", { charset: "utf-8", version: "M3" }), "NoMode", "out charset"],
     [(it) => it.encodeSegments([["numeric", "12a"]]), "NotInMode", "segment 1: numeric"],
     [(it) => it.encodeSegments([["byte"], ["eci", "26"]]), "TypeError", "segment 1"],
     [() => one.svg({ margin: 4 }), "TypeError", "quietZone: 4"],

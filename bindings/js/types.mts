@@ -4,6 +4,7 @@ await load();
 const code = encode("a", { level: "H", version: "M3", mask: 3 });
 const s: string = code.svg({ dark: null, size: "30mm", finderDark: "navy" });
 const b: Uint8Array = code.png({ dpi: 300 });
+const c: string | null = encode("ж", { charset: "iso-8859-5" }).charset;
 encodeSegments([["eci", 26], ["byte", "x"], ["fnc1First"], ["kanji", new Uint8Array(2)]]);
 const t: string | null = read(b)[0].text;
 wifi({ ssid: "x", hidden: true });
@@ -13,5 +14,7 @@ code.withLogo(s, { margin: 1 }).logo?.area.left;
 wifi({ ssdi: "x" });
 // @ts-expect-error
 encode("a", { levl: "H" });
+// @ts-expect-error
+encode("a", { charset: "latin" });
 // @ts-expect-error
 encodeSegments([["kanji", "x"]]);

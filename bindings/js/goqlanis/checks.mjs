@@ -1,6 +1,7 @@
 /* Checks of arguments, before the library sees them. */
 
 import { QrError } from "./errors.mjs";
+import { CHARSETS } from "./numbers.mjs";
 
 export const LEVELS = ["L", "M", "Q", "H"];
 /* The names of options in other packages, and what to use here. */
@@ -8,7 +9,7 @@ const OTHERS = { errorCorrectionLevel: "level: 'H'", error: "level: 'H'", ecLeve
     maskPattern: "mask: 3", margin: "quietZone: 4", border: "quietZone: 4", width: "size: 300",
     color: "dark: 'navy', light: 'white'", cellSize: "scale: 8", moduleSize: "scale: 8",
     typeNumber: "version: 7", fill: "dark: 'navy'", background: "light: 'white'",
-    charset: "eci: 4 with bytes", type: ".svg(), .png() or .draw('pdf')" };
+    charset: "charset of encode", type: ".svg(), .png() or .draw('pdf')" };
 const encoder = new TextEncoder();
 
 /** Returns a value for a message, cut to 40 characters. */
@@ -97,6 +98,25 @@ export function level(value) {
     if (at < 0)
         throw new QrError("NoSuchLevel", `no level ${shown(value)}: take L, M, Q or H`);
     return at;
+}
+
+/** Returns the library's number of a character set, or nothing for the shortest. */
+export function charset(value) {
+    if (typeof value !== "string")
+        throw new TypeError(`charset is a string, as 'shortest', not ${shown(value)}`);
+    const name = value.toLowerCase().replace(/_/g, "-").replace("iso8859", "iso-8859")
+        .replace("utf8", "utf-8");
+    if (name === "shortest")
+        return [];
+    if (!Object.keys(CHARSETS).includes(name))
+        throw new QrError("NoSuchSet", `no charset ${shown(value)}: take 'shortest', 'utf-8' or `
+            + "'iso-8859-1' to 'iso-8859-16', without 12");
+    return [CHARSETS[name]];
+}
+
+/** Returns the name of a character set by the library's number; 0 is UTF-8 too. */
+export function charsetName(number) {
+    return Object.keys(CHARSETS).find((name) => CHARSETS[name] === number) ?? "utf-8";
 }
 
 /** Returns the library's number of a version: 1 to 40, or 41 to 44 for M1 to M4. */

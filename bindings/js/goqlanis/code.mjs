@@ -12,7 +12,7 @@ const WITH_LOGO = ["svg", "txt", "light"];
 
 /** A QR or Micro QR code: see index.d.ts. */
 export class QrCode {
-    constructor(modules, version, level, logo = null) {
+    constructor(modules, version, level, logo = null, charset = null) {
         const found = checks.version(version), width = number("goq_width", found);
         const given = checks.bytesOf(modules);
         if (given?.length !== width * width)
@@ -23,6 +23,7 @@ export class QrCode {
         this.level = checks.LEVELS[checks.level(level)];
         this.width = width;
         this.logo = logo;
+        this.charset = charset;
     }
 
     get mask() {
@@ -88,12 +89,14 @@ export class QrCode {
     }
 
     withArea(area = this.largestArea()) {
-        return new QrCode(areas.covered(this, area), this.version, this.level, this.logo);
+        return new QrCode(areas.covered(this, area), this.version, this.level, this.logo,
+            this.charset);
     }
 
     withLogo(logo, options = {}) {
         const placed = areas.placed(this, logo, options);
-        return new QrCode(areas.covered(this, placed.area), this.version, this.level, placed);
+        return new QrCode(areas.covered(this, placed.area), this.version, this.level, placed,
+            this.charset);
     }
 }
 

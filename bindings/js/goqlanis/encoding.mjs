@@ -6,10 +6,10 @@ import { elementsOf, gs1 } from "./contents.mjs";
 import { refusal } from "./errors.mjs";
 import { answer, number, within } from "./memory.mjs";
 import { ALPHANUMERIC, AS_BYTES, AS_MARKED_TEXT, AS_TEXT, BYTES, ECI, FNC1_FIRST,
-    FNC1_SECOND, KANJI, MODULES_MAX, NUMERIC, SEVERAL_MAX } from "./numbers.mjs";
-import { LEVELS, grouped, shown, versionName } from "./checks.mjs";
+    FNC1_SECOND, KANJI, MODULES_MAX, NUMERIC, SEVERAL_MAX, UTF_8 } from "./numbers.mjs";
+import { LEVELS, charsetName, grouped, shown, versionName } from "./checks.mjs";
 
-const MICRO_1 = 41, UTF_8 = 26, MOST_SET = 999999, MOST_DATA = 1048576;
+const MICRO_1 = 41, MOST_SET = 999999, MOST_DATA = 1048576;
 export const KINDS = { numeric: NUMERIC, alphanumeric: ALPHANUMERIC, byte: BYTES, kanji: KANJI,
     eci: ECI, fnc1First: FNC1_FIRST, fnc1Second: FNC1_SECOND };
 const IN_MODES = ["numeric holds only digits",
@@ -18,18 +18,21 @@ const IN_MODES = ["numeric holds only digits",
 
 /* Each kind of request asks the library with `ask(buffers, outputs)`; `version` is 0 for any. */
 
-/** Returns the library's answer to a request, and the codes that it made. */
+/** Returns the library's answer to a request, the codes that it made, and the place of what is
+    wrong. */
 function ask(request, most = 1) {
     return within((buffers) => {
         const modules = buffers.room(most * MODULES_MAX), symbol = buffers.many("goq_symbol", 1);
-        const count = buffers.room(8);
-        const said = request.ask(buffers, [modules, most * MODULES_MAX, symbol], count);
+        const count = buffers.room(8), chosen = buffers.structs("goq_symbol", [{}]);
+        const said = request.ask(buffers, [modules, most * MODULES_MAX, symbol], count, chosen);
         if (said !== "OK")
-            return [said, []];
+            return [said, [], buffers.sizes(count)[0]];
+        const charset = request.sets === undefined ? null
+            : charsetName(buffers.struct("goq_symbol", chosen).version); /* its first field */
         const { version, level, width } = buffers.struct("goq_symbol", symbol);
         const codes = Array.from({ length: most > 1 ? buffers.sizes(count)[0] : 1 }, (_, at) =>
             new QrCode(buffers.copy(modules + at * width * width, width * width),
-                versionName(version), LEVELS[level]));
+                versionName(version), LEVELS[level], null, charset));
         return ["OK", codes];
     });
 }
@@ -39,6 +42,14 @@ const askData = (it) => ({ ...it, ask: (buffers, out) => {
     const options = buffers.initial("goq_options",
         { level, manner, version, min_version, boost, mask });
     return answer("goq_encode_with", buffers.bytes(it.data), it.data.length, options, ...out);
+} });
+
+const askText = (it) => ({ ...it, ask: (buffers, out, place, chosen) => {
+    const { level, version, min_version, boost, mask, sets } = it;
+    const options = buffers.initial("goq_options", { level, version, min_version, boost, mask });
+    const numbers = buffers.bytes(new Uint8Array(Uint32Array.from(sets).buffer));
+    return answer("goq_encode_charset", buffers.bytes(it.data), it.data.length, numbers,
+        sets.length, options, ...out, chosen, place);
 } });
 
 const askParts = (it) => ({ ...it, ask: (buffers, out, count) => {
@@ -77,12 +88,14 @@ function one(make, request, said) {
 /** Encodes a string or bytes. */
 export function encode(value, given = {}) {
     const it = checks.options("encode", given, { level: "M", version: null, minVersion: null,
-        micro: false, boost: false, mask: null, marked: false, eci: null });
+        micro: false, boost: false, mask: null, marked: false, eci: null, charset: null });
     const [data, isText] = checks.data(value);
     const request = { data, level: checks.level(it.level), manner: mannerOf(isText, it),
         ...versionsOf(it), boost: Number(checks.flag("boost", it.boost)), mask: maskOf(it.mask) };
     if (it.boost && it.version !== null)
         throw new RangeError("version and boost: use minVersion in place of version");
+    if (it.charset !== null)
+        return one(askText, { ...request, sets: setsOf(isText, it) }, "the characters");
     if (it.eci === null || isText)
         return one(askData, request, `${grouped(data.length)} bytes`);
     if (it.minVersion !== null || it.micro || it.boost || it.mask !== null)
@@ -100,6 +113,16 @@ function mannerOf(isText, { marked, eci }) {
     if (isText && eci !== null && eci !== UTF_8)
         throw new RangeError(`eci: ${eci} is for bytes: give those of that character set`);
     return !isText ? AS_BYTES : marked || eci !== null ? AS_MARKED_TEXT : AS_TEXT;
+}
+
+/** Returns the library's numbers of the character sets that may be used. */
+function setsOf(isText, { marked, eci, charset }) {
+    if (!isText)
+        throw new TypeError(
+            "charset is only for a string; for bytes, eci: 7 says that they are ISO 8859-5");
+    if (marked || eci !== null)
+        throw new RangeError("charset, marked and eci: give one of them; 'utf-8' marks UTF-8");
+    return checks.charset(charset);
 }
 
 function versionsOf({ version, minVersion, micro = false }) {
@@ -175,7 +198,7 @@ export function encodeGs1(elements, given = {}) {
 
 /** Returns the error for a code that cannot be made: what is wrong, and what would help. */
 function refused(make, it, found, said) {
-    const isData = make === askData;
+    const isData = make === askData || make === askText;
     if (["LEVEL_NOT_IN_VERSION", "NO_MODE", "NO_ROOM"].includes(found) && isData && it.version
             && it.data.length > MOST_DATA)
         return refusal("TOO_LONG");
@@ -187,6 +210,7 @@ function refused(make, it, found, said) {
         NO_SUCH_MASK: () => `version ${ask(make({ ...it, mask: 0 }))[1][0]?.version
             ?? versionName(it.version)} has no mask ${it.mask - 1}: take one of 0 to 3`,
         NO_ROOM: () => noRoom(make, it, said),
+        NOT_IN_SET: () => notInSet(it),
     };
     return refusal(found, texts[found]?.());
 }
@@ -197,9 +221,9 @@ function noMode(make, it) {
         return it.rows.some((row) => row.kind > KANJI)
             ? `version ${name} has no headers, like all of Micro QR; take 1 to 40`
             : `version ${name} lacks a mode of the segments; M3, M4 and 1 to 40 have all`;
-    if (it.manner === AS_MARKED_TEXT)
-        return `version ${name} cannot say which character set it holds; leave out marked and eci, `
-            + "or take 1 to 40";
+    if (make === askText || it.manner === AS_MARKED_TEXT)
+        return `version ${name} cannot say which character set it holds; leave out `
+            + `${make === askText ? "charset" : "marked and eci"}, or take 1 to 40`;
     const modes = name === "M1" ? "digits" : "digits, capitals, spaces and $%*+-./:";
     return `version ${name} holds only ${modes}; M3, M4 and 1 to 40 hold any bytes`;
 }
@@ -209,6 +233,14 @@ function notInMode(it) {
     const at = it.rows.findIndex((row) =>
         ask(askSegments({ ...it, rows: [row], version: 0 }))[0] === "NOT_IN_MODE");
     return at < 0 ? "" : `segment ${at + 1}: ${IN_MODES[it.rows[at].kind]}`;
+}
+
+/** Names the first character that the set lacks. */
+function notInSet(it) {
+    const place = ask(askText(it))[2], character = [...checks.textOf(it.data)][place];
+    const code = character.codePointAt(0).toString(16).toUpperCase().padStart(4, "0");
+    return `character ${grouped(place + 1)}, '${character}' (U+${code}), is not in `
+        + `${charsetName(it.sets[0])}; charset: 'shortest' finds a set that has all`;
 }
 
 function noRoom(make, it, said) {
@@ -234,7 +266,7 @@ function noRoom(make, it, said) {
 function helpsOf(make, it) {
     const holds = (request) => ask(make(request))[1][0];
     const any = it.version && holds({ ...it, version: 0, boost: 0, mask: 0,
-        min_version: make === askData && it.version >= MICRO_1 ? MICRO_1 : 1 });
+        min_version: make !== askElements && it.version >= MICRO_1 ? MICRO_1 : 1 });
     const below = [2, 1, 0].find((level) => level < it.level && holds({ ...it, level }));
     return [...(any ? [`version ${any.version}`] : []),
         ...(below === undefined ? [] : [`level ${LEVELS[below]}`])];

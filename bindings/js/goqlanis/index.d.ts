@@ -22,6 +22,10 @@ export function memoryBytes(): number;
 export type Level = "L" | "M" | "Q" | "H";
 /** A version: 1 to 40, or "M1" to "M4" for Micro QR. */
 export type Version = number | string;
+/** A character set: "utf-8" or a part of ISO 8859. */
+export type Charset = "iso-8859-1" | "iso-8859-2" | "iso-8859-3" | "iso-8859-4" | "iso-8859-5" |
+    "iso-8859-6" | "iso-8859-7" | "iso-8859-8" | "iso-8859-9" | "iso-8859-10" | "iso-8859-11" |
+    "iso-8859-13" | "iso-8859-14" | "iso-8859-15" | "iso-8859-16" | "utf-8";
 /** Bytes are any; a string is encoded so that readers show it. */
 export type Data = string | ArrayBuffer | ArrayBufferView;
 
@@ -42,9 +46,12 @@ export interface EncodeOptions {
     marked?: boolean;
     /** The number of the character set of bytes; then only `level` and `version` go with it. */
     eci?: number | null;
+    /** The character set of a string, marked by its ECI; or "shortest" for the one in which it takes
+        the fewest bits, which needs no ECI if it is UTF-8. */
+    charset?: Charset | "shortest" | null;
 }
 /** Encodes a string or bytes. Throws NoRoom, TooLong, NoSuchLevel, NoSuchVersion,
-    LevelNotInVersion, NoMode, NoSuchMask or NoSuchNumber. */
+    LevelNotInVersion, NoMode, NoSuchMask, NoSuchSet, NotInSet or NoSuchNumber. */
 export function encode(data: Data, options?: EncodeOptions): QrCode;
 /** Splits data over up to 16 codes (structured append), which `join` joins: as few as possible, or
     `count`. */
@@ -133,6 +140,8 @@ export class QrCode {
     /** "1" to "40", or "M1" to "M4". */
     readonly version: string;
     readonly level: Level;
+    /** The character set, if `encode` was given one or chose it. */
+    readonly charset: Charset | null;
     /** Modules per side, without the quiet zone. */
     readonly width: number;
     readonly mask: number;
@@ -217,7 +226,7 @@ export interface AnyReading extends Reading { position: string; isInverted: bool
     `place` and `symbols` belong to "oneOfSeveral", and `length` is the number of bytes. */
 export interface Part {
     kind: string; number?: number; place?: number; symbols?: number; length?: number }
-/** A code in a picture; `text` is null unless the data is UTF-8. */
+/** A code in a picture; `text` is null unless the data is in UTF-8 or the sets that ECI names. */
 export interface Found extends AnyReading { parts: Part[]; text: string | null }
 /** A PNG, PBM or PGM file, text of half blocks, or the pixels of a canvas. */
 export type Picture = Data | { width: number; height: number; data: Uint8ClampedArray };

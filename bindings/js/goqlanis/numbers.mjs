@@ -10,6 +10,12 @@ export const NUMERIC = 0, ALPHANUMERIC = 1, BYTES = 2, KANJI = 3, ECI = 4, FNC1_
 export const WIFI = 0, MECARD = 1, VCARD = 2, PAYMENT = 3, BILL = 4, MAIL = 5, GEO = 6, TEL = 7,
     SMS = 8, OTP = 9, EVENT = 10, UPI = 11, PIX = 12, PROMPTPAY = 13;
 export const AS_BYTES = 0, AS_TEXT = 1, AS_MARKED_TEXT = 2;
+export const UNMARKED = 0;
+export const ISO_8859_1 = 3, ISO_8859_2 = 4, ISO_8859_3 = 5, ISO_8859_4 = 6, ISO_8859_5 = 7,
+    ISO_8859_6 = 8, ISO_8859_7 = 9, ISO_8859_8 = 10, ISO_8859_9 = 11, ISO_8859_10 = 12,
+    ISO_8859_11 = 13;
+export const ISO_8859_13 = 15, ISO_8859_14 = 16, ISO_8859_15 = 17, ISO_8859_16 = 18;
+export const UTF_8 = 26;
 export const SEVERAL_MAX = 16;
 export const MODULES_MAX = 31329;
 export const BYTES_MAX = 7089;
@@ -18,7 +24,7 @@ export const UPRIGHT = 0, TURNED_LEFT = 1, UPSIDE_DOWN = 2, TURNED_RIGHT = 3, MI
     FLIPPED = 5, TRANSPOSED = 6, ANTITRANSPOSED = 7, INVERTED = 8;
 export const PARTS_MAX = 5912;
 export const BLOCKS_MAX = 81;
-export const ANSWERS = "OK NO_SUCH_LEVEL NO_SUCH_VERSION LEVEL_NOT_IN_VERSION TOO_LONG NO_MODE NO_ROOM SMALL_BUFFER OUT_OF_MEMORY NO_SUCH_FORMAT NOT_SQUARE NO_SUCH_SIZE NOT_TEXT NO_SUCH_KIND NOT_IN_MODE NO_SUCH_NUMBER NO_SUCH_SIDE NO_FORMAT DAMAGED NOT_SPELLED NO_SUCH_STRUCT NO_SUCH_MANNER NO_SUCH_MASK NOT_IN_FORMAT NOT_SHOWN NOT_SEVERAL STRANGER MISSING TWICE PARITY NOT_READ NO_SUCH_AREA NO_SUCH_CONTENT NO_SUCH_FIELD FIELD_EMPTY FIELD_TOO_LONG FIELD_TOO_SHORT FIELD_CONTROL FIELD_CHARACTER FIELD_CHECK_DIGITS FIELD_RANGE FIELD_UNUSED NO_SUCH_IDENTIFIER ELEMENT_LENGTH FIELD_DECIMALS FIELD_WORD NO_AREA AREA_BLOCK AREA_FORMAT NOT_PICTURE BROKEN_PICTURE NO_SQUARE LARGE_PICTURE";
+export const ANSWERS = "OK NO_SUCH_LEVEL NO_SUCH_VERSION LEVEL_NOT_IN_VERSION TOO_LONG NO_MODE NO_ROOM SMALL_BUFFER OUT_OF_MEMORY NO_SUCH_FORMAT NOT_SQUARE NO_SUCH_SIZE NOT_TEXT NO_SUCH_KIND NOT_IN_MODE NO_SUCH_NUMBER NO_SUCH_SIDE NO_FORMAT DAMAGED NOT_SPELLED NO_SUCH_STRUCT NO_SUCH_MANNER NO_SUCH_MASK NOT_IN_FORMAT NOT_SHOWN NOT_SEVERAL STRANGER MISSING TWICE PARITY NOT_READ NO_SUCH_AREA NO_SUCH_CONTENT NO_SUCH_FIELD FIELD_EMPTY FIELD_TOO_LONG FIELD_TOO_SHORT FIELD_CONTROL FIELD_CHARACTER FIELD_CHECK_DIGITS FIELD_RANGE FIELD_UNUSED NO_SUCH_IDENTIFIER ELEMENT_LENGTH FIELD_DECIMALS FIELD_WORD NO_AREA AREA_BLOCK AREA_FORMAT NOT_PICTURE BROKEN_PICTURE NO_SQUARE LARGE_PICTURE NO_SUCH_SET NOT_IN_SET";
 export const CAUSES = {
     "NO_SUCH_LEVEL": ["NoSuchLevel", "the levels are L, M, Q and H"],
     "NO_SUCH_VERSION": ["NoSuchVersion", "the versions are 1 to 40 and M1 to M4"],
@@ -42,6 +48,8 @@ export const CAUSES = {
     "BROKEN_PICTURE": ["BrokenPicture", "the picture is cut off, damaged, interlaced or more than 65,535 pixels wide; save it anew"],
     "NO_SQUARE": ["NoSquare", "the picture shows no code, neither in an even margin nor by its finder patterns"],
     "LARGE_PICTURE": ["BrokenPicture", "the picture is more than 67,108,864 bytes: cut it into smaller ones"],
+    "NO_SUCH_SET": ["NoSuchSet", "no character set has this name or number"],
+    "NOT_IN_SET": ["NotInSet", "the character set lacks a character of the text"],
     "NO_SUCH_AREA": ["NoSuchArea", "an area is a rectangle inside the code, or several: left, top, width and height in modules"],
     "NO_AREA": ["AreaTooLarge", "no central area leaves that reserve: use a higher level or less reserve"],
     "AREA_BLOCK": ["AreaTooLarge", "the area covers more codewords of a block than may be lost: shrink it"],
@@ -86,10 +94,11 @@ export const DEFAULTS = {
     "goq_scan": [0, 0, 0], "goq_checks": [0, 0], "goq_wish": [1, 1, 4294967295, 0],
 };
 export const CALLS = {
-    "goq_version": "", "goq_encode_with": "wwwwww", "goq_encode_several": "wwwwwww",
-    "goq_encode_segments": "wwnnwww", "goq_smallest_version_of_segments": "wwnw", "goq_width": "n",
-    "goq_is_functional": "nnn", "goq_draw_with": "wwnwwww", "goq_draw_with_length": "wwnww",
-    "goq_read": "wwwww", "goq_read_any": "wwwww", "goq_read_text": "wwwww", "goq_mask": "www",
+    "goq_version": "", "goq_encode_with": "wwwwww", "goq_encode_charset": "wwwwwwwwww",
+    "goq_encode_several": "wwwwwww", "goq_encode_segments": "wwnnwww",
+    "goq_smallest_version_of_segments": "wwnw", "goq_width": "n", "goq_is_functional": "nnn",
+    "goq_draw_with": "wwnwwww", "goq_draw_with_length": "wwnww", "goq_read": "wwwww",
+    "goq_read_any": "wwwww", "goq_read_text": "wwwww", "goq_decode": "wwnwww", "goq_mask": "www",
     "goq_read_picture": "wwwwwwwww", "goq_check": "wwwwwww", "goq_check_square": "wwwww",
     "goq_join": "wwwwww", "goq_content": "nwwwwww", "goq_gs1": "wwwwww",
     "goq_encode_gs1": "wwwwwww", "goq_reserve": "nnwwwww", "goq_largest_area": "nnww",
@@ -113,6 +122,12 @@ export const FORMATS = {
 export const SIDES = {
     0: 4096, 1: 4096, 4: 16384, 5: 65535, 7: 16384, 9: 16384, 12: 16384, 13: 16384, 14: 16384,
     15: 16384, 16: 4096,
+};
+export const CHARSETS = {
+    "iso-8859-1": 3, "iso-8859-2": 4, "iso-8859-3": 5, "iso-8859-4": 6, "iso-8859-5": 7,
+    "iso-8859-6": 8, "iso-8859-7": 9, "iso-8859-8": 10, "iso-8859-9": 11, "iso-8859-10": 12,
+    "iso-8859-11": 13, "iso-8859-13": 15, "iso-8859-14": 16, "iso-8859-15": 17, "iso-8859-16": 18,
+    "utf-8": 26,
 };
 export const PAYLOADS = {
     "wifi": {"number": 0, "about": "a Wi-Fi network", "more": "", "fields": {"ssid": "the name of the network, 1 to 32 bytes", "password": "empty for an open network", "security": "\"open\", \"WEP\", \"WPA\" or \"WPA3\"; empty: WPA, or open if no password", "hidden": "\"true\" if the network does not broadcast its name"}},

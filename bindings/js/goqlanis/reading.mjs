@@ -10,8 +10,6 @@ import { BLOCKS_MAX, BYTES_MAX, ECI, FNC1_FIRST, FNC1_SECOND, ONE_OF_SEVERAL, PA
 import { LEVELS, shown, versionName } from "./checks.mjs";
 
 const PARTS = [...Object.keys(KINDS), "oneOfSeveral"];
-/* The ECI numbers of UTF-8, and of ASCII, which is part of it. */
-const UTF_8 = [26, 27, 170];
 const HEADED = "the data begins with a header, of structured append, GS1 or a character set other "
     + "than UTF-8: join reads the first; read(code.png()) reads the others";
 const JOINS = { NOT_SEVERAL: "square # has no structured append header",
@@ -36,7 +34,7 @@ export function read(picture) {
             const made = { ...readingOf(buffers, at, found.reading), ...positionOf(found.position),
                 parts: own };
             at += found.reading.length;
-            return { ...made, text: isText(own) ? checks.textOf(made.data) : null };
+            return { ...made, text: textOf(own, made.data) };
         })];
     });
 }
@@ -60,8 +58,33 @@ function withCodes(picture, ask) {
     }
 }
 
-const isText = (parts) => parts.every(({ kind, number }) =>
-    kind !== "kanji" && (kind !== "eci" || UTF_8.includes(number)));
+/** Returns the text of data, in UTF-8 or in the sets that ECI headers name, or null. */
+function textOf(parts, data) {
+    const sets = [[0, 0]];
+    let end = 0;
+    for (const { kind, number, length = 0 } of parts) {
+        if (kind === "kanji")
+            return null;
+        if (kind === "eci")
+            sets.push([number, end]);
+        end += length;
+    }
+    if (sets[sets.length - 1][1] > 0 && end !== data.length)
+        return null; /* after FNC1 the data may be shorter than its segments */
+    const texts = sets.map(([number, start], at) =>
+        decoded(data.subarray(start, sets[at + 1]?.[1] ?? data.length), number));
+    return texts.includes(null) ? null : texts.join("");
+}
+
+/** Returns the text of bytes in the set of an ECI number, or in UTF-8 if it is 0. */
+function decoded(bytes, number) {
+    return within((buffers) => {
+        const room = 3 * bytes.length, out = buffers.room(room), count = buffers.room(8);
+        const said = answer("goq_decode", buffers.bytes(bytes), bytes.length, number, out, room,
+            count);
+        return said === "OK" ? checks.textOf(buffers.copy(out, buffers.sizes(count)[0])) : null;
+    });
+}
 
 function partOf({ kind, number, place, symbols, length }) {
     const name = PARTS[kind];

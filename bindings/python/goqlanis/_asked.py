@@ -1,13 +1,16 @@
 """Requests for symbols in the library's numbers, and its answers."""
 import ctypes
+from dataclasses import replace
 from typing import Any, List, NamedTuple, Sequence, Tuple
 
 from ._checks import LEVELS, version_name
 from ._library import Known, Options, Segment, Several, library
-from ._numbers import AS_BYTES, MODULES_MAX, SEVERAL_MAX
+from ._numbers import AS_BYTES, CHARSETS, MODULES_MAX, SEVERAL_MAX
 from .symbol import Symbol
 
 MICRO_1 = 41
+# The names of character sets by their numbers; 0 is UTF-8 without a header.
+SETS = {0: "utf-8", **{number: name for name, number in CHARSETS.items()}}
 
 Answer = Tuple[int, List[Symbol]]
 
@@ -45,6 +48,34 @@ class Data(NamedTuple):
         return _made(library.goq_encode_with, self.data, len(self.data), options)
 
     def of_any_version(self) -> "Data":
+        least = MICRO_1 if self.version > 40 else 1
+        return self._replace(version=0, min_version=least, boost=0, mask=0)
+
+
+class Text(NamedTuple):
+    """A symbol of text in the set with one of these numbers, or without numbers in that in which it
+    takes the fewest bits."""
+    data: bytes
+    level: int
+    version: int
+    min_version: int
+    boost: int
+    mask: int
+    sets: Sequence[int]
+
+    def told(self) -> Tuple[int, List[Symbol], int]:
+        """Returns the answer, and the place of a character that the set lacks."""
+        options = Data(b"", self.level, AS_BYTES, *self[2:6]).options()
+        numbers = (ctypes.c_uint32 * len(self.sets))(*self.sets)
+        chosen, place = ctypes.c_uint32(), ctypes.c_size_t()
+        answer, symbols = _made(library.goq_encode_charset, self.data, len(self.data), numbers,
+                                len(numbers), ctypes.byref(options), behind=[chosen, place])
+        return answer, [replace(it, charset=SETS[chosen.value]) for it in symbols], place.value
+
+    def answer(self) -> Answer:
+        return self.told()[:2]
+
+    def of_any_version(self) -> "Text":
         least = MICRO_1 if self.version > 40 else 1
         return self._replace(version=0, min_version=least, boost=0, mask=0)
 

@@ -5,8 +5,8 @@ import numbers
 import operator
 from typing import Any, Callable, Iterable, List, Optional, Tuple, TypeVar
 
-from ._numbers import STRUCTS
-from .errors import NoSuchLevel, NoSuchVersion
+from ._numbers import CHARSETS, STRUCTS
+from .errors import NoSuchLevel, NoSuchSet, NoSuchVersion
 
 Call = TypeVar("Call", bound=Callable[..., Any])
 # The names of arguments in other packages, and what to use here.
@@ -153,6 +153,18 @@ def level(value: Any) -> int:
     if len(value) != 1 or value.upper() not in LEVELS:
         raise NoSuchLevel(f"no level {shown(value)}: take L, M, Q or H")
     return LEVELS.index(value.upper())
+
+
+def charset(value: Any) -> Tuple[int, ...]:
+    """Returns the library's number of a character set, or nothing for the shortest."""
+    name = text("charset", value).lower().replace("_", "-")
+    name = name.replace("iso8859", "iso-8859").replace("utf8", "utf-8")
+    if name == "shortest":
+        return ()
+    if name not in CHARSETS:
+        raise NoSuchSet(f"no charset {shown(value)}: take 'shortest', 'utf-8' or 'iso-8859-1' to "
+                        "'iso-8859-16', without 12")
+    return CHARSETS[name],
 
 
 def version(value: Any) -> int:

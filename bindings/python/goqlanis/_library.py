@@ -29,6 +29,8 @@ _to = ctypes.POINTER
 _IN, _OUT, _COUNT = [_data, _size], [_place, _size], _to(_size)
 _CALLS: Dict[str, List[Any]] = {
     "goq_encode_with": [*_IN, _to(Options), *_OUT, _to(Known)],
+    "goq_encode_charset": [*_IN, _to(_number), _size, _to(Options), *_OUT, _to(Known),
+                           _to(_number), _COUNT],
     "goq_encode_several": [*_IN, _to(Several), *_OUT, _to(Known), _COUNT],
     "goq_encode_segments": [_to(Segment), _size, _number, _number, *_OUT, _to(Known)],
     "goq_encode_gs1": [_to(Element), _size, _to(Options), *_OUT, _to(Known), _COUNT],
@@ -40,6 +42,7 @@ _CALLS: Dict[str, List[Any]] = {
     "goq_read": [*_IN, *_OUT, _to(Read)],
     "goq_read_any": [*_IN, *_OUT, _to(AnyRead)],
     "goq_read_text": [*_IN, *_OUT, _to(Read)],
+    "goq_decode": [*_IN, _number, *_OUT, _COUNT],
     "goq_read_picture": [*_IN, _to(Code), _size, _to(Part), _size, *_OUT, _to(Scan)],
     "goq_check": [*_IN, _to(Checked), _size, _COUNT, _size, _to(Checks)],
     "goq_check_square": [*_IN, _COUNT, _size, _to(Checked)],

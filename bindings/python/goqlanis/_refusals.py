@@ -1,10 +1,10 @@
 """Error messages for data that is rejected: what is wrong, why, and what would help."""
 from typing import Any
 
-from ._asked import Data, Parts, Segments
+from ._asked import SETS, Data, Parts, Segments, Text
 from ._checks import LEVELS, version_name
 from ._numbers import (AS_MARKED_TEXT, LEVEL_NOT_IN_VERSION, NO_MODE, NO_ROOM, NO_SUCH_MASK,
-                       NO_SUCH_VERSION, NOT_IN_MODE, TOO_LONG)
+                       NO_SUCH_VERSION, NOT_IN_MODE, NOT_IN_SET, TOO_LONG)
 from .errors import Error, refusal
 
 LIMIT = 1_048_576
@@ -16,9 +16,9 @@ MODES = ("numeric holds only digits",
 def of(asked: Any, answer: int, said: str) -> Error:
     """Returns the error for a symbol; its message calls the data `said`."""
     texts = {LEVEL_NOT_IN_VERSION: _no_level, NO_MODE: _no_mode, NOT_IN_MODE: _not_in_mode,
-             NO_SUCH_MASK: _no_mask}
+             NO_SUCH_MASK: _no_mask, NOT_IN_SET: _not_in_set}
     is_refused = answer in (LEVEL_NOT_IN_VERSION, NO_MODE, NO_ROOM)
-    if is_refused and isinstance(asked, Data) and asked.version and len(asked.data) > LIMIT:
+    if is_refused and isinstance(asked, (Data, Text)) and asked.version and len(asked.data) > LIMIT:
         return refusal(TOO_LONG)
     if answer == NO_ROOM:
         return refusal(answer, _no_room(asked, said))
@@ -37,9 +37,10 @@ def _no_mode(asked: Any) -> str:
         return f"version {name} has no headers, like all of Micro QR; take 1 to 40"
     if isinstance(asked, Segments):
         return f"version {name} lacks a mode of the segments; M3, M4 and 1 to 40 have all"
-    if isinstance(asked, Data) and asked.manner >= AS_MARKED_TEXT:
-        return (f"version {name} cannot say which character set it holds; leave out marked and "
-                "eci, or take 1 to 40")
+    if isinstance(asked, Text) or isinstance(asked, Data) and asked.manner >= AS_MARKED_TEXT:
+        options = "charset" if isinstance(asked, Text) else "marked and eci"
+        return (f"version {name} cannot say which character set it holds; leave out {options}, or "
+                "take 1 to 40")
     modes = "digits" if name == "M1" else "digits, capitals, spaces and $%*+-./:"
     return f"version {name} holds only {modes}; M3, M4 and 1 to 40 hold any bytes"
 
@@ -50,6 +51,14 @@ def _not_in_mode(asked: Segments) -> str:
         if asked._replace(rows=[row], version=0).answer()[0] == NOT_IN_MODE:
             return f"segment {at + 1}: {MODES[row.kind]}"
     return ""
+
+
+def _not_in_set(asked: Text) -> str:
+    """Names the first character that the set lacks."""
+    place = asked.told()[2]
+    character = asked.data.decode()[place]
+    return (f"character {place + 1:,}, {character!r} (U+{ord(character):04X}), is not in "
+            f"{SETS[asked.sets[0]]}; charset='shortest' finds a set that has all")
 
 
 def _no_mask(asked: Any) -> str:

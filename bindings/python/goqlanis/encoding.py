@@ -32,7 +32,8 @@ def _one(asked: Any, said: str) -> Symbol:
 @_checks.named
 def encode(data: Data, level: str = "M", version: Optional[Version] = None, *,
            min_version: Optional[Version] = None, micro: bool = False, boost: bool = False,
-           mask: Optional[int] = None, marked: bool = False, eci: Optional[int] = None) -> Symbol:
+           mask: Optional[int] = None, marked: bool = False, eci: Optional[int] = None,
+           charset: Optional[str] = None) -> Symbol:
     """Encodes a str or bytes at a level ("L", "M", "Q" or "H"), in the smallest version of Normal
     QR that holds the data, or in `version`.
 
@@ -42,12 +43,16 @@ def encode(data: Data, level: str = "M", version: Optional[Version] = None, *,
     - `mask`: uses this mask, 0 to 7 (Micro QR: 0 to 3), instead of the one with the lowest penalty;
     - `marked`: marks a str as UTF-8 (ECI 26), for readers that guess;
     - `eci`: marks bytes with the number of their character set, e.g. 4 for ISO 8859-2; then only
-      `level` and `version` may be given too.
+      `level` and `version` may be given too;
+    - `charset`: encodes a str in this character set and marks it with its ECI: "utf-8",
+      "iso-8859-5" and so on, or "shortest" for that in which it takes the fewest bits, which needs
+      no ECI if it is UTF-8. `charset` of the symbol says which.
 
     Raises NoRoom if no symbol of this kind holds the data, or TooLong if there are more than
     1,048,576 bytes and `version` is given; NoSuchLevel, NoSuchVersion, LevelNotInVersion, NoMode,
-    NoSuchMask or NoSuchNumber for an option that does not exist or does not suit the version or
-    the data; ValueError for options that exclude each other.
+    NoSuchMask, NoSuchSet or NoSuchNumber for an option that does not exist or does not suit the
+    version or the data; NotInSet, which names the first character that the set lacks; ValueError
+    for options that exclude each other.
 
     >>> encode("https://example.org")
     <goqlanis.Symbol 2-M>
@@ -59,6 +64,13 @@ def encode(data: Data, level: str = "M", version: Optional[Version] = None, *,
     ('1', '2')
     >>> encode("Živjo".encode("iso8859_2"), eci=4).version
     '1'
+    >>> encode("Привет, мир", charset="shortest").charset
+    'iso-8859-5'
+    >>> encode("złoty", charset="iso-8859-1")
+    Traceback (most recent call last):
+        ...
+    goqlanis.NotInSet: character 2, 'ł' (U+0142), is not in iso-8859-1; charset='shortest' finds a \
+set that has all
     >>> encode(42)
     Traceback (most recent call last):
         ...
@@ -74,6 +86,10 @@ M holds them
     if _checks.flag("boost", boost) and version is not None:
         raise ValueError("version and boost: use min_version instead of version")
     number = _mask(mask)
+    if charset is not None:
+        sets = _sets(is_text, marked, eci, charset)
+        return _one(_asked.Text(octets, _checks.level(level), *versions, boost, number, sets),
+                    "the characters")
     if eci is None or is_text:
         return _one(_asked.Data(octets, _checks.level(level), manner, *versions, boost, number),
                     f"{len(octets):,} bytes")
@@ -92,6 +108,15 @@ def _manner(is_text: bool, marked: bool, eci: Optional[int]) -> int:
     return AS_MARKED_TEXT if marked or number else AS_TEXT if is_text else AS_BYTES
 
 
+def _sets(is_text: bool, marked: bool, eci: Optional[int], charset: str) -> Tuple[int, ...]:
+    """Returns the library's numbers of the character sets that may be used."""
+    if not is_text:
+        raise TypeError("charset is only for a str; for bytes, eci=7 says that they are ISO 8859-5")
+    if marked or eci is not None:
+        raise ValueError("charset, marked and eci: give one of them; charset='utf-8' marks UTF-8")
+    return _checks.charset(charset)
+
+
 def _versions(version: Optional[Version], least: Optional[Version], micro: bool) -> Tuple[int, int]:
     """Returns the version that is asked for, or 0, and the smallest to try."""
     asked = 0 if version is None else _checks.version(version)
@@ -108,13 +133,14 @@ def _mask(mask: Optional[int]) -> int:
     return 0 if mask is None else 1 + _checks.whole("mask", mask, 0, 7, NoSuchMask)
 
 
-def encode_text(text: str, level: str = "M", marked: bool = False) -> Symbol:
+def encode_text(text: str, level: str = "M", marked: bool = False,
+                charset: Optional[str] = None) -> Symbol:
     """Encodes a str as `encode` does, but raises TypeError for bytes.
 
     >>> encode_text("Größe: 5 m²", marked=True).version
     '2'
     """
-    return encode(_checks.text("text", text), level, marked=marked)
+    return encode(_checks.text("text", text), level, marked=marked, charset=charset)
 
 
 @_checks.named

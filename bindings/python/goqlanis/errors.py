@@ -4,7 +4,8 @@ from typing import Dict, Tuple, Type
 from . import _numbers as goq
 
 __all__ = ["Error", "NoSuchLevel", "NoSuchVersion", "LevelNotInVersion", "TooLong", "NoMode",
-           "NoRoom", "NoSuchMask", "OutOfMemory", "NoSuchSize", "NotInFormat", "NotInMode",
+           "NoRoom", "NoSuchMask", "NoSuchSet", "NotInSet", "OutOfMemory", "NoSuchSize",
+           "NotInFormat", "NotInMode",
            "NoSuchNumber", "Unread", "NoSuchSide", "NoFormat", "Damaged", "NotSpelled", "NotShown",
            "NotJoined", "NoSuchArea", "AreaTooLarge", "NotPicture", "BrokenPicture", "NoSquare",
            "NoSuchColour", "NoSuchKind"]
@@ -54,6 +55,14 @@ class NoRoom(Error, ValueError):
 
 class NoSuchMask(Error, ValueError):
     """The version has no mask with this number."""
+
+
+class NoSuchSet(Error, ValueError):
+    """No character set has this name."""
+
+
+class NotInSet(Error, ValueError):
+    """The character set lacks a character of the text."""
 
 
 class OutOfMemory(Error, MemoryError):
@@ -169,6 +178,8 @@ _CAUSES: Dict[int, Tuple[Type[Error], str]] = {
                     "finder patterns"),
     goq.LARGE_PICTURE: (BrokenPicture, "the picture is more than 67,108,864 bytes: cut it into "
                         "smaller ones"),
+    goq.NO_SUCH_SET: (NoSuchSet, "no character set has this name or number"),
+    goq.NOT_IN_SET: (NotInSet, "the character set lacks a character of the text"),
     goq.NO_SUCH_AREA: (NoSuchArea, "an area is a rectangle inside the code, or several: left, "
                        "top, width and height in modules"),
     goq.NO_AREA: (AreaTooLarge, "no central area leaves that reserve: use a higher level or less "

@@ -96,10 +96,6 @@ class Part(NamedTuple):
     length: Optional[int] = None
 
 
-# The ECI numbers of UTF-8, and of ASCII, which is part of it.
-_UTF8 = (26, 27, 170)
-
-
 class Code(NamedTuple):
     """A code in a picture: as an `AnyReading`, and its headers and segments in order (`parts`).
     After FNC1, `data` has a separator (byte 29) between elements.
@@ -120,22 +116,36 @@ class Code(NamedTuple):
 
     @property
     def text(self) -> Optional[str]:
-        """The data as a str, or None if it is not UTF-8, has an ECI header of another character
-        set, or has a Kanji segment.
+        """The data as a str: in UTF-8, or in the character sets that ECI headers name (those of
+        `encode`). None if it is in none of these, or has a Kanji segment.
 
         >>> read(encode("Größe: 5 m²").png())[0].text
         'Größe: 5 m²'
         >>> latin = encode_segments([("eci", 3), ("byte", "Â±".encode("latin-1"))])
-        >>> read(latin.png())[0].text, read(latin.png())[0].data.decode("latin-1")
-        (None, 'Â±')
+        >>> read(latin.png())[0].text, read(latin.png())[0].data
+        ('Â±', b'\xc2\xb1')
         """
+        sets, end = [(0, 0)], 0
         for part in self.parts:
-            if part.kind == "kanji" or (part.kind == "eci" and part.number not in _UTF8):
+            if part.kind == "kanji":
                 return None
-        try:
-            return self.data.decode()
-        except UnicodeDecodeError:
-            return None
+            if part.kind == "eci":
+                sets.append((part.number or 0, end))
+            end += part.length or 0
+        if sets[-1][1] > 0 and end != len(self.data):
+            return None  # after FNC1 the data may be shorter than its segments
+        ends = [*(start for _, start in sets[1:]), len(self.data)]
+        texts = [_decoded(self.data[start:end], number) for (number, start), end in zip(sets, ends)]
+        return None if None in texts else "".join(map(str, texts))
+
+
+def _decoded(data: bytes, number: int) -> Optional[str]:
+    """Returns the text of bytes in the set of an ECI number, or in UTF-8 if it is 0."""
+    out, count = ctypes.create_string_buffer(3 * len(data) + 1), ctypes.c_size_t()
+    answer = library.goq_decode(data, len(data), number, out, len(out), ctypes.byref(count))
+    if answer not in (goq.OK, goq.NO_SUCH_SET, goq.NOT_IN_SET):
+        raise refusal(answer)
+    return None if answer else out.raw[:count.value].decode()
 
 
 @overload

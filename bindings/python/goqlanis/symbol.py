@@ -8,7 +8,7 @@ import sys
 import tempfile
 import urllib.parse
 import webbrowser
-from dataclasses import dataclass, replace
+from dataclasses import dataclass, field, replace
 from typing import IO, Any, Dict, Iterator, Optional, Tuple, Union
 
 from . import _checks, _drawing, _files, areas
@@ -28,8 +28,9 @@ class Symbol:
     """A QR or Micro QR symbol.
 
     `version` is "1" to "40" or "M1" to "M4", `level` is "L", "M", "Q" or "H", and `modules` has a
-    byte for each module, row by row, 1 for a dark module. Symbols with the same modules, version,
-    level and logo are equal, and symbols can be members of sets.
+    byte for each module, row by row, 1 for a dark module; `charset` is the character set, if
+    `encode` was given one or chose it. Symbols with the same modules, version, level and logo are
+    equal, and symbols can be members of sets.
 
     All methods that draw it take the same arguments (`look`), as far as the format has them:
 
@@ -59,6 +60,7 @@ class Symbol:
     version: str
     level: str
     logo: Optional[Logo] = None
+    charset: Optional[str] = field(default=None, compare=False)
 
     def __post_init__(self) -> None:
         number, modules = _checks.version(self.version), _checks.binary("modules", self.modules)

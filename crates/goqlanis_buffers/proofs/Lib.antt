@@ -15,3 +15,4 @@ pub mod Squares
 pub mod Told
 pub mod Tinted
 pub mod Masked
+pub mod Coded

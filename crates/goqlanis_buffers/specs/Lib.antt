@@ -2,6 +2,7 @@ pub mod Answers
 pub mod Areas
 pub mod Asking
 pub mod Calls
+pub mod Charsets
 pub mod Checking
 pub mod Colours
 pub mod Drawings

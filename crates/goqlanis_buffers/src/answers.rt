@@ -87,6 +87,10 @@ pub enum Refusal {
     NoSquare = 51,
     /// The picture is larger than 67,108,864 bytes.
     LargePicture = 52,
+    /// No character set has this number.
+    NoSuchSet = 53,
+    /// The character set lacks a character, or has none for a byte.
+    NotInSet = 54,
 }
 
 impl Refusal {

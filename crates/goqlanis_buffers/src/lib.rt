@@ -4,6 +4,7 @@
 
 pub mod answers;
 pub mod areas;
+pub mod charsets;
 pub mod checking;
 mod colours;
 pub mod contents;

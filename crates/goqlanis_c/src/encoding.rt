@@ -1,8 +1,12 @@
-//! The call that encodes bytes or text.
+//! Calls that encode bytes or text.
 
+ghost use Rattle.std.specs.Prelude.{◌≡◌, ◌≢◌, length};
 ghost use Rattle.goqlanis_buffers.specs.Calls.{IsReported, WritesWith};
+ghost use Rattle.goqlanis_buffers.specs.Charsets.{IsCodedSymbol, IsCodingRefusal};
+ghost use Rattle.goqlanis_buffers.specs.Outputs.{IsWrittenAs};
 
 use goqlanis_buffers::answers::answer;
+use goqlanis_buffers::charsets::encode_charset;
 use goqlanis_buffers::options::{Options, encode_with};
 use goqlanis_buffers::symbols::Symbol;
 use std::alloc::Global;
@@ -25,4 +29,47 @@ pub extern "C" fn goq_encode_with(
         result symbol.old symbol.new }
 {
     answer(encode_with(alloc, bytes, options, modules), symbol)
+}
+
+/// Encodes a text as `options` ask, in that of the sets with these ECI designators in which it
+/// takes the fewest bits; 0 is UTF-8 without a designator. Without designators it is in UTF-8 or a
+/// part of ISO 8859. Writes modules and symbol like `goq_encode_with`, and the number of the set to
+/// `designator`. The options' manner is ignored.
+///
+/// Returns 0, or the number of the first `Refusal` that applies: `NoSuchStruct`, `NoSuchLevel`,
+/// `NoSuchVersion`, `NoSuchManner`; `NoSuchSet` with the index of the designator in `place`;
+/// `NotText`; if each set lacks a character `NotInSet`, with the place of the first one that the
+/// first set lacks; `LevelNotInVersion`, `NoMode`, `NoRoom`, `NoSuchMask`, `SmallBuffer`; or of
+/// `OutOfMemory`. After an error the other outputs are unchanged.
+#[unsafe(no_mangle)]
+pub extern "C" fn goq_encode_charset(
+    alloc: Global,
+    text: &[u8],
+    designators: &[u32],
+    options: &Options,
+    modules: &mut [u8],
+    symbol: &mut Symbol,
+    designator: &mut u32,
+    place: &mut usize,
+) -> u32
+    ensures made { result ≡ 0 → IsWrittenAs
+        (IsCodedSymbol options.now designators.now text.now designator.new)
+        modules.old modules.new symbol.new }
+    ensures place_unchanged { result ≡ 0 → place.new ≡ place.old }
+    ensures unchanged { result ≢ 0 → modules.new ≡ modules.old }
+    ensures symbol_unchanged { result ≢ 0 → symbol.new ≡ symbol.old }
+    ensures designator_unchanged { result ≢ 0 → designator.new ≡ designator.old }
+    ensures causes { result ≢ 0 → IsCodingRefusal options.now designators.now text.now
+        (length modules.old) result place.old place.new }
+{
+    let why = match encode_charset(alloc, text, designators, options, modules) {
+        Ok((made, number)) => {
+            *symbol = made;
+            *designator = number;
+            return 0;
+        }
+        Err(why) => why,
+    };
+    *place = why.place(*place);
+    why.number()
 }

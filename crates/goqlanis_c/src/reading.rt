@@ -4,8 +4,10 @@ ghost use Rattle.std.specs.Prelude.{◌≡◌, ◌≢◌, length, IsSomeAnd};
 ghost use Rattle.goqlanis_buffers.specs.Answers.{refusal_of};
 ghost use Rattle.goqlanis_buffers.specs.Scanning.{IsScanCause, IsScanned};
 ghost use Rattle.goqlanis_buffers.specs.Calls.{IsReported, TellsMask, WritesAnyReading, WritesReading, WritesTextReading};
+ghost use Rattle.goqlanis_buffers.specs.Charsets.{WritesDecoded};
 
 use goqlanis_buffers::answers::{Refusal, answer};
+use goqlanis_buffers::charsets::decode_into;
 use goqlanis_buffers::reading::{
     AnyReading, Reading, mask_of, read_any_into, read_into, read_text_into,
 };
@@ -66,6 +68,25 @@ pub extern "C" fn goq_read_text(
         result reading.old reading.new }
 {
     answer(read_text_into(alloc, modules, text), reading)
+}
+
+/// Decodes bytes in the character set with this ECI designator, or in UTF-8 if it is 0. Writes the
+/// text in UTF-8 to the start of `text`, and its length to `count`.
+///
+/// Returns 0, or the number of the first `Refusal` that applies: `NoSuchSet`, `NotInSet`,
+/// `SmallBuffer`; or of `OutOfMemory`. After an error the outputs are unchanged.
+#[unsafe(no_mangle)]
+pub extern "C" fn goq_decode(
+    alloc: Global,
+    bytes: &[u8],
+    designator: u32,
+    text: &mut [u8],
+    count: &mut usize,
+) -> u32
+    ensures { IsReported (WritesDecoded designator bytes.now text.old text.new)
+        result count.old count.new }
+{
+    answer(decode_into(alloc, designator, bytes, text), count)
 }
 
 /// Writes the number of the mask that the format information of a square names to `mask`.

@@ -33,6 +33,7 @@ macro_rules! says {
 }
 
 pub mod areas;
+pub mod charsets;
 pub mod checking;
 pub mod contents;
 pub mod logos;
@@ -40,6 +41,7 @@ pub mod reading;
 pub mod render;
 pub mod several;
 
+pub use charsets::Charset;
 pub use checking::{check, check_square, Check};
 pub use reading::{read, read_any, read_picture, read_text, Code, Part, Position, Reading, Unread};
 

@@ -1,4 +1,5 @@
 //! Reads squares of modules, and pictures.
+use crate::charsets::decoded;
 use crate::{Color, EcLevel, Version};
 use goqlanis_sys as sys;
 use std::fmt;
@@ -182,6 +183,41 @@ pub struct Code {
     pub position: Position,
     /// Its headers and segments in order.
     pub parts: Vec<Part>,
+}
+
+impl Code {
+    /// Returns the text of the data: in UTF-8, or in the character sets that ECI headers name.
+    /// `None` if it is in none of these, or has a Kanji segment.
+    ///
+    /// ```
+    /// use goqlanis::{read_picture, render::png, Charset, Options, QrCode};
+    ///
+    /// let (code, _) = QrCode::in_charset("Привет", Charset::Iso8859_5, &Options::default())?;
+    /// let codes = read_picture(&code.render::<png::Color>().build())?;
+    /// assert_eq!(codes[0].reading.data, b"\xbf\xe0\xd8\xd2\xd5\xe2");
+    /// assert_eq!(codes[0].text().as_deref(), Some("Привет"));
+    /// # Ok::<(), Box<dyn std::error::Error>>(())
+    /// ```
+    pub fn text(&self) -> Option<String> {
+        let data = &self.reading.data;
+        let (mut text, mut set, mut start, mut end) = (String::new(), 0, 0, 0);
+        for part in &self.parts {
+            match *part {
+                Part::Kanji(_) => return None,
+                Part::Numeric(count) | Part::Alphanumeric(count) | Part::Byte(count) => end += count,
+                Part::Eci(number) => {
+                    text += &decoded(data.get(start..end)?, set)?;
+                    (set, start) = (number, end);
+                }
+                _ => {}
+            }
+        }
+        // After FNC1 the data may be shorter than its segments.
+        if start > 0 && end != data.len() {
+            return None;
+        }
+        Some(text + &decoded(&data[start..], set)?)
+    }
 }
 
 /// Returns the codes in a picture, which is a PNG, PBM or PGM file or half blocks.

@@ -1,0 +1,135 @@
+//! Texts in character sets.
+use crate::{Options, QrCode, QrError};
+use goqlanis_sys as sys;
+use std::fmt;
+
+// The sets, with their numbers in the library.
+macro_rules! charsets {
+    ($($name:ident = $number:ident, $about:literal;)+) => {
+        /// A character set for a text.
+        #[derive(Clone, Copy, Debug, PartialEq, Eq)]
+        #[non_exhaustive]
+        pub enum Charset {
+            /// UTF-8 or the part of ISO 8859 in which the text takes the fewest bits.
+            Shortest,
+            $(#[doc = $about] $name,)+
+        }
+
+        impl Charset {
+            fn number(self) -> Option<u32> {
+                match self {
+                    Charset::Shortest => None,
+                    $(Charset::$name => Some(sys::$number),)+
+                }
+            }
+
+            fn named(number: u32) -> Charset {
+                match number {
+                    $(sys::$number => Charset::$name,)+
+                    _ => Charset::Utf8,
+                }
+            }
+        }
+    };
+}
+
+charsets! {
+    // From goqlanis.h, by bindings/same:
+    Iso8859_1 = GOQ_ISO_8859_1, "For Western Europe.";
+    Iso8859_2 = GOQ_ISO_8859_2, "For Central Europe.";
+    Iso8859_3 = GOQ_ISO_8859_3, "For Southern Europe.";
+    Iso8859_4 = GOQ_ISO_8859_4, "For Northern Europe.";
+    Iso8859_5 = GOQ_ISO_8859_5, "With Cyrillic letters.";
+    Iso8859_6 = GOQ_ISO_8859_6, "With Arabic letters.";
+    Iso8859_7 = GOQ_ISO_8859_7, "With Greek letters.";
+    Iso8859_8 = GOQ_ISO_8859_8, "With Hebrew letters.";
+    Iso8859_9 = GOQ_ISO_8859_9, "For Turkish.";
+    Iso8859_10 = GOQ_ISO_8859_10, "For Northern Europe.";
+    Iso8859_11 = GOQ_ISO_8859_11, "With Thai letters.";
+    Iso8859_13 = GOQ_ISO_8859_13, "For the Baltic.";
+    Iso8859_14 = GOQ_ISO_8859_14, "For Celtic languages.";
+    Iso8859_15 = GOQ_ISO_8859_15, "Part 1 with the euro sign.";
+    Iso8859_16 = GOQ_ISO_8859_16, "For South-Eastern Europe.";
+    Utf8 = GOQ_UTF_8, "UTF-8 after its header.";
+    // Up to here.
+}
+
+/// Why a text is not encoded in a character set.
+#[derive(Clone, Copy, Debug, PartialEq, Eq)]
+pub enum CharsetError {
+    /// The set lacks this character, the first at this place, counted in characters from 0.
+    Lacks(char, usize),
+    /// No symbol shows the text.
+    NoSymbol(QrError),
+}
+
+impl fmt::Display for CharsetError {
+    fn fmt(&self, out: &mut fmt::Formatter<'_>) -> fmt::Result {
+        match self {
+            CharsetError::Lacks(character, place) => write!(
+                out,
+                "character {}, {character} (U+{:04X}), is not in the set: take Charset::Shortest",
+                place + 1,
+                u32::from(*character)
+            ),
+            CharsetError::NoSymbol(error) => error.fmt(out),
+        }
+    }
+}
+
+impl std::error::Error for CharsetError {}
+
+impl QrCode {
+    /// Encodes text in a character set, or in that in which it takes the fewest bits; returns the
+    /// set too. The option `writing` is ignored.
+    ///
+    /// Readers that follow ECI, and assume UTF-8 without it, show the text.
+    ///
+    /// ```
+    /// use goqlanis::{charsets::Charset, Options, QrCode, Version};
+    ///
+    /// let (code, set) = QrCode::in_charset("Привет", Charset::Shortest, &Options::default())?;
+    /// assert_eq!((code.version(), set), (Version::Normal(1), Charset::Iso8859_5));
+    /// assert!(QrCode::in_charset("€", Charset::Iso8859_5, &Options::default()).is_err());
+    /// # Ok::<(), goqlanis::charsets::CharsetError>(())
+    /// ```
+    pub fn in_charset(
+        text: &str,
+        set: Charset,
+        options: &Options,
+    ) -> Result<(Self, Charset), CharsetError> {
+        let (sets, asked) = (set.number(), options.given());
+        let sets = sets.as_slice();
+        let (mut chosen, mut place, mut answer) = (0, usize::MAX, sys::GOQ_OK);
+        let made = Self::made(|modules, known| {
+            let (out, room) = (modules.as_mut_ptr(), modules.len());
+            // SAFETY: the lengths are those of the buffers.
+            answer = unsafe {
+                let (given, length) = (text.as_ptr(), text.len());
+                let (numbers, count) = (sets.as_ptr(), sets.len());
+                sys::goq_encode_charset(
+                    given, length, numbers, count, &asked, out, room, known, &mut chosen, &mut place,
+                )
+            };
+            answer
+        });
+        match (made, text.chars().nth(place)) {
+            (Err(_), Some(lacked)) if answer == sys::GOQ_NOT_IN_SET => {
+                Err(CharsetError::Lacks(lacked, place))
+            }
+            (made, _) => Ok((made.map_err(CharsetError::NoSymbol)?, Charset::named(chosen))),
+        }
+    }
+}
+
+// Returns the text of bytes in the set of an ECI number, or in UTF-8 if it is 0.
+pub(crate) fn decoded(bytes: &[u8], number: u32) -> Option<String> {
+    let (mut text, mut count) = (vec![0; 3 * bytes.len()], 0);
+    // SAFETY: the lengths are those of the buffers.
+    let answer = unsafe {
+        let (given, out) = (bytes.as_ptr(), text.as_mut_ptr());
+        sys::goq_decode(given, bytes.len(), number, out, text.len(), &mut count)
+    };
+    text.truncate(count);
+    if answer == sys::GOQ_OK { String::from_utf8(text).ok() } else { None }
+}

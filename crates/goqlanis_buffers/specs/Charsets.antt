@@ -1,0 +1,143 @@
+-- Texts in character sets that C numbers.
+use Rattle.std.specs.Prelude.{◌≡◌, ◌≢◌, ◌⊎◌, ⊤, ℕ, ◌+◌, ◌==◌, ◌<◌, List, take, length, map, chars, slice_get, Option, Some, unwrap_or, IsUtf8, Result, Err, if◌then◌else◌}
+use Rattle.qrcode.specs.Code.{Code}
+use Rattle.qrcode_types.specs.declared.types.QrError.{QrError}
+use Rattle.qrcode_types.specs.declared.types.QrError.TheVariants.{UnsupportedCharacterSet}
+use Rattle.qrcode_charsets.specs.Charsets.{designator, Has, IsWritten}
+use Rattle.qrcode_charsets.specs.Shortest.{IsAt, NoneHas}
+use Rattle.qrcode_charsets.specs.declared.sets.Charset.{Charset}
+use Rattle.qrcode_charsets.specs.declared.sets.TheConstants.{CHARSETS}
+use Rattle.goqlanis_core.specs.Charsets.{IsShortestOf, IsShownOrRefused}
+use Rattle.goqlanis_buffers.specs.Answers.{refusal_of}
+use Rattle.goqlanis_buffers.specs.Calls.{Writes}
+use Rattle.goqlanis_buffers.specs.Options.{IsAsked, IsOptionsCause}
+use Rattle.goqlanis_buffers.specs.Outputs.{IsFilled}
+use Rattle.goqlanis_buffers.specs.Segments.{refusal_in}
+use Rattle.goqlanis_buffers.specs.Symbols.{IsMasked, IsMaskingCause}
+use Rattle.goqlanis_buffers.specs.declared.answers.Refusal.{Refusal}
+use Rattle.goqlanis_buffers.specs.declared.answers.Refusal.TheVariants as refusals
+use Rattle.goqlanis_buffers.specs.declared.charsets.Uncoded.{Uncoded}
+use Rattle.goqlanis_buffers.specs.declared.charsets.Uncoded.TheVariants.{NoSuchSet, NotInSet, Other}
+use Rattle.goqlanis_buffers.specs.declared.options.Asked.{Asked}
+use Rattle.goqlanis_buffers.specs.declared.options.Options.{Options}
+
+abbrev pub number_of : Charset → ℕ  -- the number of a set: its ECI designator, or 0 for UTF-8 without one
+number_of c = unwrap_or (designator c) 0
+
+abbrev pub numbers_tried : List ℕ → List ℕ  -- the sets in which a text may be encoded: those with the given numbers, or all that are tried if none is given
+numbers_tried numbers = if length numbers == 0 then map number_of CHARSETS else numbers
+
+-- no set has the number at this index, which is the first such
+pub record IsFirstUnknown (numbers : List ℕ) (place : ℕ) : Type 0 where
+  pub number : ℕ
+  pub at : slice_get numbers place ≡ Some number
+  pub sets : List Charset
+  pub before : map number_of sets ≡ take place numbers
+  pub unknown : (c : Charset) → number_of c ≢ number
+
+-- each of the sets lacks a character of the text; in the first of them the one at this place is the first
+pub record IsLacked (sets : List Charset) (text : List ℕ) (place : ℕ) : Type 0 where
+  pub none : NoneHas sets text
+  pub set : Charset
+  pub first : IsAt sets 0 set
+  pub within : place < length text
+  pub before : Has set (take place text)
+  pub lacks : ¬ Has set (take (place + 1) text)
+
+-- there is no symbol of the text in any of the sets, though one of them has its characters if a mode or ECI is to blame
+pub record IsNotCoded (a : Asked) (sets : List Charset) (utf8 : List ℕ) (refusal : Refusal) : Type 0 where
+  pub error : QrError
+  pub reported : refusal ≡ refusal_in error
+  pub cause : IsShownOrRefused a.choice sets a.level utf8 (Err error)
+  pub has : error ≡ UnsupportedCharacterSet → ¬ NoneHas sets (chars utf8)
+
+abbrev pub IsUncodedIn : Asked → List Charset → List ℕ → Uncoded → Type 0  -- why there is none
+IsUncodedIn a sets utf8 (NotInSet place) = IsLacked sets (chars utf8) place
+IsUncodedIn a sets utf8 (Other refusal) = IsNotCoded a sets utf8 refusal
+IsUncodedIn a sets utf8 (NoSuchSet place) = ⊥
+
+-- what is asked for, and the sets in which the text may be encoded
+pub record IsAskedOf (o : Options) (numbers : List ℕ) (a : Asked) (sets : List Charset) : Type 0 where
+  pub named : IsAsked o a
+  pub sets_named : map number_of sets ≡ numbers_tried numbers
+
+-- the symbol of a text that options ask for, in the set with this number, under the mask that they ask for
+pub record IsCodedSymbol (o : Options) (numbers utf8 : List ℕ) (number : ℕ) (code : Code) : Type 0 where
+  pub asked : Asked
+  pub sets : List Charset
+  pub named : IsAskedOf o numbers asked sets
+  pub text : IsUtf8 utf8
+  pub set : Charset
+  pub number_is : number ≡ number_of set
+  pub own : Code
+  pub made : IsShortestOf asked.choice sets asked.level (chars utf8) set own
+  pub masked : IsMasked asked.mask own code
+
+-- the symbol is not written under the mask that options ask for, into a buffer of `room` items
+pub record IsNotWritten (o : Options) (numbers utf8 : List ℕ) (room : ℕ) (refusal : Refusal) : Type 0 where
+  pub asked : Asked
+  pub sets : List Charset
+  pub named : IsAskedOf o numbers asked sets
+  pub text : IsUtf8 utf8
+  pub set : Charset
+  pub own : Code
+  pub made : IsShortestOf asked.choice sets asked.level (chars utf8) set own
+  pub cause : IsMaskingCause asked.mask own room refusal
+
+-- the options are valid, and the text has no symbol in the sets that are asked for
+pub record HasNoCode (o : Options) (numbers utf8 : List ℕ) (why : Uncoded) : Type 0 where
+  pub asked : Asked
+  pub sets : List Charset
+  pub named : IsAskedOf o numbers asked sets
+  pub text : IsUtf8 utf8
+  pub cause : IsUncodedIn asked sets utf8 why
+
+-- why a text is not encoded in a buffer of `room` items
+abbrev pub IsUncoded : Options → List ℕ → List ℕ → ℕ → Uncoded → Type 0
+IsUncoded o numbers utf8 room (NoSuchSet place) = ((a : Asked) × IsAsked o a) × IsFirstUnknown numbers place
+IsUncoded o numbers utf8 room (NotInSet place) = HasNoCode o numbers utf8 (NotInSet place)
+IsUncoded o numbers utf8 room (Other refusal) =
+    (refusal ≡ refusals.OutOfMemory)
+    ⊎ (((bytes : List ℕ) (room : ℕ) → IsOptionsCause o bytes room refusal)
+    ⊎ (((refusal ≡ refusals.NotText) × (((a : Asked) × ((sets : List Charset) × IsAskedOf o numbers a sets)) × ¬ IsUtf8 utf8))
+    ⊎ (HasNoCode o numbers utf8 (Other refusal) ⊎ IsNotWritten o numbers utf8 room refusal)))
+
+abbrev pub refusal_reported : Uncoded → Refusal  -- the error that C gets
+refusal_reported (NoSuchSet place) = refusals.NoSuchSet
+refusal_reported (NotInSet place) = refusals.NotInSet
+refusal_reported (Other refusal) = refusal
+
+abbrev pub place_reported : Uncoded → ℕ → ℕ  -- the `place` that C gets: the index of a number, or the place of a character; else as it was
+place_reported (NoSuchSet place) before = place
+place_reported (NotInSet place) before = place
+place_reported (Other refusal) before = before
+
+-- an answer, and `place` after the call, report an error whose cause applies
+pub record IsCodingRefusal (o : Options) (numbers utf8 : List ℕ) (room answer before after : ℕ) : Type 0 where
+  pub why : Uncoded
+  pub cause : IsUncoded o numbers utf8 room why
+  pub answered : refusal_of answer ≡ Some (refusal_reported why)
+  pub reported : after ≡ place_reported why before
+
+abbrev pub number_read : ℕ → ℕ  -- the number of the set that readers take an ECI designator for: 1 was ISO 8859-1, and 27 and 170 are ASCII
+number_read n = if n == 1 then 3 else (if n == 27 then 26 else (if n == 170 then 26 else n))
+
+-- the text, in UTF-8, that bytes are in the set of a designator
+pub record IsDecoded (number : ℕ) (bytes utf8 : List ℕ) : Type 0 where
+  pub set : Charset
+  pub named : number_of set ≡ number_read number
+  pub text : IsUtf8 utf8
+  pub written : IsWritten set (chars utf8) bytes
+
+abbrev pub IsUndecoded : ℕ → List ℕ → ℕ → Refusal → Type 0  -- why bytes are not decoded into a buffer of `room` bytes
+IsUndecoded number bytes room refusals.NoSuchSet = (c : Charset) → number_of c ≢ number_read number
+IsUndecoded number bytes room refusals.NotInSet = (c : Charset) × ((number_of c ≡ number_read number) × ((text : List ℕ) → ¬ IsWritten c text bytes))
+IsUndecoded number bytes room refusals.SmallBuffer = (utf8 : List ℕ) × (IsDecoded number bytes utf8 × (room < length utf8))
+IsUndecoded number bytes room refusals.OutOfMemory = ⊤
+IsUndecoded number bytes room refusal = ⊥
+
+-- writes the text that bytes are in the set of a number, and returns its length
+abbrev pub WritesDecoded : ℕ → List ℕ → List ℕ → List ℕ → Result ℕ Refusal → Type 0
+WritesDecoded number bytes old new result =
+    Writes (λ new count. (utf8 : List ℕ) × (IsDecoded number bytes utf8 × (IsFilled old new utf8 × (count ≡ length utf8))))
+    (IsUndecoded number bytes (length old)) old new result
