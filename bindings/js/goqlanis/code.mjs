@@ -23,6 +23,7 @@ export class QrCode {
         this.level = checks.LEVELS[checks.level(level)];
         this.width = width;
         this.logo = logo;
+        this.isPromised = true;
     }
 
     get mask() {
@@ -89,6 +90,17 @@ export class QrCode {
 
     withArea(area = this.largestArea()) {
         return new QrCode(areas.covered(this, area), this.version, this.level, this.logo);
+    }
+
+    get mostCodewords() {
+        return areas.damaged(this, {}).codewords;
+    }
+
+    damaged(options = {}) {
+        const { modules, is_promised: isPromised } = areas.damaged(this, options);
+        const made = new QrCode(modules, this.version, this.level, this.logo);
+        made.isPromised = this.isPromised && isPromised === 1;
+        return made;
     }
 
     withLogo(logo, options = {}) {

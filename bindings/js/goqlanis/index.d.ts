@@ -138,6 +138,10 @@ export class QrCode {
     readonly mask: number;
     /** Where the logo is, and its picture as a data URI. */
     readonly logo: (Rectangle & { area: Rectangle; data: string }) | null;
+    /** False if `damaged` made more wrong than this library is promised to correct. */
+    readonly isPromised: boolean;
+    /** How many wrong codewords of each block it is promised to correct. */
+    readonly mostCodewords: number;
     /** The width of the quiet zone that the standard wants. */
     readonly quietZone: number;
     isDark(x: number, y: number): boolean;
@@ -167,6 +171,10 @@ export class QrCode {
     /** The code with a light area, by default the largest. Whatever the area then shows, the code
         decodes to the same data. Throws NoSuchArea or AreaTooLarge. */
     withArea(area?: Rectangle | Rectangle[]): QrCode;
+    /** The code with exactly so many wrong codewords in each block, and wrong bits in each copy of
+        the format and version information, to test readers. Throws TooMuchDamage. */
+    damaged(options?: { codewords?: number; formatBits?: number; versionBits?: number;
+        seed?: number }): QrCode;
     /** The code with a logo, the bytes or the text of an SVG or PNG file, in an area, by default
         the largest in its ratio. Only SVG shows it; half blocks leave the area light, and other
         formats throw NotInFormat: for these, take withArea. */

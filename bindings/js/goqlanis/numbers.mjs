@@ -18,7 +18,7 @@ export const UPRIGHT = 0, TURNED_LEFT = 1, UPSIDE_DOWN = 2, TURNED_RIGHT = 3, MI
     FLIPPED = 5, TRANSPOSED = 6, ANTITRANSPOSED = 7, INVERTED = 8;
 export const PARTS_MAX = 5912;
 export const BLOCKS_MAX = 81;
-export const ANSWERS = "OK NO_SUCH_LEVEL NO_SUCH_VERSION LEVEL_NOT_IN_VERSION TOO_LONG NO_MODE NO_ROOM SMALL_BUFFER OUT_OF_MEMORY NO_SUCH_FORMAT NOT_SQUARE NO_SUCH_SIZE NOT_TEXT NO_SUCH_KIND NOT_IN_MODE NO_SUCH_NUMBER NO_SUCH_SIDE NO_FORMAT DAMAGED NOT_SPELLED NO_SUCH_STRUCT NO_SUCH_MANNER NO_SUCH_MASK NOT_IN_FORMAT NOT_SHOWN NOT_SEVERAL STRANGER MISSING TWICE PARITY NOT_READ NO_SUCH_AREA NO_SUCH_CONTENT NO_SUCH_FIELD FIELD_EMPTY FIELD_TOO_LONG FIELD_TOO_SHORT FIELD_CONTROL FIELD_CHARACTER FIELD_CHECK_DIGITS FIELD_RANGE FIELD_UNUSED NO_SUCH_IDENTIFIER ELEMENT_LENGTH FIELD_DECIMALS FIELD_WORD NO_AREA AREA_BLOCK AREA_FORMAT NOT_PICTURE BROKEN_PICTURE NO_SQUARE LARGE_PICTURE";
+export const ANSWERS = "OK NO_SUCH_LEVEL NO_SUCH_VERSION LEVEL_NOT_IN_VERSION TOO_LONG NO_MODE NO_ROOM SMALL_BUFFER OUT_OF_MEMORY NO_SUCH_FORMAT NOT_SQUARE NO_SUCH_SIZE NOT_TEXT NO_SUCH_KIND NOT_IN_MODE NO_SUCH_NUMBER NO_SUCH_SIDE NO_FORMAT DAMAGED NOT_SPELLED NO_SUCH_STRUCT NO_SUCH_MANNER NO_SUCH_MASK NOT_IN_FORMAT NOT_SHOWN NOT_SEVERAL STRANGER MISSING TWICE PARITY NOT_READ NO_SUCH_AREA NO_SUCH_CONTENT NO_SUCH_FIELD FIELD_EMPTY FIELD_TOO_LONG FIELD_TOO_SHORT FIELD_CONTROL FIELD_CHARACTER FIELD_CHECK_DIGITS FIELD_RANGE FIELD_UNUSED NO_SUCH_IDENTIFIER ELEMENT_LENGTH FIELD_DECIMALS FIELD_WORD NO_AREA AREA_BLOCK AREA_FORMAT NOT_PICTURE BROKEN_PICTURE NO_SQUARE LARGE_PICTURE MANY_CODEWORDS MANY_FORMAT_BITS MANY_VERSION_BITS";
 export const CAUSES = {
     "NO_SUCH_LEVEL": ["NoSuchLevel", "the levels are L, M, Q and H"],
     "NO_SUCH_VERSION": ["NoSuchVersion", "the versions are 1 to 40 and M1 to M4"],
@@ -46,6 +46,9 @@ export const CAUSES = {
     "NO_AREA": ["AreaTooLarge", "no central area leaves that reserve: use a higher level or less reserve"],
     "AREA_BLOCK": ["AreaTooLarge", "the area covers more codewords of a block than may be lost: shrink it"],
     "AREA_FORMAT": ["AreaTooLarge", "the area covers too many modules of the format information: move it"],
+    "MANY_CODEWORDS": ["TooMuchDamage", "a block has fewer codewords than shall be wrong"],
+    "MANY_FORMAT_BITS": ["TooMuchDamage", "no more than 15 bits of the format information can be wrong"],
+    "MANY_VERSION_BITS": ["TooMuchDamage", "versions 7 to 40 alone have version information, of 18 bits"],
     "FIELD_EMPTY": ["EmptyField", "it may not be empty", 1],
     "FIELD_TOO_LONG": ["TooLong", "it is longer than the format allows", 1],
     "FIELD_TOO_SHORT": ["TooShort", "it is shorter than the format allows", 1],
@@ -79,11 +82,14 @@ export const STRUCTS = {
     "goq_rectangle": "left:size top:size width:size height:size",
     "goq_taken": "blocks:size allowed:size worst:size first:size last:size least:size may_show_anything",
     "goq_wish": "size across down reserve keep_alignment",
+    "goq_wrong": "size codewords:size format_bits:size version_bits:size seed:size",
+    "goq_promised": "codewords:size is_promised",
 };
 export const DEFAULTS = {
     "goq_options": [1, 0, 0, 1, 0, 0], "goq_several": [1, 0, 1, 40, 0],
     "goq_drawing": [5, 4, 8, 0, 16777215, 0, 4294967295, 4294967295, 4294967295, 4294967295, 4294967295, 4294967295, 4294967295, 4294967295, 4294967295, 4294967295, 4294967295, 4294967295],
     "goq_scan": [0, 0, 0], "goq_checks": [0, 0], "goq_wish": [1, 1, 4294967295, 0],
+    "goq_wrong": [0, 0, 0, 0],
 };
 export const CALLS = {
     "goq_version": "", "goq_encode_with": "wwwwww", "goq_encode_several": "wwwwwww",
@@ -93,7 +99,7 @@ export const CALLS = {
     "goq_read_picture": "wwwwwwwww", "goq_check": "wwwwwww", "goq_check_square": "wwwww",
     "goq_join": "wwwwww", "goq_content": "nwwwwww", "goq_gs1": "wwwwww",
     "goq_encode_gs1": "wwwwwww", "goq_reserve": "nnwwwww", "goq_largest_area": "nnww",
-    "goq_cover": "wwwww",
+    "goq_cover": "wwwww", "goq_damage": "wwww",
 };
 export const FORMATS = {
     "txt": {"number": 0, "isText": true, "scale": 1, "hasColours": false},

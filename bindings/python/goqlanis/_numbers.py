@@ -7,7 +7,8 @@ VERSION = 10000
     NO_SUCH_AREA, NO_SUCH_CONTENT, NO_SUCH_FIELD, FIELD_EMPTY, FIELD_TOO_LONG, FIELD_TOO_SHORT,
     FIELD_CONTROL, FIELD_CHARACTER, FIELD_CHECK_DIGITS, FIELD_RANGE, FIELD_UNUSED,
     NO_SUCH_IDENTIFIER, ELEMENT_LENGTH, FIELD_DECIMALS, FIELD_WORD, NO_AREA, AREA_BLOCK,
-    AREA_FORMAT, NOT_PICTURE, BROKEN_PICTURE, NO_SQUARE, LARGE_PICTURE) = range(0, 53)
+    AREA_FORMAT, NOT_PICTURE, BROKEN_PICTURE, NO_SQUARE, LARGE_PICTURE, MANY_CODEWORDS,
+    MANY_FORMAT_BITS, MANY_VERSION_BITS) = range(0, 56)
 (L, M, Q, H) = range(0, 4)
 (HALF_BLOCKS, LIGHT_HALF_BLOCKS, SVG, PIC, GREY, PNG, EPS, PBM, SVG_PATH, PGM, PDF, ZPL, TSPL,
     ESC_POS, XBM, PPM, ASCII, FORMATS) = range(0, 18)
@@ -77,4 +78,6 @@ STRUCTS = {
     "goq_taken": "blocks:size allowed:size worst:size first:size last:size least:size "
         "may_show_anything",
     "goq_wish": "size across down reserve keep_alignment",
+    "goq_wrong": "size codewords:size format_bits:size version_bits:size seed:size",
+    "goq_promised": "codewords:size is_promised",
 }

@@ -4,6 +4,7 @@ pub mod Asking
 pub mod Calls
 pub mod Checking
 pub mod Colours
+pub mod Damaging
 pub mod Drawings
 pub mod Joining
 pub mod Names

@@ -87,6 +87,12 @@ pub enum Refusal {
     NoSquare = 51,
     /// The picture is larger than 67,108,864 bytes.
     LargePicture = 52,
+    /// A block has fewer codewords than shall be wrong.
+    ManyCodewords = 53,
+    /// The format information has fewer bits than shall be wrong.
+    ManyFormatBits = 54,
+    /// The version information has fewer bits than shall be wrong, or none.
+    ManyVersionBits = 55,
 }
 
 impl Refusal {

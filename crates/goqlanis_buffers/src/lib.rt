@@ -7,6 +7,7 @@ pub mod areas;
 pub mod checking;
 mod colours;
 pub mod contents;
+pub mod damaging;
 pub mod joining;
 pub mod laws;
 mod lengths;

@@ -35,6 +35,7 @@ macro_rules! says {
 pub mod areas;
 pub mod checking;
 pub mod contents;
+pub mod damage;
 pub mod logos;
 pub mod reading;
 pub mod render;
