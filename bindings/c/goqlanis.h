@@ -41,7 +41,7 @@ extern "C" {
 uint32_t goq_version(void);
 
 /* The initial value of a struct that begins with `size`, for initialisers and assignments. Use it
-   through GOQ_OPTIONS, GOQ_SEVERAL, GOQ_DRAWING, GOQ_SCAN, GOQ_CHECKS and GOQ_WISH. */
+   through GOQ_OPTIONS, GOQ_SEVERAL, GOQ_DRAWING, GOQ_SCAN, GOQ_CHECKS, GOQ_WISH and GOQ_WRONG. */
 #ifdef __cplusplus
 #define GOQ_INITIAL(type, ...) type{sizeof(type), __VA_ARGS__}
 #else
@@ -106,7 +106,10 @@ typedef uint32_t goq_answer;
     X(NO_SQUARE, 51, "no code was found in the picture: crop it to the code and an even margin") \
     X(LARGE_PICTURE, 52, "the picture is larger than 67,108,864 bytes: cut it into smaller ones") \
     X(NO_SUCH_SET, 53, "no such character set: use GOQ_UNMARKED to GOQ_UTF_8") \
-    X(NOT_IN_SET, 54, "the character set has no such character: use another, as GOQ_UTF_8")
+    X(NOT_IN_SET, 54, "the character set has no such character: use another, as GOQ_UTF_8") \
+    X(MANY_CODEWORDS, 55, "a block has fewer codewords than shall be wrong") \
+    X(MANY_FORMAT_BITS, 56, "no more than 15 bits of the format information can be wrong") \
+    X(MANY_VERSION_BITS, 57, "versions 7 to 40 alone have version information, of 18 bits")
 
 enum {
 #define GOQ_NAMED(name, number, text) GOQ_##name = number,
@@ -369,6 +372,10 @@ enum {
     GOQ_ISO_8859_14 = 16, /* for Celtic languages */
     GOQ_ISO_8859_15 = 17, /* part 1 with the euro sign */
     GOQ_ISO_8859_16 = 18, /* for South-Eastern Europe */
+    GOQ_WINDOWS_1250 = 21, /* of Windows, for Central Europe */
+    GOQ_WINDOWS_1251 = 22, /* of Windows, with Cyrillic letters */
+    GOQ_WINDOWS_1252 = 23, /* of Windows, for Western Europe */
+    GOQ_WINDOWS_1256 = 24, /* of Windows, with Arabic letters */
     GOQ_UTF_8 = 26 /* UTF-8 after its header */
 };
 
@@ -645,6 +652,23 @@ typedef struct {
 /* A reserve of half of the codewords that may be lost. */
 #define GOQ_HALF 0xffffffffu
 
+/* How much of a symbol shall be wrong. Initialise with GOQ_WRONG, then change what you need. */
+typedef struct {
+    uint32_t size; /* must be sizeof(goq_wrong) */
+    size_t codewords; /* how many codewords of each block */
+    size_t format_bits; /* how many bits of each copy of the format information, up to 15 */
+    size_t version_bits; /* how many bits of each copy of the version information, up to 18 */
+    uint64_t seed; /* decides which ones */
+} goq_wrong;
+
+#define GOQ_WRONG GOQ_INITIAL(goq_wrong, 0, 0, 0, 0)
+
+/* How much of a symbol may be wrong so that it still decodes to its data, whatever is. */
+typedef struct {
+    size_t codewords; /* how many codewords of each block */
+    uint32_t is_promised; /* 1 if no more is wrong, with up to 3 format bits, else 0 */
+} goq_promised;
+
 /* The most blocks that a symbol has. */
 enum { GOQ_BLOCKS_MAX = 81 };
 
@@ -859,6 +883,14 @@ goq_answer goq_largest_area(uint32_t version, uint32_t level, const goq_wish *wi
    block that loses the most codewords in `place`, GOQ_AREA_FORMAT; GOQ_OUT_OF_MEMORY. */
 goq_answer goq_cover(uint8_t *modules, size_t modules_length, const goq_rectangle *area,
     size_t area_length, size_t *place);
+
+/* Makes exactly so much of a symbol wrong, to test readers: as many codewords of each block and as
+   many bits as `wrong` says, and no other module. `modules` is the symbol, as written by goq_encode;
+   equal seeds make the same wrong. How much may be wrong goes to `promised`. Errors:
+   GOQ_NO_SUCH_STRUCT, GOQ_NO_SUCH_SIDE, GOQ_NO_FORMAT, GOQ_MANY_CODEWORDS, GOQ_MANY_FORMAT_BITS,
+   GOQ_MANY_VERSION_BITS; GOQ_OUT_OF_MEMORY. */
+goq_answer goq_damage(uint8_t *modules, size_t modules_length, const goq_wrong *wrong,
+    goq_promised *promised);
 
 /* -- Calls with defaults --
 

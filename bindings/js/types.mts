@@ -10,6 +10,7 @@ const t: string | null = read(b)[0].text;
 wifi({ ssid: "x", hidden: true });
 check(b)[0].wrongModules.finder.toFixed();
 code.withLogo(s, { margin: 1 }).logo?.area.left;
+code.damaged({ codewords: 1, seed: 7 }).isPromised.valueOf();
 // @ts-expect-error
 wifi({ ssdi: "x" });
 // @ts-expect-error

@@ -5,15 +5,12 @@ import sys
 sys.path.append(os.path.join(os.path.dirname(os.path.realpath(__file__)), os.pardir, "judge"))
 import penalty
 import reading
+from damage import bounds
 from field import Uncorrected, corrected
 from forms import blocks, form
 from spelling import ECI, FNC1_FIRST, FNC1_SECOND, READERS, Front, Unspelled, count_bits, header
 from tables import CHARACTERS, MICRO_MODES, MODES
 
-# Error correction codewords that are reserved against misdecoding (Table 9).
-PROTECTION = {("1", "L"): 3, ("1", "M"): 2, ("1", "Q"): 1, ("1", "H"): 1, ("2", "L"): 2,
-              ("3", "L"): 1, ("M1", "L"): 2, ("M2", "L"): 3, ("M2", "M"): 2, ("M3", "L"): 2,
-              ("M4", "L"): 2}
 # The cost of a byte in a mode, in sixths of a bit.
 SIXTHS = {"numeric": 20, "alphanumeric": 33, "byte": 48, "kanji": 39}
 
@@ -215,8 +212,7 @@ def checked(square):
     shape = form(version)
     level, mask = reading.read_format(square, shape)
     wrong, bits, remainder = corrections(square, shape, level, mask)
-    parts = blocks(version, level)
-    allowed = (parts.ec * parts.count - PROTECTION.get((version, level), 0)) // 2 // parts.count
+    allowed = bounds(version, level)[1]
     unused = min(100 * max(allowed - it, 0) // allowed if allowed else 100 * (it == 0) for it in wrong)
     modules = {"finder": finder(square, shape), "alignment": alignment(square, shape),
                "timing": timing(square, shape),

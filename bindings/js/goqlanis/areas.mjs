@@ -1,4 +1,4 @@
-/* Areas of codes that may show anything, such as logos. */
+/* Areas of codes that may show anything, such as logos, and damage. */
 
 import * as checks from "./checks.mjs";
 import { refusal, refuse } from "./errors.mjs";
@@ -55,6 +55,23 @@ export function covered(code, area) {
             throw tooLarge(checks.version(code.version), checks.level(code.level), rectangles);
         refuse(said);
         return buffers.copy(out, code.modules.length);
+    });
+}
+
+/** Returns the modules of a code with exactly so much damage, and how much is promised. */
+export function damaged(code, given) {
+    const it = checks.options("damaged", given,
+        { codewords: 0, formatBits: 0, versionBits: 0, seed: 0 });
+    const count = (name) => checks.whole(name, it[name], 0, 10000);
+    const wrong = { codewords: count("codewords"), format_bits: count("formatBits"),
+        version_bits: count("versionBits"),
+        seed: checks.whole("seed", it.seed, 0, Number.MAX_SAFE_INTEGER) };
+    return within((buffers) => {
+        const out = buffers.bytes(code.modules), found = buffers.many("goq_promised", 1);
+        refuse(answer("goq_damage", out, code.modules.length, buffers.initial("goq_wrong", wrong),
+            found));
+        return { ...buffers.struct("goq_promised", found),
+            modules: buffers.copy(out, code.modules.length) };
     });
 }
 

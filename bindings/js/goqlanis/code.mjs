@@ -24,6 +24,7 @@ export class QrCode {
         this.width = width;
         this.logo = logo;
         this.charset = charset;
+        this.isPromised = true;
     }
 
     get mask() {
@@ -91,6 +92,17 @@ export class QrCode {
     withArea(area = this.largestArea()) {
         return new QrCode(areas.covered(this, area), this.version, this.level, this.logo,
             this.charset);
+    }
+
+    get mostCodewords() {
+        return areas.damaged(this, {}).codewords;
+    }
+
+    damaged(options = {}) {
+        const { modules, is_promised: isPromised } = areas.damaged(this, options);
+        const made = new QrCode(modules, this.version, this.level, this.logo);
+        made.isPromised = this.isPromised && isPromised === 1;
+        return made;
     }
 
     withLogo(logo, options = {}) {

@@ -25,7 +25,8 @@ export type Version = number | string;
 /** A character set: "utf-8" or a part of ISO 8859. */
 export type Charset = "iso-8859-1" | "iso-8859-2" | "iso-8859-3" | "iso-8859-4" | "iso-8859-5" |
     "iso-8859-6" | "iso-8859-7" | "iso-8859-8" | "iso-8859-9" | "iso-8859-10" | "iso-8859-11" |
-    "iso-8859-13" | "iso-8859-14" | "iso-8859-15" | "iso-8859-16" | "utf-8";
+    "iso-8859-13" | "iso-8859-14" | "iso-8859-15" | "iso-8859-16" | "windows-1250" | "windows-1251"
+    | "windows-1252" | "windows-1256" | "utf-8";
 /** Bytes are any; a string is encoded so that readers show it. */
 export type Data = string | ArrayBuffer | ArrayBufferView;
 
@@ -147,6 +148,10 @@ export class QrCode {
     readonly mask: number;
     /** Where the logo is, and its picture as a data URI. */
     readonly logo: (Rectangle & { area: Rectangle; data: string }) | null;
+    /** False if `damaged` made more wrong than this library is promised to correct. */
+    readonly isPromised: boolean;
+    /** How many wrong codewords of each block it is promised to correct. */
+    readonly mostCodewords: number;
     /** The width of the quiet zone that the standard wants. */
     readonly quietZone: number;
     isDark(x: number, y: number): boolean;
@@ -176,6 +181,10 @@ export class QrCode {
     /** The code with a light area, by default the largest. Whatever the area then shows, the code
         decodes to the same data. Throws NoSuchArea or AreaTooLarge. */
     withArea(area?: Rectangle | Rectangle[]): QrCode;
+    /** The code with exactly so many wrong codewords in each block, and wrong bits in each copy of
+        the format and version information, to test readers. Throws TooMuchDamage. */
+    damaged(options?: { codewords?: number; formatBits?: number; versionBits?: number;
+        seed?: number }): QrCode;
     /** The code with a logo, the bytes or the text of an SVG or PNG file, in an area, by default
         the largest in its ratio. Only SVG shows it; half blocks leave the area light, and other
         formats throw NotInFormat: for these, take withArea. */

@@ -62,6 +62,8 @@ from .encoding import (encode, encode_gs1, encode_segments, encode_sequence, enc
                        is_functional, smallest_scale, smallest_version,
                        smallest_version_of_segments)
 from .errors import *  # noqa: F403 - its __all__ alone
+from .exams import Question as Question
+from .exams import exam
 from .reading import AnyReading as AnyReading
 from .reading import Code as Code
 from .reading import Part as Part
@@ -71,8 +73,8 @@ from .symbol import Symbol
 
 __version__ = "1.0.0"
 __all__ = ["contents", "Symbol", "encode", "encode_sequence", "encode_segments", "encode_gs1",
-           "encode_text", "read", "read_any", "read_text", "join", "check", "smallest_version",
-           "smallest_version_of_segments", "smallest_scale", "is_functional"]
+           "encode_text", "read", "read_any", "read_text", "join", "check", "exam",
+           "smallest_version", "smallest_version_of_segments", "smallest_scale", "is_functional"]
 
 # The names that other packages use, and what to use here.
 _HERE = {"make": "encode(data)", "make_qr": "encode(data)", "QRCode": "encode(data)",

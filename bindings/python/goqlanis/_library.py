@@ -22,8 +22,8 @@ def _struct(name: str, fields: str) -> Any:
 
 
 (Options, Several, Drawing, Known, Segment, Field, Element, Read, AnyRead, Part, Code, Scan,
- WrongModules, DataBits, Rank, Checked, Checks, Square, Rectangle, Taken,
- Wish) = (_struct(*it) for it in STRUCTS.items())
+ WrongModules, DataBits, Rank, Checked, Checks, Square, Rectangle, Taken, Wish, Wrong,
+ Promised) = (_struct(*it) for it in STRUCTS.items())
 
 _to = ctypes.POINTER
 _IN, _OUT, _COUNT = [_data, _size], [_place, _size], _to(_size)
@@ -53,6 +53,7 @@ _CALLS: Dict[str, List[Any]] = {
     "goq_reserve": [_number, _number, _to(Rectangle), _size, _COUNT, _size, _to(Taken)],
     "goq_largest_area": [_number, _number, _to(Wish), _to(Rectangle)],
     "goq_cover": [*_OUT, _to(Rectangle), _size, _COUNT],
+    "goq_damage": [*_OUT, _to(Wrong), _to(Promised)],
 }
 
 

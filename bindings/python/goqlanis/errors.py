@@ -8,7 +8,7 @@ __all__ = ["Error", "NoSuchLevel", "NoSuchVersion", "LevelNotInVersion", "TooLon
            "NotInFormat", "NotInMode",
            "NoSuchNumber", "Unread", "NoSuchSide", "NoFormat", "Damaged", "NotSpelled", "NotShown",
            "NotJoined", "NoSuchArea", "AreaTooLarge", "NotPicture", "BrokenPicture", "NoSquare",
-           "NoSuchColour", "NoSuchKind"]
+           "NoSuchColour", "NoSuchKind", "TooMuchDamage"]
 
 
 class Error(Exception):
@@ -141,6 +141,10 @@ class AreaTooLarge(Error, ValueError):
     """An area takes more of the symbol than may be lost."""
 
 
+class TooMuchDamage(Error, ValueError):
+    """A symbol has fewer codewords or bits than shall be wrong."""
+
+
 _CAUSES: Dict[int, Tuple[Type[Error], str]] = {
     goq.NO_SUCH_LEVEL: (NoSuchLevel, "the levels are L, M, Q and H"),
     goq.NO_SUCH_VERSION: (NoSuchVersion, "the versions are 1 to 40 and M1 to M4"),
@@ -188,6 +192,11 @@ _CAUSES: Dict[int, Tuple[Type[Error], str]] = {
                      "shrink it"),
     goq.AREA_FORMAT: (AreaTooLarge, "the area covers too many modules of the format information: "
                       "move it"),
+    goq.MANY_CODEWORDS: (TooMuchDamage, "a block has fewer codewords than shall be wrong"),
+    goq.MANY_FORMAT_BITS: (TooMuchDamage, "no more than 15 bits of the format information can be "
+                           "wrong"),
+    goq.MANY_VERSION_BITS: (TooMuchDamage, "versions 7 to 40 alone have version information, of "
+                            "18 bits"),
 }
 
 # Tracebacks show them under the name by which the package exports them.

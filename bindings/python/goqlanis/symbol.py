@@ -14,7 +14,7 @@ from typing import IO, Any, Dict, Iterator, Optional, Tuple, Union
 from . import _checks, _drawing, _files, areas
 from ._checks import named, shown, version_name
 from ._drawing import Look
-from ._library import library
+from ._library import Promised, Wrong, library
 from .areas import Area, Logo, Rectangle, Reserve
 from .errors import NoSuchSide, NotInFormat, refuse
 
@@ -29,7 +29,8 @@ class Symbol:
 
     `version` is "1" to "40" or "M1" to "M4", `level` is "L", "M", "Q" or "H", and `modules` has a
     byte for each module, row by row, 1 for a dark module; `charset` is the character set, if
-    `encode` was given one or chose it. Symbols with the same modules, version, level and logo are
+    `encode` was given one or chose it; `is_promised` is False if `damaged` made more wrong than
+    this library is promised to correct. Symbols with the same modules, version, level and logo are
     equal, and symbols can be members of sets.
 
     All methods that draw it take the same arguments (`look`), as far as the format has them:
@@ -61,6 +62,7 @@ class Symbol:
     level: str
     logo: Optional[Logo] = None
     charset: Optional[str] = field(default=None, compare=False)
+    is_promised: bool = field(default=True, compare=False)
 
     def __post_init__(self) -> None:
         number, modules = _checks.version(self.version), _checks.binary("modules", self.modules)
@@ -358,6 +360,46 @@ take a smaller area
             self.largest_area(ratio, reserve=reserve, keep_alignment=keep_alignment)
         placed = areas.placed(data, area, _checks.whole("margin", margin, 0, 99))
         return replace(self.with_area(area), logo=placed)
+
+    @property
+    def most_codewords(self) -> int:
+        """How many wrong codewords of each block this library is promised to correct.
+
+        >>> encode("01234567", "H").most_codewords
+        8
+        """
+        return self._damaged(0, 0, 0, 0)[1].codewords
+
+    @named
+    def damaged(self, codewords: int = 0, format_bits: int = 0, version_bits: int = 0, *,
+                seed: int = 0) -> "Symbol":
+        """Returns the symbol with exactly so much damage, to test readers.
+
+        In each block `codewords` codewords are wrong, and in each copy of the format information
+        and, in versions 7 to 40, of the version information so many bits; no other module is.
+        `seed` decides which. A whole symbol within the promise, whose `is_promised` stays True,
+        still decodes to its data and nothing else: up to `most_codewords`, and 3 format bits.
+
+        Raises TooMuchDamage if the symbol has fewer of them.
+
+        >>> symbol = encode("01234567", "H").damaged(8, format_bits=3)
+        >>> symbol.is_promised, read(symbol).data, read(symbol).wrong
+        (True, b'01234567', 8)
+        >>> encode("01234567", "H").damaged(9).is_promised
+        False
+        """
+        given = {"codewords": codewords, "format_bits": format_bits, "version_bits": version_bits}
+        counts = (_checks.whole(name, it, 0, 10000) for name, it in given.items())
+        modules, found = self._damaged(*counts, _checks.whole("seed", seed, 0, 2**64 - 1))
+        return replace(self, modules=modules,
+                       is_promised=self.is_promised and found.is_promised == 1)
+
+    def _damaged(self, *counts: int) -> Tuple[bytes, Promised]:
+        """Returns the modules with so much damage, and how much is within the promise."""
+        out, found = ctypes.create_string_buffer(self.modules, len(self.modules)), Promised()
+        wrong = Wrong(ctypes.sizeof(Wrong), *counts)
+        refuse(library.goq_damage(out, len(out), ctypes.byref(wrong), ctypes.byref(found)))
+        return out.raw, found
 
     def _pair(self) -> Tuple[int, int]:
         """Returns the library's numbers of the version and level."""

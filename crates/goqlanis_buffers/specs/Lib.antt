@@ -5,6 +5,7 @@ pub mod Calls
 pub mod Charsets
 pub mod Checking
 pub mod Colours
+pub mod Damaging
 pub mod Drawings
 pub mod Joining
 pub mod Names

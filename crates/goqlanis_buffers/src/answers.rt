@@ -91,6 +91,12 @@ pub enum Refusal {
     NoSuchSet = 53,
     /// The character set lacks a character, or has none for a byte.
     NotInSet = 54,
+    /// A block has fewer codewords than shall be wrong.
+    ManyCodewords = 55,
+    /// The format information has fewer bits than shall be wrong.
+    ManyFormatBits = 56,
+    /// The version information has fewer bits than shall be wrong, or none.
+    ManyVersionBits = 57,
 }
 
 impl Refusal {

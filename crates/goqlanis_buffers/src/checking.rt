@@ -192,7 +192,7 @@ fn told_check(check: &Check) -> Checked
 }
 
 // 1 for `true`, 0 for `false`.
-fn flag(holds: bool) -> u32
+pub(crate) fn flag(holds: bool) -> u32
     ensures { result ≡ flag holds }
 {
     if holds { 1 } else { 0 }

@@ -8,6 +8,7 @@ pub mod charsets;
 pub mod checking;
 mod colours;
 pub mod contents;
+pub mod damaging;
 pub mod joining;
 pub mod laws;
 mod lengths;

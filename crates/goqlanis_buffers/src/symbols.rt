@@ -84,8 +84,8 @@ pub(crate) fn described(code: &QrCode) -> Symbol
     }
 }
 
-// Writes modules as bytes to the start of a buffer that has room for them.
-fn fill_modules(out: &mut [u8], colors: &[Color])
+/// Writes modules as bytes to the start of a buffer that has room for them.
+pub(crate) fn fill_modules(out: &mut [u8], colors: &[Color])
     requires room { length colors.now ≤ length out.old }
     ensures filled { IsFilled out.old out.new (module_bytes colors.now) }
 {

@@ -5,6 +5,7 @@
 mod areas;
 mod checking;
 mod contents;
+mod damaging;
 mod elements;
 mod encoding;
 mod pictures;

@@ -3,9 +3,8 @@ import hashlib
 import json
 from pathlib import Path
 
-import checked
-import reading
-from checked import blocks, form
+from checked import form, reading
+from damage import bounds, wrong_in
 from room import empty, modules_of, put, run
 from spelling import spelled
 
@@ -33,42 +32,17 @@ def _sum(folder):
     return found.hexdigest()
 
 
-def _version_copies(shape):
-    """Returns the places of each copy of the version word (Annex D)."""
-    if shape.is_micro or shape.number < 7:
-        return []
-    near = [(k // 3, shape.width - 11 + k % 3) for k in range(18)]
-    return [[y * shape.width + x for x, y in near], [x * shape.width + y for x, y in near]]
-
-
-def _damage(whole, other, answer):
-    """Returns the numbers of wrong codewords of each block, of wrong bits in each copy of the format
-    and of the version word, and of other wrong modules."""
-    shape, parts = form(answer["version"]), blocks(answer["version"], answer["level"])
-    found = [reading.words_of(shape.stream(it, answer["mask"]), len(shape.places), parts)
-             for it in (whole, other)]
-    differs = {place for place, pair in enumerate(zip(whole, other)) if len(set(pair)) > 1}
-    words = [sum(found[0][it] != found[1][it] for it in share) for share in parts.shares()]
-    copies, versions = shape.copies, _version_copies(shape)
-    known = {*shape.places[:parts.total * 8 - 4 * parts.has_half], *sum(copies + versions, [])}
-    return (words, [len(differs & set(it)) for it in copies], [len(differs & set(it)) for it in versions],
-            len(differs - known))
-
-
 def _is_right(folder, answer, whole):
     """Whether a picture of one pixel a module has the damage that its answer says, and a whole one
     the data."""
     square = bytes(sum(modules_of(Path(folder, answer["name"]).read_bytes()), []))
-    words, formats, versions, others = _damage(whole.setdefault(answer["name"].rsplit("-", 1)[0], square),
-                                               square, answer)
+    pair, first = (answer["version"], answer["level"]), answer["name"].rsplit("-", 1)[0]
+    words, formats, versions, others = wrong_in(whole.setdefault(first, square), square, *pair, answer["mask"])
     counts = {(answer["wrong_codewords"], *words), (answer["wrong_format_bits"], *formats),
               (answer["wrong_version_bits"], *versions)}
     if others or any(len(set(it)) > 1 for it in counts):
         return False
-    pair = answer["version"], answer["level"]
-    parts = blocks(*pair)
-    most, kept = parts.ec // 2, checked.PROTECTION.get(pair, 0)
-    allowed = (parts.ec * parts.count - kept) // 2 // parts.count
+    most, allowed = bounds(*pair)
     is_promised = answer["wrong_codewords"] <= most and answer["wrong_format_bits"] <= 3
     if (answer["goqlanis_reads"], answer["standard_corrects"]) != (is_promised, allowed):
         return False

@@ -50,6 +50,10 @@ charsets! {
     Iso8859_14 = GOQ_ISO_8859_14, "For Celtic languages.";
     Iso8859_15 = GOQ_ISO_8859_15, "Part 1 with the euro sign.";
     Iso8859_16 = GOQ_ISO_8859_16, "For South-Eastern Europe.";
+    Windows1250 = GOQ_WINDOWS_1250, "Of Windows, for Central Europe.";
+    Windows1251 = GOQ_WINDOWS_1251, "Of Windows, with Cyrillic letters.";
+    Windows1252 = GOQ_WINDOWS_1252, "Of Windows, for Western Europe.";
+    Windows1256 = GOQ_WINDOWS_1256, "Of Windows, with Arabic letters.";
     Utf8 = GOQ_UTF_8, "UTF-8 after its header.";
     // Up to here.
 }

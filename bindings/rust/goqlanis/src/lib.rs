@@ -36,6 +36,7 @@ pub mod areas;
 pub mod charsets;
 pub mod checking;
 pub mod contents;
+pub mod damage;
 pub mod logos;
 pub mod reading;
 pub mod render;

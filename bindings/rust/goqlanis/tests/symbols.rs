@@ -2,6 +2,7 @@ use goqlanis::render::{eps, pbm, pdf, pgm, pic, png, svg, svg_path, unicode};
 use goqlanis::render::{Luma, Pattern, RenderError, Renderer};
 use goqlanis::several::{encode_several, join, Several, Unjoined};
 use goqlanis::areas::{Excess, Rectangle};
+use goqlanis::damage::{Damage, TooMuch};
 use goqlanis::logos::{LogoError, LogoOptions};
 use goqlanis::checking::{DataCheck, Rank, WrongModules};
 use goqlanis::{check, check_square, read, read_any, read_picture, read_text, Color, EcLevel, Options, Part, Position};
@@ -109,6 +110,17 @@ fn colours_of_patterns() {
     assert!(String::from_utf8_lossy(&file).contains("\n1.000000 0.000000 0.000000 rg\n4 4 7 1 re\n18 4 7 1 re\n"));
     let (dark, three) = (Color::Dark, [Color::Dark; 9]);
     assert!(Renderer::new(&three, 3, 0).pattern_color(Pattern::Data, dark, red).try_build() == Err(RenderError::NoPatterns));
+}
+
+#[test]
+fn damage() {
+    let code = QrCode::with_version(b"01234567", Version::Normal(1), EcLevel::H).unwrap();
+    let with = |codewords, format_bits, version_bits| code.damaged(&Damage { codewords, format_bits, version_bits, seed: 7 });
+    let whole = with(0, 0, 0).unwrap();
+    assert_eq!((whole.code, whole.is_promised, whole.most_codewords), (code.clone(), true, 8));
+    assert!(!with(9, 0, 0).unwrap().is_promised && !with(0, 4, 0).unwrap().is_promised);
+    assert_eq!((with(27, 16, 1), with(26, 16, 1)), (Err(TooMuch::Codewords), Err(TooMuch::FormatBits)));
+    assert_eq!(with(26, 15, 1), Err(TooMuch::VersionBits));
 }
 
 #[test]

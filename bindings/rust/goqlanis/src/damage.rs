@@ -1,0 +1,82 @@
+//! Symbols with exactly so much damage, to test readers.
+use crate::QrCode;
+use goqlanis_sys as sys;
+
+/// How much of a symbol is wrong; the default is nothing.
+#[derive(Clone, Copy, Debug, Default, PartialEq, Eq)]
+pub struct Damage {
+    /// The number of wrong codewords in each block.
+    pub codewords: usize,
+    /// The number of wrong bits in each copy of the format information.
+    pub format_bits: usize,
+    /// The number of wrong bits in each copy of the version information, which Normal 7 to 40 have.
+    pub version_bits: usize,
+    /// Decides which ones.
+    pub seed: u64,
+}
+
+/// A symbol with damage.
+#[derive(Clone, Debug, PartialEq, Eq)]
+pub struct Damaged {
+    /// The symbol.
+    pub code: QrCode,
+    /// Whether a whole symbol with so much damage still decodes to its data and nothing else.
+    pub is_promised: bool,
+    /// How many wrong codewords of each block are within that promise.
+    pub most_codewords: usize,
+}
+
+/// Why a symbol cannot have so much damage.
+#[derive(Clone, Copy, Debug, PartialEq, Eq)]
+pub enum TooMuch {
+    /// A block has fewer codewords.
+    Codewords,
+    /// The format information has only 15 bits.
+    FormatBits,
+    /// The version information has only 18 bits, or the version has none.
+    VersionBits,
+    /// Memory ran out.
+    OutOfMemory,
+}
+
+says! { TooMuch:
+    TooMuch::Codewords => "{}", sys::goq_strerror(sys::GOQ_MANY_CODEWORDS);
+    TooMuch::FormatBits => "{}", sys::goq_strerror(sys::GOQ_MANY_FORMAT_BITS);
+    TooMuch::VersionBits => "{}", sys::goq_strerror(sys::GOQ_MANY_VERSION_BITS);
+    TooMuch::OutOfMemory => "{}", sys::goq_strerror(sys::GOQ_OUT_OF_MEMORY);
+}
+
+impl QrCode {
+    /// Returns the symbol with exactly so much damage, and no other module wrong.
+    ///
+    /// ```
+    /// use goqlanis::{damage::Damage, read, EcLevel, QrCode};
+    ///
+    /// let code = QrCode::with_error_correction_level("01234567", EcLevel::H)?;
+    /// let damaged = code.damaged(&Damage { codewords: 8, format_bits: 3, ..Damage::default() })?;
+    /// assert!(damaged.is_promised && damaged.most_codewords == 8);
+    /// let reading = read(&damaged.code.to_colors())?;
+    /// assert_eq!((reading.data, reading.wrong), (b"01234567".to_vec(), 8));
+    /// # Ok::<(), Box<dyn std::error::Error>>(())
+    /// ```
+    pub fn damaged(&self, damage: &Damage) -> Result<Damaged, TooMuch> {
+        let (mut code, mut promised) = (self.clone(), sys::goq_promised::default());
+        let &Damage { codewords, format_bits, version_bits, seed } = damage;
+        let wrong = sys::goq_wrong { codewords, format_bits, version_bits, seed, ..sys::GOQ_WRONG };
+        // SAFETY: the length is that of the buffer.
+        let answer = unsafe {
+            sys::goq_damage(code.modules.as_mut_ptr(), code.modules.len(), &wrong, &mut promised)
+        };
+        match answer {
+            sys::GOQ_OK => Ok(Damaged {
+                code,
+                is_promised: promised.is_promised == 1,
+                most_codewords: promised.codewords,
+            }),
+            sys::GOQ_MANY_CODEWORDS => Err(TooMuch::Codewords),
+            sys::GOQ_MANY_FORMAT_BITS => Err(TooMuch::FormatBits),
+            sys::GOQ_MANY_VERSION_BITS => Err(TooMuch::VersionBits),
+            _ => Err(TooMuch::OutOfMemory),
+        }
+    }
+}
