@@ -162,8 +162,8 @@ def charset(value: Any) -> Tuple[int, ...]:
     if name == "shortest":
         return ()
     if name not in CHARSETS:
-        raise NoSuchSet(f"no charset {shown(value)}: take 'shortest', 'utf-8' or 'iso-8859-1' to "
-                        "'iso-8859-16', without 12")
+        raise NoSuchSet(f"no charset {shown(value)}: take 'shortest', 'utf-8', 'iso-8859-1' to "
+                        "'iso-8859-16', without 12, or 'windows-1250', -1251, -1252 or -1256")
     return CHARSETS[name],
 
 

@@ -16,3 +16,4 @@ pub mod Told
 pub mod Tinted
 pub mod Masked
 pub mod Coded
+pub mod Damaged
