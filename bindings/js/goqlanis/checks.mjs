@@ -110,7 +110,8 @@ export function charset(value) {
         return [];
     if (!Object.keys(CHARSETS).includes(name))
         throw new QrError("NoSuchSet", `no charset ${shown(value)}: take 'shortest', 'utf-8', `
-            + "'iso-8859-1' to 'iso-8859-16', without 12, or 'windows-1250', -1251, -1252 or -1256");
+            + "'iso-8859-1' to 'iso-8859-16', without 12, "
+            + "or 'windows-1250', -1251, -1252 or -1256");
     return [CHARSETS[name]];
 }
 
