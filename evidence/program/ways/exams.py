@@ -11,9 +11,11 @@ from spelling import spelled
 # All pairs, in parts that take a minute at most.
 PARTS = ["micro", *(",".join(f"{version}-{level}" for version in range(first, first + 10) for level in "LMQH")
                     for first in range(1, 41, 10))]
+# Some pairs, and the sum of their answers.jsonl and pictures, by name.
 SOME = ["--pairs", "M1-L,M3-M,1-L,2-M,7-H,14-Q"]
-# Sums of the default exam.
-SUMS = Path(__file__).parents[1] / "exam.sums"
+SUM = "753e30489ae23df2ad2b16ac5a35e52eb36ae153f11d2114bce26efadfb453a3"
+# Pictures of one pixel a module.
+SMALL = ["-f", "pbm", "-s", "1", "-q", "0"]
 # The sums of exams in which the judge found nothing wrong: it takes minutes, so it looks once.
 RIGHT = set()
 
@@ -59,7 +61,7 @@ def exam_is_as_its_answers_say(program):
     found = set()
     for pairs in PARTS:
         with empty() as folder:
-            answers, whole = _exam(program, folder, "-f", "pbm", "-s", "1", "-q", "0", "--pairs", pairs), {}
+            answers, whole = _exam(program, folder, *SMALL, "--pairs", pairs), {}
             found |= {(it["version"], it["level"]) for it in answers}
             made = _sum(folder)
             if made not in RIGHT and not all(_is_right(folder, it, whole) for it in answers):
@@ -68,29 +70,17 @@ def exam_is_as_its_answers_say(program):
     return len(found) == 168
 
 
-def _sums(program):
-    """Returns the lines of SUMS: of all files, of the answers, and of each content and kind of damage."""
-    files, answers, lines = {}, hashlib.sha256(), {}
-    for pairs in PARTS:
-        with empty() as folder:
-            _exam(program, folder, "--pairs", pairs)
-            files |= {path.name: hashlib.sha256(path.read_bytes()) for path in Path(folder).iterdir()}
-            answers.update(Path(folder, "answers.jsonl").read_bytes())
-    files["answers.jsonl"] = answers
-    for name, sum in sorted(files.items()):
-        for kind in ["*", *("*-" + it for it in name.split("-", 2)[2:])]:
-            lines.setdefault(kind, hashlib.sha256()).update(f"{sum.hexdigest()}  {name}\n".encode())
-    return [f"{lines[kind].hexdigest()}  {kind}" for kind in sorted(lines)]
-
-
 def exam_is_the_same(program):
-    """The files of the default exam, made in parts, have the stored sums."""
-    return _sums(program) == [it for it in SUMS.read_text().splitlines() if it[0] != "#"]
+    """The files of an exam have the stored sum. It is of goqlanis's own output: it shows that the exam
+    is the same on every platform, and not that it is right."""
+    with empty() as folder:
+        _exam(program, folder, *SOME)
+        return _sum(folder) == SUM
 
 
 def exam_is_turned(program):
     """Codes are mirrored, and turned clockwise; goqlanis reads what it promises to read upright."""
-    words, squares = ["-f", "pbm", "-s", "1", "-q", "0", "--pairs", "M1-L,M3-M,1-L,7-H"], []
+    words, squares = [*SMALL, "--pairs", "M1-L,M3-M,1-L"], []
     for mirror in ([], ["--mirror"]):
         for turns in range(4):
             with empty() as folder:
