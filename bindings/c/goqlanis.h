@@ -559,6 +559,14 @@ typedef struct {
 
 #define GOQ_SCAN GOQ_INITIAL(goq_scan, 0, 0, 0)
 
+/* A square in a picture that looks like a code but does not decode. */
+typedef struct {
+    size_t width; /* how many modules a side has */
+    size_t left; /* the pixel column of its upper left corner, counted from 0 */
+    size_t top; /* the pixel row of its upper left corner */
+    uint32_t why; /* GOQ_DAMAGED or GOQ_NOT_SPELLED */
+} goq_missed_code;
+
 /* How many modules of each kind of pattern are wrong. One in two patterns counts for both. */
 typedef struct {
     size_t finder; /* of the finder patterns and their separators */
@@ -800,6 +808,14 @@ goq_answer goq_mask(const uint8_t *modules, size_t modules_length, uint32_t *mas
 goq_answer goq_read_picture(const void *picture, size_t picture_length, goq_code *codes,
     size_t codes_length, goq_part *parts, size_t parts_length, void *bytes, size_t bytes_length,
     goq_scan *scan);
+
+/* Tells which squares in a picture look like codes but do not decode, and have no pixel of a code
+   that does. `missed` gets one item per square, and `count` their number. Errors:
+   GOQ_LARGE_PICTURE, GOQ_NOT_PICTURE, GOQ_BROKEN_PICTURE, GOQ_NO_SQUARE; if no code decodes,
+   GOQ_NO_SUCH_SIDE, GOQ_NO_FORMAT, GOQ_DAMAGED, GOQ_NOT_SPELLED; GOQ_SMALL_BUFFER;
+   GOQ_OUT_OF_MEMORY. */
+goq_answer goq_missed(const void *picture, size_t picture_length, goq_missed_code *missed,
+    size_t missed_length, size_t *count);
 
 /* Reports where the codes in a picture depart from the standard. The picture and the order of codes
    are those of goq_read_picture. `checks` gets one item per code; `wrong` gets the number of wrong

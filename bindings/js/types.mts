@@ -1,5 +1,5 @@
 /* What the types allow, and what they refuse: bindings/js/test has tsc look at it. */
-import { check, encode, encodeSegments, load, read, wifi } from "goqlanis";
+import { check, encode, encodeSegments, load, missed, read, wifi } from "goqlanis";
 await load();
 const code = encode("a", { level: "H", version: "M3", mask: 3 });
 const s: string = code.svg({ dark: null, size: "30mm", finderDark: "navy" });
@@ -11,6 +11,7 @@ wifi({ ssid: "x", hidden: true });
 check(b)[0].wrongModules.finder.toFixed();
 code.withLogo(s, { margin: 1 }).logo?.area.left;
 code.damaged({ codewords: 1, seed: 7 }).isPromised.valueOf();
+missed(b).map(({ left, why }) => left + why.name.length);
 // @ts-expect-error
 wifi({ ssdi: "x" });
 // @ts-expect-error

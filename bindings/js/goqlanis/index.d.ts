@@ -243,6 +243,11 @@ export type Picture = Data | { width: number; height: number; data: Uint8Clamped
 export type Square = QrCode | Iterable<Iterable<boolean | number>> | Exclude<Data, string>;
 /** Returns the codes in a picture. Throws NotPicture, BrokenPicture, NoSquare or another cause. */
 export function read(picture: Picture): Found[];
+/** A square that looks like a code but does not decode: modules per side, the pixels of its upper
+    left corner, and why. */
+export interface Missed { width: number; left: number; top: number; why: QrError }
+/** Returns such squares in a picture, next to the codes that `read` returns. Throws as `read`. */
+export function missed(picture: Picture): Missed[];
 export function readSquare(square: Square): Reading;
 /** Reads a square that may be turned, mirrored or inverted. */
 export function readAny(square: Square): AnyReading;

@@ -8,5 +8,5 @@ export { encode, encodeGs1, encodeSegments, encodeSequence, isFunctional } from 
 export { QrError } from "./errors.mjs";
 export { load, memoryBytes } from "./memory.mjs";
 export { FORMATS, PAYLOADS } from "./numbers.mjs";
-export { Check, check, checkSquare, join, read, readAny, readSquare, readText }
+export { Check, check, checkSquare, join, missed, read, readAny, readSquare, readText }
     from "./reading.mjs";

@@ -150,9 +150,12 @@ class Buffers {
     }
 }
 
-/** Returns the name of the library's answer, as "NO_ROOM"; throws OutOfMemory. */
+/** Returns the name of a number that the library answers, as "NO_ROOM". */
+export const nameOf = (number) => NAMES[number];
+
+/** Returns the name of the library's answer; throws OutOfMemory. */
 export function answer(name, ...values) {
-    const said = NAMES[number(name, ...values)];
+    const said = nameOf(number(name, ...values));
     if (said === "OUT_OF_MEMORY")
         throw refusal(said);
     return said;

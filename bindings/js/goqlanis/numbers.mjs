@@ -83,6 +83,7 @@ export const STRUCTS = {
     "goq_part": "kind number place symbols length:size",
     "goq_code": "reading:goq_reading position parts:size",
     "goq_scan": "size codes:size parts:size length:size",
+    "goq_missed_code": "width:size left:size top:size why",
     "goq_wrong_modules": "finder:size alignment:size timing:size format:size version:size remainder:size",
     "goq_data_bits": "segments compared bits:size fewest:size terminator:size padding:size guessed:size are_utf8",
     "goq_rank": "lower:size equal:size",
@@ -106,10 +107,10 @@ export const CALLS = {
     "goq_smallest_version_of_segments": "wwnw", "goq_width": "n", "goq_is_functional": "nnn",
     "goq_draw_with": "wwnwwww", "goq_draw_with_length": "wwnww", "goq_read": "wwwww",
     "goq_read_any": "wwwww", "goq_read_text": "wwwww", "goq_decode": "wwnwww", "goq_mask": "www",
-    "goq_read_picture": "wwwwwwwww", "goq_check": "wwwwwww", "goq_check_square": "wwwww",
-    "goq_join": "wwwwww", "goq_content": "nwwwwww", "goq_gs1": "wwwwww",
-    "goq_encode_gs1": "wwwwwww", "goq_reserve": "nnwwwww", "goq_largest_area": "nnww",
-    "goq_cover": "wwwww", "goq_damage": "wwww",
+    "goq_read_picture": "wwwwwwwww", "goq_missed": "wwwww", "goq_check": "wwwwwww",
+    "goq_check_square": "wwwww", "goq_join": "wwwwww", "goq_content": "nwwwwww",
+    "goq_gs1": "wwwwww", "goq_encode_gs1": "wwwwwww", "goq_reserve": "nnwwwww",
+    "goq_largest_area": "nnww", "goq_cover": "wwwww", "goq_damage": "wwww",
 };
 export const FORMATS = {
     "txt": {"number": 0, "isText": true, "scale": 1, "hasColours": false},

@@ -4,7 +4,7 @@ import * as checks from "./checks.mjs";
 import { QrCode } from "./code.mjs";
 import { KINDS } from "./encoding.mjs";
 import { QrError, refusal, refuse } from "./errors.mjs";
-import { answer, within } from "./memory.mjs";
+import { answer, nameOf, within } from "./memory.mjs";
 import { BLOCKS_MAX, BYTES_MAX, ECI, FNC1_FIRST, FNC1_SECOND, ONE_OF_SEVERAL, PARTS_MAX, POSITIONS,
     SEVERAL_MAX } from "./numbers.mjs";
 import { LEVELS, shown, versionName } from "./checks.mjs";
@@ -35,6 +35,18 @@ export function read(picture) {
                 parts: own };
             at += found.reading.length;
             return { ...made, text: textOf(own, made.data) };
+        })];
+    });
+}
+
+/** Returns the squares in a picture that look like codes but do not decode. */
+export function missed(picture) {
+    return withCodes(picture, (buffers, file, most) => {
+        const squares = buffers.many("goq_missed_code", most), count = buffers.room(8);
+        const said = answer("goq_missed", ...file, squares, most, count);
+        return [said, () => Array.from({ length: buffers.sizes(count)[0] }, (_, at) => {
+            const { why, ...place } = buffers.struct("goq_missed_code", squares, at);
+            return { ...place, why: refusal(nameOf(why)) };
         })];
     });
 }

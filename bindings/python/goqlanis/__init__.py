@@ -66,14 +66,15 @@ from .exams import Question as Question
 from .exams import exam
 from .reading import AnyReading as AnyReading
 from .reading import Code as Code
+from .reading import Missed as Missed
 from .reading import Part as Part
 from .reading import Reading as Reading
-from .reading import join, read, read_any, read_text
+from .reading import join, missed, read, read_any, read_text
 from .symbol import Symbol
 
 __version__ = "1.0.0"
 __all__ = ["contents", "Symbol", "encode", "encode_sequence", "encode_segments", "encode_gs1",
-           "encode_text", "read", "read_any", "read_text", "join", "check", "exam",
+           "encode_text", "read", "read_any", "read_text", "join", "missed", "check", "exam",
            "smallest_version", "smallest_version_of_segments", "smallest_scale", "is_functional"]
 
 # The names that other packages use, and what to use here.

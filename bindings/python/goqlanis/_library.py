@@ -22,7 +22,7 @@ def _struct(name: str, fields: str) -> Any:
 
 
 (Options, Several, Drawing, Known, Segment, Field, Element, Read, AnyRead, Part, Code, Scan,
- WrongModules, DataBits, Rank, Checked, Checks, Square, Rectangle, Taken, Wish, Wrong,
+ MissedCode, WrongModules, DataBits, Rank, Checked, Checks, Square, Rectangle, Taken, Wish, Wrong,
  Promised) = (_struct(*it) for it in STRUCTS.items())
 
 _to = ctypes.POINTER
@@ -44,6 +44,7 @@ _CALLS: Dict[str, List[Any]] = {
     "goq_read_text": [*_IN, *_OUT, _to(Read)],
     "goq_decode": [*_IN, _number, *_OUT, _COUNT],
     "goq_read_picture": [*_IN, _to(Code), _size, _to(Part), _size, *_OUT, _to(Scan)],
+    "goq_missed": [*_IN, _to(MissedCode), _size, _COUNT],
     "goq_check": [*_IN, _to(Checked), _size, _COUNT, _size, _to(Checks)],
     "goq_check_square": [*_IN, _COUNT, _size, _to(Checked)],
     "goq_mask": [*_IN, _to(_number)],

@@ -71,6 +71,7 @@ STRUCTS = {
     "goq_part": "kind number place symbols length:size",
     "goq_code": "reading:goq_reading position parts:size",
     "goq_scan": "size codes:size parts:size length:size",
+    "goq_missed_code": "width:size left:size top:size why",
     "goq_wrong_modules": "finder:size alignment:size timing:size format:size version:size "
         "remainder:size",
     "goq_data_bits": "segments compared bits:size fewest:size terminator:size padding:size "

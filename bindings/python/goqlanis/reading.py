@@ -12,7 +12,7 @@ from typing import (Any, IO, Iterable, Iterator, List, NamedTuple, Optional, Seq
 from . import _checks, errors
 from . import _numbers as goq
 from ._checks import LEVELS, version_name
-from ._library import AnyRead, Read, Scan, Square, library
+from ._library import AnyRead, MissedCode, Read, Scan, Square, library
 from ._library import Code as KnownCode
 from ._library import Part as KnownPart
 from ._numbers import BYTES_MAX, PARTS_MAX, SEVERAL_MAX
@@ -187,6 +187,36 @@ Part(kind='byte', number=None, place=None, symbols=None, length=2))
     modules, out, found = _modules_of(picture, PICTURES), _bytes(), Read()
     _refuse(library.goq_read(modules, len(modules), out, len(out), ctypes.byref(found)), modules)
     return _reading(out, found)
+
+
+class Missed(NamedTuple):
+    """A square in a picture that looks like a code but does not decode: how many modules a side
+    has, the pixel column and row of its upper left corner, and why, e.g. Damaged."""
+    width: int
+    left: int
+    top: int
+    why: errors.Error
+
+
+def missed(picture: Picture) -> List[Missed]:
+    """Returns the squares in a picture that look like codes but do not decode, next to those that
+    `read` returns.
+
+    Raises a subclass of Unread if no code decodes.
+
+    >>> missed(encode("01234567").png())
+    []
+    """
+    file = _file_of(picture)
+    if file is None:
+        raise TypeError(f"missed takes {PICTURES.partition(', or ')[2]}")
+    room, count, answer = 4, ctypes.c_size_t(), goq.SMALL_BUFFER
+    while answer == goq.SMALL_BUFFER:
+        found = (MissedCode * room)()
+        answer = library.goq_missed(file, len(file), found, room, ctypes.byref(count))
+        room *= 8
+    _refuse_picture(answer)
+    return [Missed(it.width, it.left, it.top, refusal(it.why)) for it in found[:count.value]]
 
 
 def _codes(picture: bytes, of: str = "") -> Iterator[Code]:

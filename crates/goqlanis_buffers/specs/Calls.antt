@@ -32,7 +32,7 @@ pub record Tells {T : Type 0} (Made : T → Type 0) (Cause : Refusal → Type 0)
   pub causes : IfErr result Cause
 
 -- a call that also writes to a buffer, which is unchanged after an error
-pub record Writes {T : Type 0} (Made : List ℕ → T → Type 0) (Cause : Refusal → Type 0) (old new : List ℕ) (result : Result T Refusal) : Type 0 where
+pub record Writes {A T : Type 0} (Made : List A → T → Type 0) (Cause : Refusal → Type 0) (old new : List A) (result : Result T Refusal) : Type 0 where
   pub made : IfOk result (Made new)
   pub unchanged : OnErr result (new ≡ old)
   pub causes : IfErr result Cause

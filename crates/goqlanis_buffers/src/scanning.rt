@@ -2,7 +2,7 @@
 
 ghost use Rattle.std.specs.Prelude.{◌≡◌, ◌++◌, All, flat_map, length, map, IfErr, IfNone, IfOk, IfSome, OnOk};
 ghost use Rattle.qrcode_scan.specs.Scans.{IsReadAs};
-ghost use Rattle.goqlanis_buffers.specs.Scanning.{bytes_in, differ, mode_kind, parts_in, picture_refusal, told_part, AreCodesOf, ExceedsRoom, IsPut, IsToldOf, IsToldIn, IsUnreadFor};
+ghost use Rattle.goqlanis_buffers.specs.Scanning.{bytes_in, differ, mode_kind, parts_in, picture_refusal, square_refusal, told_part, AreCodesOf, ExceedsRoom, IsPut, IsToldOf, IsToldIn, IsUnreadFor};
 
 use crate::answers::Refusal;
 use crate::reading::{Reading, position_number, reported};
@@ -139,14 +139,23 @@ pub(crate) fn picture_refusal(unread: Unread) -> Refusal
         Unread::Unscanned(Unscanned::NotPicture) | Unread::Jpeg => Refusal::NotPicture,
         Unread::OutOfMemory
         | Unread::Unscanned(Unscanned::OutOfMemory)
-        | Unread::Png(qrcode_png::Unread::OutOfMemory)
-        | Unread::NoSymbol(_, qrcode_reader::Unread::OutOfMemory) => Refusal::OutOfMemory,
+        | Unread::Png(qrcode_png::Unread::OutOfMemory) => Refusal::OutOfMemory,
         Unread::Unscanned(_) | Unread::Png(_) => Refusal::BrokenPicture,
         Unread::NoSquare => Refusal::NoSquare,
-        Unread::NoSymbol(_, qrcode_reader::Unread::NoSuchSide) => Refusal::NoSuchSide,
-        Unread::NoSymbol(_, qrcode_reader::Unread::NoFormat) => Refusal::NoFormat,
-        Unread::NoSymbol(_, qrcode_reader::Unread::Damaged(_)) => Refusal::Damaged,
-        Unread::NoSymbol(_, qrcode_reader::Unread::NotSpelled) => Refusal::NotSpelled,
+        Unread::NoSymbol(_, cause) => square_refusal(cause),
+    }
+}
+
+// Converts the error of a square that does not decode.
+pub(crate) fn square_refusal(cause: qrcode_reader::Unread) -> Refusal
+    ensures { result ≡ square_refusal cause }
+{
+    match cause {
+        qrcode_reader::Unread::NoSuchSide => Refusal::NoSuchSide,
+        qrcode_reader::Unread::NoFormat => Refusal::NoFormat,
+        qrcode_reader::Unread::Damaged(_) => Refusal::Damaged,
+        qrcode_reader::Unread::NotSpelled => Refusal::NotSpelled,
+        qrcode_reader::Unread::OutOfMemory => Refusal::OutOfMemory,
     }
 }
 

@@ -5,9 +5,10 @@ ghost use Rattle.goqlanis_buffers.specs.Answers.{refusal_of};
 ghost use Rattle.goqlanis_buffers.specs.Scanning.{IsScanCause, IsScanned};
 ghost use Rattle.goqlanis_buffers.specs.Calls.{IsReported, TellsMask, WritesAnyReading, WritesReading, WritesTextReading};
 ghost use Rattle.goqlanis_buffers.specs.Charsets.{WritesDecoded};
-
 use goqlanis_buffers::answers::{Refusal, answer};
 use goqlanis_buffers::charsets::decode_into;
+ghost use Rattle.goqlanis_buffers.specs.Missing.{WritesMissed};
+use goqlanis_buffers::missing::{Missed, missed_into};
 use goqlanis_buffers::reading::{
     AnyReading, Reading, mask_of, read_any_into, read_into, read_text_into,
 };
@@ -138,4 +139,23 @@ pub extern "C" fn goq_read_picture(
         }
         None => Refusal::SmallBuffer.number(),
     }
+}
+
+/// Tells of squares in a picture that look like codes but do not decode, and that no decoded code
+/// overlaps. Writes one item per square to the start of `missed`, and their number to `count`.
+///
+/// Returns 0, or the number of the first `Refusal` that applies: `LargePicture`; `NotPicture` or
+/// `BrokenPicture`; `NoSquare`; if no code decodes, `NoSuchSide`, `NoFormat`, `Damaged` or
+/// `NotSpelled`; `SmallBuffer`; or of `OutOfMemory`. After an error the outputs are unchanged.
+#[unsafe(no_mangle)]
+pub extern "C" fn goq_missed(
+    alloc: Global,
+    picture: &[u8],
+    missed: &mut [Missed],
+    count: &mut usize,
+) -> u32
+    ensures { IsReported (WritesMissed picture.now missed.old missed.new)
+        result count.old count.new }
+{
+    answer(missed_into(alloc, picture, missed), count)
 }

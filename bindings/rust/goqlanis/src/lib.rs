@@ -44,7 +44,9 @@ pub mod several;
 
 pub use charsets::Charset;
 pub use checking::{check, check_square, Check};
-pub use reading::{read, read_any, read_picture, read_text, Code, Part, Position, Reading, Unread};
+pub use reading::{
+    missed, read, read_any, read_picture, read_text, Code, Missed, Part, Position, Reading, Unread,
+};
 
 /// Why a symbol cannot be made.
 #[derive(Clone, Copy, Debug, PartialEq, Eq)]

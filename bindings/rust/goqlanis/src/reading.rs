@@ -257,6 +257,44 @@ pub fn read_picture(picture: &[u8]) -> Result<Vec<Code>, Unread> {
     }
 }
 
+/// A square in a picture that looks like a code but does not decode.
+#[derive(Clone, Copy, Debug, PartialEq, Eq)]
+pub struct Missed {
+    /// How many modules a side has.
+    pub width: usize,
+    /// The pixel column of its upper left corner.
+    pub left: usize,
+    /// The pixel row of its upper left corner.
+    pub top: usize,
+    /// Why it does not decode.
+    pub why: Unread,
+}
+
+/// Returns the squares in a picture that look like codes but do not decode, next to the codes that
+/// `read_picture` returns.
+pub fn missed(picture: &[u8]) -> Result<Vec<Missed>, Unread> {
+    let (mut room, mut count) = (4, 0);
+    loop {
+        let mut found = vec![sys::goq_missed_code::default(); room];
+        // SAFETY: the lengths are those of the buffers.
+        let answer = unsafe {
+            let (given, size) = (picture.as_ptr(), picture.len());
+            sys::goq_missed(given, size, found.as_mut_ptr(), found.len(), &mut count)
+        };
+        match answer {
+            sys::GOQ_OK => {
+                let told = |it: &sys::goq_missed_code| {
+                    let sys::goq_missed_code { width, left, top, why } = *it;
+                    Missed { width, left, top, why: unread(why) }
+                };
+                return Ok(found[..count].iter().map(told).collect());
+            }
+            sys::GOQ_SMALL_BUFFER => room *= 8,
+            answer => return Err(unread(answer)),
+        }
+    }
+}
+
 // Returns codes, whose parts and bytes follow one another.
 fn codes_of(codes: &[sys::goq_code], parts: &[sys::goq_part], bytes: &[u8]) -> Vec<Code> {
     let (mut parts, mut bytes) = (parts, bytes);

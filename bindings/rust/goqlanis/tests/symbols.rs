@@ -5,6 +5,7 @@ use goqlanis::areas::{Excess, Rectangle};
 use goqlanis::damage::{Damage, TooMuch};
 use goqlanis::logos::{LogoError, LogoOptions};
 use goqlanis::checking::{DataCheck, Rank, WrongModules};
+use goqlanis::{missed, Missed};
 use goqlanis::{check, check_square, read, read_any, read_picture, read_text, Color, EcLevel, Options, Part, Position};
 use goqlanis::{QrCode, QrError, Segment, Unread};
 use goqlanis::{Version, Writing};
@@ -121,6 +122,13 @@ fn damage() {
     assert!(!with(9, 0, 0).unwrap().is_promised && !with(0, 4, 0).unwrap().is_promised);
     assert_eq!((with(27, 16, 1), with(26, 16, 1)), (Err(TooMuch::Codewords), Err(TooMuch::FormatBits)));
     assert_eq!(with(26, 15, 1), Err(TooMuch::VersionBits));
+    // Beside a whole code, a code of nine wrong codewords.
+    let grey = |code: &QrCode| code.render::<pgm::Grey>().module_size(1).build()[b"P5\n29 29\n255\n".len()..].to_vec();
+    let (left, right) = (grey(&code), grey(&with(9, 0, 0).unwrap().code));
+    let rows = left.chunks(29).zip(right.chunks(29)).flat_map(|(left, right)| [left, right].concat());
+    let picture: Vec<u8> = b"P5\n58 29\n255\n".iter().copied().chain(rows).collect();
+    assert_eq!(missed(&picture).unwrap(), [Missed { width: 21, left: 33, top: 4, why: Unread::Damaged }]);
+    assert_eq!(missed(b"hello"), Err(Unread::NotPicture));
 }
 
 #[test]
