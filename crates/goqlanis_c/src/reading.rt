@@ -5,9 +5,10 @@ ghost use Rattle.goqlanis_buffers.specs.Answers.{refusal_of};
 ghost use Rattle.goqlanis_buffers.specs.Scanning.{IsScanCause, IsScanned};
 ghost use Rattle.goqlanis_buffers.specs.Calls.{IsReported, TellsMask, WritesAnyReading, WritesReading, WritesTextReading};
 ghost use Rattle.goqlanis_buffers.specs.Charsets.{WritesDecoded};
+ghost use Rattle.goqlanis_buffers.specs.Missing.{WritesMissed};
+
 use goqlanis_buffers::answers::{Refusal, answer};
 use goqlanis_buffers::charsets::decode_into;
-ghost use Rattle.goqlanis_buffers.specs.Missing.{WritesMissed};
 use goqlanis_buffers::missing::{Missed, missed_into};
 use goqlanis_buffers::reading::{
     AnyReading, Reading, mask_of, read_any_into, read_into, read_text_into,
