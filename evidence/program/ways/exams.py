@@ -11,11 +11,11 @@ from spelling import spelled
 # All pairs, in parts that take a minute at most.
 PARTS = ["micro", *(",".join(f"{version}-{level}" for version in range(first, first + 10) for level in "LMQH")
                     for first in range(1, 41, 10))]
-# Some pairs, and the sum of their answers.jsonl and pictures, by name.
-SOME = ["--pairs", "M1-L,M3-M,1-L,2-M,7-H,14-Q"]
-SUM = "753e30489ae23df2ad2b16ac5a35e52eb36ae153f11d2114bce26efadfb453a3"
+SOME = "M1-L,M3-M,1-L,2-M,7-H,14-Q"
 # Pictures of one pixel a module.
 SMALL = ["-f", "pbm", "-s", "1", "-q", "0"]
+# The sums of answers.jsonl and pictures, by pairs: of SOME as PNG files, of PARTS in small pictures.
+SUMS = dict(line.split()[::-1] for line in (Path(__file__).parents[1] / "exam.sums").read_text().splitlines())
 # The sums of exams in which the judge found nothing wrong: it takes minutes, so it looks once.
 RIGHT = set()
 
@@ -71,11 +71,14 @@ def exam_is_as_its_answers_say(program):
 
 
 def exam_is_the_same(program):
-    """The files of an exam have the stored sum. It is of goqlanis's own output: it shows that the exam
-    is the same on every platform, and not that it is right."""
-    with empty() as folder:
-        _exam(program, folder, *SOME)
-        return _sum(folder) == SUM
+    """The files of the default exam have the stored sums. They are of goqlanis's own output: they show
+    that the exam is the same on every platform, and not that it is right."""
+    for pairs, sum in SUMS.items():
+        with empty() as folder:
+            _exam(program, folder, *(SMALL if pairs in PARTS else []), "--pairs", pairs)
+            if _sum(folder) != sum:
+                return False
+    return SUMS.keys() == {SOME, *PARTS}
 
 
 def exam_is_turned(program):
@@ -101,7 +104,7 @@ def exam_is_turned(program):
 def exam_is_passed(program):
     """goqlanis reads what it promises to; with other data, or nothing, for one picture it fails."""
     with empty() as folder:
-        answers = _exam(program, folder, *SOME)
+        answers = _exam(program, folder, "--pairs", SOME)
         names = [it["name"] for it in answers if it["goqlanis_reads"]]
         said = json.loads(run(program, ["read", "--json", *names], folder).stdout)
         held = {it["file"]: it["hex"] for it in said}
