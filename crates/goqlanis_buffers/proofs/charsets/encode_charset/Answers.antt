@@ -14,7 +14,7 @@ returns-in_default-clause-causes c =
 pub returns-clause-causes : goal.returns-clause-causes
 returns-clause-causes c =
     let named : IsAskedOf c.args.options.now c.args.numbers.now c.in-Ok.asked c.deref.result.now =
-        record { named = c.in-Ok.ensures.made; sets_named = ap (map number_of) c.deref.ensures.value ∙ c.in-Ok-sets_of.ensures.value } in
+    record { named = c.in-Ok.ensures.made; sets_named = ap (map number_of) c.deref.ensures.value ∙ c.in-Ok-sets_of.ensures.value } in
     let utf8 = c.in-Ok-from_utf8.ensures.cases in
     inr (inr (inr (inr (unwritten c.in-Ok.asked c.deref.result.now c.in-Ok-code_among.made.1 _ c.in-Ok-from_utf8.text.now named
-      utf8.0 utf8.1 c.in-Ok-code_among.ensures.made c.in-Err-write_masked.ensures.causes))))
+    utf8.0 utf8.1 c.in-Ok-code_among.ensures.made c.in-Err-write_masked.ensures.causes))))
