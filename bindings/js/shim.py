@@ -208,11 +208,11 @@ def install(folder):
                                  totp=payload("otp", f"{OTP} period"),
                                  hotp=lambda *words, counter=0, **more: payload(
                                      "otp", f"{OTP} counter")(*words, counter=counter, **more))
-    fields = [(it, ctypes.c_uint32) for it in "size format zone scale dark light dpi".split()]
-    low.Drawing = type("Drawing", (ctypes.Structure,), {"_fields_": fields})
-    low.library = types.SimpleNamespace(goq_draw_with=draw_with)
     numbers = HERE.parent / "python" / "goqlanis" / "_numbers.py"
     module._numbers = SourceFileLoader("goqlanis._numbers", str(numbers)).load_module()
+    fields = [(it, ctypes.c_uint32) for it in module._numbers.STRUCTS["goq_drawing"].split()]
+    low.Drawing = type("Drawing", (ctypes.Structure,), {"_fields_": fields})
+    low.library = types.SimpleNamespace(goq_draw_with=draw_with)
     sys.modules.update({"goqlanis": module, "goqlanis.contents": module.contents,
                         "goqlanis._library": low})
     source = (HERE / "goqlanis" / "numbers.mjs").read_text()
