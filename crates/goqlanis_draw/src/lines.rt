@@ -136,32 +136,44 @@ fn columns_of<R: BufRead>(
 }
 
 // Warns of columns that are neither encoded nor part of a file name, and refuses payloads without
-// any column that is.
+// names of columns.
 fn check_columns(
     rt: &HostRuntime,
     taking: Taking<'_>,
     asked: &Asked<'_, '_>,
     columns: &Columns,
 ) -> Result<(), Failure> {
-    let Lined::Payload(kind) = taking.what else {
-        return Ok(());
-    };
-    if columns.is_empty() && !taking.lines.has_header {
+    let is_payload = matches!(taking.what, Lined::Payload(_));
+    if is_payload && columns.is_empty() && !taking.lines.has_header {
         return usage!(rt.alloc();
             "--lines: add --header if the first line names the columns, or name them with \
             --columns, e.g. --columns ssid,password"
         );
     }
-    for name in columns.names() {
+    for (place, name) in columns.names().iter().enumerate() {
         let name = name.as_str();
-        if !is_field(kind, name) && !is_in_path(rt.alloc(), asked.target, name)? {
-            let name = shown(name);
-            doubted!(rt, asked.doubts;
-                "column {name} is no option of this command, so it is not encoded"
-            )?;
-        }
+        let why = if columns.number_of(name.trim()) != Some(place.saturating_add(1)) {
+            "stands twice; this one"
+        } else if is_encoded(taking.what, name) || is_in_path(rt.alloc(), asked.target, name)? {
+            continue;
+        } else if is_payload {
+            "is no option of this command, so it"
+        } else {
+            "is no application identifier, so it"
+        };
+        let name = shown(name);
+        doubted!(rt, asked.doubts; "column {name} {why} is not encoded")?;
     }
     Ok(())
+}
+
+// Whether a column of this name is encoded, unless `--field` selects another.
+fn is_encoded(what: Lined, name: &str) -> bool {
+    match what {
+        Lined::Payload(kind) => is_field(kind, name),
+        Lined::Elements => is_identifier(identifier_in(name)),
+        Lined::Data => true,
+    }
 }
 
 // Whether payloads of `kind` have a field of this name.
@@ -254,11 +266,26 @@ fn line_of(
     } else {
         Vec::new(alloc)
     };
+    check_count(alloc, taking.what, columns, fields.len())?;
     Ok(Line {
         number,
         text,
         fields,
     })
+}
+
+// Refuses a line that has more fields than there are names of columns, and one of elements that has
+// fewer.
+fn check_count(alloc: Global, what: Lined, columns: &Columns, count: usize) -> Result<(), Failure> {
+    let known = columns.names().len();
+    let is_short = count < known && matches!(what, Lined::Elements);
+    if !columns.is_empty() && (count > known || is_short) {
+        return refused!(alloc;
+            "fields: {count}, columns: {known}; put quotation marks around a field that contains \
+            the delimiter"
+        );
+    }
+    Ok(())
 }
 
 // Draws what a line is.
@@ -321,19 +348,25 @@ fn field_number(alloc: Global, columns: &Columns, name: &str) -> Result<usize, F
 fn elements_in(alloc: Global, columns: &Columns, line: &Line) -> Result<String, Failure> {
     let mut text = String::new(alloc);
     for (name, field) in columns.names().iter().zip(&line.fields) {
-        let name = name
-            .as_str()
-            .trim()
-            .trim_start_matches(|sign: char| matches!(sign, '(' | '['))
-            .trim_end_matches(|sign: char| matches!(sign, ')' | ']'));
-        let is_identifier = name.bytes().all(|byte| byte.is_ascii_digit());
-        if is_identifier && !name.is_empty() && !field.is_empty() {
+        let name = identifier_in(name.as_str());
+        if is_identifier(name) && !field.is_empty() {
             let value = field.as_str().split('(').collect::<Vec<&str>>(alloc)?;
             let value = value.join(alloc, "\\(")?;
             write!(text, "({name}){value}")?;
         }
     }
     Ok(text)
+}
+
+// Returns the application identifier that a column is named by, without its brackets.
+fn identifier_in(name: &str) -> &str {
+    name.trim()
+        .trim_start_matches(|sign: char| matches!(sign, '(' | '['))
+        .trim_end_matches(|sign: char| matches!(sign, ')' | ']'))
+}
+
+fn is_identifier(name: &str) -> bool {
+    !name.is_empty() && name.bytes().all(|byte| byte.is_ascii_digit())
 }
 
 // Replaces `line` with the next line, line ending included. Returns `false` at the end.
