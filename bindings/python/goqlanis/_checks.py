@@ -11,7 +11,7 @@ from .errors import NoSuchLevel, NoSuchSet, NoSuchVersion
 Call = TypeVar("Call", bound=Callable[..., Any])
 # The names of arguments in other packages, and what to use here.
 OTHERS = {"error": "level='H'", "error_correction": "level='H'", "boost_error": "boost=True",
-          "mask_pattern": "mask=3", "encoding": "data.encode(..)", "symbol_count": "count=3",
+          "mask_pattern": "mask=3", "encoding": "charset='iso-8859-1'", "symbol_count": "count=3",
           "mode": "encode_segments", "unit": "size='30mm' (SVG, EPS, PDF) or size=300 (pixels)",
           "box_size": "scale=8",
           "fill_color": "dark='navy'", "color": "dark='navy'", "foreground": "dark='navy'",
@@ -110,12 +110,12 @@ def exact(value: Any) -> bytes:
     return value if type(value) is bytes else memoryview(value).tobytes()
 
 
-def binary(name: str, value: Any) -> bytes:
-    """Returns the value as bytes, which it must be."""
+def binary(name: str, value: Any, codec: str = "") -> bytes:
+    """Returns the value as bytes, which it must be; `codec` is what a str lacks, if not UTF-8."""
     if isinstance(value, BINARY):
         return exact(value)
     if isinstance(value, str):
-        raise TypeError(f"{name} is bytes, not a str: take {value[:20]!r}.encode()")
+        raise TypeError(f"{name} is bytes, not a str: take {value[:20]!r}.encode({codec})")
     raise TypeError(f"{name} is bytes, not {_typed(value)}{_bytes_of(value)}")
 
 

@@ -223,7 +223,8 @@ def _segment(name: str, given: Any) -> Segment:
         raise ValueError(f"{name}: no kind {_checks.shown(kind)}: take one of {', '.join(KINDS)}")
     at = KINDS[kind]
     if kind in MODES:
-        data = _checks.binary(f"{name}: the data of {_checks.shown(kind)}", value)
+        codec = "'shift_jis'" if kind == "kanji" else ""
+        data = _checks.binary(f"{name}: the data of {_checks.shown(kind)}", value, codec)
         return Segment(at, 0, data, len(data))
     if at in (ECI, FNC1_SECOND):
         most = MOST_SET if at == ECI else 255
