@@ -1,6 +1,6 @@
 //! `goqlanis exam`: pictures of whole and damaged codes, and what readers must read.
 
-use crate::damaging::{damage_in, damaged_drawing};
+use crate::damaging::{Wanted, damage_in, damaged_drawing};
 use crate::drawing::check_side;
 use crate::questions::{CONTENTS, Content, Question};
 use goqlanis_core::{Request, VersionName};
@@ -185,9 +185,14 @@ fn write_picture(
         codewords,
         format_bits: bits,
         version_bits: if code.width() < 45 { 0 } else { bits },
+        patterns: 0,
         seed: case.seed,
     };
     let damage = damage_in(code, wanted);
+    let all = Wanted {
+        damage,
+        patterns: 0,
+    };
     let request = Request {
         mask: Some(case.mask),
         ..asked.request
@@ -195,7 +200,7 @@ fn write_picture(
     let ending = request.format.row().ending.unwrap_or("txt");
     let name = format!(in rt.alloc(); "{}-{damage_name}.{ending}", case.name)?;
     let path = format!(in rt.alloc(); "{}/{name}", asked.exam.path)?;
-    let drawing = damaged_drawing(rt.alloc(), &request, asked.position, code, damage)?;
+    let drawing = damaged_drawing(rt.alloc(), &request, asked.position, code, all)?;
     write_file(rt, path.as_str(), &drawing)?;
     push_answer(answers, case, damage_name, name.as_str(), damage)
 }

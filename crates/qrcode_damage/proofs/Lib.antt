@@ -1,6 +1,7 @@
 pub mod Carried
 pub mod Counted
 pub mod Flipped
+pub mod Kept
 pub mod Places
 pub mod Promised
 pub mod Refused

@@ -3,3 +3,4 @@ pub mod Errors
 pub mod Flips
 pub mod Laid
 pub mod Laws
+pub mod Patterns

@@ -37,8 +37,8 @@ fn bit_of(color: Color, is_turned: bool) -> bool
     }
 }
 
-// Returns whether byte `i` is not zero.
-fn is_set(bytes: &[u8], i: usize) -> bool
+/// Returns whether byte `i` is not zero.
+pub(crate) fn is_set(bytes: &[u8], i: usize) -> bool
     ensures { result ≡ is_set bytes.now i }
 {
     i < bytes.len() && bytes[i] != 0
@@ -118,8 +118,8 @@ impl Errors {
     }
 }
 
-// Returns the opposite colour if `is_wrong`.
-fn opposite_if(is_wrong: bool, color: Color) -> Color
+/// Returns the opposite colour if `is_wrong`.
+pub(crate) fn opposite_if(is_wrong: bool, color: Color) -> Color
     ensures { result ≡ opposite_if is_wrong color }
 {
     if is_wrong { !color } else { color }
