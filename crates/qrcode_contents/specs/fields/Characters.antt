@@ -33,9 +33,14 @@ is_unicode_break c = c == 133 || c == 8232 || c == 8233
 abbrev pub has_one_at : List ℕ → Bool  -- exactly one @
 has_one_at bytes = count_by (λ b. b == 64) bytes == 1
 
--- each of the addresses that commas separate has exactly one @
-abbrev pub are_addresses : List ℕ → Bool
-are_addresses text = list_all has_one_at (slice_split (λ b. b == 44) text)
+abbrev pub is_beside_address : ℕ → Bool  -- a space or an angle bracket, which stand between a name and an address
+is_beside_address b = b == 32 || b == 60 || b == 62
+
+abbrev pub is_address : List ℕ → Bool  -- exactly one @, and none of these
+is_address bytes = has_one_at bytes && not (list_any is_beside_address bytes)
+
+abbrev pub are_addresses : List ℕ → Bool  -- addresses that commas separate
+are_addresses text = list_all is_address (slice_split (λ b. b == 44) text)
 
 abbrev pub before : ℕ → List ℕ → List ℕ  -- the bytes before the first byte c; all if there is none
 before c [] = []

@@ -3,7 +3,7 @@
 ghost use Rattle.std.specs.Prelude.{◌≡◌, ◌<◌, ◌==◌, length};
 ghost use Rattle.std.specs.List.{after_first, before_first, list_all, list_any};
 ghost use Rattle.std.specs.Str.{chars};
-ghost use Rattle.qrcode_contents.specs.fields.Characters.{are_addresses, has_one_at, is_base32, is_capital, is_capital_or_digit, is_control, is_dialled, is_digit, is_other_control, is_unicode_break};
+ghost use Rattle.qrcode_contents.specs.fields.Characters.{are_addresses, has_one_at, is_address, is_base32, is_beside_address, is_capital, is_capital_or_digit, is_control, is_dialled, is_digit, is_other_control, is_unicode_break};
 
 /// Returns whether all bytes are letters A to Z.
 pub fn are_capitals(bytes: &[u8]) -> bool
@@ -55,11 +55,27 @@ pub fn has_one_at(text: &str) -> bool
     bytes.iter().filter(|byte| **byte == b'@').count() == 1
 }
 
-/// Returns whether each of the addresses that commas separate has exactly one `@`.
+/// Returns whether `text` has exactly one `@`, and neither a space nor an angle bracket, which stand
+/// between a name and an address.
+pub fn is_address(text: &str) -> bool
+    ensures { result ≡ is_address text.now }
+{
+    has_one_at(text) && !has_name(text)
+}
+
+// Returns whether `text` has what stands between a name and an address.
+fn has_name(text: &str) -> bool
+    ensures { result ≡ list_any is_beside_address text.now }
+{
+    let bytes = text.as_bytes();
+    bytes.iter().any(|byte| matches!(*byte, b' ' | b'<' | b'>'))
+}
+
+/// Returns whether `text` is addresses that commas separate, each as `is_address` says.
 pub fn are_addresses(text: &str) -> bool
     ensures { result ≡ are_addresses text.now }
 {
-    text.split(',').all(|address| has_one_at(address))
+    text.split(',').all(|address| is_address(address))
 }
 
 /// Returns whether `text` has an ASCII control character, such as a line break.
