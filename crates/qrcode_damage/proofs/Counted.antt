@@ -1,5 +1,5 @@
 -- What differs is what is flipped: counts along lists of places.
-use Rattle.std.proofs.Common.{◌≡◌, ℕ, zero, suc, ◌+◌, ◌<◌, ◌==◌, Bool, true, false, not, cond, List, [], ◌∷◌, length, map, get_or, refl, sym, ap, ap₂, ◌∙◌, arith}
+use Rattle.std.proofs.Common.{◌≡◌, ℕ, zero, suc, ◌+◌, ◌<◌, ◌==◌, Bool, true, false, not, cond, ◌&&◌, List, [], ◌∷◌, length, map, get_or, refl, sym, ap, ap₂, ◌∙◌, arith}
 use Rattle.std.specs.List.{count_by, AllByRecursion, AllZip, filter, list_all, range_with_len}
 use Rattle.std.proofs.lemmas.Bool.{and_parts}
 use Rattle.qrcode_types.specs.Bits.{bit_distance}
@@ -37,6 +37,27 @@ pub counted_along : {X : Type 0} (m : X → Bool) (place : ℕ → X) (n : ℕ) 
 counted_along m place n xs long h =
     ap (λ k. count_by m (map place (range_with_len 0 k))) (sym long)
     ∙ counted_from m place 0 xs (λ i below. let first : 0 + i ≡ i = omega arith in ap (λ k. m (place k)) first ∙ h i (omega (arith, long, below)))
+
+-- what holds along a list of places
+pub all_along : {X : Type 0} (P : X → Type 0) (place : ℕ → X) (a n : ℕ) → ((i : ℕ) → i < a + n → P (place i)) → AllByRecursion P (map place (range_with_len a n))
+all_along P place a zero h = tt
+all_along P place a (suc n) h = (h a (omega arith), all_along P place (a + 1) n (λ i below. h i (omega arith)))
+
+-- what passes a filter and is flipped
+pub count_filtered : {X : Type 0} (p m : X → Bool) (xs : List X) → count_by m (filter p xs) ≡ count_by (λ x. p x && m x) xs
+count_filtered p m [] = refl
+count_filtered {X} p m (x ∷ xs) =
+    go (p x) ∙ ap (λ n. cond {A = ℕ} (p x && m x) 1 0 + n) (count_filtered p m xs) ∙ sym (count-cons (λ x. p x && m x) x xs) where
+      go : (b : Bool) → count_by m (cond b (x ∷ filter p xs) (filter p xs)) ≡ cond {A = ℕ} (b && m x) 1 0 + count_by m (filter p xs)
+      go true = count-cons m x (filter p xs)
+      go false = omega arith
+
+pub all_filtered : {X : Type 0} (P : X → Type 0) (p : X → Bool) (xs : List X) → AllByRecursion P xs → AllByRecursion P (filter p xs)
+all_filtered P p [] h = tt
+all_filtered {X} P p (x ∷ xs) h = go (p x) (all_filtered P p xs h.1) where
+  go : (b : Bool) → AllByRecursion P (filter p xs) → AllByRecursion P (cond b (x ∷ filter p xs) (filter p xs))
+  go true rest = (h.0, rest)
+  go false rest = rest
 
 -- what a filter leaves passes it
 pub all_pass : {X : Type 0} (p : X → Bool) (xs : List X) → AllByRecursion (λ x. p x ≡ true) (filter p xs)

@@ -1,5 +1,5 @@
 -- A square in which some modules are reversed: exactly the codewords and bits with such a module differ.
-use Rattle.std.proofs.Common.{◌≡◌, ℕ, zero, suc, ◌+◌, ◌-◌, ◌*◌, ◌<◌, ◌≤◌, not, Bool, true, false, true≢false, cond, List, [], ◌∷◌, ◌++◌, length, map, drop, get_or, slice_index, refl, sym, ap, ap₂, ◌∙◌, arith, IsTrue, length-append}
+use Rattle.std.proofs.Common.{◌≡◌, ℕ, ◌+◌, ◌-◌, ◌*◌, ◌<◌, ◌≤◌, not, Bool, true, false, true≢false, cond, List, [], ◌∷◌, ◌++◌, length, map, drop, get_or, slice_index, refl, sym, ap, ap₂, ◌∙◌, arith, IsTrue, length-append}
 use Rattle.std.specs.List.{AllByRecursion, count_by, range_with_len}
 use Rattle.std.proofs.lemmas.Nat.{div-mul-add, mod-mul-add, mul-add-lt}
 use Rattle.std.proofs.lemmas.Bool.Decides.{nat_tests}
@@ -23,12 +23,12 @@ use Rattle.qrcode_area.specs.Areas.{marks, block_in}
 use Rattle.qrcode_area.proofs.Beside.{distance_at_most, counted, zip_range, all_with, all_mapped}
 use Rattle.qrcode_area.proofs.Marked.{SameUnmarked, SameWord, UnmarkedSame, WordSame, unmarked_words, words_unmarked, codewords_related, none_in_block, all_in_block}
 use Rattle.qrcode_area.proofs.Shown.{streams_related, copy_inside}
-use Rattle.qrcode_damage.specs.Damage.{IsWrongBy, wrong_bits, version_copies, has_version_word, upper_place, lower_place}
+use Rattle.qrcode_damage.specs.Damage.{IsWrongBy, wrong_bits, pattern_places, version_copies, has_version_word, upper_place, lower_place}
 use Rattle.qrcode_damage.specs.Errors.{is_free_wrong, is_wrong, opposite_if, flipped_module, flipped, AreErrors}
 use Rattle.qrcode_damage.specs.declared.damage.Damage.{Damage}
 use Rattle.qrcode_damage.specs.declared.errors.Errors.{Errors}
-use Rattle.qrcode_damage.proofs.Counted.{bits_flipped, all_pass, map_alike, none_at}
-use Rattle.qrcode_damage.proofs.Wrong.{free_wrong, pattern_right, formats_counted, versions_counted}
+use Rattle.qrcode_damage.proofs.Counted.{all_along, bits_flipped, all_pass, map_alike, none_at}
+use Rattle.qrcode_damage.proofs.Wrong.{free_wrong, patterns_counted, patterns_inside, formats_counted, versions_counted}
 
 -- Step by step.
 
@@ -136,10 +136,6 @@ formats_inside : (v : Version) → IsTrue (is_valid v) → AllByRecursion (λ pl
 formats_inside v valid =
     all_mapped (IsFormatCopy v) (λ places. AllByRecursion (λ p. IsInside v p.0 p.1) places) (format_copies v) (copy_inside v) (format_copies_are_indexed v valid)
 
-all_along : (P : ℕ × ℕ → Type 0) (place : ℕ → ℕ × ℕ) (a n : ℕ) → ((i : ℕ) → i < a + n → P (place i)) → AllByRecursion P (map place (range_with_len a n))
-all_along P place a zero h = tt
-all_along P place a (suc n) h = (h a (omega arith), all_along P place (a + 1) n (λ i below. h i (omega arith)))
-
 versions_inside : (v : Version) → AllByRecursion (λ places. AllByRecursion (λ p. IsInside v p.0 p.1) places) (version_copies v)
 unfolding version_copies
 versions_inside v = go (has_version_word v) refl where
@@ -184,7 +180,6 @@ wrong_by v l k d e s other errors f =
           (λ places i n. bits_wrong v wrong s other f places i ∙ n) (formats_inside v f.valid) (formats_counted v l d e f.valid errors);
       version = all_with inside (λ places. number places ≡ d.version_bits) (λ places. wrong_bits v s other places ≡ d.version_bits) (version_copies v)
           (λ places i n. bits_wrong v wrong s other f places i ∙ n) (versions_inside v) (versions_counted v l d e f.valid errors);
-      patterns = λ x y i j some apart.
-          sym (color_flipped v wrong s other f x y i j ∙ ap (λ a. opposite_if a (color_at v s x y)) (pattern_right v e x y f.valid some apart));
+      patterns = bits_wrong v wrong s other f (pattern_places v) (patterns_inside v) ∙ patterns_counted v l d e f.valid errors;
       remainder = rest_right v l k d e s other errors f;
     }

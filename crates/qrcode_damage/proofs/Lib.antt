@@ -1,3 +1,4 @@
+pub mod Ahead
 pub mod Carried
 pub mod Counted
 pub mod Flipped

@@ -1,25 +1,30 @@
 -- Which modules are wrong, kind by kind.
-use Rattle.std.proofs.Common.{◌≡◌, ◌≢◌, ℕ, ◌+◌, ◌-◌, ◌*◌, ◌/◌, ◌%◌, ◌<◌, ◌≤◌, nat_le, nat_lt, Bool, true, false, cond, ◌&&◌, ◌||◌, List, [], ◌∷◌, ◌++◌, map, Option, Some, None, is_some, pos, negsuc, true≢false, refl, sym, ap, ◌∙◌, arith, subst, IsTrue}
+use Rattle.std.proofs.Common.{◌≡◌, ◌≢◌, ℕ, ◌+◌, ◌-◌, ◌*◌, ◌/◌, ◌%◌, ◌<◌, ◌≤◌, nat_le, nat_lt, Bool, true, false, not, cond, ◌&&◌, ◌||◌, List, [], ◌∷◌, ◌++◌, map, Option, Some, None, is_some, pos, negsuc, true≢false, refl, sym, ap, ap₂, ◌∙◌, arith, subst, IsTrue}
 use Rattle.std.specs.List.{range_with_len, count_by, AllByRecursion}
-use Rattle.std.proofs.lemmas.Bool.{or_left, or_right, le-ltb}
+use Rattle.std.proofs.Math.Nat.{div-lt_iff_lt-mul, mod-lt}
+use Rattle.std.proofs.lemmas.Bool.{and_parts, or_left, or_right, le-ltb}
 use Rattle.std.proofs.lemmas.Bool.Decides.{nat_tests}
 use Rattle.std.proofs.lemmas.List.FromFn.{get_or-map-range_with_len}
+use Rattle.std.proofs.lemmas.Nat.{div-add-mod', div-mul-add, mod-mul-add}
 use Rattle.qrcode_types.specs.Versions.{is_valid, is_micro, side}
 use Rattle.qrcode_types.specs.declared.types.Version.{Version}
 use Rattle.qrcode_types.specs.declared.types.Version.TheVariants.{Normal, Micro}
 use Rattle.qrcode_types.specs.declared.types.EcLevel.{EcLevel}
 use Rattle.qrcode_layout.specs.Figures.{has, normal_figures, normal_format_figures, alignments, version_figures, word_figures}
-use Rattle.qrcode_layout.specs.Laws.{IsFormatCopy}
+use Rattle.qrcode_layout.specs.Laws.{IsFormatCopy, IsInside}
 use Rattle.qrcode_layout.specs.Patterns.{pattern, format_copies, first_format_place, second_format_place, micro_format_place, format_index, is_functional_place}
 use Rattle.qrcode_layout.proofs.Agreements.{format_places_are_no_patterns}
 use Rattle.qrcode_layout.proofs.FigurePlaces.{any_has, normal_functional}
 use Rattle.qrcode_layout.proofs.Formats.{within}
 use Rattle.qrcode_layout.proofs.FormatPlaces.{normal_cases, normal_index, format_copies_are_indexed}
-use Rattle.qrcode_damage.specs.Damage.{upper_place, lower_place, has_version_word, version_copies, is_version_place}
-use Rattle.qrcode_damage.specs.Errors.{is_set, is_version_wrong, is_format_wrong, is_free_wrong, wrong_in, is_wrong, AreErrors}
+use Rattle.qrcode_damage.specs.Damage.{upper_place, lower_place, place_at, has_version_word, version_copies, is_version_place, is_pattern_place, pattern_places}
+use Rattle.qrcode_damage.specs.Errors.{is_set, is_version_wrong, is_format_wrong, is_pattern_wrong, is_free_wrong, wrong_in, is_wrong, AreErrors}
 use Rattle.qrcode_damage.specs.declared.damage.Damage.{Damage}
 use Rattle.qrcode_damage.specs.declared.errors.Errors.{Errors}
-use Rattle.qrcode_damage.proofs.Counted.{counted_along}
+use Rattle.qrcode_damage.proofs.Counted.{all_along, all_filtered, count_filtered, counted_along}
+
+abbrev wrong_at : Version → Errors → ℕ × ℕ → Bool
+wrong_at v e p = is_wrong v e p.0 p.1
 
 -- by the format word's bit at this place, if any
 pub wrong_by_index : (v : Version) (e : Errors) (x y : ℕ) (o : Option ℕ) → format_index v x y ≡ o → is_wrong v e x y ≡ wrong_in v e x y o
@@ -35,24 +40,71 @@ pub free_wrong : (v : Version) (e : Errors) (x y : ℕ) → is_functional_place 
 free_wrong v e x y free = go (format_index v x y) refl where
   go : (o : Option ℕ) → format_index v x y ≡ o → is_wrong v e x y ≡ is_free_wrong v e x y
   go (Some i) here = absurd (true≢false (sym (format_is_functional v x y i here) ∙ free))
-  go None none = wrong_by_index v e x y None none ∙ ap (λ b. cond b (is_version_wrong e (side v) x y) (is_free_wrong v e x y)) free
+  go None none = wrong_by_index v e x y None none ∙ ap (λ b. cond b (is_pattern_wrong e (side v) x y || is_version_wrong e (side v) x y) (is_free_wrong v e x y)) free
 
 -- any other place
-other_wrong : (v : Version) (e : Errors) (x y : ℕ) → format_index v x y ≡ None → is_functional_place v x y ≡ true → is_wrong v e x y ≡ is_version_wrong e (side v) x y
+other_wrong : (v : Version) (e : Errors) (x y : ℕ) → format_index v x y ≡ None → is_functional_place v x y ≡ true
+    → is_wrong v e x y ≡ (is_pattern_wrong e (side v) x y || is_version_wrong e (side v) x y)
 other_wrong v e x y none functional =
-    wrong_by_index v e x y None none ∙ ap (λ b. cond b (is_version_wrong e (side v) x y) (is_free_wrong v e x y)) functional
+    wrong_by_index v e x y None none ∙ ap (λ b. cond b (is_pattern_wrong e (side v) x y || is_version_wrong e (side v) x y) (is_free_wrong v e x y)) functional
 
 -- a pattern other than the version word
 is_version_right : (e : Errors) (w x y : ℕ) → cond (nat_le 45 w) (any_has x y (word_figures w)) false ≡ false → is_version_wrong e w x y ≡ false
 is_version_right e w x y apart = grind (arith, nat_tests)
 
-pub pattern_right : (v : Version) (e : Errors) (x y : ℕ) → IsTrue (is_valid v) → is_some (pattern v x y) ≡ true → is_version_place v x y ≡ false → is_wrong v e x y ≡ false
+pub other_is : (v : Version) (x y : ℕ) → is_some (format_index v x y) ≡ false → is_version_place v x y ≡ false → is_functional_place v x y ≡ is_pattern_place v x y
 unfolding is_functional_place
-pattern_right v e x y valid some apart =
-    other_wrong v e x y (go (format_index v x y) refl) (ap (λ b. b || is_some (format_index v x y)) some) ∙ is_version_right e (side v) x y apart where
-      go : (o : Option ℕ) → format_index v x y ≡ o → format_index v x y ≡ None
-      go (Some i) here = absurd (true≢false (sym some ∙ ap is_some (format_places_are_no_patterns v x y i valid here)))
-      go None none = none
+other_is v x y none apart = ap₂ (λ a b. is_some (pattern v x y) || a) none apart ∙ go (is_some (pattern v x y)) ∙ ap (λ b. is_some (pattern v x y) && not b) (sym apart) where
+  go : (b : Bool) → (b || false) ≡ (b && true)
+  go true = refl
+  go false = refl
+
+pattern_wrong : (v : Version) (e : Errors) (x y : ℕ) → IsTrue (is_valid v) → is_pattern_place v x y ≡ true → is_wrong v e x y ≡ is_pattern_wrong e (side v) x y
+unfolding is_functional_place
+pattern_wrong v e x y valid is =
+    let parts = and_parts (is_some (pattern v x y)) (not (is_version_place v x y)) is in
+    other_wrong v e x y (go parts.0 (format_index v x y) refl) (ap (λ b. b || is_some (format_index v x y)) parts.0)
+    ∙ ap (λ b. is_pattern_wrong e (side v) x y || b) (is_version_right e (side v) x y (negated (is_version_place v x y) parts.1))
+    ∙ or_false (is_pattern_wrong e (side v) x y) where
+      go : is_some (pattern v x y) ≡ true → (o : Option ℕ) → format_index v x y ≡ o → format_index v x y ≡ None
+      go some (Some i) here = absurd (true≢false (sym some ∙ ap is_some (format_places_are_no_patterns v x y i valid here)))
+      go some None none = none
+
+      negated : (b : Bool) → not b ≡ true → b ≡ false
+      negated true h = sym h
+      negated false h = refl
+
+      or_false : (b : Bool) → (b || false) ≡ b
+      or_false true = refl
+      or_false false = refl
+
+-- all places of patterns are those of the bytes that are not zero
+pub patterns_counted : (v : Version) (l : EcLevel) (d : Damage) (e : Errors) → IsTrue (is_valid v) → AreErrors v l d e
+    → count_by (wrong_at v e) (pattern_places v) ≡ d.pattern_modules
+unfolding pattern_places
+patterns_counted v l d e valid are =
+    let w = side v in
+    count_filtered (λ (p : ℕ × ℕ). is_pattern_place v p.0 p.1) (wrong_at v e) (map (place_at w) (range_with_len 0 (w * w)))
+    ∙ counted_along (λ (p : ℕ × ℕ). is_pattern_place v p.0 p.1 && wrong_at v e p) (place_at w) (w * w) e.patterns.items are.patterns.all.long
+    (λ i below. go i (is_pattern_place v (i % w) (i / w)) refl)
+    ∙ are.patterns.all.wrong where
+      go : (i : ℕ) (b : Bool) → is_pattern_place v (i % side v) (i / side v) ≡ b
+          → (is_pattern_place v (i % side v) (i / side v) && is_wrong v e (i % side v) (i / side v)) ≡ is_set e.patterns.items i
+      go i true is =
+          let same : i / side v * side v + i % side v ≡ i = omega (arith, div-add-mod' i (side v)) in
+          ap₂ (λ a b. a && b) is (pattern_wrong v e (i % side v) (i / side v) valid is) ∙ ap (is_set e.patterns.items) same
+      go i false is = ap (λ a. a && is_wrong v e (i % side v) (i / side v)) is ∙ sym (are.patterns.others i is)
+
+pub patterns_inside : (v : Version) → AllByRecursion (λ p. IsInside v p.0 p.1) (pattern_places v)
+unfolding pattern_places
+patterns_inside v =
+    let w = side v in
+    all_filtered (λ p. IsInside v p.0 p.1) (λ p. is_pattern_place v p.0 p.1) (map (place_at w) (range_with_len 0 (w * w)))
+    (all_along (λ p. IsInside v p.0 p.1) (place_at w) 0 (w * w)
+    (λ i below. (mod-lt i (some v), (div-lt_iff_lt-mul {k = w} {x = i} {y = w} (some v)).1 (omega (arith, below))))) where
+      some : (v : Version) → 1 ≤ side v
+      some (Normal n) = omega arith
+      some (Micro n) = omega arith
 
 -- The copies of the format word.
 
@@ -64,9 +116,6 @@ copy_counted v e place bytes copy takes i below =
     wrong_by_index v e (place i).0 (place i).1 (Some i)
     (subst (λ (p : ℕ × ℕ). format_index v p.0 p.1 ≡ Some i) (get_or-map-range_with_len place 0 15 i i (0, 0) below (omega arith)) (copy.index i below))
     ∙ takes i below
-
-abbrev wrong_at : Version → Errors → ℕ × ℕ → Bool
-wrong_at v e p = is_wrong v e p.0 p.1
 
 first_takes : (e : Errors) (i : ℕ) → i < 15 → is_format_wrong e i (first_format_place i).0 (first_format_place i).1 ≡ is_set e.first_format.items i
 first_takes e i below = ap (λ b. is_set (cond b e.first_format.items e.last_format.items) i) (near i below) where
@@ -135,34 +184,48 @@ lower_takes e w r j wide p q =
     let inside : (nat_lt j 6 && nat_le (w - 11) (w - 11 + r) && nat_lt (w - 11 + r) (w - 8)) ≡ true = grind (arith, nat_tests) in
     rw (narrow, far, inside) (ap (is_set e.last_version.items) back)
 
+-- a place of a version word is none of a pattern
+word_apart : (v : Version) (x y : ℕ) → any_has x y (version_figures (side v)) ≡ true → is_pattern_place v x y ≡ false
+word_apart v x y has = go (has_version_word v) (is_some (pattern v x y)) has where
+  go : (a b : Bool) → any_has x y (cond a (word_figures (side v)) []) ≡ true → (b && not (cond a (any_has x y (word_figures (side v))) false)) ≡ false
+  go true true has = ap not has
+  go true false has = refl
+  go false b has = absurd (true≢false (sym has))
+
+-- no byte outside of the patterns is set
+abbrev OthersRight : Version → Errors → Type 0
+OthersRight v e = (i : ℕ) → is_pattern_place v (i % side v) (i / side v) ≡ false → is_set e.patterns.items i ≡ false
+
 -- a place of a version word is functional, and not of the format word
-word_wrong : (v : Version) (e : Errors) (x y : ℕ) → is_micro v ≡ false → x ≢ 8 → y ≢ 8 → any_has x y (version_figures (side v)) ≡ true
+word_wrong : (v : Version) (e : Errors) (x y : ℕ) → OthersRight v e → is_micro v ≡ false → x < side v → x ≢ 8 → y ≢ 8 → any_has x y (version_figures (side v)) ≡ true
     → is_wrong v e x y ≡ is_version_wrong e (side v) x y
-word_wrong v e x y normal p q has =
+word_wrong v e x y others normal inside p q has =
     other_wrong v e x y (normal_index v x y normal ∙ apart_from_format (side v) x y p q)
     (normal_functional v x y (side v) normal refl
     ∙ or_right (any_has x y (normal_format_figures (side v) ++ normal_figures (side v))) _ (or_left (any_has x y (version_figures (side v))) (any_has x y (alignments v)) has))
+    ∙ ap (λ b. b || is_version_wrong e (side v) x y)
+    (others (y * side v + x) (ap₂ (is_pattern_place v) (mod-mul-add y (side v) x inside) (div-mul-add y (side v) x inside) ∙ word_apart v x y has))
 
-upper_wrong : (v : Version) (e : Errors) (i : ℕ) → is_micro v ≡ false → 45 ≤ side v → i < 18
+upper_wrong : (v : Version) (e : Errors) (i : ℕ) → OthersRight v e → is_micro v ≡ false → 45 ≤ side v → i < 18
     → is_wrong v e (upper_place (side v) i).0 (upper_place (side v) i).1 ≡ is_set e.first_version.items i
-upper_wrong v e i normal wide below =
+upper_wrong v e i others normal wide below =
     let r = i % 3 in
     let j = i / 3 in
     let small : r < 3 = omega arith in
     let few : j < 6 = omega arith in
     let whole : 3 * j + r ≡ i = omega arith in
-    word_wrong v e (side v - 11 + r) j normal (omega arith) (omega arith) (upper_has (side v) r j wide small few)
+    word_wrong v e (side v - 11 + r) j others normal (omega arith) (omega arith) (omega arith) (upper_has (side v) r j wide small few)
     ∙ upper_takes e (side v) r j wide small few ∙ ap (is_set e.first_version.items) whole
 
-lower_wrong : (v : Version) (e : Errors) (i : ℕ) → is_micro v ≡ false → 45 ≤ side v → i < 18
+lower_wrong : (v : Version) (e : Errors) (i : ℕ) → OthersRight v e → is_micro v ≡ false → 45 ≤ side v → i < 18
     → is_wrong v e (lower_place (side v) i).0 (lower_place (side v) i).1 ≡ is_set e.last_version.items i
-lower_wrong v e i normal wide below =
+lower_wrong v e i others normal wide below =
     let r = i % 3 in
     let j = i / 3 in
     let small : r < 3 = omega arith in
     let few : j < 6 = omega arith in
     let whole : 3 * j + r ≡ i = omega arith in
-    word_wrong v e j (side v - 11 + r) normal (omega arith) (omega arith) (lower_has (side v) r j wide small few)
+    word_wrong v e j (side v - 11 + r) others normal (omega arith) (omega arith) (omega arith) (lower_has (side v) r j wide small few)
     ∙ lower_takes e (side v) r j wide small few ∙ ap (is_set e.last_version.items) whole
 
 -- only Normal versions have it
@@ -181,9 +244,9 @@ versions_counted v l d e valid are = go (has_version_word v) refl where
   go true has =
       let normal = wide_is_normal v valid has in
       let wide : 45 ≤ side v = grind (arith, nat_tests) in (
-        counted_along (wrong_at v e) (upper_place (side v)) 18 e.first_version.items are.first_version.long (λ i below. upper_wrong v e i normal wide below) ∙ are.first_version.wrong,
+        counted_along (wrong_at v e) (upper_place (side v)) 18 e.first_version.items are.first_version.long (λ i below. upper_wrong v e i are.patterns.others normal wide below) ∙ are.first_version.wrong,
         (
-          counted_along (wrong_at v e) (lower_place (side v)) 18 e.last_version.items are.last_version.long (λ i below. lower_wrong v e i normal wide below) ∙ are.last_version.wrong,
+          counted_along (wrong_at v e) (lower_place (side v)) 18 e.last_version.items are.last_version.long (λ i below. lower_wrong v e i are.patterns.others normal wide below) ∙ are.last_version.wrong,
           tt,
         ),
       )

@@ -1,5 +1,5 @@
 -- Which modules of a symbol are wrong.
-use Rattle.std.specs.Prelude.{◌≡◌, ◌<◌, ◌+◌, ◌-◌, ◌*◌, ◌/◌, ◌%◌, ◌==◌, nat_lt, nat_le, ◌&&◌, ℕ, Bool, true, false, not, List, length, map, Option, Some, None, slice_index, slice_index_or, if◌then◌else◌}
+use Rattle.std.specs.Prelude.{◌≡◌, ◌<◌, ◌+◌, ◌-◌, ◌*◌, ◌/◌, ◌%◌, ◌==◌, nat_lt, nat_le, ◌&&◌, ◌||◌, ℕ, Bool, true, false, not, List, length, map, Option, Some, None, slice_index, slice_index_or, if◌then◌else◌}
 use Rattle.std.specs.List.{range_with_len}
 use Rattle.qrcode_types.specs.Colors.{is_dark, opposite}
 use Rattle.qrcode_types.specs.Versions.{side, block_lengths}
@@ -12,6 +12,7 @@ use Rattle.qrcode_layout.specs.Masks.{turns, turned_if, nth_mask}
 use Rattle.qrcode_layout.specs.Patterns.{format_index, is_functional_place}
 use Rattle.qrcode_layout.specs.Stream.{color_at}
 use Rattle.qrcode_symbol.specs.Symbol.{Carries}
+use Rattle.qrcode_damage.specs.Damage.{is_pattern_place}
 use Rattle.qrcode_damage.specs.Flips.{count_wrong}
 use Rattle.qrcode_damage.specs.declared.damage.Damage.{Damage}
 use Rattle.qrcode_damage.specs.declared.errors.Errors.{Errors}
@@ -19,7 +20,7 @@ use Rattle.qrcode_damage.specs.declared.errors.Errors.{Errors}
 abbrev pub is_set : List ℕ → ℕ → Bool  -- byte i is not zero
 is_set bytes i = not (slice_index bytes i == 0)
 
--- whether a place of the version word is wrong, in a symbol with w modules along a side; no other functional place is
+-- whether a place of the version word is wrong, in a symbol with w modules along a side
 abbrev pub is_version_wrong : Errors → ℕ → ℕ → ℕ → Bool
 is_version_wrong e w x y =
     if nat_lt w 45 then false
@@ -30,6 +31,9 @@ is_version_wrong e w x y =
 abbrev pub is_format_wrong : Errors → ℕ → ℕ → ℕ → Bool
 is_format_wrong e i x y = is_set (if nat_le x 8 && nat_le y 8 then e.first_format.items else e.last_format.items) i
 
+abbrev pub is_pattern_wrong : Errors → ℕ → ℕ → ℕ → Bool  -- whether a place of a pattern is wrong
+is_pattern_wrong e w x y = is_set e.patterns.items (y * w + x)
+
 -- whether a free place is wrong: its bit in the square of the wrong codewords is 1
 abbrev pub is_free_wrong : Version → Errors → ℕ → ℕ → Bool
 is_free_wrong v e x y = turned_if (turns (nth_mask v 0) x y) (is_dark (color_at v e.codewords.items x y))
@@ -37,7 +41,8 @@ is_free_wrong v e x y = turned_if (turns (nth_mask v 0) x y) (is_dark (color_at 
 -- the same by the format word's bit at this place, if any
 abbrev pub wrong_in : Version → Errors → ℕ → ℕ → Option ℕ → Bool
 wrong_in v e x y (Some i) = is_format_wrong e i x y
-wrong_in v e x y None = if is_functional_place v x y then is_version_wrong e (side v) x y else is_free_wrong v e x y
+wrong_in v e x y None =
+    if is_functional_place v x y then is_pattern_wrong e (side v) x y || is_version_wrong e (side v) x y else is_free_wrong v e x y
 
 unfoldable pub is_wrong : Version → Errors → ℕ → ℕ → Bool  -- whether the module in column x and row y is wrong
 is_wrong v e x y = wrong_in v e x y (format_index v x y)
@@ -59,7 +64,12 @@ pub record HasWrong (size count : ℕ) (bytes : List ℕ) : Type 0 where
   pub long : length bytes ≡ size
   pub wrong : count_wrong bytes ≡ count
 
--- exactly what the damage says: in each block so many codewords, and so many bits in each word
+-- a byte for each module, row by row: so many are not zero, and none of those outside of the patterns
+pub record IsInPatterns (v : Version) (count : ℕ) (bytes : List ℕ) : Type 0 where
+  pub all : HasWrong (side v * side v) count bytes
+  pub others : (i : ℕ) → is_pattern_place v (i % side v) (i / side v) ≡ false → is_set bytes i ≡ false
+
+-- exactly what the damage says: in each block so many codewords, in each word so many bits, and in the patterns so many modules
 pub record AreErrors (v : Version) (l : EcLevel) (d : Damage) (e : Errors) : Type 0 where
   pub words : List ℕ
   pub codewords : (b : ℕ) → b < length (block_lengths v l) → count_wrong (block v l words b) ≡ d.codewords
@@ -68,3 +78,4 @@ pub record AreErrors (v : Version) (l : EcLevel) (d : Damage) (e : Errors) : Typ
   pub last_format : HasWrong 15 d.format_bits e.last_format.items
   pub first_version : HasWrong 18 d.version_bits e.first_version.items
   pub last_version : HasWrong 18 d.version_bits e.last_version.items
+  pub patterns : IsInPatterns v d.pattern_modules e.patterns.items

@@ -12,6 +12,7 @@ ghost use Rattle.qrcode_damage.specs.declared.damage.TooMuch.TheVariants.{OutOfM
 use crate::drawn::drawn;
 use crate::errors::{Errors, flipped};
 use crate::flips::flips;
+use crate::patterns::{pattern_count, wrong_patterns};
 use crate::random::Random;
 use crate::words::{blocks_of, wrong_words};
 use qrcode_types::types::{Color, EcLevel, QrResult, Version};
@@ -29,6 +30,9 @@ pub struct Damage {
     pub format_bits: usize,
     /// The number of wrong bits in each copy of the version information, which Normal 7 to 40 have.
     pub version_bits: usize,
+    /// The number of wrong modules of finder, timing and alignment patterns and separators and of the
+    /// dark module.
+    pub pattern_modules: usize,
     /// Decides which ones.
     pub seed: u64,
 }
@@ -42,6 +46,8 @@ pub enum TooMuch {
     FormatBits,
     /// The version information has only this many bits: 18, or none in a version without it.
     VersionBits(usize),
+    /// The patterns have only this many modules.
+    PatternModules(usize),
     /// Memory ran out.
     OutOfMemory,
 }
@@ -62,6 +68,10 @@ impl fmt::Display for TooMuch {
             TooMuch::VersionBits(most) => write!(
                 f,
                 "the version information has {most} bits; no more can be wrong"
+            ),
+            TooMuch::PatternModules(most) => write!(
+                f,
+                "the patterns have {most} modules; no more can be wrong"
             ),
             TooMuch::OutOfMemory => f.write_str("out of memory"),
         }
@@ -89,8 +99,8 @@ fn version_word_length(version: Version) -> usize
 
 impl Damage {
     /// Returns whether so much damage is within the promise: at most `most_codewords` codewords of
-    /// each block, and at most three bits of each copy of the format information. `version` must
-    /// have `ec_level`.
+    /// each block, and at most three bits of each copy of the format information, whatever the
+    /// patterns show. `version` must have `ec_level`.
     pub fn is_promised(self, version: Version, ec_level: EcLevel) -> bool
         requires { IsTrue (has_level version ec_level) }
         ensures { IsTrue result ↔ IsPromised version ec_level self }
@@ -117,6 +127,13 @@ impl Damage {
         if self.version_bits > version_bits {
             return Some(TooMuch::VersionBits(version_bits));
         }
+        if self.pattern_modules == 0 {
+            return None;
+        }
+        let pattern_modules = pattern_count(version);
+        if self.pattern_modules > pattern_modules {
+            return Some(TooMuch::PatternModules(pattern_modules));
+        }
         None
     }
 }
@@ -139,12 +156,14 @@ fn chosen_errors(
     let last_format = flips(alloc, &mut random, damage.format_bits, 15, false)?;
     let first_version = flips(alloc, &mut random, damage.version_bits, 18, false)?;
     let last_version = flips(alloc, &mut random, damage.version_bits, 18, false)?;
+    let patterns = wrong_patterns(alloc, version, damage.pattern_modules, &mut random)?;
     Ok(Errors {
         codewords,
         first_format,
         last_format,
         first_version,
         last_version,
+        patterns,
     })
 }
 
@@ -176,11 +195,11 @@ fn with_errors(
 
 /// Returns these modules of a symbol, row by row, with exactly so much damage: wrong are so many
 /// codewords of each block, so many bits of each copy of the format and of the version information,
-/// and no other module. `damage.seed` decides which; equal seeds give equal squares. The version
-/// must have the level, and `modules` its side.
+/// so many modules of patterns, and no other module. `damage.seed` decides which; equal seeds give
+/// equal squares. The version must have the level, and `modules` its side.
 ///
-/// Errors: `Codewords`, `FormatBits` or `VersionBits` if the symbol has too few of them;
-/// `OutOfMemory` if memory runs out.
+/// Errors: `Codewords`, `FormatBits`, `VersionBits` or `PatternModules` if the symbol has too few
+/// of them; `OutOfMemory` if memory runs out.
 pub fn damaged(
     alloc: Global,
     version: Version,
@@ -196,9 +215,12 @@ pub fn damaged(
     // So it is whichever mask is taken off, so also under the symbol's own.
     ensures wrong { IfOk result (λ colors. (mask : MaskPattern)
         → IsWrongBy version ec_level mask damage modules.now colors.items) }
+    ensures room { IfOk result (λ _. HasRoomFor version ec_level damage) }
     ensures accepts { HasRoomFor version ec_level damage → IsOkUnless result OutOfMemory }
     ensures causes { IfErr result (λ error. error ≢ OutOfMemory
         → IsTooMuch version ec_level damage error) }
+    ensures memory { IfErr result (λ error. error ≡ OutOfMemory
+        → HasRoomFor version ec_level damage) }
 
     // Within the promise, the square decodes to the bytes and no others.
     ensures read { IsPromised version ec_level damage

@@ -4,7 +4,7 @@ ghost use Rattle.std.specs.Prelude.{◌≡◌, ◌*◌, ◌<◌, length, None, I
 ghost use Rattle.qrcode_types.specs.Colors.{is_dark};
 ghost use Rattle.qrcode_types.specs.Versions.{is_valid, side};
 ghost use Rattle.qrcode_layout.specs.Masks.{turned_if};
-ghost use Rattle.qrcode_damage.specs.Errors.{is_set, is_version_wrong, is_format_wrong, is_free_wrong, wrong_in, is_wrong, opposite_if, flipped};
+ghost use Rattle.qrcode_damage.specs.Errors.{is_set, is_version_wrong, is_format_wrong, is_pattern_wrong, is_free_wrong, wrong_in, is_wrong, opposite_if, flipped};
 
 use qrcode_layout::masks::nth_mask;
 use qrcode_layout::patterns::{format_index, is_functional_place};
@@ -25,6 +25,8 @@ pub(crate) struct Errors {
     pub(crate) first_version: Vec<u8>,
     /// The same for the version word at the lower left.
     pub(crate) last_version: Vec<u8>,
+    /// The modules of patterns that no word has, among all modules row by row.
+    pub(crate) patterns: Vec<u8>,
 }
 
 // Returns the bit of a module, which the mask has flipped or not.
@@ -45,7 +47,7 @@ fn is_set(bytes: &[u8], i: usize) -> bool
 }
 
 impl Errors {
-    // Returns whether a functional place is wrong that is not of the format word.
+    // Returns whether a place of the version word is wrong.
     fn is_version_wrong(&self, width: usize, x: usize, y: usize) -> bool
         requires column { x < 1000 }
         requires row { y < 1000 }
@@ -75,6 +77,16 @@ impl Errors {
         }
     }
 
+    // Returns whether a place of a pattern is wrong.
+    fn is_pattern_wrong(&self, width: usize, x: usize, y: usize) -> bool
+        requires width { width < 1000 }
+        requires column { x < 1000 }
+        requires row { y < 1000 }
+        ensures { result ≡ is_pattern_wrong self.now width x y }
+    {
+        is_set(&self.patterns, y * width + x)
+    }
+
     // Returns whether a free place is wrong.
     fn is_free_wrong(&self, version: Version, x: usize, y: usize) -> bool
         requires valid { IsTrue (is_valid version) }
@@ -97,7 +109,7 @@ impl Errors {
     {
         let width = side(version);
         if is_functional_place(version, width, x, y) {
-            self.is_version_wrong(width, x, y)
+            self.is_pattern_wrong(width, x, y) || self.is_version_wrong(width, x, y)
         } else {
             self.is_free_wrong(version, x, y)
         }

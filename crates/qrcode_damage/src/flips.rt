@@ -6,9 +6,9 @@ ghost use Rattle.qrcode_damage.specs.Flips.{count_wrong, AreHigh};
 use crate::random::Random;
 use std::alloc::{AllocError, Global};
 
-// Returns a byte that is zero unless it stands for something wrong. It is a multiple of 16 if only
-// its high half counts.
-fn flip(random: &mut Random, is_wrong: bool, is_half: bool) -> u8
+/// Returns a byte that is zero unless it stands for something wrong. It is a multiple of 16 if only
+/// its high half counts.
+pub(crate) fn flip(random: &mut Random, is_wrong: bool, is_half: bool) -> u8
     ensures wrong { not (result == 0) ≡ is_wrong }
     ensures half { IsTrue is_half → result % 16 ≡ 0 }
 {

@@ -7,5 +7,6 @@ mod errors;
 mod flips;
 pub mod laid;
 pub mod laws;
+mod patterns;
 pub mod random;
 mod words;

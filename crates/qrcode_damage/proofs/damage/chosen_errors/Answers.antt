@@ -23,4 +23,5 @@ returns c = record {
   last_format = record { long = omega (arith, c.in_ok-last_format.ensures.length); wrong = c.in_ok-last_format.ensures.count };
   first_version = record { long = omega (arith, c.in_ok-first_version.ensures.length); wrong = c.in_ok-first_version.ensures.count };
   last_version = record { long = omega (arith, c.in_ok-last_version.ensures.length); wrong = c.in_ok-last_version.ensures.count };
+  patterns = c.in_ok-patterns.ensures;
 }
