@@ -11,18 +11,19 @@ use Rattle.qrcode_types.specs.declared.types.QrError.TheVariants.{DataTooLong, U
 use Rattle.qrcode_bits.specs.Manners.{rank}
 use Rattle.qrcode_bits.specs.Refusals.{data_limit}
 use Rattle.qrcode_bits.proofs.Shortness.{fitting_short}
-use Rattle.qrcode_charsets.specs.Laid.{NoneHave, IsHeldAt, HasRoom}
+use Rattle.qrcode_charsets.specs.Laid.{cut_bytes, NoneHave, IsHeldAt, HasRoom}
 use Rattle.qrcode_charsets.specs.Shortest.{CanShow, NoneHas, IsRefused, NeedsText}
 use Rattle.qrcode_charsets.specs.declared.sets.Charset.{Charset}
 use Rattle.qrcode_charsets.proofs.Lists.{can_room}
+use Rattle.qrcode_charsets.proofs.StandIns.{length-cut_bytes}
 use Rattle.qrcode_charsets.proofs.Writings.{written_at_least}
 
 -- a text that can be shown is short, and one of the sets has it
 pub room_short : (sets : List Charset) (v : Version) (l : EcLevel) (utf8 : List ℕ) → IsUtf8 utf8 → HasRoom sets v l (chars utf8) → length utf8 ≤ 94592
 room_short sets v l utf8 u room =
     let laid = room.held.laid in
-    let short = fitting_short v l laid.bytes (laid.segments, (laid.cut.cut, omega (arith, laid.length, room.held.room))) in
-    omega (arith, short, written_at_least room.set (chars utf8) laid.bytes laid.written, ap length (encodes-chars utf8 u))
+    let short = fitting_short v l (cut_bytes room.set laid.bytes) (laid.segments, (laid.cut.cut, omega (arith, laid.length, room.held.room))) in
+    omega (arith, short, length-cut_bytes room.set (chars utf8) laid.bytes laid.written, written_at_least room.set (chars utf8) laid.bytes laid.written, ap length (encodes-chars utf8 u))
 
 pub can_has : (sets : List Charset) (v : Version) (l : EcLevel) (text : List ℕ) → CanShow sets v l text → ¬ NoneHas sets text
 can_has sets v l text can none = let room = can_room sets v l text can in none room.place room.set room.at (room.held.laid.bytes, room.held.laid.written)

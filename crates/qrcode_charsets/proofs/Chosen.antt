@@ -10,7 +10,7 @@ use Rattle.qrcode_bits.specs.Written.{terminated}
 use Rattle.qrcode_bits.proofs.Endings.{length-terminated}
 use Rattle.qrcode_bits.proofs.Manners.{valid_of}
 use Rattle.qrcode.specs.Code.{Code}
-use Rattle.qrcode_charsets.specs.Charsets.{front}
+use Rattle.qrcode_charsets.specs.Fronts.{front}
 use Rattle.qrcode_charsets.specs.Laid.{bits_of, IsFitting, IsDrawnOf, HasRoom, IsLeastVersion}
 use Rattle.qrcode_charsets.specs.Shortest.{IsShortest, CanShow, IsLeastShowing, IsShortestSymbol, IsShortestFrom, IsShortestBoosted, IsShortestIn, NoneHas}
 use Rattle.qrcode_charsets.specs.declared.sets.Charset.{Charset}

@@ -9,13 +9,13 @@ use Rattle.qrcode_types.specs.declared.types.QrError.TheVariants.{DataTooLong, U
 use Rattle.qrcode_bits.specs.Choice.{IfCause}
 use Rattle.qrcode_bits.specs.Refusals.{data_limit}
 use Rattle.qrcode_charsets.specs.Given.{IsRefusedIn}
-use Rattle.qrcode_charsets.specs.Laid.{IsLaid, IsMeasured, NoneLaid, IsLeastLaid, IsFitting, IsHeld, HasRoom}
+use Rattle.qrcode_charsets.specs.Laid.{NoneLaid, IsLeastLaid, IsFitting, IsHeld, HasRoom}
 use Rattle.qrcode_charsets.specs.Shortest.{CanShow, NoneHas}
 use Rattle.qrcode_charsets.specs.declared.sets.Charset.{Charset}
 use Rattle.qrcode_charsets.specs.declared.shortest.measuring.Measured.{Measured}
 use Rattle.qrcode_bits.proofs.Manners.{valid_of}
 use Rattle.qrcode_charsets.proofs.Causes.{room_short}
-use Rattle.qrcode_charsets.proofs.Lists.{least_room}
+use Rattle.qrcode_charsets.proofs.Lists.{least_room, laid_of}
 
 module _ (sets : List Charset) (v : Version) (l : EcLevel) (utf8 : List ℕ) where
   -- if the version exists, the text is short, a set has it and the version the level: the causes behind these
@@ -32,25 +32,15 @@ module _ (sets : List Charset) (v : Version) (l : EcLevel) (utf8 : List ℕ) whe
   pub none_fits : (m : Measured) → IsLeastLaid sets v (chars utf8) (length sets) m → capacity v l < m.used → ¬ HasRoom sets v l (chars utf8)
   none_fits m least over room = omega (arith, over, least_room sets v l (chars utf8) m least room)
 
-  laid_of : (m : Measured) → IsMeasured v (chars utf8) m → IsLaid m.set v (chars utf8) m.used
-  laid_of m measured = record {
-    front_exists = measured.front_exists;
-    bytes = m.bytes.items;
-    written = measured.written;
-    segments = m.segments.items;
-    cut = measured.least.reached;
-    length = measured.length;
-  }
-
   pub some_laid : (m : Measured) → IsLeastLaid sets v (chars utf8) (length sets) m → ¬ NoneLaid sets v (chars utf8) (length sets)
-  some_laid m least none = none least.chosen.place m.used m.set least.chosen.at.0 least.chosen.at (laid_of m least.measured)
+  some_laid m least none = none least.chosen.place m.used m.set least.chosen.at.0 least.chosen.at (laid_of v (chars utf8) m least.measured)
 
   -- once the bits are found, only memory can run out
   pub memory_ran_out : (m : Measured) → IsFitting sets v l (chars utf8) m → IsUtf8 utf8 → (e : QrError) → e ≡ OutOfMemory → IsRefusedIn sets v l utf8 e
   memory_ran_out m fitting u e is =
       let chosen = fitting.least.chosen in
       let measured = fitting.least.measured in
-      let held : IsHeld m.set v l (chars utf8) = record { exists = fitting.exists; used = m.used; laid = laid_of m measured; room = fitting.room } in
+      let held : IsHeld m.set v l (chars utf8) = record { exists = fitting.exists; used = m.used; laid = laid_of v (chars utf8) m measured; room = fitting.room } in
       let short = room_short sets v l utf8 u (record { place = chosen.place; set = m.set; at = chosen.at; held = held }) in
       let has : ¬ NoneHas sets (chars utf8) = λ none. none chosen.place m.set chosen.at (m.bytes.items, measured.written) in
       refused_behind (valid_of v l fitting.exists) (omega (arith, short)) has fitting.exists e (inl is)

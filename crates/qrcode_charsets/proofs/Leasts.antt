@@ -7,10 +7,10 @@ use Rattle.qrcode_types.specs.declared.types.Version.{Version}
 use Rattle.qrcode_types.specs.declared.types.EcLevel.{EcLevel}
 use Rattle.qrcode_bits.specs.Cuts.{IsCutIn}
 use Rattle.qrcode_bits.specs.Manners.{rank}
-use Rattle.qrcode_bits.specs.ModeSets.{text_modes}
 use Rattle.qrcode_bits.specs.declared.optimize.Segment.{Segment}
-use Rattle.qrcode_charsets.specs.Charsets.{IsWritten, Has, has_front}
-use Rattle.qrcode_charsets.specs.Laid.{IsLaid, IsCutOf, IsMeasured, NoneHave, IsFirstLeast, NoneLaid, IsLeastLaid, IsHeldAt, IsLeastHolding, IsLeastVersion, less_of, smaller_of}
+use Rattle.qrcode_charsets.specs.Charsets.{IsWritten, Has}
+use Rattle.qrcode_charsets.specs.Fronts.{has_front, modes_of}
+use Rattle.qrcode_charsets.specs.Laid.{cut_bytes, IsLaid, IsCutOf, IsMeasured, NoneHave, IsFirstLeast, NoneLaid, IsLeastLaid, IsHeldAt, IsLeastHolding, IsLeastVersion, less_of, smaller_of}
 use Rattle.qrcode_charsets.specs.Shortest.{IsAt}
 use Rattle.qrcode_charsets.specs.declared.sets.Charset.{Charset}
 use Rattle.qrcode_charsets.specs.declared.shortest.measuring.Measured.{Measured}
@@ -76,10 +76,10 @@ no_front c v text none_at used laid = true≢false (sym laid.front_exists ∙ no
 pub no_bytes : (c : Charset) (v : Version) (text : List ℕ) → ¬ Has c text → (used : ℕ) → ¬ IsLaid c v text used
 no_bytes c v text none_at used laid = none_at (laid.bytes, laid.written)
 
-pub no_cut : (c : Charset) (v : Version) (text bytes : List ℕ) → IsWritten c text bytes → ((ss : List Segment) → ¬ IsCutIn text_modes v bytes ss) → (used : ℕ) → ¬ IsLaid c v text used
+pub no_cut : (c : Charset) (v : Version) (text bytes : List ℕ) → IsWritten c text bytes → ((ss : List Segment) → ¬ IsCutIn (modes_of c) v (cut_bytes c bytes) ss) → (used : ℕ) → ¬ IsLaid c v text used
 no_cut c v text bytes written none used laid =
     let same = written_one_way c text bytes laid.bytes written laid.written in
-    none laid.segments (subst (λ b. IsCutIn text_modes v b laid.segments) same laid.cut)
+    none laid.segments (subst (λ b. IsCutIn (modes_of c) v (cut_bytes c b) laid.segments) same laid.cut)
 
 -- bytes of the text, cut
 pub measured_from : (c : Charset) (v : Version) (text bytes : List ℕ) (m : Measured) → IsTrue (has_front v c) → IsWritten c text bytes → IsCutOf c v bytes m → (m.set ≡ c) × IsMeasured v text m
@@ -88,7 +88,7 @@ measured_from c v text bytes m has written cut = (
   record {
     front_exists = subst (λ d. IsTrue (has_front v d)) (sym cut.set) has;
     written = subst (IsWritten m.set text) (sym cut.bytes) (subst (λ d. IsWritten d text bytes) (sym cut.set) written);
-    least = cut.least;
+    best = cut.best;
     length = cut.length;
   },
 )

@@ -6,6 +6,15 @@ pub mod Held
 pub mod Leasts
 pub mod Lists
 pub mod Marks
+pub mod PairCodes
+pub mod PairReads
+pub mod PairRows
+pub mod PairTable
 pub mod Rows
 pub mod Shown
+pub mod StandCuts
+pub mod StandIns
+pub mod Units
+pub mod Versions
+pub mod Whole
 pub mod Writings

@@ -1,6 +1,6 @@
 -- The designators of sets.
-use Rattle.std.proofs.Common.{◌≡◌, ◌⊎◌, ℕ, ◌+◌, ◌-◌, ◌≤◌, false, [], ◌∷◌, ◌++◌, length, IsTrue, Some, None, refl, sym, ap, ◌∙◌, arith, inl, inr, length-append}
-use Rattle.std.specs.Prelude.{slice_index_or, not, nat_le}
+use Rattle.std.proofs.Common.{◌≡◌, ◌⊎◌, ℕ, ◌+◌, ◌-◌, ◌≤◌, ◌==◌, false, [], ◌∷◌, ◌++◌, length, IsTrue, Some, None, refl, sym, ap, ◌∙◌, arith, inl, inr, length-append}
+use Rattle.std.specs.Prelude.{slice_index_or, not, nat_le, if◌then◌else◌}
 use Rattle.std.proofs.lemmas.Bool.{cond-true, le-leb, not-true, true≢false}
 use Rattle.qrcode_types.specs.Bits.{number_bits}
 use Rattle.qrcode_types.specs.Versions.{is_micro}
@@ -10,9 +10,10 @@ use Rattle.qrcode_bits.specs.Refusals.{eci_refusal, bit_limit}
 use Rattle.qrcode_bits.specs.Written.{eci_bits}
 use Rattle.qrcode_bits.proofs.Changed.{append_fits}
 use Rattle.qrcode_bits.proofs.Numbers.{length-number_bits}
-use Rattle.qrcode_charsets.specs.Charsets.{page_designator, designator, designator_bits, front, has_front}
+use Rattle.qrcode_charsets.specs.Charsets.{page_designator, designator}
+use Rattle.qrcode_charsets.specs.Fronts.{designator_bits, front, has_front}
 use Rattle.qrcode_charsets.specs.declared.sets.Charset.{Charset}
-use Rattle.qrcode_charsets.specs.declared.sets.Charset.TheVariants.{Unmarked, Utf8, OneByte}
+use Rattle.qrcode_charsets.specs.declared.sets.Charset.TheVariants.{Unmarked, Utf8, OneByte, ShiftJis, Utf16}
 use Rattle.qrcode_charsets.specs.declared.sets.Page.{Page}
 use Rattle.qrcode_charsets.specs.declared.sets.Page.TheVariants.{Latin1, Latin2, Latin3, Latin4, Cyrillic, Arabic, Greek, Hebrew, Latin5, Latin6, Thai, Latin7, Latin8, Latin9, Latin10, Windows1250, Windows1251, Windows1252, Windows1256}
 
@@ -20,30 +21,26 @@ use Rattle.qrcode_charsets.specs.declared.sets.Page.TheVariants.{Latin1, Latin2,
 page_of : ℕ → Page
 page_of n = slice_index_or (Latin1 ∷ Latin2 ∷ Latin3 ∷ Latin4 ∷ Cyrillic ∷ Arabic ∷ Greek ∷ Hebrew ∷ Latin5 ∷ Latin6 ∷ Thai ∷ Latin1 ∷ Latin7 ∷ Latin8 ∷ Latin9 ∷ Latin10 ∷ Latin1 ∷ Latin1 ∷ Windows1250 ∷ Windows1251 ∷ Windows1252 ∷ Windows1256 ∷ []) (n - 3) Latin1
 
-page_is : (p : Page) → (page_of (page_designator p) ≡ p) × (page_designator p ≤ 24)
-unfolding page_of
-page_is Latin1 = (refl, omega arith)
-page_is Latin2 = (refl, omega arith)
-page_is Latin3 = (refl, omega arith)
-page_is Latin4 = (refl, omega arith)
-page_is Cyrillic = (refl, omega arith)
-page_is Arabic = (refl, omega arith)
-page_is Greek = (refl, omega arith)
-page_is Hebrew = (refl, omega arith)
-page_is Latin5 = (refl, omega arith)
-page_is Latin6 = (refl, omega arith)
-page_is Thai = (refl, omega arith)
-page_is Latin7 = (refl, omega arith)
-page_is Latin8 = (refl, omega arith)
-page_is Latin9 = (refl, omega arith)
-page_is Latin10 = (refl, omega arith)
-page_is Windows1250 = (refl, omega arith)
-page_is Windows1251 = (refl, omega arith)
-page_is Windows1252 = (refl, omega arith)
-page_is Windows1256 = (refl, omega arith)
-
-same_page : (p q : Page) → page_designator p ≡ page_designator q → p ≡ q
-same_page p q e = sym (page_is p).0 ∙ ap page_of e ∙ (page_is q).0
+page_small : (p : Page) → page_designator p ≤ 24
+page_small Latin1 = omega arith
+page_small Latin2 = omega arith
+page_small Latin3 = omega arith
+page_small Latin4 = omega arith
+page_small Cyrillic = omega arith
+page_small Arabic = omega arith
+page_small Greek = omega arith
+page_small Hebrew = omega arith
+page_small Latin5 = omega arith
+page_small Latin6 = omega arith
+page_small Thai = omega arith
+page_small Latin7 = omega arith
+page_small Latin8 = omega arith
+page_small Latin9 = omega arith
+page_small Latin10 = omega arith
+page_small Windows1250 = omega arith
+page_small Windows1251 = omega arith
+page_small Windows1252 = omega arith
+page_small Windows1256 = omega arith
 
 -- a set has a designator of one byte, and the version an ECI, or neither
 pub record IsMarked (c : Charset) : Type 0 where
@@ -55,20 +52,47 @@ pub record IsMarked (c : Charset) : Type 0 where
 pub unmarked_or : (c : Charset) → (c ≡ Unmarked) ⊎ IsMarked c
 unmarked_or Unmarked = inl refl
 unmarked_or Utf8 = inr (record { number = 26; is = refl; small = omega arith; normal = λ v. refl })
-unmarked_or (OneByte p) = inr (record { number = page_designator p; is = refl; small = omega (arith, (page_is p).1); normal = λ v. refl })
+unmarked_or ShiftJis = inr (record { number = 20; is = refl; small = omega arith; normal = λ v. refl })
+unmarked_or Utf16 = inr (record { number = 25; is = refl; small = omega arith; normal = λ v. refl })
+unmarked_or (OneByte p) = inr (record { number = page_designator p; is = refl; small = omega (arith, page_small p); normal = λ v. refl })
+
+-- the set with each designator
+set_of : ℕ → Charset
+set_of n = if n == 20 then ShiftJis else (if n == 25 then Utf16 else (if n == 26 then Utf8 else OneByte (page_of n)))
+
+page_set : (p : Page) → set_of (page_designator p) ≡ OneByte p
+unfolding page_of set_of
+page_set Latin1 = refl
+page_set Latin2 = refl
+page_set Latin3 = refl
+page_set Latin4 = refl
+page_set Cyrillic = refl
+page_set Arabic = refl
+page_set Greek = refl
+page_set Hebrew = refl
+page_set Latin5 = refl
+page_set Latin6 = refl
+page_set Thai = refl
+page_set Latin7 = refl
+page_set Latin8 = refl
+page_set Latin9 = refl
+page_set Latin10 = refl
+page_set Windows1250 = refl
+page_set Windows1251 = refl
+page_set Windows1252 = refl
+page_set Windows1256 = refl
+
+set_is : (c : Charset) (n : ℕ) → designator c ≡ Some n → set_of n ≡ c
+unfolding page_of set_of
+set_is Unmarked n e = cc
+set_is Utf8 n e = let is : 26 ≡ n = cc in ap set_of (sym is)
+set_is (OneByte p) n e = let is : page_designator p ≡ n = cc in ap set_of (sym is) ∙ page_set p
+set_is ShiftJis n e = let is : 20 ≡ n = cc in ap set_of (sym is)
+set_is Utf16 n e = let is : 25 ≡ n = cc in ap set_of (sym is)
 
 -- two sets with one designator are one set
 pub same_set : (c d : Charset) (n : ℕ) → designator c ≡ Some n → designator d ≡ Some n → c ≡ d
-same_set Unmarked d n e f = cc
-same_set Utf8 Unmarked n e f = cc
-same_set Utf8 Utf8 n e f = refl
-same_set Utf8 (OneByte q) n e f = let a : 26 ≡ n = cc in let b : page_designator q ≡ n = cc in absurd (omega (arith, a, b, (page_is q).1))
-same_set (OneByte p) Unmarked n e f = cc
-same_set (OneByte p) Utf8 n e f = let a : 26 ≡ n = cc in let b : page_designator p ≡ n = cc in absurd (omega (arith, a, b, (page_is p).1))
-same_set (OneByte p) (OneByte q) n e f =
-    let a : page_designator p ≡ n = cc in
-    let b : page_designator q ≡ n = cc in
-    ap OneByte (same_page p q (a ∙ sym b))
+same_set c d n e f = sym (set_is c n e) ∙ set_is d n f
 
 eci_short : (n : ℕ) → n ≤ 127 → eci_bits n ≡ number_bits 8 n
 unfolding eci_bits
@@ -91,11 +115,15 @@ front_none c e = ap designator_bits (sym e)
 pub length_some : (c : Charset) (n : ℕ) → Some n ≡ designator c → 12 ≡ length (front c)
 length_some Unmarked n e = cc
 length_some Utf8 n e = sym (length-front Utf8 (record { number = 26; is = refl; small = omega arith; normal = λ v. refl }))
-length_some (OneByte p) n e = sym (length-front (OneByte p) (record { number = page_designator p; is = refl; small = omega (arith, (page_is p).1); normal = λ v. refl }))
+length_some ShiftJis n e = sym (length-front ShiftJis (record { number = 20; is = refl; small = omega arith; normal = λ v. refl }))
+length_some Utf16 n e = sym (length-front Utf16 (record { number = 25; is = refl; small = omega arith; normal = λ v. refl }))
+length_some (OneByte p) n e = sym (length-front (OneByte p) (record { number = page_designator p; is = refl; small = omega (arith, page_small p); normal = λ v. refl }))
 
 marked_normal : (c : Charset) (v : Version) (n : ℕ) → Some n ≡ designator c → IsTrue (has_front v c) → is_micro v ≡ false
 marked_normal Unmarked v n e h = cc
 marked_normal Utf8 v n e h = not-true (is_micro v) h
+marked_normal ShiftJis v n e h = not-true (is_micro v) h
+marked_normal Utf16 v n e h = not-true (is_micro v) h
 marked_normal (OneByte p) v n e h = not-true (is_micro v) h
 
 -- a designator is accepted if it has room

@@ -1,15 +1,11 @@
 -- The character sets in which texts are written.
-use Rattle.std.specs.Prelude.{◌≡◌, ℕ, ◌-◌, ◌==◌, nat_lt, not, Bool, true, List, [], ◌++◌, Option, Some, None, map, slice_index, slice_index_or, encode_utf8_all, IsTrue, if◌then◌else◌}
+use Rattle.std.specs.Prelude.{◌≡◌, ℕ, ◌-◌, ◌/◌, ◌%◌, ◌==◌, nat_lt, List, [], ◌∷◌, Option, Some, None, map, flat_map, slice_index, slice_index_or, encode_utf8_all, IsTrue, if◌then◌else◌}
+use Rattle.std.specs.Char.Escape.{encode_utf16}
 use Rattle.std.specs.Str.{all_scalars}
-use Rattle.qrcode_types.specs.Bits.{number_bits}
-use Rattle.qrcode_types.specs.Versions.{is_micro}
-use Rattle.qrcode_types.specs.declared.types.Version.{Version}
-use Rattle.qrcode_bits.specs.Written.{eci_bits}
-use Rattle.qrcode_bits.specs.declared.bits.manner.Manner.{Manner}
-use Rattle.qrcode_bits.specs.declared.bits.manner.Manner.TheVariants.{Text, MarkedText}
+use Rattle.qrcode_charsets.specs.ShiftJis.{shift_jis_characters}
 use Rattle.qrcode_charsets.specs.Table.{character_table}
 use Rattle.qrcode_charsets.specs.declared.sets.Charset.{Charset}
-use Rattle.qrcode_charsets.specs.declared.sets.Charset.TheVariants.{Unmarked, Utf8, OneByte}
+use Rattle.qrcode_charsets.specs.declared.sets.Charset.TheVariants.{Unmarked, Utf8, OneByte, ShiftJis, Utf16}
 use Rattle.qrcode_charsets.specs.declared.sets.Page.{Page}
 use Rattle.qrcode_charsets.specs.declared.sets.Page.TheVariants.{Latin1, Latin2, Latin3, Latin4, Cyrillic, Arabic, Greek, Hebrew, Latin5, Latin6, Thai, Latin7, Latin8, Latin9, Latin10, Windows1250, Windows1251, Windows1252, Windows1256}
 
@@ -43,6 +39,9 @@ character p b =
     if nat_lt b 128 then Some b else
     (if slice_index (characters p) (b - 128) == 0 then None else Some (slice_index (characters p) (b - 128)))
 
+abbrev pub big_end : ℕ → List ℕ  -- a unit of sixteen bits as two bytes, the big end first
+big_end unit = unit / 256 ∷ unit % 256 ∷ []
+
 -- no two bytes of a set of one byte have the same character
 abbrev pub CharactersAreApart : Type 0
 CharactersAreApart = (p : Page) (a b c : ℕ) → character p a ≡ Some c → character p b ≡ Some c → a ≡ b
@@ -51,9 +50,18 @@ abbrev pub IsWritten : Charset → (text bytes : List ℕ) → Type 0  -- the by
 IsWritten Unmarked text bytes = IsTrue (all_scalars text) × (encode_utf8_all text ≡ bytes)
 IsWritten Utf8 text bytes = IsTrue (all_scalars text) × (encode_utf8_all text ≡ bytes)
 IsWritten (OneByte p) text bytes = map (character p) bytes ≡ map Some text
+IsWritten ShiftJis text bytes = shift_jis_characters bytes ≡ map Some text
+IsWritten Utf16 text bytes = IsTrue (all_scalars text) × (flat_map big_end (flat_map encode_utf16 text) ≡ bytes)
 
 abbrev pub Has : Charset → List ℕ → Type 0  -- the set has all characters of the text
 Has c text = (bytes : List ℕ) × IsWritten c text bytes
+
+abbrev pub widest : Charset → ℕ  -- how many bytes a text has at most for each byte that it has in UTF-8
+widest Unmarked = 1
+widest Utf8 = 1
+widest (OneByte p) = 1
+widest ShiftJis = 1
+widest Utf16 = 2
 
 -- in each set a text is written as one list of bytes, and these are the bytes of one text
 abbrev pub TextsAreWrittenOneWay : Type 0
@@ -67,21 +75,5 @@ abbrev pub designator : Charset → Option ℕ
 designator Unmarked = None
 designator Utf8 = Some 26
 designator (OneByte p) = Some (page_designator p)
-
-abbrev pub designator_bits : Option ℕ → List Bool  -- the mode indicator of ECI and the designator
-designator_bits None = []
-designator_bits (Some n) = number_bits 4 7 ++ eci_bits n
-
-abbrev pub front : Charset → List Bool  -- the bits before the segments
-front c = designator_bits (designator c)
-
-abbrev pub has_front : Version → Charset → Bool  -- the version allows them: Micro has no ECI
-has_front v Unmarked = true
-has_front v Utf8 = not (is_micro v)
-has_front v (OneByte p) = not (is_micro v)
-
--- the manner in which bytes take as many bits: each designator takes as many as that of UTF-8
-abbrev pub manner_of : Charset → Manner
-manner_of Unmarked = Text
-manner_of Utf8 = MarkedText
-manner_of (OneByte p) = MarkedText
+designator ShiftJis = Some 20
+designator Utf16 = Some 25

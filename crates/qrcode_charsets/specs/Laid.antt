@@ -1,24 +1,35 @@
 -- The results of the search for a set and a version.
-use Rattle.std.specs.Prelude.{◌≡◌, ℕ, ◌<◌, ◌≤◌, ◌+◌, nat_lt, Bool, List, ◌++◌, length, IsTrue, Option, Some, None, if◌then◌else◌}
+use Rattle.std.specs.Prelude.{◌≡◌, ℕ, ◌<◌, ◌≤◌, ◌+◌, nat_lt, Bool, List, [], ◌∷◌, ◌++◌, length, IsTrue, Option, Some, None, if◌then◌else◌}
 use Rattle.qrcode_types.specs.Versions.{has_level, capacity}
 use Rattle.qrcode_types.specs.declared.types.Version.{Version}
 use Rattle.qrcode_types.specs.declared.types.EcLevel.{EcLevel}
-use Rattle.qrcode_bits.specs.Cuts.{IsCutIn, IsLeastCutIn}
+use Rattle.qrcode_types.specs.declared.types.Mode.TheVariants.{Byte}
+use Rattle.qrcode_bits.specs.Cuts.{IsCut, IsCutIn}
 use Rattle.qrcode_bits.specs.Manners.{rank}
-use Rattle.qrcode_bits.specs.ModeSets.{text_modes}
 use Rattle.qrcode_bits.specs.Segments.{total_cost}
 use Rattle.qrcode_bits.specs.Written.{pieces_of, written, terminated}
 use Rattle.qrcode_bits.specs.declared.optimize.Segment.{Segment}
 use Rattle.qrcode.specs.Code.{Code}
 use Rattle.qrcode.specs.Reading.{EncodesBits}
-use Rattle.qrcode_charsets.specs.Charsets.{IsWritten, front, has_front}
+use Rattle.qrcode_charsets.specs.Charsets.{IsWritten}
+use Rattle.qrcode_charsets.specs.Fronts.{front, has_front, modes_of}
+use Rattle.qrcode_charsets.specs.ShiftJis.{stand_in}
 use Rattle.qrcode_charsets.specs.Shortest.{IsAt}
+use Rattle.qrcode_charsets.specs.Shown.{ArePiecesShown}
 use Rattle.qrcode_charsets.specs.declared.sets.Charset.{Charset}
+use Rattle.qrcode_charsets.specs.declared.sets.Charset.TheVariants.{Unmarked, Utf8, OneByte, ShiftJis, Utf16}
 use Rattle.qrcode_charsets.specs.declared.shortest.measuring.Measured.{Measured}
 
 -- the bits of a text in a set: what names the set, and the segments
 abbrev pub bits_of : Version → Measured → List Bool
 bits_of v m = front m.set ++ written v (pieces_of m.bytes.items m.segments.items)
+
+abbrev pub cut_bytes : Charset → List ℕ → List ℕ  -- the bytes that are divided into segments in place of those of a set
+cut_bytes Unmarked bytes = bytes
+cut_bytes Utf8 bytes = bytes
+cut_bytes (OneByte p) bytes = bytes
+cut_bytes ShiftJis bytes = stand_in bytes
+cut_bytes Utf16 bytes = bytes
 
 -- what names the set, and some segments of the text in it, take that many bits
 pub record IsLaid (c : Charset) (v : Version) (text : List ℕ) (used : ℕ) : Type 0 where
@@ -26,21 +37,32 @@ pub record IsLaid (c : Charset) (v : Version) (text : List ℕ) (used : ℕ) : T
   pub bytes : List ℕ
   pub written : IsWritten c text bytes
   pub segments : List Segment
-  pub cut : IsCutIn text_modes v bytes segments
+  pub cut : IsCutIn (modes_of c) v (cut_bytes c bytes) segments
   pub length : used ≡ length (front c) + total_cost v segments
 
--- these bytes in segments of the fewest bits
+abbrev pub whole : List ℕ → List Segment  -- one segment of all bytes, or none if there are no bytes
+whole [] = []
+whole (b ∷ bytes) = record { mode = Byte; begin = 0; end = length (b ∷ bytes) } ∷ []
+
+-- segments in which a reader shows the bytes as their text, and no such segments take fewer bits
+pub record IsBestCut (c : Charset) (v : Version) (bytes : List ℕ) (segments : List Segment) : Type 0 where
+  pub cut : IsCut v bytes segments
+  pub laid : IsCutIn (modes_of c) v (cut_bytes c bytes) segments
+  pub shown : (text : List ℕ) → IsWritten c text bytes → ArePiecesShown c (pieces_of bytes segments) text
+  pub least : (others : List Segment) → IsCutIn (modes_of c) v (cut_bytes c bytes) others → total_cost v segments ≤ total_cost v others
+
+-- these bytes in such segments
 pub record IsCutOf (c : Charset) (v : Version) (given : List ℕ) (m : Measured) : Type 0 where
   pub set : m.set ≡ c
   pub bytes : m.bytes.items ≡ given
-  pub least : IsLeastCutIn text_modes v m.bytes.items m.segments.items
+  pub best : IsBestCut m.set v m.bytes.items m.segments.items
   pub length : m.used ≡ length (front m.set) + total_cost v m.segments.items
 
 -- the text in a set, in segments of the fewest bits
 pub record IsMeasured (v : Version) (text : List ℕ) (m : Measured) : Type 0 where
   pub front_exists : IsTrue (has_front v m.set)
   pub written : IsWritten m.set text m.bytes.items
-  pub least : IsLeastCutIn text_modes v m.bytes.items m.segments.items
+  pub best : IsBestCut m.set v m.bytes.items m.segments.items
   pub length : m.used ≡ length (front m.set) + total_cost v m.segments.items
 
 -- of numbers that sets may have: none of the first sets has one

@@ -1,6 +1,10 @@
 pub mod Charsets
+pub mod Codes
+pub mod Fronts
 pub mod Given
 pub mod Laid
+pub mod Pairs
+pub mod ShiftJis
 pub mod Shortest
 pub mod Shown
 pub mod Table

@@ -14,7 +14,8 @@ use Rattle.qrcode_bits.specs.Spelling.{IsReadable}
 use Rattle.qrcode_bits.specs.Written.{Piece, written, terminated}
 use Rattle.qrcode.specs.Code.{Code}
 use Rattle.qrcode.specs.Reading.{EncodesBits}
-use Rattle.qrcode_charsets.specs.Charsets.{Has, front, has_front}
+use Rattle.qrcode_charsets.specs.Charsets.{Has}
+use Rattle.qrcode_charsets.specs.Fronts.{front, has_front}
 use Rattle.qrcode_charsets.specs.Shown.{ArePiecesShown, ShowsIn, IsShownAs}
 use Rattle.qrcode_charsets.specs.declared.sets.Charset.{Charset}
 

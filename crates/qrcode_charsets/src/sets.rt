@@ -5,7 +5,6 @@ ghost use Rattle.qrcode_charsets.specs.Charsets as charsets;
 ghost use Rattle.qrcode_charsets.specs.declared.sets.Charset.{Charset};
 
 use crate::table::CHARACTERS;
-use qrcode_bits::bits::Manner;
 
 /// A character set of one byte for each character. The first 128 are those of ASCII.
 #[derive(PartialEq, Eq, Debug, Copy, Clone)]
@@ -59,19 +58,24 @@ pub enum Charset {
     Utf8,
     /// A set of one byte for each character, after its designator.
     OneByte(Page),
+    /// Shift JIS after its designator: ASCII, half-width katakana and the characters of JIS X 0208,
+    /// except eight that readers show differently.
+    ShiftJis,
+    /// UTF-16 after its designator, with the big end first.
+    Utf16,
 }
 
 /// UTF-8 without a designator, then, in the order of their designators, the sets that zxing and
-/// zbar show: ISO/IEC 8859 and UTF-8.
+/// zbar show: ISO/IEC 8859, Shift JIS and UTF-8.
 #[rattlefmt::skip]
-pub static CHARSETS: [Charset; 17] = [
+pub static CHARSETS: [Charset; 18] = [
     Charset::Unmarked, Charset::OneByte(Page::Latin1), Charset::OneByte(Page::Latin2),
     Charset::OneByte(Page::Latin3), Charset::OneByte(Page::Latin4),
     Charset::OneByte(Page::Cyrillic), Charset::OneByte(Page::Arabic),
     Charset::OneByte(Page::Greek), Charset::OneByte(Page::Hebrew), Charset::OneByte(Page::Latin5),
     Charset::OneByte(Page::Latin6), Charset::OneByte(Page::Thai), Charset::OneByte(Page::Latin7),
     Charset::OneByte(Page::Latin8), Charset::OneByte(Page::Latin9),
-    Charset::OneByte(Page::Latin10), Charset::Utf8,
+    Charset::OneByte(Page::Latin10), Charset::ShiftJis, Charset::Utf8,
 ];
 
 impl Charset {
@@ -84,6 +88,8 @@ impl Charset {
             Charset::Unmarked => None,
             Charset::Utf8 => Some(26),
             Charset::OneByte(page) => Some(page.designator()),
+            Charset::ShiftJis => Some(20),
+            Charset::Utf16 => Some(25),
         }
     }
 
@@ -109,24 +115,16 @@ impl Charset {
             16 => Page::Latin8,
             17 => Page::Latin9,
             18 => Page::Latin10,
+            20 => return Some(Charset::ShiftJis),
             21 => Page::Windows1250,
             22 => Page::Windows1251,
             23 => Page::Windows1252,
             24 => Page::Windows1256,
+            25 => return Some(Charset::Utf16),
             26 => return Some(Charset::Utf8),
             _ => return None,
         };
         Some(Charset::OneByte(page))
-    }
-
-    // Returns the manner in which bytes take as many bits.
-    pub(crate) fn manner(self) -> Manner
-        ensures { result ≡ charsets.manner_of self }
-    {
-        match self {
-            Charset::Unmarked => Manner::Text,
-            Charset::Utf8 | Charset::OneByte(_) => Manner::MarkedText,
-        }
     }
 }
 

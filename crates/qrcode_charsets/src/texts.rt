@@ -1,11 +1,42 @@
 //! Texts as bytes in a character set, and back.
 
-ghost use Rattle.std.specs.Prelude.{ℕ, ◌+◌, ◌<◌, List, chars, string_bytes, take, length, IfOk, IfSome, MatchOption};
+ghost use Rattle.std.specs.Prelude.{◌≡◌, ◌++◌, ℕ, ◌+◌, ◌<◌, [], ◌∷◌, List, chars, string_bytes, take, length, IfOk, IfSome, MatchOption, OnOk};
 ghost use Rattle.qrcode_charsets.specs.Charsets.{IsWritten, Has};
+ghost use Rattle.qrcode_charsets.specs.Codes.{code_bytes};
 ghost use Rattle.qrcode_charsets.specs.declared.sets.Charset.TheVariants.{OneByte};
 
 use crate::sets::{Charset, Page};
+use crate::{shift_jis, utf16};
 use std::alloc::{AllocError, Global};
+
+// The bytes of a character: those of UTF-8, one byte, or one or two units of two bytes.
+#[derive(Copy, Clone)]
+pub(crate) enum Code {
+    Utf8(char),
+    One(u8),
+    Two(u16),
+    Four(u16, u16),
+}
+
+impl Code {
+    // Appends the bytes to `bytes`.
+    fn push_to(self, bytes: &mut Vec<u8>) -> Result<(), AllocError>
+        ensures { OnOk result (bytes.new.items ≡ bytes.old.items ++ code_bytes self) }
+    {
+        match self {
+            Code::Utf8(character) => {
+                let mut buffer = [0; 4];
+                bytes.extend_from_slice(character.encode_utf8(&mut buffer).as_bytes())
+            }
+            Code::One(byte) => Ok(bytes.push(byte)?),
+            Code::Two(unit) => bytes.extend_from_slice(&unit.to_be_bytes()),
+            Code::Four(first, second) => {
+                bytes.extend_from_slice(&first.to_be_bytes())?;
+                bytes.extend_from_slice(&second.to_be_bytes())
+            }
+        }
+    }
+}
 
 impl Charset {
     /// Returns the place of the first character of `text` that this set lacks, counted in
@@ -17,10 +48,14 @@ impl Charset {
             × Has self (take place (chars text.now))
             × ¬ Has self (take (place + 1) (chars text.now))) }
     {
-        match self {
-            Charset::Unmarked | Charset::Utf8 => None,
-            Charset::OneByte(page) => page.lacks(text),
+        let mut place = 0;
+        for character in text.chars() {
+            match self.code(character) {
+                Some(_) => place += 1,
+                None => return Some(place),
+            }
         }
+        None
     }
 
     /// Returns the bytes of `text` in this set, or `None` if the set lacks one of its characters.
@@ -31,10 +66,14 @@ impl Charset {
             (¬ Has self (chars text.now))
             (λ bytes. IsWritten self (chars text.now) bytes.items)) }
     {
-        match self {
-            Charset::Unmarked | Charset::Utf8 => Ok(Some(text.as_bytes().to_vec(alloc)?)),
-            Charset::OneByte(page) => page.encode(alloc, text),
+        let mut bytes = Vec::new(alloc);
+        for character in text.chars() {
+            match self.code(character) {
+                Some(code) => code.push_to(&mut bytes)?,
+                None => return Ok(None),
+            }
         }
+        Ok(Some(bytes))
     }
 
     /// Returns the text that `bytes` are in this set, or `None` if they are none.
@@ -51,45 +90,29 @@ impl Charset {
                 Err(_) => Ok(None),
             },
             Charset::OneByte(page) => page.decode(alloc, bytes),
+            Charset::ShiftJis => shift_jis::decode(alloc, bytes),
+            Charset::Utf16 => utf16::decode(alloc, bytes),
+        }
+    }
+
+    // Returns the bytes of `character` in this set, or `None` if the set lacks it.
+    fn code(self, character: char) -> Option<Code>
+        ensures { MatchOption result (¬ Has self (character ∷ []))
+            (λ code. IsWritten self (character ∷ []) (code_bytes code)) }
+    {
+        match self {
+            Charset::Unmarked | Charset::Utf8 => Some(Code::Utf8(character)),
+            Charset::OneByte(page) => match page.byte(character) {
+                Some(byte) => Some(Code::One(byte)),
+                None => None,
+            },
+            Charset::ShiftJis => shift_jis::code(character),
+            Charset::Utf16 => Some(utf16::code(character)),
         }
     }
 }
 
 impl Page {
-    // Returns the place of the first character of `text` that this set lacks.
-    fn lacks(self, text: &str) -> Option<usize>
-        ensures has { MatchOption result (Has (OneByte self) (chars text.now))
-            (λ _. ¬ Has (OneByte self) (chars text.now)) }
-        ensures first { IfSome result (λ place. (place < length (chars text.now))
-            × Has (OneByte self) (take place (chars text.now))
-            × ¬ Has (OneByte self) (take (place + 1) (chars text.now))) }
-    {
-        let mut place = 0;
-        for character in text.chars() {
-            match self.byte(character) {
-                Some(_) => place += 1,
-                None => return Some(place),
-            }
-        }
-        None
-    }
-
-    // Returns the bytes of `text` in this set, or `None` if the set lacks one of its characters.
-    fn encode(self, alloc: Global, text: &str) -> Result<Option<Vec<u8>>, AllocError>
-        ensures { IfOk result (λ found. MatchOption found
-            (¬ Has (OneByte self) (chars text.now))
-            (λ bytes. IsWritten (OneByte self) (chars text.now) bytes.items)) }
-    {
-        let mut bytes = Vec::new(alloc);
-        for character in text.chars() {
-            match self.byte(character) {
-                Some(byte) => bytes.push(byte)?,
-                None => return Ok(None),
-            }
-        }
-        Ok(Some(bytes))
-    }
-
     // Returns the text that `bytes` are in this set, or `None` if one of them has no character.
     fn decode(self, alloc: Global, bytes: &[u8]) -> Result<Option<String>, AllocError>
         ensures { IfOk result (λ found. MatchOption found

@@ -1,17 +1,20 @@
 //! Chooses the version, the set and the level of a text.
 
-ghost use Rattle.std.specs.Prelude.{◌≡◌, ℕ, ◌<◌, ◌≤◌, ◌↔◌, chars, length, IfOk, IfErr, IsOkUnless, IsTrue, IsFalse, MatchOption};
+ghost use Rattle.std.specs.Prelude.{◌≡◌, ◌≢◌, ℕ, ◌+◌, ◌<◌, ◌≤◌, ◌↔◌, chars, length, IfOk, IfErr, IsOkUnless, IsTrue, IsFalse, MatchOption};
 ghost use Rattle.qrcode_types.specs.Versions.{is_valid, has_level, level_number, capacity};
 ghost use Rattle.qrcode_types.specs.declared.types.EcLevel.{EcLevel};
 ghost use Rattle.qrcode_types.specs.declared.types.QrError.TheVariants.{OutOfMemory};
 ghost use Rattle.qrcode_bits.specs.Manners as manners;
+ghost use Rattle.qrcode_bits.specs.Refusals.{data_limit};
+ghost use Rattle.qrcode_charsets.specs.Fronts as fronts;
 ghost use Rattle.qrcode_charsets.specs.Given.{IsRefusedIn};
-ghost use Rattle.qrcode_charsets.specs.Laid.{HasRoom, IsFitting, IsHeldAt, IsLeastHolding, IsLeastVersion, NoneHave, smaller_of};
+ghost use Rattle.qrcode_charsets.specs.Laid.{HasRoom, IsFitting, IsHeld, IsHeldAt, IsLeastHolding, IsLeastVersion, NoneHave, smaller_of};
 ghost use Rattle.qrcode_charsets.specs.Shortest.{NeedsText, NoneHas};
+ghost use Rattle.qrcode_charsets.specs.declared.sets.Charset.TheVariants.{Unmarked};
 
-use super::measuring::{Measured, measure_least};
+use super::measuring::{Measured, measure, measure_least};
 use crate::sets::Charset;
-use qrcode_bits::bits::{DATA_LIMIT, encode_from};
+use qrcode_bits::bits::{DATA_LIMIT, Manner, encode_from};
 use qrcode_types::tables;
 use qrcode_types::types::{EcLevel, QrError, QrResult, Version};
 use std::alloc::Global;
@@ -101,6 +104,7 @@ fn least_version(
     ec_level: EcLevel,
 ) -> QrResult<Option<Version>>
     requires valid { IsTrue (is_valid from) }
+    requires length_at_most { length text.now ≤ data_limit }
     ensures least { IfOk result (λ found. MatchOption found
         (NoneHave sets.now (IsHeldAt from ec_level (chars text.now)) (length sets.now))
         (IsLeastVersion sets.now from ec_level (chars text.now) (length sets.now))) }
@@ -123,18 +127,99 @@ fn version_in(
     ec_level: EcLevel,
 ) -> QrResult<Option<Version>>
     requires valid { IsTrue (is_valid from) }
+    requires length_at_most { length text.now ≤ data_limit }
     ensures least { IfOk result (λ found. MatchOption found
         ((rank : ℕ) → ¬ IsHeldAt from ec_level (chars text.now) set rank)
         (IsLeastHolding from ec_level (chars text.now) set)) }
     ensures memory { IsOkUnless result OutOfMemory }
 {
+    let Some(manner) = manner_of(set) else {
+        return first_version(alloc, text, set, from, ec_level);
+    };
     let Some(bytes) = set.encode(alloc, text)? else {
         return Ok(None);
     };
-    match encode_from(alloc, &bytes, set.manner(), from, ec_level) {
+    match encode_from(alloc, &bytes, manner, from, ec_level) {
         Ok(list) => Ok(Some(list.version())),
         Err(QrError::DataTooLong) => Ok(None),
         Err(error) => Err(error),
+    }
+}
+
+// Returns the manner in which bytes are written in the modes of `set`, if there is one.
+fn manner_of(set: Charset) -> Option<Manner>
+    ensures { result ≡ fronts.manner_of set }
+{
+    match set {
+        Charset::Unmarked => Some(Manner::Text),
+        Charset::Utf8 | Charset::OneByte(_) => Some(Manner::MarkedText),
+        Charset::ShiftJis | Charset::Utf16 => None,
+    }
+}
+
+// Finds the smallest version from `from` on that has room for the text in `set`, which has a
+// designator, by trying one after the other.
+fn first_version(
+    alloc: Global,
+    text: &str,
+    set: Charset,
+    from: Version,
+    ec_level: EcLevel,
+) -> QrResult<Option<Version>>
+    requires valid { IsTrue (is_valid from) }
+    requires length_at_most { length text.now ≤ data_limit }
+    requires marked { set ≢ Unmarked }
+    ensures least { IfOk result (λ found. MatchOption found
+        ((rank : ℕ) → ¬ IsHeldAt from ec_level (chars text.now) set rank)
+        (IsLeastHolding from ec_level (chars text.now) set)) }
+    ensures memory { IsOkUnless result OutOfMemory }
+{
+    let first = first_normal(from);
+    for number in first..41 {
+        let version = Version::Normal(number as i16);
+        if has_room(alloc, text, set, version, ec_level)? {
+            return Ok(Some(version));
+        }
+    }
+    Ok(None)
+}
+
+// Returns the number of the first Normal version from `from` on.
+fn first_normal(from: Version) -> usize
+    requires { IsTrue (is_valid from) }
+    ensures at_least { 1 ≤ result }
+    ensures from { manners.rank from ≤ 4 + result }
+    ensures least { (number : ℕ) → 1 ≤ number → manners.rank from ≤ 4 + number
+        → result ≤ number }
+{
+    match from {
+        Version::Micro(_) => 1,
+        Version::Normal(number) => number.unsigned_abs() as usize,
+    }
+}
+
+// Returns whether the version has room for the text in `set`.
+fn has_room(
+    alloc: Global,
+    text: &str,
+    set: Charset,
+    version: Version,
+    ec_level: EcLevel,
+) -> QrResult<bool>
+    requires valid { IsTrue (is_valid version) }
+    requires length_at_most { length text.now ≤ data_limit }
+    ensures held { IfOk result (λ room. IsTrue room
+        → IsHeld set version ec_level (chars text.now)) }
+    ensures none { IfOk result (λ room. IsFalse room
+        → ¬ IsHeld set version ec_level (chars text.now)) }
+    ensures memory { IsOkUnless result OutOfMemory }
+{
+    let Some(room) = tables::capacity(version, ec_level) else {
+        return Ok(false);
+    };
+    match measure(alloc, text, set, version)? {
+        Some(measured) => Ok(measured.used <= room),
+        None => Ok(false),
     }
 }
 

@@ -8,7 +8,7 @@ ghost use Rattle.qrcode_bits.specs.Pushes.{with_bits};
 ghost use Rattle.qrcode_bits.specs.Refusals.{bit_limit};
 ghost use Rattle.qrcode_bits.specs.Segments.{total_cost};
 ghost use Rattle.qrcode_bits.specs.Written.{terminated};
-ghost use Rattle.qrcode_charsets.specs.Charsets.{front, has_front};
+ghost use Rattle.qrcode_charsets.specs.Fronts.{front, has_front};
 ghost use Rattle.qrcode_charsets.specs.Laid.{IsDrawnOf, bits_of};
 
 use super::measuring::Measured;

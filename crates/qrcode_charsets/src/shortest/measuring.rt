@@ -1,18 +1,20 @@
 //! Finds the set and the segments in which a text takes the fewest bits in a version.
 
-ghost use Rattle.std.specs.Prelude.{◌≡◌, ℕ, ◌≤◌, chars, length, IfOk, IsOkUnless, IsTrue, MatchOption};
+ghost use Rattle.std.specs.Prelude.{◌≡◌, List, ℕ, ◌*◌, ◌≤◌, chars, length, IfOk, IsOkUnless, IsTrue, MatchOption};
 ghost use Rattle.qrcode_types.specs.Versions.{is_valid};
 ghost use Rattle.qrcode_types.specs.declared.types.QrError.TheVariants.{OutOfMemory};
 ghost use Rattle.qrcode_bits.specs.Cuts.{IsCutIn, NeedsCut};
-ghost use Rattle.qrcode_bits.specs.ModeSets.{text_modes};
 ghost use Rattle.qrcode_bits.specs.Refusals.{data_limit};
-ghost use Rattle.qrcode_charsets.specs.Charsets.{front, has_front};
-ghost use Rattle.qrcode_charsets.specs.Laid.{IsLaid, IsCutOf, IsMeasured, NoneLaid, IsLeastLaid, less_of};
+ghost use Rattle.qrcode_charsets.specs.Charsets.{IsWritten, widest};
+ghost use Rattle.qrcode_charsets.specs.Fronts.{front, has_front, modes_of};
+ghost use Rattle.qrcode_charsets.specs.Laid.{cut_bytes, IsLaid, IsBestCut, IsCutOf, IsMeasured, NoneLaid, IsLeastLaid, less_of, whole};
+ghost use Rattle.qrcode_charsets.specs.declared.sets.Charset.TheVariants.{ShiftJis};
 
 use crate::sets::Charset;
+use crate::shift_jis;
 use qrcode_bits::optimize::{Modes, Segment, least_segments_in, total_encoded_len};
-use qrcode_types::types::{QrError, QrResult, Version};
-use std::alloc::Global;
+use qrcode_types::types::{Mode, QrError, QrResult, Version};
+use std::alloc::{AllocError, Global};
 
 // A text in a set, in segments of the fewest bits, and the bits that it takes together with what
 // names the set.
@@ -41,13 +43,20 @@ fn has_front(set: Charset, version: Version) -> bool
 {
     match set {
         Charset::Unmarked => true,
-        Charset::Utf8 | Charset::OneByte(_) => !version.is_micro(),
+        Charset::Utf8 | Charset::OneByte(_) | Charset::ShiftJis | Charset::Utf16 => {
+            !version.is_micro()
+        },
     }
 }
 
 // Measures `text` in `set` for a version, or returns `None` if the set lacks one of its characters,
 // or the version a mode that it needs.
-fn measure(alloc: Global, text: &str, set: Charset, version: Version) -> QrResult<Option<Measured>>
+pub(super) fn measure(
+    alloc: Global,
+    text: &str,
+    set: Charset,
+    version: Version,
+) -> QrResult<Option<Measured>>
     requires valid { IsTrue (is_valid version) }
     requires length_at_most { length text.now ≤ data_limit }
     ensures measured { IfOk result (λ found. MatchOption found
@@ -68,15 +77,18 @@ fn measure(alloc: Global, text: &str, set: Charset, version: Version) -> QrResul
     }
 }
 
-// Divides `bytes` into the segments with the fewest bits, in modes for text. Fails with
-// `UnsupportedCharacterSet` if the version lacks a mode that they need.
+// Divides `bytes` into the segments with the fewest bits. Fails with `UnsupportedCharacterSet` if
+// the version lacks a mode that they need.
 fn cut(alloc: Global, set: Charset, bytes: Vec<u8>, version: Version) -> QrResult<Measured>
     requires valid { IsTrue (is_valid version) }
-    requires length_at_most { length bytes.items ≤ data_limit }
+    requires exists { IsTrue (has_front version set) }
+    requires written { (text : List ℕ) × IsWritten set text bytes.items }
+    requires length_at_most { length bytes.items ≤ widest set * data_limit }
     ensures measured { IfOk result (IsCutOf set version bytes.items) }
-    ensures refusals { NeedsCut (IsCutIn text_modes version bytes.items) result }
+    ensures refusals { NeedsCut
+        (IsCutIn (modes_of set) version (cut_bytes set bytes.items)) result }
 {
-    let segments = least_segments_in(alloc, &bytes, version, Modes::TEXT)?;
+    let segments = segments_of(alloc, set, &bytes, version)?;
     let used = front_length(set) + total_encoded_len(&segments, version);
     Ok(Measured {
         set,
@@ -84,6 +96,61 @@ fn cut(alloc: Global, set: Charset, bytes: Vec<u8>, version: Version) -> QrResul
         segments,
         used,
     })
+}
+
+// Finds the segments with the fewest bits in which a reader shows `bytes` as their text. Fails with
+// `UnsupportedCharacterSet` if the version lacks a mode that they need.
+fn segments_of(
+    alloc: Global,
+    set: Charset,
+    bytes: &[u8],
+    version: Version,
+) -> QrResult<Vec<Segment>>
+    requires valid { IsTrue (is_valid version) }
+    requires exists { IsTrue (has_front version set) }
+    requires written { (text : List ℕ) × IsWritten set text bytes.now }
+    requires length_at_most { length bytes.now ≤ widest set * data_limit }
+    ensures best { IfOk result (λ segments.
+        IsBestCut set version bytes.now segments.items) }
+    ensures refusals { NeedsCut
+        (IsCutIn (modes_of set) version (cut_bytes set bytes.now)) result }
+{
+    match set {
+        Charset::ShiftJis => pair_segments(alloc, bytes, version),
+        Charset::Utf16 => Ok(one_segment(alloc, bytes)?),
+        _ => least_segments_in(alloc, bytes, version, Modes::TEXT),
+    }
+}
+
+// Finds such segments of Shift JIS. They divide no code of two bytes.
+fn pair_segments(alloc: Global, bytes: &[u8], version: Version) -> QrResult<Vec<Segment>>
+    requires valid { IsTrue (is_valid version) }
+    requires exists { IsTrue (has_front version ShiftJis) }
+    requires written { (text : List ℕ) × IsWritten ShiftJis text bytes.now }
+    requires length_at_most { length bytes.now ≤ data_limit }
+    ensures best { IfOk result (λ segments.
+        IsBestCut ShiftJis version bytes.now segments.items) }
+    ensures refusals { NeedsCut
+        (IsCutIn (modes_of ShiftJis) version (cut_bytes ShiftJis bytes.now)) result }
+{
+    let stand_in = shift_jis::stand_in(alloc, bytes)?;
+    least_segments_in(alloc, &stand_in, version, Modes::ALL)
+}
+
+// Returns one segment of all bytes, or none if there are no bytes.
+fn one_segment(alloc: Global, bytes: &[u8]) -> Result<Vec<Segment>, AllocError>
+    ensures { IfOk result (λ segments. segments.items ≡ whole bytes.now) }
+{
+    let mut segments = Vec::new(alloc);
+    if !bytes.is_empty() {
+        let whole = Segment {
+            mode: Mode::Byte,
+            begin: 0,
+            end: bytes.len(),
+        };
+        segments.push(whole)?;
+    }
+    Ok(segments)
 }
 
 // Measures `text` for a version in the first of `sets` in which it takes the fewest bits, or

@@ -5,7 +5,7 @@ use Rattle.qrcode_bits.specs.Cuts.{IsCut}
 use Rattle.qrcode_bits.specs.Segments.{total_cost}
 use Rattle.qrcode_bits.specs.Written.{pieces_of, written, terminated}
 use Rattle.qrcode_bits.proofs.Changed.{list_of}
-use Rattle.qrcode_charsets.specs.Charsets.{front}
+use Rattle.qrcode_charsets.specs.Fronts.{front}
 use Rattle.qrcode_charsets.proofs.shortest.drawing.ended_bits.Goals as goal
 use Rattle.qrcode_charsets.proofs.shortest.drawing.ended_bits.Goals.{In_ok-bits}
 

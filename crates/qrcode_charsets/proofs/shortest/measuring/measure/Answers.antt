@@ -18,3 +18,6 @@ returns-in-Err-UnsupportedCharacterSet-clause-measured c =
     let written = is_written (goal.at.returns-in-Err-UnsupportedCharacterSet-clause-measured c).In-Some in
     let accepts = c.in-Err-UnsupportedCharacterSet.ensures.refusals.accepts in
     no_cut c.args.set c.args.version (chars c.args.text.now) c.in-Some.bytes.items written (λ ss cut. (let h = accepts ss cut in let e = c.in-Err-UnsupportedCharacterSet.field-0-is in cc))
+
+pub cut-requires-clause-written : goal.cut-requires-clause-written
+cut-requires-clause-written c = (chars c.args.text.now, is_written (goal.at.cut-requires-clause-written c).In-Some)
