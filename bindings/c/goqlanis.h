@@ -109,7 +109,8 @@ typedef uint32_t goq_answer;
     X(NOT_IN_SET, 54, "the character set has no such character: use another, as GOQ_UTF_8") \
     X(MANY_CODEWORDS, 55, "a block has fewer codewords than shall be wrong") \
     X(MANY_FORMAT_BITS, 56, "no more than 15 bits of the format information can be wrong") \
-    X(MANY_VERSION_BITS, 57, "versions 7 to 40 alone have version information, of 18 bits")
+    X(MANY_VERSION_BITS, 57, "versions 7 to 40 alone have version information, of 18 bits") \
+    X(MANY_PATTERN_MODULES, 58, "the patterns have fewer modules than shall be wrong")
 
 enum {
 #define GOQ_NAMED(name, number, text) GOQ_##name = number,
@@ -372,10 +373,12 @@ enum {
     GOQ_ISO_8859_14 = 16, /* for Celtic languages */
     GOQ_ISO_8859_15 = 17, /* part 1 with the euro sign */
     GOQ_ISO_8859_16 = 18, /* for South-Eastern Europe */
+    GOQ_SHIFT_JIS = 20, /* for Japanese, with Kanji segments */
     GOQ_WINDOWS_1250 = 21, /* of Windows, for Central Europe */
     GOQ_WINDOWS_1251 = 22, /* of Windows, with Cyrillic letters */
     GOQ_WINDOWS_1252 = 23, /* of Windows, for Western Europe */
     GOQ_WINDOWS_1256 = 24, /* of Windows, with Arabic letters */
+    GOQ_UTF_16BE = 25, /* UTF-16 after its header, the big end first */
     GOQ_UTF_8 = 26 /* UTF-8 after its header */
 };
 
@@ -428,7 +431,8 @@ typedef struct {
     uint32_t scale; /* pixels per module, across and down */
     uint32_t dark; /* the colour of dark modules; 0x000000 is black */
     uint32_t light; /* the colour of light modules and the quiet zone; 0xffffff is white */
-    uint32_t dpi; /* dots per inch to store in a PNG file, up to 65,535; 0 for none */
+    uint32_t dpi; /* dots per inch that a PNG file states, up to 65,535; in GOQ_SVG_PATH, EPS and
+        PDF how many pixels make an inch, for exact lengths; 0 for none */
     uint32_t finder_dark; /* dark modules of the finder patterns */
     uint32_t finder_light; /* light modules in and around the finder patterns */
     uint32_t alignment_dark; /* dark modules of the alignment patterns */
@@ -666,10 +670,11 @@ typedef struct {
     size_t codewords; /* how many codewords of each block */
     size_t format_bits; /* how many bits of each copy of the format information, up to 15 */
     size_t version_bits; /* how many bits of each copy of the version information, up to 18 */
+    size_t pattern_modules; /* how many modules of finder, timing and alignment patterns */
     uint64_t seed; /* decides which ones */
 } goq_wrong;
 
-#define GOQ_WRONG GOQ_INITIAL(goq_wrong, 0, 0, 0, 0)
+#define GOQ_WRONG GOQ_INITIAL(goq_wrong, 0, 0, 0, 0, 0)
 
 /* How much of a symbol may be wrong so that it still decodes to its data, whatever is. */
 typedef struct {
@@ -900,11 +905,11 @@ goq_answer goq_largest_area(uint32_t version, uint32_t level, const goq_wish *wi
 goq_answer goq_cover(uint8_t *modules, size_t modules_length, const goq_rectangle *area,
     size_t area_length, size_t *place);
 
-/* Makes exactly so much of a symbol wrong, to test readers: as many codewords of each block and as
-   many bits as `wrong` says, and no other module. `modules` is the symbol, as written by goq_encode;
-   equal seeds make the same wrong. How much may be wrong goes to `promised`. Errors:
+/* Makes exactly so much of a symbol wrong, to test readers: as many codewords of each block, bits
+   and modules of patterns as `wrong` says, and no other module. `modules` is the symbol, as written
+   by goq_encode; equal seeds make the same wrong. How much may be wrong goes to `promised`. Errors:
    GOQ_NO_SUCH_STRUCT, GOQ_NO_SUCH_SIDE, GOQ_NO_FORMAT, GOQ_MANY_CODEWORDS, GOQ_MANY_FORMAT_BITS,
-   GOQ_MANY_VERSION_BITS; GOQ_OUT_OF_MEMORY. */
+   GOQ_MANY_VERSION_BITS, GOQ_MANY_PATTERN_MODULES; GOQ_OUT_OF_MEMORY. */
 goq_answer goq_damage(uint8_t *modules, size_t modules_length, const goq_wrong *wrong,
     goq_promised *promised);
 

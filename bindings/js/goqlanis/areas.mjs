@@ -61,10 +61,10 @@ export function covered(code, area) {
 /** Returns the modules of a code with exactly so much damage, and how much is promised. */
 export function damaged(code, given) {
     const it = checks.options("damaged", given,
-        { codewords: 0, formatBits: 0, versionBits: 0, seed: 0 });
+        { codewords: 0, formatBits: 0, versionBits: 0, patternModules: 0, seed: 0 });
     const count = (name) => checks.whole(name, it[name], 0, 10000);
     const wrong = { codewords: count("codewords"), format_bits: count("formatBits"),
-        version_bits: count("versionBits"),
+        version_bits: count("versionBits"), pattern_modules: count("patternModules"),
         seed: checks.whole("seed", it.seed, 0, Number.MAX_SAFE_INTEGER) };
     return within((buffers) => {
         const out = buffers.bytes(code.modules), found = buffers.many("goq_promised", 1);

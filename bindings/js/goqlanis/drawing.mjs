@@ -31,7 +31,8 @@ export function drawn(code, format, given) {
             `no format ${shown(format)}: take one of ${Object.keys(KINDS).join(", ")}`);
     const kind = KINDS[format], look = checks.options(format, given, USUAL);
     const zone = zoneOf(code, look), across = code.width + 2 * zone;
-    const scale = scaleOf(look, format, across);
+    const exact = format === "eps" || format === "pdf" ? exactOf(look.size, across) : null;
+    const scale = exact?.scale ?? scaleOf(look, format, across);
     const own = ownOf(look, format), { dark, light, dpi } = inkOf(look, format, own);
     const isColourful = format === "png" && Object.keys(own).length > 0;
     const side = across * scale, most = isColourful ? MOST_COLOURFUL : SIDES[kind.number] ?? side;
@@ -40,7 +41,7 @@ export function drawn(code, format, given) {
             + `most ${grouped(most)}: take ` + (across > most ? "a smaller quietZone"
                 : `scale: ${Math.floor(most / across)} or less`));
     return within((buffers) => {
-        const drawing = { format: kind.number, zone, scale, dark, light, dpi,
+        const drawing = { format: kind.number, zone, scale, dark, light, dpi: exact?.dpi ?? dpi,
             ...Object.fromEntries(Object.entries(own).map(([it, ink]) => [PARTS.get(it), ink])) };
         const asked = [buffers.bytes(code.modules), code.modules.length, code.width,
             buffers.initial("goq_drawing", drawing)];
@@ -85,6 +86,20 @@ function pixelsOf([, digits, decimals = "", unit], dots) {
         / (units * 10n ** BigInt(decimals.length)));
 }
 
+/** Returns a length as a scale and dots per inch, or null if it is not written so: the scale is the
+    side in micrometres, or tens or hundreds of them, and each module has a part of that. */
+function exactOf(size, across) {
+    const length = lengthOf(size);
+    if (length === null)
+        return null;
+    for (const units of [25400, 2540, 254]) {
+        const scale = pixelsOf(length, units);
+        if (scale > 0 && scale <= MOST_SIDE)
+            return { scale, dpi: units * across };
+    }
+    throw new QrError("NoSuchSize", `size: '${size}': take 0.001mm to 6553.5mm`);
+}
+
 /** Returns the pixels per module. */
 function scaleOf({ scale, size, dpi }, format, across) {
     if (size === null)
@@ -95,16 +110,19 @@ function scaleOf({ scale, size, dpi }, format, across) {
     const length = lengthOf(size);
     if (format === "svg" && length !== null)
         return 1;
-    const dots = format === "eps" || format === "pdf" ? 72 : dpi;
-    if (length !== null && dots === null)
+    if (length !== null && dpi === null)
         throw new RangeError(`size: '${size}': how many pixels are these? Take SVG, EPS or PDF, or `
             + "PNG with dpi: 300");
     const pixels = checks.whole("size in pixels, or as '30mm',", length === null ? size
-        : pixelsOf(length, checks.whole("dpi", dots, 1, MOST_SIDE)), 1, MOST_SIDE, "NoSuchSize");
+        : pixelsOf(length, checks.whole("dpi", dpi, 1, MOST_SIDE)), 1, MOST_SIDE, "NoSuchSize");
     if (pixels < across)
         throw new QrError("NoSuchSize", `a side of ${pixels} pixels: the code and its quiet zone `
             + `have ${across} modules a side: take a larger size, or a smaller quietZone`);
-    return Math.floor(pixels / across);
+    const fitted = Math.floor(pixels / across);
+    if (length !== null && (pixels - fitted * across) * 254 >= dpi)
+        console.warn(`size: '${size}' comes out at ${(fitted * across / dpi * 25.4).toFixed(1)} `
+            + `mm: ${across} modules of ${fitted} whole pixels; SVG, EPS and PDF take any length`);
+    return fitted;
 }
 
 /** Returns the colours that patterns and data have of their own, by the names of the options. */

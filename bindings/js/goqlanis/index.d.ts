@@ -25,8 +25,8 @@ export type Version = number | string;
 /** A character set: "utf-8" or a part of ISO 8859. */
 export type Charset = "iso-8859-1" | "iso-8859-2" | "iso-8859-3" | "iso-8859-4" | "iso-8859-5" |
     "iso-8859-6" | "iso-8859-7" | "iso-8859-8" | "iso-8859-9" | "iso-8859-10" | "iso-8859-11" |
-    "iso-8859-13" | "iso-8859-14" | "iso-8859-15" | "iso-8859-16" | "windows-1250" | "windows-1251"
-    | "windows-1252" | "windows-1256" | "utf-8";
+    "iso-8859-13" | "iso-8859-14" | "iso-8859-15" | "iso-8859-16" | "shift-jis" | "windows-1250" |
+    "windows-1251" | "windows-1252" | "windows-1256" | "utf-16be" | "utf-8";
 /** Bytes are any; a string is encoded so that readers show it. */
 export type Data = string | ArrayBuffer | ArrayBufferView;
 
@@ -78,8 +78,8 @@ export type Colour = string | number[] | null;
 export interface DrawOptions {
     /** Pixels per module; the default is 8, for text and PIC 1. */
     scale?: number | null;
-    /** In place of `scale`: the most pixels of a side, or a length, as "30mm" (cm, in, pt): SVG has
-        it exactly, EPS, PDF and, with `dpi`, PNG at most. */
+    /** In place of `scale`: the most pixels of a side, or a length, as "30mm" (cm, in, pt): SVG, EPS
+        and PDF have it, PNG, with `dpi`, at most. */
     size?: number | string | null;
     /** Light modules on each side; the default is 4, for Micro QR 2. */
     quietZone?: number | null;
@@ -181,10 +181,11 @@ export class QrCode {
     /** The code with a light area, by default the largest. Whatever the area then shows, the code
         decodes to the same data. Throws NoSuchArea or AreaTooLarge. */
     withArea(area?: Rectangle | Rectangle[]): QrCode;
-    /** The code with exactly so many wrong codewords in each block, and wrong bits in each copy of
-        the format and version information, to test readers. Throws TooMuchDamage. */
+    /** The code with exactly so many wrong codewords in each block, wrong bits in each copy of the
+        format and version information, and wrong modules of finder, timing and alignment patterns
+        and separators, to test readers. Throws TooMuchDamage. */
     damaged(options?: { codewords?: number; formatBits?: number; versionBits?: number;
-        seed?: number }): QrCode;
+        patternModules?: number; seed?: number }): QrCode;
     /** The code with a logo, the bytes or the text of an SVG or PNG file, in an area, by default
         the largest in its ratio. Only SVG shows it; half blocks leave the area light, and other
         formats throw NotInFormat: for these, take withArea. */

@@ -15,8 +15,8 @@ export const ISO_8859_1 = 3, ISO_8859_2 = 4, ISO_8859_3 = 5, ISO_8859_4 = 6, ISO
     ISO_8859_6 = 8, ISO_8859_7 = 9, ISO_8859_8 = 10, ISO_8859_9 = 11, ISO_8859_10 = 12,
     ISO_8859_11 = 13;
 export const ISO_8859_13 = 15, ISO_8859_14 = 16, ISO_8859_15 = 17, ISO_8859_16 = 18;
-export const WINDOWS_1250 = 21, WINDOWS_1251 = 22, WINDOWS_1252 = 23, WINDOWS_1256 = 24;
-export const UTF_8 = 26;
+export const SHIFT_JIS = 20, WINDOWS_1250 = 21, WINDOWS_1251 = 22, WINDOWS_1252 = 23,
+    WINDOWS_1256 = 24, UTF_16BE = 25, UTF_8 = 26;
 export const SEVERAL_MAX = 16;
 export const MODULES_MAX = 31329;
 export const BYTES_MAX = 7089;
@@ -25,7 +25,7 @@ export const UPRIGHT = 0, TURNED_LEFT = 1, UPSIDE_DOWN = 2, TURNED_RIGHT = 3, MI
     FLIPPED = 5, TRANSPOSED = 6, ANTITRANSPOSED = 7, INVERTED = 8;
 export const PARTS_MAX = 5912;
 export const BLOCKS_MAX = 81;
-export const ANSWERS = "OK NO_SUCH_LEVEL NO_SUCH_VERSION LEVEL_NOT_IN_VERSION TOO_LONG NO_MODE NO_ROOM SMALL_BUFFER OUT_OF_MEMORY NO_SUCH_FORMAT NOT_SQUARE NO_SUCH_SIZE NOT_TEXT NO_SUCH_KIND NOT_IN_MODE NO_SUCH_NUMBER NO_SUCH_SIDE NO_FORMAT DAMAGED NOT_SPELLED NO_SUCH_STRUCT NO_SUCH_MANNER NO_SUCH_MASK NOT_IN_FORMAT NOT_SHOWN NOT_SEVERAL STRANGER MISSING TWICE PARITY NOT_READ NO_SUCH_AREA NO_SUCH_CONTENT NO_SUCH_FIELD FIELD_EMPTY FIELD_TOO_LONG FIELD_TOO_SHORT FIELD_CONTROL FIELD_CHARACTER FIELD_CHECK_DIGITS FIELD_RANGE FIELD_UNUSED NO_SUCH_IDENTIFIER ELEMENT_LENGTH FIELD_DECIMALS FIELD_WORD NO_AREA AREA_BLOCK AREA_FORMAT NOT_PICTURE BROKEN_PICTURE NO_SQUARE LARGE_PICTURE NO_SUCH_SET NOT_IN_SET MANY_CODEWORDS MANY_FORMAT_BITS MANY_VERSION_BITS";
+export const ANSWERS = "OK NO_SUCH_LEVEL NO_SUCH_VERSION LEVEL_NOT_IN_VERSION TOO_LONG NO_MODE NO_ROOM SMALL_BUFFER OUT_OF_MEMORY NO_SUCH_FORMAT NOT_SQUARE NO_SUCH_SIZE NOT_TEXT NO_SUCH_KIND NOT_IN_MODE NO_SUCH_NUMBER NO_SUCH_SIDE NO_FORMAT DAMAGED NOT_SPELLED NO_SUCH_STRUCT NO_SUCH_MANNER NO_SUCH_MASK NOT_IN_FORMAT NOT_SHOWN NOT_SEVERAL STRANGER MISSING TWICE PARITY NOT_READ NO_SUCH_AREA NO_SUCH_CONTENT NO_SUCH_FIELD FIELD_EMPTY FIELD_TOO_LONG FIELD_TOO_SHORT FIELD_CONTROL FIELD_CHARACTER FIELD_CHECK_DIGITS FIELD_RANGE FIELD_UNUSED NO_SUCH_IDENTIFIER ELEMENT_LENGTH FIELD_DECIMALS FIELD_WORD NO_AREA AREA_BLOCK AREA_FORMAT NOT_PICTURE BROKEN_PICTURE NO_SQUARE LARGE_PICTURE NO_SUCH_SET NOT_IN_SET MANY_CODEWORDS MANY_FORMAT_BITS MANY_VERSION_BITS MANY_PATTERN_MODULES";
 export const CAUSES = {
     "NO_SUCH_LEVEL": ["NoSuchLevel", "the levels are L, M, Q and H"],
     "NO_SUCH_VERSION": ["NoSuchVersion", "the versions are 1 to 40 and M1 to M4"],
@@ -58,6 +58,7 @@ export const CAUSES = {
     "MANY_CODEWORDS": ["TooMuchDamage", "a block has fewer codewords than shall be wrong"],
     "MANY_FORMAT_BITS": ["TooMuchDamage", "no more than 15 bits of the format information can be wrong"],
     "MANY_VERSION_BITS": ["TooMuchDamage", "versions 7 to 40 alone have version information, of 18 bits"],
+    "MANY_PATTERN_MODULES": ["TooMuchDamage", "the patterns have fewer modules than shall be wrong"],
     "FIELD_EMPTY": ["EmptyField", "it may not be empty", 1],
     "FIELD_TOO_LONG": ["TooLong", "it is longer than the format allows", 1],
     "FIELD_TOO_SHORT": ["TooShort", "it is shorter than the format allows", 1],
@@ -92,14 +93,14 @@ export const STRUCTS = {
     "goq_rectangle": "left:size top:size width:size height:size",
     "goq_taken": "blocks:size allowed:size worst:size first:size last:size least:size may_show_anything",
     "goq_wish": "size across down reserve keep_alignment",
-    "goq_wrong": "size codewords:size format_bits:size version_bits:size seed:size",
+    "goq_wrong": "size codewords:size format_bits:size version_bits:size pattern_modules:size seed:size",
     "goq_promised": "codewords:size is_promised",
 };
 export const DEFAULTS = {
     "goq_options": [1, 0, 0, 1, 0, 0], "goq_several": [1, 0, 1, 40, 0],
     "goq_drawing": [5, 4, 8, 0, 16777215, 0, 4294967295, 4294967295, 4294967295, 4294967295, 4294967295, 4294967295, 4294967295, 4294967295, 4294967295, 4294967295, 4294967295, 4294967295],
     "goq_scan": [0, 0, 0], "goq_checks": [0, 0], "goq_wish": [1, 1, 4294967295, 0],
-    "goq_wrong": [0, 0, 0, 0],
+    "goq_wrong": [0, 0, 0, 0, 0],
 };
 export const CALLS = {
     "goq_version": "", "goq_encode_with": "wwwwww", "goq_encode_charset": "wwwwwwwwww",
@@ -135,7 +136,8 @@ export const CHARSETS = {
     "iso-8859-1": 3, "iso-8859-2": 4, "iso-8859-3": 5, "iso-8859-4": 6, "iso-8859-5": 7,
     "iso-8859-6": 8, "iso-8859-7": 9, "iso-8859-8": 10, "iso-8859-9": 11, "iso-8859-10": 12,
     "iso-8859-11": 13, "iso-8859-13": 15, "iso-8859-14": 16, "iso-8859-15": 17, "iso-8859-16": 18,
-    "windows-1250": 21, "windows-1251": 22, "windows-1252": 23, "windows-1256": 24, "utf-8": 26,
+    "shift-jis": 20, "windows-1250": 21, "windows-1251": 22, "windows-1252": 23, "windows-1256": 24,
+    "utf-16be": 25, "utf-8": 26,
 };
 export const PAYLOADS = {
     "wifi": {"number": 0, "about": "a Wi-Fi network", "more": "", "fields": {"ssid": "the name of the network, 1 to 32 bytes", "password": "empty for an open network", "security": "\"open\", \"WEP\", \"WPA\" or \"WPA3\"; empty: WPA, or open if no password", "hidden": "\"true\" if the network does not broadcast its name"}},
@@ -163,9 +165,9 @@ export const HINTS = {
     "homePhone": "write digits, after + for an international number",
     "fax": "write digits, after + for an international number",
     "email": "write one address with one @",
-    "address": "write addresses with one @ each, with commas between",
-    "cc": "write addresses with one @ each, with commas between",
-    "bcc": "write addresses with one @ each, with commas between",
+    "address": "write addresses alone, without names or spaces, with commas between",
+    "cc": "write addresses alone, without names or spaces, with commas between",
+    "bcc": "write addresses alone, without names or spaces, with commas between",
     "secret": "write A to Z and 2 to 7", "purpose": "write up to four letters and digits",
     "issuer": "write it without a colon", "account": "write it without a colon",
     "amount": "write it as 12 or 12.30", "latitude": "write degrees as -33.8568",

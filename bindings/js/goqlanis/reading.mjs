@@ -6,7 +6,7 @@ import { KINDS } from "./encoding.mjs";
 import { QrError, refusal, refuse } from "./errors.mjs";
 import { answer, nameOf, within } from "./memory.mjs";
 import { BLOCKS_MAX, BYTES_MAX, ECI, FNC1_FIRST, FNC1_SECOND, ONE_OF_SEVERAL, PARTS_MAX, POSITIONS,
-    SEVERAL_MAX } from "./numbers.mjs";
+    SEVERAL_MAX, SHIFT_JIS } from "./numbers.mjs";
 import { LEVELS, shown, versionName } from "./checks.mjs";
 
 const PARTS = [...Object.keys(KINDS), "oneOfSeveral"];
@@ -75,7 +75,7 @@ function textOf(parts, data) {
     const sets = [[0, 0]];
     let end = 0;
     for (const { kind, number, length = 0 } of parts) {
-        if (kind === "kanji")
+        if (kind === "kanji" && sets[sets.length - 1][0] !== SHIFT_JIS)
             return null;
         if (kind === "eci")
             sets.push([number, end]);

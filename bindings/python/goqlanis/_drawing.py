@@ -75,10 +75,12 @@ def drawn(modules: bytes, width: int, usual_zone: int, name: str, look: Look) ->
     zone = zone_of(look, usual_zone)
     across = width + 2 * zone
     length = _length(look.size) or _fraction(look.scale, across) if name == "svg" else None
-    scale = 1 if length else _scale(look, kind) if look.size is None else \
-        _fitted(look, name, across)
+    exact = _exact(look.size, across) if name in ("eps", "pdf") else None
+    scale = 1 if length else exact[0] if exact else _scale(look, kind) if look.size is None else \
+        _fitted(look, across)
     own = _own(look, name)
     dark, light, dpi = _ink(look, name, kind.has_colours, own)
+    dpi = exact[1] if exact else dpi
     side = across * scale
     most = MOST_COLOURFUL if own and name == "png" else SIDES.get(kind.number, side)
     if side > most:
@@ -143,13 +145,33 @@ def _fraction(scale: Any, across: int) -> Optional[Length]:
     return (f"{across * scale:.9g}", "") if is_one else None
 
 
-def _fitted(look: Look, name: str, across: int) -> int:
+def _exact(size: Any, across: int) -> Optional[Tuple[int, int]]:
+    """Returns a length as a scale and dots per inch, or None if it is not written so: the scale is
+    the side in micrometres, or tens or hundreds of them, and each module has a part of that."""
+    found = _length(size)
+    if not found:
+        return None
+    inches = Fraction(found[0]) * INCHES[found[1]]
+    for units in (25400, 2540, 254):
+        side = int(inches * units)
+        if 0 < side <= MOST_SIDE:
+            return side, units * across
+    raise NoSuchSize(f"size={shown(size)}: take 0.001mm to 6553.5mm")
+
+
+def _fitted(look: Look, across: int) -> int:
     """Returns the most pixels per module with which `across` modules fit in a size."""
-    pixels = _pixels(look, 72 if name in ("eps", "pdf") else look.dpi)
+    dots = look.dpi
+    pixels = _pixels(look, dots)
     if pixels < across:
         raise NoSuchSize(f"a side of {pixels} pixels: the code and its quiet zone have {across} "
                          "modules a side: take a larger size, or a smaller border")
-    return pixels // across
+    scale = pixels // across
+    if _length(look.size) and (pixels - scale * across) * 254 >= dots:
+        made = scale * across / dots * 25.4
+        warnings.warn(f"size={shown(look.size)} comes out at {made:.1f} mm: {across} modules of "
+                      f"{scale} whole pixels; SVG, EPS and PDF take any length", stacklevel=6)
+    return scale
 
 
 def _pixels(look: Look, dots: Any) -> int:

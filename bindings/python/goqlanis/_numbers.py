@@ -8,7 +8,7 @@ VERSION = 10000
     FIELD_CONTROL, FIELD_CHARACTER, FIELD_CHECK_DIGITS, FIELD_RANGE, FIELD_UNUSED,
     NO_SUCH_IDENTIFIER, ELEMENT_LENGTH, FIELD_DECIMALS, FIELD_WORD, NO_AREA, AREA_BLOCK,
     AREA_FORMAT, NOT_PICTURE, BROKEN_PICTURE, NO_SQUARE, LARGE_PICTURE, NO_SUCH_SET, NOT_IN_SET,
-    MANY_CODEWORDS, MANY_FORMAT_BITS, MANY_VERSION_BITS) = range(0, 58)
+    MANY_CODEWORDS, MANY_FORMAT_BITS, MANY_VERSION_BITS, MANY_PATTERN_MODULES) = range(0, 59)
 (L, M, Q, H) = range(0, 4)
 (HALF_BLOCKS, LIGHT_HALF_BLOCKS, SVG, PIC, GREY, PNG, EPS, PBM, SVG_PATH, PGM, PDF, ZPL, TSPL,
     ESC_POS, XBM, PPM, ASCII, FORMATS) = range(0, 18)
@@ -46,8 +46,7 @@ UNMARKED = 0
 (ISO_8859_1, ISO_8859_2, ISO_8859_3, ISO_8859_4, ISO_8859_5, ISO_8859_6, ISO_8859_7, ISO_8859_8,
     ISO_8859_9, ISO_8859_10, ISO_8859_11) = range(3, 14)
 (ISO_8859_13, ISO_8859_14, ISO_8859_15, ISO_8859_16) = range(15, 19)
-(WINDOWS_1250, WINDOWS_1251, WINDOWS_1252, WINDOWS_1256) = range(21, 25)
-UTF_8 = 26
+(SHIFT_JIS, WINDOWS_1250, WINDOWS_1251, WINDOWS_1252, WINDOWS_1256, UTF_16BE, UTF_8) = range(20, 27)
 SEVERAL_MAX = 16
 MODULES_MAX = 31329
 BYTES_MAX = 7089
@@ -85,10 +84,12 @@ STRUCTS = {
     "goq_taken": "blocks:size allowed:size worst:size first:size last:size least:size "
         "may_show_anything",
     "goq_wish": "size across down reserve keep_alignment",
-    "goq_wrong": "size codewords:size format_bits:size version_bits:size seed:size",
+    "goq_wrong": "size codewords:size format_bits:size version_bits:size pattern_modules:size "
+        "seed:size",
     "goq_promised": "codewords:size is_promised",
 }
 CHARSETS = {"iso-8859-1": 3, "iso-8859-2": 4, "iso-8859-3": 5, "iso-8859-4": 6, "iso-8859-5": 7,
     "iso-8859-6": 8, "iso-8859-7": 9, "iso-8859-8": 10, "iso-8859-9": 11, "iso-8859-10": 12,
     "iso-8859-11": 13, "iso-8859-13": 15, "iso-8859-14": 16, "iso-8859-15": 17, "iso-8859-16": 18,
-    "windows-1250": 21, "windows-1251": 22, "windows-1252": 23, "windows-1256": 24, "utf-8": 26}
+    "shift-jis": 20, "windows-1250": 21, "windows-1251": 22, "windows-1252": 23, "windows-1256": 24,
+    "utf-16be": 25, "utf-8": 26}

@@ -159,7 +159,7 @@ def _lengths(identifier: bytes) -> str:
 _NUMBER = "write digits, after + for an international number"
 _DEGREES = "write degrees as -33.8568"
 _TIME = "write it with its zone, as 2026-11-28T14:00Z or +01:00, or begin and end as days"
-_ADDRESSES = "write addresses with one @ each, with commas between"
+_ADDRESSES = "write addresses alone, without names or spaces, with commas between"
 _FORMS = {"iban": "write it as DE89 3704 0044 0532 0130 00",
           "bic": "it has 8 or 11 letters and digits",
           "creditor.country": "write two letters, e.g. CH",

@@ -197,6 +197,8 @@ _CAUSES: Dict[int, Tuple[Type[Error], str]] = {
                            "wrong"),
     goq.MANY_VERSION_BITS: (TooMuchDamage, "versions 7 to 40 alone have version information, of "
                             "18 bits"),
+    goq.MANY_PATTERN_MODULES: (TooMuchDamage, "the patterns have fewer modules than shall be "
+                               "wrong"),
 }
 
 # Tracebacks show them under the name by which the package exports them.

@@ -117,7 +117,7 @@ class Code(NamedTuple):
     @property
     def text(self) -> Optional[str]:
         """The data as a str: in UTF-8, or in the character sets that ECI headers name (those of
-        `encode`). None if it is in none of these, or has a Kanji segment.
+        `encode`). None if it is in none of these, or has a Kanji segment without ECI 20.
 
         >>> read(encode("Größe: 5 m²").png())[0].text
         'Größe: 5 m²'
@@ -127,7 +127,7 @@ class Code(NamedTuple):
         """
         sets, end = [(0, 0)], 0
         for part in self.parts:
-            if part.kind == "kanji":
+            if part.kind == "kanji" and sets[-1][0] != goq.SHIFT_JIS:
                 return None
             if part.kind == "eci":
                 sets.append((part.number or 0, end))

@@ -37,8 +37,8 @@ class Symbol:
 
     - `scale`: pixels per module, in SVG also e.g. 2.5; the default is 8, for text and PIC 1;
     - `size`: instead of `scale`, the most pixels that a side may have, or a length, e.g. "30mm"
-      ("cm", "in", "pt"). A side of SVG is exactly as long; in EPS, PDF and, with `dpi`, PNG,
-      modules are as large as fits;
+      ("cm", "in", "pt"). A side of SVG, EPS and PDF is as long; in PNG, with `dpi`, modules are as
+      large as fits;
     - `border`, or `quiet_zone`: light modules on each side; the default is 4, for Micro QR 2;
     - `dark`, `light`: the colours of dark and light modules: a CSS name, "#rgb", "#rrggbb",
       "#rrggbbaa", a tuple (red, green, blue) or (red, green, blue, opacity), each 0 to 255, or None
@@ -368,17 +368,18 @@ take a smaller area
         >>> encode("01234567", "H").most_codewords
         8
         """
-        return self._damaged(0, 0, 0, 0)[1].codewords
+        return self._damaged(0, 0, 0, 0, 0)[1].codewords
 
     @named
     def damaged(self, codewords: int = 0, format_bits: int = 0, version_bits: int = 0, *,
-                seed: int = 0) -> "Symbol":
+                pattern_modules: int = 0, seed: int = 0) -> "Symbol":
         """Returns the symbol with exactly so much damage, to test readers.
 
-        In each block `codewords` codewords are wrong, and in each copy of the format information
-        and, in versions 7 to 40, of the version information so many bits; no other module is.
-        `seed` decides which. A whole symbol within the promise, whose `is_promised` stays True,
-        still decodes to its data and nothing else: up to `most_codewords`, and 3 format bits.
+        In each block `codewords` codewords are wrong, in each copy of the format information and,
+        in versions 7 to 40, of the version information so many bits, and so many modules of finder,
+        timing and alignment patterns and separators; no other module is. `seed` decides which. A
+        whole symbol within the promise, whose `is_promised` stays True, still decodes to its data
+        and nothing else: up to `most_codewords`, and 3 format bits.
 
         Raises TooMuchDamage if the symbol has fewer of them.
 
@@ -388,7 +389,8 @@ take a smaller area
         >>> encode("01234567", "H").damaged(9).is_promised
         False
         """
-        given = {"codewords": codewords, "format_bits": format_bits, "version_bits": version_bits}
+        given = {"codewords": codewords, "format_bits": format_bits, "version_bits": version_bits,
+                 "pattern_modules": pattern_modules}
         counts = (_checks.whole(name, it, 0, 10000) for name, it in given.items())
         modules, found = self._damaged(*counts, _checks.whole("seed", seed, 0, 2**64 - 1))
         return replace(self, modules=modules,

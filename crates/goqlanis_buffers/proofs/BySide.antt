@@ -126,7 +126,7 @@ at_of a = layout a.width a.drawing.now.zone a.drawing.now.scale a.drawing.now.sc
 
 -- a drawing in the requested format, which has no colours of parts, has the length that is computed
 drawn_length : (a : Asked) (f g : Format) (bytes : List ℕ) (count total : ℕ) → f ≡ g → (row g).parts ≡ Fixed → IsDrawable a f
-    → IsSheetIn g (sheet a.modules.now a.width a.drawing.now []) bytes → length bytes ≡ total → count ≡ total → HasLength a count
+    → IsSheetIn g (sheet g a.modules.now a.width a.drawing.now []) bytes → length bytes ≡ total → count ≡ total → HasLength a count
 drawn_length a f g bytes count total is fixed asked drawn long same =
     let h = subst (IsDrawable a) is asked in
     let none = no_paints g a.drawing.now fixed h.sayable in (

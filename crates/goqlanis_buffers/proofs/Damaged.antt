@@ -25,7 +25,7 @@ told false n P e h = (
 )
 
 -- a square with so much damage, in the form that C gets
-pub damaged_to : (v : Version) (l : EcLevel) (k : MaskPattern) (w : Wrong) (old new : List ℕ) (colors : List Color) (p : Promised) (b : Bool) → w.size ≡ 40
+pub damaged_to : (v : Version) (l : EcLevel) (k : MaskPattern) (w : Wrong) (old new : List ℕ) (colors : List Color) (p : Promised) (b : Bool) → w.size ≡ 48
     → length (colors_of old) ≡ side v * side v → HasFormat v (colors_of old) l k → IsFilled old new (module_bytes colors)
     → ((mask : MaskPattern) → IsWrongBy v l mask (wanted w) (colors_of old) colors)
     → (IsPromised v l (wanted w) → (bits : List Bool) (bytes : List ℕ) → EncodesBytes v l bits bytes (colors_of old) → ReadsOnly colors bytes)

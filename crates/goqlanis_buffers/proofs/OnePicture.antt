@@ -76,4 +76,4 @@ one_picture f t a b no_png no_path no_pdf no_zpl x y = alike f t t.parts t.parts
 pub one_answer : (f : Format) (modules : List ℕ) (width : ℕ) (d : Drawing) (a b : List ℕ) → f ≢ Png → f ≢ SvgPath → f ≢ Pdf → f ≢ Zpl
     → IsDrawing f modules width d a → IsDrawing f modules width d b → a ≡ b
 one_answer f modules width d a b no_png no_path no_pdf no_zpl x y =
-    alike f (sheet modules width d []) x.inks y.inks a b (x.own ∙ sym y.own) no_png no_path no_pdf no_zpl x.shown y.shown
+    alike f (sheet f modules width d []) x.inks y.inks a b (x.own ∙ sym y.own) no_png no_path no_pdf no_zpl x.shown y.shown

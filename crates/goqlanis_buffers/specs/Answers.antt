@@ -19,7 +19,7 @@ use Rattle.goqlanis_buffers.specs.Symbols.{ExceedsRoom, IsSegmentsSymbol}
 use Rattle.goqlanis_buffers.specs.Tints.{has_parts, is_plain}
 use Rattle.goqlanis_buffers.specs.declared.segments.Segment as by_hand
 use Rattle.goqlanis_buffers.specs.declared.answers.Refusal.{Refusal}
-use Rattle.goqlanis_buffers.specs.declared.answers.Refusal.TheVariants.{NoSuchLevel, NoSuchVersion, LevelNotInVersion, TooLong, NoMode, NoRoom, SmallBuffer, OutOfMemory, NoSuchFormat, NotSquare, NoSuchSize, NotText, NoSuchKind, NotInMode, NoSuchNumber, NoSuchSide, NoFormat, Damaged, NotSpelled, NoSuchStruct, NoSuchManner, NoSuchMask, NotInFormat, NotShown, NotSeveral, Stranger, Missing, Twice, Parity, NotRead, NoSuchArea, NoArea, AreaBlock, AreaFormat, NotPicture, BrokenPicture, NoSquare, LargePicture, NoSuchSet, NotInSet, ManyCodewords, ManyFormatBits, ManyVersionBits}
+use Rattle.goqlanis_buffers.specs.declared.answers.Refusal.TheVariants.{NoSuchLevel, NoSuchVersion, LevelNotInVersion, TooLong, NoMode, NoRoom, SmallBuffer, OutOfMemory, NoSuchFormat, NotSquare, NoSuchSize, NotText, NoSuchKind, NotInMode, NoSuchNumber, NoSuchSide, NoFormat, Damaged, NotSpelled, NoSuchStruct, NoSuchManner, NoSuchMask, NotInFormat, NotShown, NotSeveral, Stranger, Missing, Twice, Parity, NotRead, NoSuchArea, NoArea, AreaBlock, AreaFormat, NotPicture, BrokenPicture, NoSquare, LargePicture, NoSuchSet, NotInSet, ManyCodewords, ManyFormatBits, ManyVersionBits, ManyPatternModules}
 
 abbrev pub refusals : List Refusal  -- the errors in the order of their numbers, from 1 to 31
 refusals =
@@ -30,7 +30,8 @@ refusals =
 
 abbrev pub more_refusals : List Refusal  -- the errors from 46 on; those between are of contents
 more_refusals =
-    NoArea ∷ AreaBlock ∷ AreaFormat ∷ NotPicture ∷ BrokenPicture ∷ NoSquare ∷ LargePicture ∷ NoSuchSet ∷ NotInSet ∷ ManyCodewords ∷ ManyFormatBits ∷ ManyVersionBits ∷ []
+    NoArea ∷ AreaBlock ∷ AreaFormat ∷ NotPicture ∷ BrokenPicture ∷ NoSquare ∷ LargePicture ∷ NoSuchSet ∷ NotInSet ∷ ManyCodewords ∷ ManyFormatBits ∷ ManyVersionBits ∷
+    ManyPatternModules ∷ []
 
 abbrev pub refusal_of : ℕ → Option Refusal  -- the error with a number, if there is one
 refusal_of n = if n == 0 then None else (if nat_le 46 n then slice_get more_refusals (n - 46) else slice_get refusals (n - 1))

@@ -13,7 +13,6 @@ pub record IsDrawable (a : Asked) (f : Format) : Type 0 where
   pub asked : IsOfSquare a.modules.now a.width a.drawing.now f
   pub sized : HasSize a.width a.drawing.now f
   pub sayable : IsTrue (is_sayable f a.drawing.now)
-  pub dots : a.drawing.now.dpi < 2 ^ 16
   pub known : IsTrue (has_parts a.width a.drawing.now)
 
 abbrev pub IsPictureFor : Asked → List ℕ → Type 0  -- the picture that is asked for

@@ -17,17 +17,23 @@ use Rattle.goqlanis_buffers.specs.Areas.{IsOfLevel}
 use Rattle.goqlanis_buffers.specs.Calls.{Writes}
 use Rattle.goqlanis_buffers.specs.Outputs.{module_bytes, IsFilled}
 use Rattle.goqlanis_buffers.specs.declared.answers.Refusal.{Refusal}
-use Rattle.goqlanis_buffers.specs.declared.answers.Refusal.TheVariants.{ManyCodewords, ManyFormatBits, ManyVersionBits, NoSuchStruct, OutOfMemory}
+use Rattle.goqlanis_buffers.specs.declared.answers.Refusal.TheVariants.{ManyCodewords, ManyFormatBits, ManyVersionBits, ManyPatternModules, NoSuchStruct, OutOfMemory}
 use Rattle.goqlanis_buffers.specs.declared.damaging.Promised.{Promised}
 use Rattle.goqlanis_buffers.specs.declared.damaging.Wrong.{Wrong}
 
 abbrev pub wanted : Wrong → Damage  -- the damage that C wants
-wanted w = record { codewords = w.codewords; format_bits = w.format_bits; version_bits = w.version_bits; seed = w.seed }
+wanted w = record {
+  codewords = w.codewords;
+  format_bits = w.format_bits;
+  version_bits = w.version_bits;
+  pattern_modules = w.pattern_modules;
+  seed = w.seed;
+}
 
 -- Exactly so much of a square of modules is wrong, under each mask. Within the promise, if it was the symbol of bytes, the result decodes to these bytes alone;
 -- and if it was that of bits, which may hold headers too, to these bits alone.
 pub record IsDamagedTo (w : Wrong) (old new : List ℕ) (p : Promised) : Type 0 where
-  pub size : w.size ≡ 40
+  pub size : w.size ≡ 48
   pub v : Version
   pub l : EcLevel
   pub named : IsOfLevel (colors_of old) v l
@@ -44,6 +50,7 @@ abbrev pub excess_refusal : TooMuch → Refusal  -- the error that C gets of a c
 excess_refusal (count.Codewords most) = ManyCodewords
 excess_refusal count.FormatBits = ManyFormatBits
 excess_refusal (count.VersionBits most) = ManyVersionBits
+excess_refusal (count.PatternModules most) = ManyPatternModules
 excess_refusal count.OutOfMemory = OutOfMemory
 
 -- a count is too large for a square of this version and level: the first one
@@ -58,8 +65,8 @@ pub record IsExcess (w : Wrong) (modules : List ℕ) (refusal : Refusal) : Type 
 -- why a square of modules is not damaged: the first of these causes that applies
 abbrev pub IsDamageCause : Wrong → List ℕ → Refusal → Type 0
 IsDamageCause w modules refusal =
-    ((refusal ≡ NoSuchStruct) × (w.size ≢ 40))
-    ⊎ ((refusal ≡ OutOfMemory) ⊎ ((w.size ≡ 40) × (IsMaskCause modules refusal ⊎ IsExcess w modules refusal)))
+    ((refusal ≡ NoSuchStruct) × (w.size ≢ 48))
+    ⊎ ((refusal ≡ OutOfMemory) ⊎ ((w.size ≡ 48) × (IsMaskCause modules refusal ⊎ IsExcess w modules refusal)))
 
 -- damages a square of modules, or fails for a cause
 abbrev pub WritesDamage : Wrong → List ℕ → List ℕ → Result Promised Refusal → Type 0

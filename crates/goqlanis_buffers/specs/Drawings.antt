@@ -1,8 +1,9 @@
 -- What the calls for C draw.
-use Rattle.std.specs.Prelude.{◌≡◌, ℕ, ◌==◌, nat_le, ◌&&◌, Bool, false, List, [], IsTrue, Option, None, Some, map, if◌then◌else◌}
+use Rattle.std.specs.Prelude.{◌≡◌, ℕ, ◌==◌, nat_le, ◌&&◌, Bool, true, false, List, [], IsTrue, Option, None, Some, map, if◌then◌else◌}
 use Rattle.qrcode_render.specs.Layout.{layout}
 use Rattle.qrcode_render.specs.Paths.{plain}
 use Rattle.qrcode_render.specs.Shades.{colors_of}
+use Rattle.goqlanis_core.specs.Drawings.{sized}
 use Rattle.goqlanis_core.specs.Formats.{IsDrawn as IsSheetIn}
 use Rattle.goqlanis_core.specs.Sheets.{Sheet}
 use Rattle.goqlanis_core.specs.declared.layers.PartInk.{PartInk}
@@ -15,34 +16,43 @@ use Rattle.goqlanis_buffers.specs.Colours.{colour_shade, has_colours}
 use Rattle.goqlanis_buffers.specs.Tints.{has_parts, have_tints, ink_paint, paints, version_for}
 use Rattle.goqlanis_buffers.specs.declared.pictures.Drawing.{Drawing}
 
-abbrev pub density : ℕ → Option ℕ  -- the dots per inch; none for 0
-density dpi = if dpi == 0 then None else Some dpi
+abbrev pub known : ℕ → Option ℕ  -- a number; none for 0
+known n = if n == 0 then None else Some n
+
+abbrev pub density : Density → ℕ → Option ℕ  -- the dots per inch that a PNG file states
+density Stored dpi = known dpi
+density d dpi = None
+
+abbrev pub dots : Bool → ℕ → Option ℕ  -- the pixels of an inch in a format of exact sizes
+dots true dpi = known dpi
+dots false dpi = None
 
 -- modules of a width as a drawing shows them, with these colours of parts and nothing over them
-abbrev pub sheet : List ℕ → ℕ → Drawing → List PartInk → Sheet
-sheet modules width d inks = record {
+abbrev pub sheet : Format → List ℕ → ℕ → Drawing → List PartInk → Sheet
+sheet f modules width d inks = record {
   modules = colors_of modules;
   at = layout width d.zone d.scale d.scale;
   dark = colour_shade d.dark;
   light = colour_shade d.light;
   is_inverted = false;
-  dpi = density d.dpi;
+  dpi = density (row f).density d.dpi;
   ends_lines = false;
-  dots = None;
+  dots = dots (row f).is_exact d.dpi;
   place = (0, 0);
-  frame = plain;
+  frame = sized (dots (row f).is_exact d.dpi) plain;
   version = version_for width;
   parts = inks;
   over = [];
   inset = None;
 }
 
-abbrev pub most_dpi : Density → ℕ  -- the most dots per inch that a format stores
-most_dpi Stored = 65535
-most_dpi d = 0
+abbrev pub most_dpi : Density → (is_exact : Bool) → ℕ  -- the most dots per inch: what a PNG file holds, and any number in formats of exact sizes
+most_dpi Stored is_exact = 65535
+most_dpi d true = 4294967295
+most_dpi d false = 0
 
-abbrev pub has_density : Format → ℕ → Bool  -- the format stores these dots per inch, or they are 0
-has_density f dpi = nat_le dpi (most_dpi (row f).density)
+abbrev pub has_density : Format → ℕ → Bool  -- the format has these dots per inch, or they are 0
+has_density f dpi = nat_le dpi (most_dpi (row f).density (row f).is_exact)
 
 abbrev pub is_sayable : Format → Drawing → Bool  -- the format supports the colours and dots per inch
 is_sayable f d = has_density f d.dpi && has_colours f d.dark d.light && have_tints f d
@@ -54,7 +64,7 @@ pub record IsDrawn (f : Format) (modules : List ℕ) (width : ℕ) (d : Drawing)
   pub sayable : IsTrue (is_sayable f d)
   pub known : IsTrue (has_parts width d)
   pub own : map ink_paint inks ≡ paints d
-  pub shown : IsSheetIn f (sheet modules width d inks) bytes
+  pub shown : IsSheetIn f (sheet f modules width d inks) bytes
 
 -- the most pixels a side: four bytes of memory are taken for each in a PNG file in full colour
 abbrev pub most_side : Format → Bool → ℕ

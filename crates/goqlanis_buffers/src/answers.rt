@@ -97,6 +97,8 @@ pub enum Refusal {
     ManyFormatBits = 56,
     /// The version information has fewer bits than shall be wrong, or none.
     ManyVersionBits = 57,
+    /// The patterns have fewer modules than shall be wrong.
+    ManyPatternModules = 58,
 }
 
 impl Refusal {

@@ -23,6 +23,8 @@ pub struct Wrong {
     pub format_bits: usize,
     /// The number of wrong bits in each copy of the version information.
     pub version_bits: usize,
+    /// The number of wrong modules of patterns.
+    pub pattern_modules: usize,
     /// Decides which ones.
     pub seed: u64,
 }
@@ -38,14 +40,15 @@ pub struct Promised {
 }
 
 // The size of a `Wrong` in bytes.
-const SIZE: u32 = 40;
+const SIZE: u32 = 48;
 
 /// Makes exactly so much of a symbol wrong; its modules become bytes, 1 for a dark one. Returns
 /// whether that is within the promise: the square then decodes to the data and headers of the
 /// symbol, and to nothing else.
 ///
 /// Errors, the first that applies: `NoSuchStruct`, `NoSuchSide`, `NoFormat`, `ManyCodewords`,
-/// `ManyFormatBits`, `ManyVersionBits`; or `OutOfMemory`. After an error `modules` is unchanged.
+/// `ManyFormatBits`, `ManyVersionBits`, `ManyPatternModules`; or `OutOfMemory`. After an error
+/// `modules` is unchanged.
 pub fn damage(alloc: Global, modules: &mut [u8], wrong: &Wrong) -> Result<Promised, Refusal>
     ensures { WritesDamage wrong.now modules.old modules.new result }
 {
@@ -78,6 +81,7 @@ fn wanted(wrong: &Wrong) -> Damage
         codewords: wrong.codewords,
         format_bits: wrong.format_bits,
         version_bits: wrong.version_bits,
+        pattern_modules: wrong.pattern_modules,
         seed: wrong.seed,
     }
 }
@@ -90,6 +94,7 @@ fn excess_refusal(excess: TooMuch) -> Refusal
         TooMuch::Codewords(_) => Refusal::ManyCodewords,
         TooMuch::FormatBits => Refusal::ManyFormatBits,
         TooMuch::VersionBits(_) => Refusal::ManyVersionBits,
+        TooMuch::PatternModules(_) => Refusal::ManyPatternModules,
         TooMuch::OutOfMemory => Refusal::OutOfMemory,
     }
 }

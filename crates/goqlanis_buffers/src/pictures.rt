@@ -1,14 +1,16 @@
 //! Draws pictures into buffers.
 
-ghost use Rattle.std.specs.Prelude.{◌≡◌, ◌<◌, ◌↔◌, ◌^◌, ℕ, length, map, IfOk, IfErr, IsOkUnless, IsTrue};
-ghost use Rattle.std.specs.Bool.{OnTrue};
+ghost use Rattle.std.specs.Prelude.{◌≡◌, ◌↔◌, ℕ, length, map, IfOk, IfErr, IsOkUnless, IsTrue};
 ghost use Rattle.qrcode_types.specs.declared.types.QrError.TheVariants.{OutOfMemory};
+ghost use Rattle.qrcode_formats.specs.Formats.{row};
+ghost use Rattle.qrcode_render.specs.Paths.{frame_of, plain};
 ghost use Rattle.qrcode_render.specs.Shades.{colors_of};
+ghost use Rattle.goqlanis_core.specs.Drawings.{sized};
 ghost use Rattle.goqlanis_buffers.specs.Colours.{colour_name};
 ghost use Rattle.goqlanis_buffers.specs.Calls.{TellsLength, WritesPicture};
 ghost use Rattle.goqlanis_buffers.specs.Answers.{HasSize};
 ghost use Rattle.goqlanis_buffers.specs.Asking.{IsCauseFor, IsDrawable, IsPictureFor};
-ghost use Rattle.goqlanis_buffers.specs.Drawings.{density, has_side, is_sayable, most_side, IsDrawn};
+ghost use Rattle.goqlanis_buffers.specs.Drawings.{density, dots, has_side, is_sayable, most_side, IsDrawn};
 ghost use Rattle.goqlanis_buffers.specs.Tints.{named_paint, paints};
 
 use crate::answers::Refusal;
@@ -19,7 +21,7 @@ use crate::tints::{NamedTint, has_parts, have_tints, inks_of, is_plain, own_tint
 use goqlanis_core::GREATEST_PAINTED;
 use goqlanis_core::render::draw;
 use goqlanis_core::sheet::Sheet;
-use qrcode::render::svg::Frame;
+use qrcode::render::svg::{Frame, Size};
 use qrcode::types::{Color, QrResult};
 use qrcode_formats::{Density, Format, format_numbered};
 use std::alloc::Global;
@@ -41,7 +43,8 @@ pub struct Drawing {
     pub dark: u32,
     /// The colour of light modules and the quiet zone.
     pub light: u32,
-    /// The dots per inch to store in a PNG file, or 0 for none.
+    /// The dots per inch that a PNG file states, or the pixels of an inch in SVG, EPS and PDF; 0 for
+    /// none.
     pub dpi: u32,
     /// The colours of the dark and the light modules of each part, or `0xffffffff` for none of
     /// their own.
@@ -187,10 +190,11 @@ fn most_side(format: Format, is_plain: bool) -> u32
 // Whether a format supports the colours, and the dots per inch if any.
 fn is_sayable(format: Format, drawing: &Drawing) -> bool
     ensures value { result ≡ is_sayable format drawing.now }
-    ensures dpi_at_most { OnTrue result (drawing.now.dpi < 2 ^ 16) }
 {
-    let most = match format.row().density {
+    let row = format.row();
+    let most = match row.density {
         Density::Stored => 65_535,
+        _ if row.is_exact => u32::MAX,
         _ => 0,
     };
     drawing.dpi <= most
@@ -245,6 +249,7 @@ fn draw_named<'a>(
     let dark = ink_of(names.dark, drawing.dark);
     let light = ink_of(names.light, drawing.light);
     let inks = inks_of(alloc, names.own)?;
+    let dots = dots_of(format, drawing);
     let sheet = Sheet {
         modules,
         width: asked.width,
@@ -253,11 +258,11 @@ fn draw_named<'a>(
         dark,
         light,
         is_inverted: false,
-        dpi: density(drawing.dpi),
+        dpi: density(format, drawing),
         ends_lines: false,
-        dots: None,
+        dots,
         place: (0, 0),
-        frame: Frame::plain(),
+        frame: sized_frame(dots),
         version: version_for(asked.width),
         parts: &inks,
         over: &NOTHING,
@@ -266,10 +271,34 @@ fn draw_named<'a>(
     draw(alloc, format, &sheet)
 }
 
-// The dots per inch; `None` for 0.
-fn density(dpi: u32) -> Option<u16>
-    requires at_most { dpi < 2 ^ 16 }
-    ensures value { result ≡ density dpi }
+// The dots per inch that a PNG file states, if there are any.
+fn density(format: Format, drawing: &Drawing) -> Option<u16>
+    requires sayable { IsTrue (is_sayable format drawing.now) }
+    ensures value { result ≡ density (row format).density drawing.now.dpi }
 {
-    if dpi == 0 { None } else { Some(dpi as u16) }
+    match format.row().density {
+        Density::Stored if drawing.dpi > 0 => Some(drawing.dpi as u16),
+        _ => None,
+    }
+}
+
+// The pixels of an inch in SVG, EPS and PDF, if they are given.
+fn dots_of(format: Format, drawing: &Drawing) -> Option<u32>
+    ensures value { result ≡ dots (row format).is_exact drawing.now.dpi }
+{
+    (format.row().is_exact && drawing.dpi > 0).then_some(drawing.dpi)
+}
+
+// A frame with the size that these pixels per inch give, if there are any.
+fn sized_frame(dots: Option<u32>) -> Frame<'static>
+    ensures value { frame_of result ≡ sized dots plain }
+{
+    let plain = Frame::plain();
+    match dots {
+        Some(dots) => Frame {
+            size: Size::Dots(dots),
+            ..plain
+        },
+        None => plain,
+    }
 }

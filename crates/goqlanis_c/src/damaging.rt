@@ -12,8 +12,8 @@ use std::alloc::Global;
 /// else.
 ///
 /// Returns 0, or the number of the first `Refusal` that applies: `NoSuchStruct`, `NoSuchSide`,
-/// `NoFormat`, `ManyCodewords`, `ManyFormatBits`, `ManyVersionBits`; or of `OutOfMemory`. After an
-/// error the outputs are unchanged.
+/// `NoFormat`, `ManyCodewords`, `ManyFormatBits`, `ManyVersionBits`, `ManyPatternModules`; or of
+/// `OutOfMemory`. After an error the outputs are unchanged.
 #[unsafe(no_mangle)]
 pub extern "C" fn goq_damage(
     alloc: Global,

@@ -50,10 +50,12 @@ charsets! {
     Iso8859_14 = GOQ_ISO_8859_14, "For Celtic languages.";
     Iso8859_15 = GOQ_ISO_8859_15, "Part 1 with the euro sign.";
     Iso8859_16 = GOQ_ISO_8859_16, "For South-Eastern Europe.";
+    ShiftJis = GOQ_SHIFT_JIS, "For Japanese, with Kanji segments.";
     Windows1250 = GOQ_WINDOWS_1250, "Of Windows, for Central Europe.";
     Windows1251 = GOQ_WINDOWS_1251, "Of Windows, with Cyrillic letters.";
     Windows1252 = GOQ_WINDOWS_1252, "Of Windows, for Western Europe.";
     Windows1256 = GOQ_WINDOWS_1256, "Of Windows, with Arabic letters.";
+    Utf16Be = GOQ_UTF_16BE, "UTF-16 after its header, the big end first.";
     Utf8 = GOQ_UTF_8, "UTF-8 after its header.";
     // Up to here.
 }

@@ -11,6 +11,8 @@ pub struct Damage {
     pub format_bits: usize,
     /// The number of wrong bits in each copy of the version information, which Normal 7 to 40 have.
     pub version_bits: usize,
+    /// The number of wrong modules of finder, timing and alignment patterns and separators.
+    pub pattern_modules: usize,
     /// Decides which ones.
     pub seed: u64,
 }
@@ -35,6 +37,8 @@ pub enum TooMuch {
     FormatBits,
     /// The version information has only 18 bits, or the version has none.
     VersionBits,
+    /// The patterns have fewer modules.
+    PatternModules,
     /// Memory ran out.
     OutOfMemory,
 }
@@ -43,6 +47,7 @@ says! { TooMuch:
     TooMuch::Codewords => "{}", sys::goq_strerror(sys::GOQ_MANY_CODEWORDS);
     TooMuch::FormatBits => "{}", sys::goq_strerror(sys::GOQ_MANY_FORMAT_BITS);
     TooMuch::VersionBits => "{}", sys::goq_strerror(sys::GOQ_MANY_VERSION_BITS);
+    TooMuch::PatternModules => "{}", sys::goq_strerror(sys::GOQ_MANY_PATTERN_MODULES);
     TooMuch::OutOfMemory => "{}", sys::goq_strerror(sys::GOQ_OUT_OF_MEMORY);
 }
 
@@ -61,8 +66,9 @@ impl QrCode {
     /// ```
     pub fn damaged(&self, damage: &Damage) -> Result<Damaged, TooMuch> {
         let (mut code, mut promised) = (self.clone(), sys::goq_promised::default());
-        let &Damage { codewords, format_bits, version_bits, seed } = damage;
-        let wrong = sys::goq_wrong { codewords, format_bits, version_bits, seed, ..sys::GOQ_WRONG };
+        let &Damage { codewords, format_bits, version_bits, pattern_modules, seed } = damage;
+        let counts = sys::goq_wrong { codewords, format_bits, version_bits, ..sys::GOQ_WRONG };
+        let wrong = sys::goq_wrong { pattern_modules, seed, ..counts };
         // SAFETY: the length is that of the buffer.
         let answer = unsafe {
             sys::goq_damage(code.modules.as_mut_ptr(), code.modules.len(), &wrong, &mut promised)
@@ -76,6 +82,7 @@ impl QrCode {
             sys::GOQ_MANY_CODEWORDS => Err(TooMuch::Codewords),
             sys::GOQ_MANY_FORMAT_BITS => Err(TooMuch::FormatBits),
             sys::GOQ_MANY_VERSION_BITS => Err(TooMuch::VersionBits),
+            sys::GOQ_MANY_PATTERN_MODULES => Err(TooMuch::PatternModules),
             _ => Err(TooMuch::OutOfMemory),
         }
     }

@@ -187,7 +187,7 @@ pub struct Code {
 
 impl Code {
     /// Returns the text of the data: in UTF-8, or in the character sets that ECI headers name.
-    /// `None` if it is in none of these, or has a Kanji segment.
+    /// `None` if it is in none of these, or has a Kanji segment without ECI 20.
     ///
     /// ```
     /// use goqlanis::{read_picture, render::png, Charset, Options, QrCode};
@@ -203,8 +203,11 @@ impl Code {
         let (mut text, mut set, mut start, mut end) = (String::new(), 0, 0, 0);
         for part in &self.parts {
             match *part {
-                Part::Kanji(_) => return None,
-                Part::Numeric(count) | Part::Alphanumeric(count) | Part::Byte(count) => end += count,
+                Part::Kanji(_) if set != sys::GOQ_SHIFT_JIS => return None,
+                Part::Numeric(count)
+                | Part::Alphanumeric(count)
+                | Part::Byte(count)
+                | Part::Kanji(count) => end += count,
                 Part::Eci(number) => {
                     text += &decoded(data.get(start..end)?, set)?;
                     (set, start) = (number, end);

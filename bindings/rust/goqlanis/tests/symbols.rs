@@ -116,12 +116,14 @@ fn colours_of_patterns() {
 #[test]
 fn damage() {
     let code = QrCode::with_version(b"01234567", Version::Normal(1), EcLevel::H).unwrap();
-    let with = |codewords, format_bits, version_bits| code.damaged(&Damage { codewords, format_bits, version_bits, seed: 7 });
+    let with = |codewords, format_bits, version_bits| code.damaged(&Damage { codewords, format_bits, version_bits, seed: 7, ..Damage::default() });
     let whole = with(0, 0, 0).unwrap();
     assert_eq!((whole.code, whole.is_promised, whole.most_codewords), (code.clone(), true, 8));
     assert!(!with(9, 0, 0).unwrap().is_promised && !with(0, 4, 0).unwrap().is_promised);
     assert_eq!((with(27, 16, 1), with(26, 16, 1)), (Err(TooMuch::Codewords), Err(TooMuch::FormatBits)));
     assert_eq!(with(26, 15, 1), Err(TooMuch::VersionBits));
+    let dirty = |pattern_modules| code.damaged(&Damage { pattern_modules, ..Damage::default() });
+    assert!(dirty(203).unwrap().is_promised && dirty(204) == Err(TooMuch::PatternModules));
     // Beside a whole code, a code of nine wrong codewords.
     let grey = |code: &QrCode| code.render::<pgm::Grey>().module_size(1).build()[b"P5\n29 29\n255\n".len()..].to_vec();
     let (left, right) = (grey(&code), grey(&with(9, 0, 0).unwrap().code));

@@ -10,7 +10,7 @@ pub returns-clause-drawing : goal.returns-clause-drawing
 returns-clause-drawing c =
     let a = c.args.asked.now in
     let inks = c.in_ok-inks.inks.items in
-    let shown : IfOk c.draw.result (λ file. IsDrawn c.args.format (sheet a.modules.now a.width a.drawing.now inks) file.items) = search rules in
+    let shown : IfOk c.draw.result (λ file. IsDrawn c.args.format (sheet c.args.format a.modules.now a.width a.drawing.now inks) file.items) = search rules in
     IfOk-weaker c.draw.result _ _ (λ file is. record {
       inks = inks;
       sayable = c.requires.drawable.sayable;
