@@ -1,4 +1,4 @@
-//! `goqlanis damage`: codes with wrong codewords and bits.
+//! `goqlanis damage`: codes with wrong codewords, bits and modules.
 
 ghost use Rattle.std.specs.Prelude.{◌≡◌, length, IfOk};
 
@@ -26,14 +26,15 @@ pub(crate) fn damage_in(code: &QrCode, asked: AskedDamage) -> Damage {
         },
         format_bits: asked.format_bits,
         version_bits: asked.version_bits,
+        pattern_modules: asked.pattern_modules,
         seed: asked.seed,
     }
 }
 
 /// Draws a damaged code. Warns if so much damage need not be read.
 ///
-/// Errors: `Usage` with a logo; `Refused` if the code has too few codewords or bits, or warnings
-/// are errors; `OutOfMemory`.
+/// Errors: `Usage` with a logo; `Refused` if the code has too few codewords, bits or modules, or
+/// warnings are errors; `OutOfMemory`.
 pub(crate) fn draw_damaged(
     rt: &HostRuntime,
     asked: &Asked<'_, '_>,
@@ -56,7 +57,8 @@ pub(crate) fn draw_damaged(
 
 /// Draws a code with this damage, in this position.
 ///
-/// Errors: `Refused` if the code has too few codewords or bits, or lacks the mask; `OutOfMemory`.
+/// Errors: `Refused` if the code has too few codewords, bits or modules, or lacks the mask;
+/// `OutOfMemory`.
 pub(crate) fn damaged_drawing(
     alloc: Global,
     request: &Request<'_>,

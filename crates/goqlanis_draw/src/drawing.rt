@@ -281,7 +281,8 @@ pub(crate) fn manner(
     match manner_of(bytes) {
         _ if asked.input.is_bytes => Ok(Manner::Bytes),
         manner if !asked.input.is_eci => Ok(manner),
-        Manner::Bytes => refused!(alloc; "the data is not UTF-8: leave out --eci"),
+        Manner::Bytes =>
+            refused!(alloc; "the data is not UTF-8: leave out --eci, or for Latin-1 use iconv -f latin1 -t utf-8 first"),
         _ => Ok(Manner::MarkedText),
     }
 }

@@ -185,6 +185,7 @@ fn write_picture(
         codewords,
         format_bits: bits,
         version_bits: if code.width() < 45 { 0 } else { bits },
+        pattern_modules: 0,
         seed: case.seed,
     };
     let damage = damage_in(code, wanted);

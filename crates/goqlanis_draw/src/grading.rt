@@ -4,6 +4,7 @@ use goqlanis_files::failure::Failure;
 use goqlanis_files::refused;
 use goqlanis_files::streams::{MOST_PICTURE, print, read_file, shown};
 use std::alloc::{AllocError, Global};
+use std::collections::BTreeSet;
 use std::process::ExitCode;
 
 // What a reader made of a picture.
@@ -35,23 +36,22 @@ struct Row {
 /// Prints how many results are right, by content and damage, and the names of pictures that were
 /// read as something else, or not read although they must be. If there are any, the status is 1.
 ///
-/// Errors: `Refused` if a file cannot be read, is not UTF-8, or has no answers; those of `print`.
+/// Errors: `Refused` if a file cannot be read, is not UTF-8, or has no answers, or a result is of no
+/// picture of the exam, or not hex; those of `print`.
 pub(crate) fn grade(rt: &HostRuntime, answers: &str, results: &str) -> Result<ExitCode, Failure> {
     let alloc = rt.alloc();
     let exam = text_of(rt, answers)?;
     let read = text_of(rt, results)?;
-    let mut found = Vec::new(alloc);
-    for line in read.as_str().lines() {
-        found.push(line.split_once('\t').unwrap_or((line, "")))?;
+    let pictures = names_of(alloc, exam.as_str())?;
+    if pictures.is_empty() {
+        let answers = shown(answers);
+        return refused!(alloc; "{answers}: it has no answers; name the answers.jsonl of an exam");
     }
+    let found = results_of(alloc, results, &pictures, read.as_str())?;
     let mut rows = Vec::new(alloc);
     let mut names = String::new(alloc);
     for line in exam.as_str().lines() {
         grade_line(alloc, line, &found, &mut rows, &mut names)?;
-    }
-    if rows.is_empty() {
-        let answers = shown(answers);
-        return refused!(alloc; "{answers}: it has no answers; name the answers.jsonl of an exam");
     }
     let text = format!(in alloc; "{}{names}", table(alloc, &rows)?)?;
     print(rt, text.as_bytes())?;
@@ -74,6 +74,46 @@ fn text_of(rt: &HostRuntime, path: &str) -> Result<String, Failure> {
     }
 }
 
+// Returns names of pictures and what was read of them, in hex. Refuses a line of another picture, or
+// in which that is not hex.
+fn results_of<'a>(
+    alloc: Global,
+    path: &str,
+    pictures: &BTreeSet<String>,
+    results: &'a str,
+) -> Result<Vec<(&'a str, &'a str)>, Failure> {
+    let mut found = Vec::new(alloc);
+    for (place, line) in results.lines().enumerate() {
+        let (name, hex) = line.split_once('\t').unwrap_or((line, ""));
+        let (name, hex) = (name.rsplit('/').next().unwrap_or(name), hex.trim());
+        let is_hex = hex.bytes().all(|byte| byte.is_ascii_hexdigit()) && hex.len() % 2 == 0;
+        let has_name = pictures.contains(name);
+        if has_name && is_hex {
+            found.push((name, hex))?;
+        } else if !line.is_empty() {
+            let (path, line, shown) = (shown(path), place.saturating_add(1), shown(name));
+            let why = if has_name {
+                "what was read is not hex"
+            } else {
+                "no picture of the exam"
+            };
+            return refused!(alloc; "{path}: line {line}: {shown}: {why}");
+        }
+    }
+    Ok(found)
+}
+
+// Returns the names of the pictures of an exam.
+fn names_of(alloc: Global, exam: &str) -> Result<BTreeSet<String>, AllocError> {
+    let mut names = BTreeSet::new(alloc);
+    for line in exam.lines() {
+        if let Some(name) = value_of(alloc, line, "name")? {
+            names.insert(String::from_str(alloc, name)?)?;
+        }
+    }
+    Ok(names)
+}
+
 // Grades the results for one answer. Other lines are left out.
 fn grade_line(
     alloc: Global,
@@ -94,7 +134,6 @@ fn grade_line(
         Outcome::Unread
     };
     for (_, hex) in found.iter().filter(|(of, _)| *of == name) {
-        let hex = hex.trim();
         if !hex.eq_ignore_ascii_case(bytes) && !hex.eq_ignore_ascii_case(text) {
             outcome = Outcome::Wrong;
         } else if outcome != Outcome::Wrong {

@@ -7,6 +7,7 @@ mod damaging;
 mod drawing;
 mod exams;
 mod grading;
+mod inputs;
 mod lines;
 mod logos;
 mod making;

@@ -1,15 +1,16 @@
 //! `--lines`: one code for each line.
 
 use crate::drawing::draw_one;
+use crate::inputs::{is_blank, next_line, text_of, utf8};
 use crate::making::{draw_elements, draw_payload};
-use crate::names::{check_made, check_names, has_text, name_of, take_name};
+use crate::names::{check_free, check_made, check_names, has_text, name_of};
 use crate::rows::{Columns, Line, Row, fields_of};
-use goqlanis_core::Grouped;
 use goqlanis_files::failure::{Doubts, Failure, Place};
 use goqlanis_files::progress::Progress;
 use goqlanis_files::streams::{ask, shown, unread};
 use goqlanis_files::{doubted, refused, usage};
 use goqlanis_options::asked::{Asked, Lines, Source, Target};
+use goqlanis_options::nearest::nearest;
 use goqlanis_options::options::fields::option_of;
 use qrcode_payloads::kinds::{Kind, fields_of as fields_in};
 use std::alloc::{AllocError, Global};
@@ -17,9 +18,6 @@ use std::collections::BTreeSet;
 use std::fs;
 use std::io::{BufRead, BufReader, IsTerminal, Read};
 use std::process::ExitCode;
-
-// The maximum length of a line in bytes, far more than a code holds.
-const MOST_IN_LINE: usize = 100_000;
 
 /// What a line is.
 #[derive(Clone, Copy)]
@@ -105,6 +103,7 @@ fn draw_from<R: Read + Drop>(
     let mut from = BufReader::new(rt.alloc(), from).map_err(|_| Failure::OutOfMemory)?;
     let mut line = Vec::new(rt.alloc());
     let columns = columns_of(rt.alloc(), taking, &mut from, &mut line)?;
+    check_delimiter(rt.alloc(), taking, asked.target, &columns)?;
     check_names(rt, asked, &columns)?;
     check_columns(rt, taking, asked, &columns)?;
     let drawn = draw_each(rt, asked, taking, &columns, &mut from, &mut line);
@@ -112,7 +111,8 @@ fn draw_from<R: Read + Drop>(
     drawn
 }
 
-// Returns the names of the columns: those of the command line, or of the first line.
+// Returns the names of the columns: those of the command line, which commas may separate too, or of
+// the first line.
 fn columns_of<R: BufRead>(
     alloc: Global,
     taking: Taking<'_>,
@@ -120,7 +120,9 @@ fn columns_of<R: BufRead>(
     line: &mut Vec<u8>,
 ) -> Result<Columns, Failure> {
     if let Some(names) = taking.lines.columns {
-        return Columns::read(alloc, names, taking.lines.delimiter);
+        let delimiter = taking.lines.delimiter;
+        let is_own = names.contains(delimiter);
+        return Columns::read(alloc, names, if is_own { delimiter } else { "," });
     }
     if !taking.lines.has_header || !next_line(alloc, taking.name, from, line, 1)? {
         return Ok(Columns::none(alloc));
@@ -150,29 +152,84 @@ fn check_columns(
             --columns, e.g. --columns ssid,password"
         );
     }
+    if let Lined::Payload(kind) = taking.what {
+        check_spelling(rt.alloc(), kind, asked.target, columns)?;
+    }
     for (place, name) in columns.names().iter().enumerate() {
-        let name = name.as_str();
-        let why = if columns.number_of(name.trim()) != Some(place.saturating_add(1)) {
-            "stands twice; this one"
-        } else if is_encoded(taking.what, name) || is_in_path(rt.alloc(), asked.target, name)? {
-            continue;
-        } else if is_payload {
-            "is no option of this command, so it"
-        } else {
-            "is no application identifier, so it"
-        };
-        let name = shown(name);
-        doubted!(rt, asked.doubts; "column {name} {why} is not encoded")?;
+        let number = place.saturating_add(1);
+        let is_named = is_in_path(rt.alloc(), asked.target, name.as_str())?;
+        if let Some(why) = left_out(taking, columns, number, is_named) {
+            let name = shown(name.as_str());
+            doubted!(rt, asked.doubts; "column {name} {why} is not encoded")?;
+        }
     }
     Ok(())
 }
 
-// Whether a column of this name is encoded, unless `--field` selects another.
-fn is_encoded(what: Lined, name: &str) -> bool {
-    match what {
-        Lined::Payload(kind) => is_field(kind, name),
-        Lined::Elements => is_identifier(identifier_in(name)),
-        Lined::Data => true,
+// Refuses the only name of a column if it has another delimiter inside, unless lines are encoded
+// whole.
+fn check_delimiter(
+    alloc: Global,
+    taking: Taking<'_>,
+    target: Target<'_>,
+    columns: &Columns,
+) -> Result<(), Failure> {
+    let has_names = matches!(target, Target::File(path) if path.contains('{'));
+    let is_whole = matches!(taking.what, Lined::Data) && taking.lines.field.is_none();
+    match columns.other_delimiter() {
+        Some(sign) if has_names || !is_whole => {
+            usage!(alloc; "the columns have another delimiter: add --delimiter \"{sign}\"")
+        }
+        _ => Ok(()),
+    }
+}
+
+// Refuses a column that seems to be a misspelt field, which would be lost.
+fn check_spelling(
+    alloc: Global,
+    kind: Kind,
+    target: Target<'_>,
+    columns: &Columns,
+) -> Result<(), Failure> {
+    let fields = fields_in(kind).iter();
+    let known = fields
+        .map(|field| option_of(*field).long)
+        .collect::<Vec<&'static str>>(alloc)?;
+    for name in columns.names() {
+        let name = name.as_str().trim();
+        if is_field(kind, name) || is_in_path(alloc, target, name)? {
+            continue;
+        }
+        if let Some(meant) = nearest(alloc, name, &known)? {
+            return usage!(alloc; "column {name}: did you mean {meant}?");
+        }
+    }
+    Ok(())
+}
+
+// Says why column `number` is not encoded, if it is not and is no part of a file name either.
+fn left_out(
+    taking: Taking<'_>,
+    columns: &Columns,
+    number: usize,
+    is_named: bool,
+) -> Option<&'static str> {
+    let name = columns.names().get(number.saturating_sub(1))?.as_str();
+    let is_first = columns.number_of(name.trim()) == Some(number);
+    match taking.what {
+        Lined::Data => {
+            let field = taking.lines.field?;
+            let is_selected = name.trim().eq_ignore_ascii_case(field);
+            (is_selected && !is_first).then_some("stands twice; this one")
+        }
+        Lined::Payload(kind) if !is_named && !is_field(kind, name) => {
+            Some("is no option of this command, so it")
+        }
+        Lined::Payload(_) if !is_first => Some("stands twice; this one"),
+        Lined::Elements if !is_named && !is_identifier(identifier_in(name)) => {
+            Some("is no application identifier, so it")
+        }
+        _ => None,
     }
 }
 
@@ -187,7 +244,7 @@ fn is_in_path(alloc: Global, target: Target<'_>, name: &str) -> Result<bool, All
     Ok(matches!(target, Target::File(path) if path.contains(place.as_str())))
 }
 
-// Draws each line, and reports the refused ones.
+// Draws each line, and reports the refused ones. In a table, lines without any data are left out.
 fn draw_each<R: BufRead>(
     rt: &HostRuntime,
     asked: &Asked<'_, '_>,
@@ -199,12 +256,20 @@ fn draw_each<R: BufRead>(
     let mut code = ExitCode::SUCCESS;
     let mut taken = BTreeSet::new(rt.alloc());
     let header = usize::from(taking.lines.has_header);
+    let is_table = !columns.is_empty() || taking.lines.field.is_some();
     for number in 1..usize::MAX {
         let place = number.saturating_add(header);
         if !next_line(rt.alloc(), taking.name, from, line, place)? {
+            if number == 1 {
+                let name = shown(taking.name);
+                doubted!(rt, asked.doubts; "{name} has no lines: no code is made")?;
+            }
             return Ok(code);
         }
         let text = text_of(line, place);
+        if is_table && is_blank(text, taking.lines.delimiter) {
+            continue;
+        }
         let place = taking.place(place);
         let doubts = Doubts {
             place: Some(place),
@@ -242,12 +307,14 @@ fn draw_line(
     };
     let name = name_of(alloc, path, columns, &line)?;
     if has_text(path, columns) {
-        take_name(alloc, taken, name.as_str())?;
+        check_free(alloc, taken, name.as_str())?;
     }
     check_made(rt, asked, name.as_str())?;
     let target = Target::File(name.as_str());
     let asked = Asked { target, ..*asked };
-    draw_what(rt, &asked, taking, columns, &line, bytes)
+    let code = draw_what(rt, &asked, taking, columns, &line, bytes)?;
+    taken.insert(name.as_str().to_ascii_lowercase(alloc)?)?;
+    Ok(code)
 }
 
 // Returns a line, with its fields if they are needed.
@@ -266,7 +333,7 @@ fn line_of(
     } else {
         Vec::new(alloc)
     };
-    check_count(alloc, taking.what, columns, fields.len())?;
+    check_count(alloc, taking, columns, fields.len())?;
     Ok(Line {
         number,
         text,
@@ -275,11 +342,20 @@ fn line_of(
 }
 
 // Refuses a line that has more fields than there are names of columns, and one of elements that has
-// fewer.
-fn check_count(alloc: Global, what: Lined, columns: &Columns, count: usize) -> Result<(), Failure> {
+// fewer. A line that is encoded whole may have any number.
+fn check_count(
+    alloc: Global,
+    taking: Taking<'_>,
+    columns: &Columns,
+    count: usize,
+) -> Result<(), Failure> {
     let known = columns.names().len();
-    let is_short = count < known && matches!(what, Lined::Elements);
-    if !columns.is_empty() && (count > known || is_short) {
+    let is_wrong = match taking.what {
+        Lined::Data => taking.lines.field.is_some() && count > known,
+        Lined::Payload(_) => count > known,
+        Lined::Elements => count != known,
+    };
+    if is_wrong && !columns.is_empty() {
         return refused!(alloc;
             "fields: {count}, columns: {known}; put quotation marks around a field that contains \
             the delimiter"
@@ -301,7 +377,7 @@ fn draw_what(
     if let (Lined::Data, None) = (taking.what, taking.lines.field) {
         return draw_one(rt, asked, bytes);
     }
-    let text = utf8(alloc, bytes, taking.lines.field)?;
+    let text = utf8(alloc, bytes)?;
     match (taking.what, taking.lines.field) {
         (Lined::Payload(kind), _) => {
             let row = Row::of(alloc, kind, columns, line, &asked.fields)?;
@@ -323,23 +399,18 @@ fn draw_what(
     }
 }
 
-// Returns a line as text.
-fn utf8<'a>(alloc: Global, bytes: &'a [u8], field: Option<&str>) -> Result<&'a str, Failure> {
-    match str::from_utf8(bytes) {
-        Ok(text) => Ok(text),
-        Err(_) if field.is_some() => refused!(alloc; "it is not UTF-8: leave out --field"),
-        Err(_) => refused!(alloc; "it is not UTF-8"),
-    }
-}
-
 // Returns the number of the field that `--field` selects.
 fn field_number(alloc: Global, columns: &Columns, name: &str) -> Result<usize, Failure> {
     match (columns.number_of(name), name.parse::<u16>()) {
         (Some(number), _) => Ok(number),
         (None, Ok(number)) if number > 0 => Ok(number as usize),
-        _ => usage!(alloc;
-            "--field {name}: use a whole number, 1 to 65,535, or the name of a column"
+        _ if columns.is_empty() => usage!(alloc;
+            "--field {name}: use a whole number, 1 to 65,535, or name the columns with --header"
         ),
+        _ => {
+            let list = columns.list(alloc)?;
+            usage!(alloc; "--field {name}: use a number, or one of the columns {list}")
+        }
     }
 }
 
@@ -367,44 +438,4 @@ fn identifier_in(name: &str) -> &str {
 
 fn is_identifier(name: &str) -> bool {
     !name.is_empty() && name.bytes().all(|byte| byte.is_ascii_digit())
-}
-
-// Replaces `line` with the next line, line ending included. Returns `false` at the end.
-fn next_line<R: BufRead>(
-    alloc: Global,
-    name: &str,
-    from: &mut R,
-    line: &mut Vec<u8>,
-    number: usize,
-) -> Result<bool, Failure> {
-    line.clear();
-    let mut from = from.by_ref().take(MOST_IN_LINE as u64 + 2);
-    match from.read_until(b'\n', line) {
-        Ok(0) => Ok(false),
-        Ok(_) if without_ending(line).len() <= MOST_IN_LINE => Ok(true),
-        Ok(_) => {
-            let most = Grouped(MOST_IN_LINE);
-            refused!(alloc;
-                "cannot read {name}: line {number} has more than {most} bytes; neither it nor the \
-                lines after it are encoded"
-            )
-        }
-        Err(error) => unread(alloc, name, &error),
-    }
-}
-
-// Strips the line ending, and from the first line the byte order mark that spreadsheets write.
-fn text_of(line: &[u8], number: usize) -> &[u8] {
-    match without_ending(line) {
-        [0xef, 0xbb, 0xbf, text @ ..] if number == 1 => text,
-        text => text,
-    }
-}
-
-// Strips a final LF or CR LF.
-fn without_ending(line: &[u8]) -> &[u8] {
-    match line {
-        [text @ .., b'\r', b'\n'] | [text @ .., b'\n'] => text,
-        _ => line,
-    }
 }

@@ -8,10 +8,11 @@ use crate::lines::{Lined, draw_lines};
 use crate::middle::{SWISS_CROSS, has_cross, read_logo};
 use crate::rows::Columns;
 use crate::splitting::{MOST_IN_SEVERAL, draw_several};
+use goqlanis_core::Ink;
 use goqlanis_files::failure::Failure;
-use goqlanis_files::streams::{MOST_DATA, read_file, read_standard_input};
+use goqlanis_files::streams::{MOST_DATA, read_file, read_standard_input, shown};
 use goqlanis_files::{doubted, refused, usage};
-use goqlanis_options::asked::{Asked, Source};
+use goqlanis_options::asked::{Asked, Source, Target};
 use goqlanis_options::logos::{AskedLogo, Middle};
 use goqlanis_options::options::{Purpose, Task};
 use goqlanis_options::warnings::warn_of_password;
@@ -46,6 +47,7 @@ fn draw(rt: &HostRuntime, task: &Task, asked: &Asked<'_, '_>) -> Result<ExitCode
         _ => Lined::Data,
     };
     asked.fields.check(rt.alloc())?;
+    warn_of_places(rt, asked)?;
     match (asked.input.lines, what, asked.input.segments) {
         (Some(lines), _, _) => draw_lines(rt, asked, lines, what),
         (None, Lined::Payload(kind), _) => draw_content(rt, kind, asked),
@@ -54,6 +56,20 @@ fn draw(rt: &HostRuntime, task: &Task, asked: &Asked<'_, '_>) -> Result<ExitCode
             write_code(rt, asked, segments_code(rt.alloc(), asked, words)?)
         }
         (None, Lined::Data, None) => draw_one(rt, asked, &data(rt, asked, MOST_DATA)?),
+    }
+}
+
+// Warns of placeholders in the name of a single file.
+fn warn_of_places(rt: &HostRuntime, asked: &Asked<'_, '_>) -> Result<(), Failure> {
+    let is_single = asked.input.lines.is_none();
+    match asked.target {
+        Target::File(path) if is_single && path.contains('{') && path.contains('}') => {
+            let path = shown(path);
+            doubted!(rt, asked.doubts;
+                "--output {path}: {{}} stands for itself without --lines"
+            )
+        }
+        _ => Ok(()),
     }
 }
 
@@ -104,10 +120,46 @@ fn draw_bill(rt: &HostRuntime, asked: &Asked<'_, '_>, text: &str) -> Result<Exit
             "this format lacks the Swiss cross of a bill; png, svg, eps and pdf have it"
         )?;
     }
-    if asked.request.is_inverted {
-        doubted!(rt, asked.doubts; "a bill is dark on light: leave out --invert")?;
-    }
+    warn_of_bill(rt, asked)?;
     draw_one(rt, &Asked { logo, ..*asked }, text.as_bytes())
+}
+
+// Warns of what the standard for Swiss QR-bills does not allow.
+fn warn_of_bill(rt: &HostRuntime, asked: &Asked<'_, '_>) -> Result<(), Failure> {
+    let request = &asked.request;
+    let is_black = is_grey(request.dark, 0) && is_grey(request.light, 255);
+    if request.is_inverted {
+        doubted!(rt, asked.doubts; "a bill is dark on light: leave out --invert")?;
+    } else if !is_black || !request.parts.is_empty() {
+        doubted!(rt, asked.doubts; "the code of a bill is black on white: leave out colours")?;
+    }
+    if request.zone.is_some_and(|zone| zone > 0) {
+        doubted!(rt, asked.doubts;
+            "the code of a bill has no quiet zone, since the bill leaves 5 mm: leave out \
+            --quiet-zone"
+        )?;
+    }
+    if !is_bill_size(asked) {
+        doubted!(rt, asked.doubts;
+            "the code of a bill is 46 mm wide: leave out --size, --module and --scale"
+        )?;
+    }
+    Ok(())
+}
+
+// Whether red, green and blue of a colour all have this value.
+fn is_grey(ink: Ink<'_>, value: u8) -> bool {
+    [ink.red, ink.green, ink.blue]
+        .iter()
+        .all(|part| *part == value)
+}
+
+// Whether the code is 46 mm wide, or of a size that is not known.
+fn is_bill_size(asked: &Asked<'_, '_>) -> bool {
+    match asked.request.length {
+        Some(length) => { length.is_side && length.dots == 25_400 && asked.request.scale == 46_000 }
+        None => asked.dots.is_none() || asked.hundredths == Some(4_600),
+    }
 }
 
 // The bytes that fit in any case in a code of a bill's level and largest version.
@@ -165,6 +217,9 @@ fn data(rt: &HostRuntime, asked: &Asked<'_, '_>, most: usize) -> Result<Vec<u8>,
     };
     if asked.input.is_trimmed && bytes.last() == Some(&b'\n') {
         bytes.pop();
+        if bytes.last() == Some(&b'\r') {
+            bytes.pop();
+        }
     }
     Ok(bytes)
 }

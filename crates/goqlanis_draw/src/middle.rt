@@ -109,7 +109,7 @@ pub(crate) fn draw_with_middle(
     Ok((area, bytes?))
 }
 
-/// Warns of a logo whose area is less than a tenth of the code's side, across or down.
+/// Warns of a logo that is less than a tenth of the code's side, across or down.
 ///
 /// Errors: `Refused` if warnings are errors; `OutOfMemory`.
 pub(crate) fn warn_of_logo(
@@ -118,16 +118,30 @@ pub(crate) fn warn_of_logo(
     code: &QrCode,
     area: Option<Rectangle>,
 ) -> Result<(), Failure> {
-    let Some(area) = area.filter(|_| asked.logo_file.is_some()) else {
+    let (Some(area), Some(logo)) = (area.filter(|_| asked.logo_file.is_some()), &asked.logo) else {
         return Ok(());
     };
-    let (width, height) = (area.width, area.height);
+    let (width, height) = logo_sides(wish_of(logo, code), logo.margin, area);
     if width.min(height).saturating_mul(10) >= code.width() {
         return Ok(());
     }
     doubted!(rt, asked.doubts;
-        "the logo gets only {width} by {height} modules; for more, use --logo-size 40% or a \
-        larger version with -v"
+        "the logo gets only {width} by {height} modules; for more, use a larger --logo-size, e.g. \
+        40%, or a larger version with -v"
+    )
+}
+
+// Returns the sides of a logo in modules, as it fits into an area within its margin.
+fn logo_sides(wish: LogoWish, margin: u8, area: Rectangle) -> (usize, usize) {
+    let margins = 2 * margin as usize;
+    let (width, height) = (
+        area.width.saturating_sub(margins),
+        area.height.saturating_sub(margins),
+    );
+    let (across, down) = (wish.across as usize, wish.down as usize);
+    (
+        width.min(height.saturating_mul(across) / down.max(1)),
+        height.min(width.saturating_mul(down) / across.max(1)),
     )
 }
 
@@ -217,7 +231,7 @@ fn no_room<T>(alloc: Global, area: Rectangle) -> Result<T, Failure>
     let (width, height) = (area.width, area.height);
     refused!(alloc;
         "the area of {width} by {height} modules leaves no room for a logo within its margin; use \
-        a smaller --logo-margin, or a higher version with -v"
+        a smaller --logo-margin, a larger --logo-size, or a larger version with -v"
     )
 }
 

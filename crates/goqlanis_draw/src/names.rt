@@ -44,6 +44,11 @@ pub(crate) fn check_names(
         )
     } else if has_text(path, columns) && asked.input.lines.is_none() {
         usage!(rt.alloc(); "--output: {{text}} and {{1}} are for --lines; {{}} is the number")
+    } else if path.contains("%0") || path.contains("%d") {
+        usage!(rt.alloc(); "--output {path}: for the number in three digits, write {{:03}}")
+    } else if let Some(word) = unknown_word(path, columns).filter(|_| !columns.is_empty()) {
+        let list = columns.list(rt.alloc())?;
+        usage!(rt.alloc(); "--output: {{{word}}} is unknown; the columns are {list}")
     } else if let Some(word) = unknown_word(path, columns) {
         usage!(rt.alloc();
             "--output: {{{word}}} is unknown; {{}} is the number, {{:04}} the same with zeros, \
@@ -62,14 +67,14 @@ fn unknown_word<'a>(path: &'a str, columns: &Columns) -> Option<&'a str> {
     })
 }
 
-/// Records `name` in `taken`; refuses it if an earlier line has the same, or one that differs only
-/// in case, which some systems ignore.
-pub(crate) fn take_name(
+/// Checks that `taken`, names in lower case, has neither `name` nor one that differs only in case,
+/// which some systems ignore.
+pub(crate) fn check_free(
     alloc: Global,
-    taken: &mut BTreeSet<String>,
+    taken: &BTreeSet<String>,
     name: &str,
 ) -> Result<(), Failure> {
-    if taken.insert(name.to_ascii_lowercase(alloc)?)? {
+    if !taken.contains(name.to_ascii_lowercase(alloc)?.as_str()) {
         return Ok(());
     }
     refused!(alloc;

@@ -6,7 +6,7 @@ ghost use Rattle.goqlanis_options.specs.Fields.{name_of};
 
 use goqlanis_files::failure::Failure;
 use goqlanis_files::refused;
-use goqlanis_options::fields::DECISIVE;
+use goqlanis_options::fields::{DECISIVE, OPEN};
 use goqlanis_options::options::fields::option_of;
 use qrcode_contents::fields::errors::Field;
 use qrcode_payloads::given::Given;
@@ -51,6 +51,26 @@ impl Columns {
         let mut names = self.names.iter();
         let place = names.position(|known| known.as_str().trim().eq_ignore_ascii_case(name))?;
         Some(place.saturating_add(1))
+    }
+
+    /// Returns the names with commas between.
+    ///
+    /// Errors: only `AllocError`.
+    pub(crate) fn list(&self, alloc: Global) -> Result<String, AllocError> {
+        let names = self.names.iter();
+        let names = names.map(|name| name.as_str()).collect::<Vec<&str>>(alloc)?;
+        names.join(alloc, ", ")
+    }
+
+    /// Returns the name of another delimiter, if there is only one name and it has one inside.
+    pub(crate) fn other_delimiter(&self) -> Option<&'static str> {
+        let [name] = self.names.as_slice() else {
+            return None;
+        };
+        let (_, shown) = [(';', ";"), ('\t', "tab"), ('|', "|"), (',', ",")]
+            .iter()
+            .find(|(sign, _)| name.as_str().contains(*sign))?;
+        Some(*shown)
     }
 
     /// Returns what messages call the option `name`: its column, if it has one.
@@ -127,10 +147,13 @@ impl Row {
         options: &G,
     ) -> Result<Row, Failure> {
         let mut pairs = Vec::new(alloc);
+        let is_open = is_open(alloc, columns, line)?;
         for field in fields_in(kind) {
             let name = option_of(*field).long;
             let text = match columns.number_of(name) {
-                Some(number) => decided(alloc, name, number, line.field(alloc, number)?)?,
+                Some(number) => {
+                    decided(alloc, name, number, line.field(alloc, number)?, is_open)?
+                }
                 None => options.text(*field),
             };
             let pair = (
@@ -143,19 +166,37 @@ impl Row {
     }
 }
 
-// Returns the text of a column; refuses an empty one if that changes what the payload means.
+// Returns the text of a column; refuses an empty one if that changes what the payload means. (An
+// open network has no password.)
 fn decided<'a>(
     alloc: Global,
     name: &str,
     number: usize,
     text: &'a str,
+    is_open: bool,
 ) -> Result<&'a str, Failure> {
-    if text.is_empty() && DECISIVE.contains(&name) {
-        return refused!(alloc;
-            "column {number}, {name}: it is empty; leave the column out for none"
-        );
+    let may_be_empty = !DECISIVE.contains(&name) || is_open && name == "password";
+    if text.is_empty() && !may_be_empty {
+        let help = if name == "password" {
+            "for an open network, write open in a column security"
+        } else {
+            "leave the column out for none"
+        };
+        return refused!(alloc; "column {number}, {name}: it is empty; {help}");
     }
     Ok(text)
+}
+
+// Whether a line says that its network is open.
+fn is_open(alloc: Global, columns: &Columns, line: &Line) -> Result<bool, Failure> {
+    let Some(number) = columns.number_of("security") else {
+        return Ok(false);
+    };
+    let security = line.field(alloc, number)?;
+    Ok(
+        OPEN.iter()
+            .any(|word| security.trim().eq_ignore_ascii_case(word)),
+    )
 }
 
 /// Returns the fields of `line`. As in CSV, a quoted field may contain the delimiter, and a
@@ -186,7 +227,7 @@ pub(crate) fn fields_of(
         }
     }
     if is_open {
-        return refused!(alloc; "a field has no quotation mark at its end");
+        return refused!(alloc; "a field has no quotation mark at its end; a field has no line breaks");
     }
     Ok(fields)
 }

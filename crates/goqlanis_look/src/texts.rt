@@ -7,7 +7,7 @@ use qrcode_scan::Scan;
 use std::alloc::{AllocError, Global};
 
 /// Returns the text of a code, if all of its segments are in UTF-8 or in sets that ECI headers name
-/// and `Charset` has.
+/// and `Charset` has; those in Kanji mode only in Shift JIS.
 ///
 /// Errors: only `AllocError`.
 pub(crate) fn text_of(alloc: Global, scan: &Scan) -> Result<Option<String>, AllocError> {
@@ -16,7 +16,7 @@ pub(crate) fn text_of(alloc: Global, scan: &Scan) -> Result<Option<String>, Allo
     let (mut set, mut start, mut end) = (Charset::Unmarked, 0, 0_usize);
     for part in &scan.parts {
         match *part {
-            Part::Bytes(Mode::Kanji, _) => return Ok(None),
+            Part::Bytes(Mode::Kanji, _) if set != Charset::ShiftJis => return Ok(None),
             Part::Bytes(_, count) => end = end.saturating_add(count),
             Part::Front(Header::Eci(number)) => {
                 let Some(next) = set_of(number) else {

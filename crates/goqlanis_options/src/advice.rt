@@ -1,7 +1,9 @@
 //! Advice on command lines that `clap` rejects, and help wrapped at 80 columns.
 
 use crate::nearest::nearest;
-use crate::options::{ADVICE, Entry, OTHER_NAMES, Purpose, Takes, Task, task_named, task_words};
+use crate::options::{
+    ADVICE, Entry, OTHER_NAMES, Purpose, TASKS, Takes, Task, task_named, task_words,
+};
 use clap::error::Error;
 use goqlanis_core::Grouped;
 use std::alloc::{AllocError, Global};
@@ -24,17 +26,26 @@ pub fn advice(
     if let Some(help) = letter_help(alloc, task, words, text)? {
         return Ok(Some(help));
     }
+    if let Some(help) = absent_help(alloc, task, words, text)? {
+        return Ok(Some(help));
+    }
     if let Some(value) = between(text, "invalid value '", "' for") {
         return value_help(alloc, task, text, value);
     }
     let Some(word) = between(text, "unexpected argument '", "' found") else {
         return Ok(None);
     };
+    if let Some(help) = dash_help(alloc, task, words, word)? {
+        return Ok(Some(help));
+    }
     if let Some(help) = known_help(alloc, task, word)? {
         return Ok(Some(help));
     }
     if let Some(help) = command_help(alloc, task, words)? {
         return Ok(Some(help));
+    }
+    if let Some(owner) = owner_of(alloc, word)?.filter(|_| task.word.is_empty()) {
+        return Ok(Some(format!(in alloc; "{word}: an option of goqlanis {owner}")?));
     }
     if let Some(name) = between(text, "a similar argument exists: '--", "'") {
         if !OTHER_NAMES.iter().any(|(hidden, _)| *hidden == name) {
@@ -72,6 +83,57 @@ fn letter_help(
             let name = field.long;
             return Ok(Some(format!(in alloc;
                 "{word}: fields have no short options; write --{name}"
+            )?));
+        }
+    }
+    Ok(None)
+}
+
+// Advice on a payload without the fields that it needs, and with a file instead of them.
+fn absent_help(
+    alloc: Global,
+    task: &Task,
+    words: &[String],
+    text: &str,
+) -> Result<Option<String>, AllocError> {
+    let has_file = words
+        .iter()
+        .any(|word| matches!(word.as_str(), "-i" | "--input"));
+    let is_absent = text.contains("required arguments were not provided");
+    if !(has_file && is_absent && matches!(task.purpose, Purpose::Content(_))) {
+        return Ok(None);
+    }
+    let name = task.word;
+    Ok(Some(format!(in alloc;
+        "--input goes with --lines, for a table with a code in each line: goqlanis {name} --lines \
+        --header -i FILE"
+    )?))
+}
+
+// Whether an option takes a text, other than a length.
+fn takes_any_text(takes: Takes) -> bool {
+    match takes {
+        Takes::Text(name) => !matches!(name, "SIZE" | "LENGTH" | "PIXELS"),
+        takes => matches!(takes, Takes::Wanted(_) | Takes::Texts(_)),
+    }
+}
+
+// Advice on a value that begins with a hyphen, which `clap` takes for an option.
+fn dash_help(
+    alloc: Global,
+    task: &Task,
+    words: &[String],
+    word: &str,
+) -> Result<Option<String>, AllocError> {
+    let options = task.all_options(alloc)?;
+    for (option, value) in words.iter().zip(words.iter().skip(1)) {
+        let (option, value) = (option.as_str(), value.as_str());
+        let takes_text = options.iter().any(|(_, entry)| {
+            option.strip_prefix("--") == Some(entry.long) && takes_any_text(entry.takes)
+        });
+        if takes_text && word.starts_with('-') && value.starts_with(word) {
+            return Ok(Some(format!(in alloc;
+                "{value}: if the value begins with -, write {option}={value}"
             )?));
         }
     }
@@ -213,8 +275,36 @@ fn other_help(
             "{word}: only one TEXT; put quotes around one with spaces, e.g. \"hello world\""
         ),
         Some((name, _)) => format!(in alloc; "{word}: only one {name} at a time"),
-        None => format!(in alloc; "{word}: goqlanis {name} takes only options; --help lists them"),
+        None => only_options_help(alloc, task, word),
     }
+}
+
+// Advice on a word without an option: the options that the payload needs.
+fn only_options_help(alloc: Global, task: &Task, word: &str) -> Result<String, AllocError> {
+    let name = task.word;
+    let mut text = format!(in alloc; "{word}: write it after an option: goqlanis {name}")?;
+    for entry in &task.own_options(alloc)? {
+        if let Takes::Wanted(value) = entry.takes {
+            let long = entry.long;
+            write!(text, " --{long} {value}")?;
+        }
+    }
+    text.push_str("; --help lists all")?;
+    Ok(text)
+}
+
+// Returns the first command that has an option.
+fn owner_of(alloc: Global, word: &str) -> Result<Option<&'static str>, AllocError> {
+    for task in TASKS {
+        let options = task.own_options(alloc)?;
+        if options
+            .iter()
+            .any(|entry| word.strip_prefix("--") == Some(entry.long))
+        {
+            return Ok(Some(task.word));
+        }
+    }
+    Ok(None)
 }
 
 // Whether a word is a negative number, maybe with a unit.

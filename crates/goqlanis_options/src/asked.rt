@@ -2,15 +2,15 @@
 
 use crate::charsets::Coded;
 use crate::colours::{check_colours, ink_of, part_colour, part_inks};
+use crate::conflicts::{check_conflicts, check_target, is_given};
 use crate::exams::{AskedDamage, AskedExam, damage_of, exam_of, position_of};
 use crate::fields::Fields;
 use crate::frames::{frame_of, place_of};
 use crate::logos::{AskedLogo, logo_of};
-use crate::options::{Purpose, Task, task_named};
+use crate::options::{Purpose, Task};
 use crate::sizes::{Sizes, sizes_of};
 use crate::warnings::warn;
 use clap::ArgMatches;
-use clap::parser::ValueSource;
 use goqlanis_core::{Choice, Request};
 use goqlanis_files::failure::{Doubts, Failure};
 use goqlanis_files::streams::has_colours;
@@ -169,8 +169,11 @@ pub fn asked_for<'a, 'w>(
             place: None,
         },
     };
-    if asked.input.lines.is_some() {
+    if asked.input.lines.is_some() && !is_dry {
         check_one_behind_another(alloc, &asked)?;
+    }
+    if asked.input.lines.is_none() && !matches!(task.purpose, Purpose::Several) {
+        check_target(alloc, &asked)?;
     }
     warn(rt, &asked)?;
     Ok(asked)
@@ -205,7 +208,7 @@ fn input_of<'a, 'w>(alloc: Global, given: &'a ArgMatches<'w>) -> Result<Input<'a
 // Returns how lines are taken, with `--lines`.
 fn lines_of<'a>(alloc: Global, given: &ArgMatches<'a>) -> Result<Option<Lines<'a>>, Failure> {
     if !given.get_flag("lines") {
-        for option in ["field", "columns", "header"] {
+        for option in ["field", "columns", "header", "delimiter"] {
             if is_given(given, option) {
                 return usage!(alloc; "--{option} needs --lines");
             }
@@ -213,7 +216,11 @@ fn lines_of<'a>(alloc: Global, given: &ArgMatches<'a>) -> Result<Option<Lines<'a
         return Ok(None);
     }
     let lines = Lines {
-        delimiter: given.get_str("delimiter").unwrap_or(","),
+        delimiter: match given.get_str("delimiter") {
+            None => ",",
+            Some("tab" | "\\t") => "\t",
+            Some(text) => text,
+        },
         field: given.get_str("field"),
         columns: given.get_str("columns"),
         has_header: given.get_flag("header"),
@@ -238,51 +245,6 @@ pub fn check_one_behind_another(alloc: Global, asked: &Asked<'_, '_>) -> Result<
         "pictures of this format cannot follow one another on standard output: add --output, e.g. \
         -o a.png, and files are numbered; text, zpl, tspl and escpos can"
     )
-}
-
-// Options that exclude each other, with the advice for each.
-#[rattlefmt::skip]
-static CONFLICTS: &[(&str, &[&str], &str)] = &[
-    ("--segment", &["TEXT", "--input"], "--segment gives the data"),
-    ("--segment", &["--trim", "--lines", "--bytes", "--eci", "--charset", "--boost"],
-        "use one of them"),
-    ("TEXT", &["--input"], "use one of them"),
-    ("ELEMENTS", &["--input"], "use one of them"),
-    ("--application", &["--lines"], "--lines is for GS1 element strings"),
-    ("--dry-run", &["--lines"], "try one line, without --lines"),
-    ("--bytes", &["--eci"], "use one of them"),
-    ("--charset", &["--bytes"], "bytes have no character set"),
-    ("--charset", &["--eci"], "--eci is --charset utf-8"),
-    ("--symbol-version", &["--min-version", "--max-version"], "use one of them"),
-    ("--symbol-version", &["--micro"], "M1 to M4 are Micro QR"),
-    ("--symbol-version", &["--boost"], "use --min-version instead"),
-    ("--min-version", &["--micro"], "--micro is --min-version M1"),
-    ("--scale", &["--size", "--module", "--no-size"], "use one of them"),
-    ("--size", &["--module", "--no-size"], "use one of them"),
-    ("--module", &["--no-size"], "use one of them"),
-];
-
-// Checks that no two options exclude each other.
-fn check_conflicts(alloc: Global, given: &ArgMatches<'_>) -> Result<(), Failure> {
-    for (one, others, help) in CONFLICTS {
-        let other = others.iter().find(|other| is_given(given, other));
-        if let Some(other) = other.filter(|_| is_given(given, one)) {
-            if let Some(task) = given.get_str("TEXT").and_then(task_named) {
-                let word = task.word;
-                return usage!(alloc;
-                    "{word}: the command comes first, before options: goqlanis {word} .."
-                );
-            }
-            return usage!(alloc; "{one} and {other} do not go together: {help}");
-        }
-    }
-    Ok(())
-}
-
-// Whether the command line gives an option or the positional argument. (An absent flag still has a
-// default value.)
-fn is_given(given: &ArgMatches<'_>, name: &str) -> bool {
-    given.value_source(name.trim_start_matches('-')) == Some(ValueSource::CommandLine)
 }
 
 // Returns the source of the data.
@@ -393,13 +355,14 @@ fn check_format(alloc: Global, given: &ArgMatches<'_>, format: Format) -> Result
     let part = part_colour(given).unwrap_or("");
     let is_svg = format == Format::SvgPath;
     let row = format.row();
-    let rows: [(&[&str], bool, &str); 8] = [
+    let rows: [(&[&str], bool, &str); 9] = [
         (&["dark", "light"], row.colours != Colours::Fixed,
             "only PNG, SVG, EPS, PDF and PPM have colours; add --format png, svg or eps"),
         (&[part], row.parts != Colours::Fixed,
             "only PNG, SVG, EPS and PDF have colours of parts; add --format png, svg, eps or pdf"),
+        (&["dpi"], !is_svg, "SVG has no resolution; leave it out: lengths are exact without it"),
         (&["dpi"], row.density != Density::Nothing,
-            "text, SVG and PIC have no resolution; use another --format, e.g. png"),
+            "text and PIC have no resolution; use another --format, e.g. png"),
         (&["invert"], format != Format::Pic,
             "PIC draws no light modules; use another --format"),
         (&["at"], row.has_place,

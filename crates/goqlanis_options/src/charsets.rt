@@ -31,10 +31,17 @@ pub fn eci_name(number: u32) -> Option<&'static str> {
     Some(*name)
 }
 
+// Other names of character sets, as Python and iconv have them.
+#[rattlefmt::skip]
+static OTHERS: &[(u32, &str)] = &[
+    (3, "latin1"), (3, "latin-1"), (20, "shift-jis"), (20, "sjis"), (21, "cp1250"), (22, "cp1251"),
+    (23, "cp1252"), (24, "cp1256"), (25, "utf16be"),
+];
+
 /// Returns the character set called `name`, such as `utf-8` or `iso-8859-5`, ignoring case.
 pub fn charset_named(name: &str) -> Option<Charset> {
-    for (number, known) in NAMES {
-        if is_called(name, known) {
+    for (number, known) in NAMES.iter().chain(OTHERS) {
+        if is_called(name, known) || name.eq_ignore_ascii_case(known) {
             if let Some(set) = Charset::numbered(*number) {
                 return Some(set);
             }

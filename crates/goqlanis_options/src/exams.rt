@@ -25,6 +25,8 @@ pub struct AskedDamage {
     pub format_bits: usize,
     /// Wrong bits in each copy of the version information.
     pub version_bits: usize,
+    /// Wrong modules of patterns.
+    pub pattern_modules: usize,
     pub seed: u64,
 }
 
@@ -48,6 +50,7 @@ pub fn damage_of(alloc: Global, given: &ArgMatches<'_>) -> Result<AskedDamage, F
         codewords: wrong_of(alloc, given.get_str("wrong-codewords").unwrap_or("most"))?,
         format_bits: given.get_one::<u8>("wrong-format").unwrap_or(0) as usize,
         version_bits: given.get_one::<u8>("wrong-version").unwrap_or(0) as usize,
+        pattern_modules: given.get_one::<u16>("wrong-patterns").unwrap_or(0) as usize,
         seed: seed_of(given),
     })
 }

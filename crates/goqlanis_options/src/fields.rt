@@ -32,6 +32,9 @@ impl Given for Fields<'_, '_> {
 /// kind of one-time password.
 pub const DECISIVE: &[&str] = &["password", "amount", "counter", "period"];
 
+/// Words for an open network, which has no password.
+pub const OPEN: &[&str] = &["open", "nopass", "none"];
+
 impl<'m, 'a> Fields<'m, 'a> {
     /// Returns the fields that the options give.
     pub(crate) fn of(given: &'m ArgMatches<'a>) -> Fields<'m, 'a>

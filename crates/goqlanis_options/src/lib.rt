@@ -7,6 +7,7 @@ pub mod charsets;
 pub mod colours;
 pub mod command;
 pub mod completions;
+mod conflicts;
 pub mod exams;
 pub mod fields;
 pub mod frames;

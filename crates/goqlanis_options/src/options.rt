@@ -34,7 +34,7 @@ mod tasks;
 pub use habits::{ADVICE, OTHER_NAMES, OTHER_WORDS};
 pub use parts::{PART_COLOURS, PartColour};
 use symbols::{
-    ABOUT, DATA, FILES, LEVELS, LINES, LOOKS, MARKS, MASKS, NORMAL_LEVELS, SEGMENTS, TEXTS,
+    ABOUT, DATA, FILES, LEVELS, LINES, LOOKS, MARKS, MASKS, NORMAL_LEVELS, SEGMENTS, TABLES, TEXTS,
 };
 pub use symbols::{DRAWING, EXAMPLES};
 pub use tasks::{TASKS, entry_of};
@@ -224,8 +224,10 @@ impl Task {
             Purpose::Draw | Purpose::Damage => ("Code", DATA, MARKS, LEVELS, TEXTS, SEGMENTS),
             Purpose::Exam => ("Code", NONE, NONE, NONE, NONE, NONE),
             Purpose::Several => ("Code", DATA, NONE, NORMAL_LEVELS, NONE, NONE),
-            Purpose::Content(_) if self.has_its_level() => ("Input", FILES, NONE, NONE, NONE, NONE),
-            Purpose::Content(_) => ("Input", FILES, MARKS, LEVELS, TEXTS, NONE),
+            Purpose::Content(_) if self.has_its_level() => (
+                "Input", TABLES, NONE, NONE, NONE, NONE,
+            ),
+            Purpose::Content(_) => ("Input", TABLES, MARKS, LEVELS, TEXTS, NONE),
             Purpose::Elements => ("Input", FILES, NONE, NORMAL_LEVELS, NONE, NONE),
             Purpose::Read | Purpose::Check | Purpose::Join => {
                 ("Output", NONE, NONE, NONE, NONE, NONE)

@@ -2,6 +2,9 @@
 
 use crate::asked::{Report, report_of};
 use clap::ArgMatches;
+use goqlanis_files::failure::Failure;
+use goqlanis_files::usage;
+use std::alloc::Global;
 
 /// Pictures to decode, and what to write of them.
 #[derive(Clone, Copy)]
@@ -19,12 +22,23 @@ pub struct Pictures<'a, 'w> {
 pub static STANDARD_INPUT: &[&str] = &["-"];
 
 /// Returns the pictures that the command line names.
-pub fn pictures_of<'a, 'w>(given: &'a ArgMatches<'w>) -> Pictures<'a, 'w> {
-    let names = given.get_strs("PICTURE");
-    Pictures {
+///
+/// Errors: `Usage` if the data would replace one of them; `OutOfMemory`.
+pub fn pictures_of<'a, 'w>(
+    alloc: Global,
+    given: &'a ArgMatches<'w>,
+) -> Result<Pictures<'a, 'w>, Failure> {
+    let (names, output) = (given.get_strs("PICTURE"), given.get_str("output"));
+    let both = output.filter(|path| {
+        *path != "-" && names.is_some_and(|names| names.iter().any(|name| name == path))
+    });
+    if let Some(path) = both {
+        return usage!(alloc; "--output {path}: this picture is read; name another file");
+    }
+    Ok(Pictures {
         names,
-        output: given.get_str("output"),
+        output,
         report: report_of(given),
         is_many: names.is_some_and(|names| names.len() > 1),
-    }
+    })
 }

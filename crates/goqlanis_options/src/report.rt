@@ -46,6 +46,8 @@ struct Report {
     coded: Option<Coded>,
     // The area reserved in the middle.
     area: Option<Rectangle>,
+    // The line that the code was made of, with `--lines`.
+    line: Option<usize>,
 }
 
 /// Reports on a code, with the area in its middle, if `--verbose`, `--json` or `--dry-run` asks for
@@ -97,6 +99,7 @@ fn report_of(asked: &Asked<'_, '_>, code: &QrCode, area: Option<Rectangle>) -> R
         is_length: request.length.is_some(),
         coded: asked.coded,
         area,
+        line: asked.doubts.place.map(|place| place.line),
     }
 }
 
@@ -119,8 +122,12 @@ fn text_of(alloc: Global, report: &Report, is_json: bool) -> Result<String, Allo
     let (version, level, mask) = (report.version, report.level, report.mask);
     let (modules, zone) = (report.modules, report.zone);
     let mut text = String::new(alloc);
+    text.push_str(if is_json { "{" } else { "" })?;
+    if let Some(line) = report.line {
+        push_either!(text, is_json; "\"line\": {line}, ", "line {line}: ")?;
+    }
     push_either!(text, is_json;
-        "{{\"version\": \"{version}\", \"level\": \"{level:?}\", \"mask\": {mask}, \
+        "\"version\": \"{version}\", \"level\": \"{level:?}\", \"mask\": {mask}, \
         \"modules\": {modules}, \"quiet_zone\": {zone}",
         "version {version}, level {level:?}, mask {mask}\nmodules: {modules} by {modules}; "
     )?;

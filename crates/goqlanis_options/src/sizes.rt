@@ -131,6 +131,11 @@ fn take_size(
     is_exact: bool,
     is_side: bool,
 ) -> Result<(), &'static str> {
+    let text = if is_side {
+        text.strip_suffix("px").unwrap_or(text)
+    } else {
+        text
+    };
     let length = parts_of(text);
     let pixels = match (length, sizes.dots) {
         (Some(parts), _) if is_exact => return take_length(sizes, parts, is_side),
@@ -138,8 +143,9 @@ fn take_size(
         (Some(_), None) => return Err(
             "lengths need --dpi, e.g. 300 for PNG or 203 for labels, or --format svg, eps or pdf",
         ),
-        (None, _) => match text.parse::<u16>() {
+        (None, _) => match text.trim().parse::<u16>() {
             Ok(pixels) if is_side && pixels > 0 => pixels,
+            _ if text.contains(',') => return Err("write a point, e.g. 3.5cm"),
             _ => return Err(size_help(is_exact, is_side)),
         },
     };
@@ -216,7 +222,7 @@ fn parts_of(text: &str) -> Option<u64> {
     let (number, unit) = text.get(..end).zip(text.get(end..))?;
     for (name, places, parts) in UNITS {
         if unit.eq_ignore_ascii_case(name) {
-            return Some(decimal(number, *places)?.saturating_mul(*parts));
+            return Some(decimal(number.trim(), *places)?.saturating_mul(*parts));
         }
     }
     None

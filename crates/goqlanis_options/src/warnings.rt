@@ -135,7 +135,7 @@ pub fn warn_of_sizes(
         if made.saturating_add(10) <= wanted {
             let (wanted, made) = (Decimal(wanted), Decimal(made));
             doubted!(rt, doubts;
-                "--size {wanted}mm comes out at {made} mm: {modules} modules of {scale} whole \
+                "a side of {wanted} mm comes out at {made} mm: {modules} modules of {scale} whole \
                 pixels"
             )?;
         }

@@ -101,6 +101,28 @@ def exam_is_turned(program):
     return True
 
 
+def patterns_are_wrong(program):
+    """As many modules of patterns are wrong as asked for, beside wrong codewords and bits. These
+    versions have no bits after the codewords."""
+    for words, count in (("-v 1 -l L", 203), ("-v 7 -l H", 20), ("-v 40 -l M", 1000), ("-v M1 -l L", 70),
+                         ("-v M4 -l Q", 1)):
+        squares = []
+        for more in ("0", f"1 --wrong-format 2 --wrong-patterns {count}"):
+            line = f"{words} --wrong-codewords {more} 0123".split()
+            made = run(program, ["damage", *SMALL, *line], "/").stdout
+            squares.append(bytes(sum(modules_of(made), [])))
+        bits = reading.read_bits(squares[0])
+        found = wrong_in(*squares, bits.version, bits.level, bits.mask)
+        if ({*found[0]}, {*found[1]}, {0, *found[2]}, found[3]) != ({1}, {2}, {0}, count):
+            return False
+    return True
+
+
+def _said_by(ran):
+    """What a program wrote to standard error."""
+    return ran.stderr.decode()
+
+
 def exam_is_passed(program):
     """goqlanis reads what it promises to; with other data, or nothing, for one picture it fails."""
     with empty() as folder:
@@ -109,9 +131,16 @@ def exam_is_passed(program):
         said = json.loads(run(program, ["read", "--json", *names], folder).stdout)
         held = {it["file"]: it["hex"] for it in said}
         first = answers[0]["name"]
+        for line, why in (("else.png\t00", "no picture of the exam"), (f"{first}\t0x", "is not hex")):
+            put(folder, "results", f"\n{line}\n".encode())
+            ran = run(program, ["exam", "--grade", "answers.jsonl", "results"], folder)
+            if ran.returncode != 1 or f"goqlanis: results: line 2: {line[:8]}" not in _said_by(ran) \
+                    or why not in _said_by(ran):
+                return False
         for change, status in (({}, 0), ({first: "00"}, 1), ({first: None}, 1)):
             results = {name: hex for name, hex in {**held, **change}.items() if hex is not None}
-            put(folder, "results", "".join(f"{it}\t{hex}\n" for it, hex in results.items()).encode())
+            lines = "".join(f"a/{it}\t{hex}\n" for it, hex in results.items())
+            put(folder, "results", lines.encode())
             ran = run(program, ["exam", "--grade", "answers.jsonl", "results"], folder)
             if ran.returncode != status or (first in ran.stdout.decode()) != bool(status):
                 return False

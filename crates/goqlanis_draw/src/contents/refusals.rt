@@ -44,7 +44,7 @@ fn what_is_wrong(kind: Kind, field: Field, cause: Cause) -> &'static str {
             "it may only have ASCII characters: write a for \u{e3}, c for \u{e7}",
         (_, Field::Reference, Cause::Unused) => "it does not go with this account",
         (Kind::Mail, Field::Email | Field::Cc | Field::Bcc, Cause::Character) =>
-            "an address has no @, or more than one",
+            "write addresses alone, without names or spaces, with commas between",
         (Kind::Promptpay, Field::Payee, Cause::Character) =>
             "it may only have digits, and a phone number begins with 0, without a country code",
         (Kind::Pix, Field::Payee, Cause::CheckDigits) =>
@@ -61,6 +61,7 @@ fn what_is_wrong(kind: Kind, field: Field, cause: Cause) -> &'static str {
             "it has no time zone: add that of the place and day, e.g. +02:00, or Z for UTC",
         (_, Field::Begin | Field::Stamp, Cause::Character) => "it is not written as a day or time",
         (_, Field::End, Cause::Character) => "it is not in the same form as --begin",
+        (_, Field::Hidden, Cause::Word) => "it is neither true nor false",
         _ => cause_text(cause),
     }
 }

@@ -16,15 +16,21 @@ pub static DRAWING: Task = Task {
 #[rattlefmt::skip]
 pub static DATA: &[Entry] = &[
     entry!("input", 'i', Path, "Encode the contents of a file"),
-    entry!("trim", Nothing, "Drop one trailing newline"),
+    entry!("trim", Nothing, "Drop one trailing newline (LF or CR LF)"),
     entry!("allow-empty", Nothing, "Accept empty input"),
     entry!("bytes", Nothing, "Encode raw bytes in the fewest bits; readers may show UTF-8 text wrongly"),
 ];
 
-/// Input options of tasks whose options give the data.
+/// The input option of GS1 element strings.
 #[rattlefmt::skip]
 pub static FILES: &[Entry] = &[
     entry!("input", 'i', Path, "Read the data of one code, or with --lines of many, from a file"),
+];
+
+/// The input option of payloads, whose fields options give.
+#[rattlefmt::skip]
+pub static TABLES: &[Entry] = &[
+    entry!("input", 'i', Path, "With --lines: read the lines from a file"),
 ];
 
 /// The option of segments.
@@ -43,10 +49,10 @@ pub static LINES: &[Entry] = &[
         four digits, {text} for the line, {1} for its first field; without them a number is added"),
     entry!("header", Nothing,
         "With --lines: the first line names the columns, e.g. ssid,password for wifi or 01,10 for \
-        gs1; {ssid} in --output is that field"),
+        gs1, and has no number; {ssid} in --output is that field"),
     entry!("columns", Text("NAMES"), "With --lines: names of the columns, if no line has them"),
     entry!("field", Text("FIELD"), "With --lines: encode only this field of each line, by number or name"),
-    entry!("delimiter", Text("TEXT"), "Separator of the fields in a line [default: ,]"),
+    entry!("delimiter", Text("TEXT"), "Separator of the fields in a line, e.g. ; or tab [default: ,]"),
 ];
 
 // The value of `--level`.
@@ -93,8 +99,9 @@ pub static TEXTS: &[Entry] = &[
 pub static MARKS: &[Entry] = &[
     entry!("eci", Nothing, "Mark the data as UTF-8 (ECI 26); helps if readers show it wrongly"),
     entry!("charset", Text("NAME"),
-        "Character set of the text, with its ECI: utf-8, iso-8859-1 to -16, windows-1250 to -1252 or \
-        -1256; shortest: that of the fewest bits, without windows [default: UTF-8 without ECI]"),
+        "Character set of the text, with its ECI: utf-8, utf-16be, shift-jis, iso-8859-1 to -16, \
+        windows-1250 to -1252 or -1256; shortest: that of the fewest bits, without utf-16be and \
+        windows [default: UTF-8 without ECI]"),
 ];
 
 /// The mask option.
@@ -119,8 +126,8 @@ pub static LOOKS: &[Entry] = &[
         "Pixels per module, 1 to 1,000; in SVG, EPS and PDF also e.g. 2.5 [default: 8; 1 in PIC, \
         half-blocks, terminal, text, ascii]"),
     entry!("size", Text("SIZE"),
-        "Maximum side in pixels, e.g. 300, or a length (30mm; cm, in, pt). SVG, EPS and PDF have \
-        exactly that size unless --dpi is given; other formats need --dpi"),
+        "Maximum side in pixels, e.g. 300, or a length (30mm; cm, in, pt). SVG, EPS and PDF without \
+        --dpi have exactly that length; other formats need --dpi"),
     entry!("module", Text("LENGTH"),
         "Side of a module, e.g. 0.5mm; exact in SVG, EPS and PDF without --dpi, else whole pixels"),
     entry!("dpi", Number("N", 1, 65535), "Pixels per inch, 1 to 65,535"),

@@ -54,6 +54,8 @@ pub static TASKS: &[Task] = &[
         entry!("wrong-version", Number("N", 0, 18),
             "Wrong bits in each copy of the version information, which versions 7 to 40 have \
             [default: 0]"),
+        entry!("wrong-patterns", Number("N", 0, 65535),
+            "Wrong modules of finder, timing and alignment patterns and separators [default: 0]"),
         entry!("seed", Number("N", 0, u64::MAX), "Which ones are wrong [default: 0]"),
         MIRROR, TURN),
     task!("exam", Purpose::Exam, "Make pictures of whole and damaged codes, with the right answers",

@@ -1,0 +1,74 @@
+//! Options that do not go together.
+
+use crate::asked::{Asked, Source, Target};
+use crate::options::task_named;
+use clap::ArgMatches;
+use clap::parser::ValueSource;
+use goqlanis_files::failure::Failure;
+use goqlanis_files::usage;
+use std::alloc::Global;
+
+// Options that exclude each other, with the advice for each.
+#[rattlefmt::skip]
+static CONFLICTS: &[(&str, &[&str], &str)] = &[
+    ("--segment", &["TEXT", "--input"], "--segment gives the data"),
+    ("--segment", &["--trim", "--lines", "--bytes", "--eci", "--charset", "--boost"],
+        "use one of them"),
+    ("TEXT", &["--input"], "use one of them"),
+    ("ELEMENTS", &["--input"], "use one of them"),
+    ("--application", &["--lines"], "--lines is for GS1 element strings"),
+    ("--bytes", &["--eci"], "use one of them"),
+    ("--charset", &["--bytes"], "bytes have no character set"),
+    ("--charset", &["--eci"], "--eci is --charset utf-8"),
+    ("--symbol-version", &["--min-version", "--max-version"], "use one of them"),
+    ("--symbol-version", &["--micro"], "M1 to M4 are Micro QR"),
+    ("--symbol-version", &["--boost"], "use --min-version instead"),
+    ("--min-version", &["--micro"], "--micro is --min-version M1"),
+    ("--scale", &["--size", "--module", "--no-size"], "use one of them"),
+    ("--size", &["--module", "--no-size"], "use one of them"),
+    ("--module", &["--no-size"], "use one of them"),
+];
+
+/// Checks that no two options exclude each other.
+///
+/// Errors: `Usage` for the first two that do; `OutOfMemory`.
+pub(crate) fn check_conflicts(alloc: Global, given: &ArgMatches<'_>) -> Result<(), Failure> {
+    for (one, others, help) in CONFLICTS {
+        let other = others.iter().find(|other| is_given(given, other));
+        if let Some(other) = other.filter(|_| is_given(given, one)) {
+            if let Some(task) = given.get_str("TEXT").and_then(task_named) {
+                let word = task.word;
+                return usage!(alloc;
+                    "{word}: the command comes first, before options: goqlanis {word} .."
+                );
+            }
+            return usage!(alloc; "{one} and {other} do not go together: {help}");
+        }
+    }
+    Ok(())
+}
+
+/// Whether the command line gives an option or the positional argument. (An absent flag still has a
+/// default value.)
+pub(crate) fn is_given(given: &ArgMatches<'_>, name: &str) -> bool {
+    given.value_source(name.trim_start_matches('-')) == Some(ValueSource::CommandLine)
+}
+
+/// Checks that the drawing does not replace a file that is read. (Numbered files never do.)
+///
+/// Errors: `Usage` if it does; `OutOfMemory`.
+pub(crate) fn check_target(alloc: Global, asked: &Asked<'_, '_>) -> Result<(), Failure> {
+    let Target::File(path) = asked.target else {
+        return Ok(());
+    };
+    let input = match asked.input.source {
+        Source::File(path) => Some(path),
+        _ => None,
+    };
+    for (option, file) in [("input", input), ("logo", asked.logo_file)] {
+        if file == Some(path) {
+            return usage!(alloc; "--output {path}: --{option} reads this file; name another");
+        }
+    }
+    Ok(())
+}
