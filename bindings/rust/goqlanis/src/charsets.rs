@@ -105,7 +105,7 @@ impl QrCode {
         options: &Options,
     ) -> Result<(Self, Charset), CharsetError> {
         let (sets, asked) = (set.number(), options.given());
-        let sets = sets.as_slice();
+        let sets: Vec<u32> = sets.into_iter().collect();
         let (mut chosen, mut place, mut answer) = (0, usize::MAX, sys::GOQ_OK);
         let made = Self::made(|modules, known| {
             let (out, room) = (modules.as_mut_ptr(), modules.len());
