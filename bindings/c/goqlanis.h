@@ -698,10 +698,10 @@ goq_answer goq_encode_with(const void *data, size_t data_length, const goq_optio
     uint8_t *modules, size_t modules_length, goq_symbol *symbol);
 
 /* Encodes UTF-8 text in one of some character sets, in the smallest version that any of them
-   allows, and there in the fewest bits. `designators` are those of the sets; without them UTF-8 and
-   ISO 8859 are tried. `options` are those of goq_encode_with; `manner` has no effect. `modules` and
-   `symbol` are written as by goq_encode, and the set goes to `designator`. Readers that follow ECI,
-   and assume UTF-8 without it, show exactly the text. Errors: GOQ_NO_SUCH_STRUCT,
+   allows, and there in the fewest bits. `designators` are those of the sets; without them UTF-8,
+   ISO 8859 and Shift JIS are tried. `options` are those of goq_encode_with; `manner` has no effect.
+   `modules` and `symbol` are written as by goq_encode, and the set goes to `designator`. Readers that
+   follow ECI, and assume UTF-8 without it, show exactly the text. Errors: GOQ_NO_SUCH_STRUCT,
    GOQ_NO_SUCH_LEVEL, GOQ_NO_SUCH_VERSION, GOQ_NO_SUCH_MANNER; GOQ_NO_SUCH_SET with the index of the
    designator in `place`; GOQ_NOT_TEXT; GOQ_NO_ROOM for more than 1,048,576 bytes; if each set lacks
    a character, GOQ_NOT_IN_SET with the place of the first one that the first set lacks, counted in

@@ -22,7 +22,7 @@ export function memoryBytes(): number;
 export type Level = "L" | "M" | "Q" | "H";
 /** A version: 1 to 40, or "M1" to "M4" for Micro QR. */
 export type Version = number | string;
-/** A character set: "utf-8" or a part of ISO 8859. */
+/** A character set of a text. */
 export type Charset = "iso-8859-1" | "iso-8859-2" | "iso-8859-3" | "iso-8859-4" | "iso-8859-5" |
     "iso-8859-6" | "iso-8859-7" | "iso-8859-8" | "iso-8859-9" | "iso-8859-10" | "iso-8859-11" |
     "iso-8859-13" | "iso-8859-14" | "iso-8859-15" | "iso-8859-16" | "shift-jis" | "windows-1250" |

@@ -10,7 +10,7 @@ macro_rules! charsets {
         #[derive(Clone, Copy, Debug, PartialEq, Eq)]
         #[non_exhaustive]
         pub enum Charset {
-            /// UTF-8 or the part of ISO 8859 in which the text takes the fewest bits.
+            /// The one of UTF-8, ISO 8859 and Shift JIS in which the text takes the fewest bits.
             Shortest,
             $(#[doc = $about] $name,)+
         }
