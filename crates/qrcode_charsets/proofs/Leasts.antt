@@ -81,18 +81,6 @@ no_cut c v text bytes written none used laid =
     let same = written_one_way c text bytes laid.bytes written laid.written in
     none laid.segments (subst (λ b. IsCutIn (modes_of c) v (cut_bytes c b) laid.segments) same laid.cut)
 
--- bytes of the text, cut
-pub measured_from : (c : Charset) (v : Version) (text bytes : List ℕ) (m : Measured) → IsTrue (has_front v c) → IsWritten c text bytes → IsCutOf c v bytes m → (m.set ≡ c) × IsMeasured v text m
-measured_from c v text bytes m has written cut = (
-  cut.set,
-  record {
-    front_exists = subst (λ d. IsTrue (has_front v d)) (sym cut.set) has;
-    written = subst (IsWritten m.set text) (sym cut.bytes) (subst (λ d. IsWritten d text bytes) (sym cut.set) written);
-    best = cut.best;
-    length = cut.length;
-  },
-)
-
 -- ---- bits, set by set
 abbrev pub IsLeastOf : List Charset → Version → List ℕ → ℕ → Option Measured → Type 0
 IsLeastOf sets v text count found = MatchOption found (NoneLaid sets v text count) (IsLeastLaid sets v text count)

@@ -109,9 +109,6 @@ length-front c m = omega (arith, ap length (front_is c m), length-append (number
 pub front_some : (c : Charset) (n : ℕ) → Some n ≡ designator c → front c ≡ number_bits 4 7 ++ eci_bits n
 front_some c n e = ap designator_bits (sym e)
 
-pub front_none : (c : Charset) → None ≡ designator c → front c ≡ []
-front_none c e = ap designator_bits (sym e)
-
 pub length_some : (c : Charset) (n : ℕ) → Some n ≡ designator c → 12 ≡ length (front c)
 length_some Unmarked n e = cc
 length_some Utf8 n e = sym (length-front Utf8 (record { number = 26; is = refl; small = omega arith; normal = λ v. refl }))

@@ -32,9 +32,6 @@ pub ahead_all : (v : Version) → ahead_of v 0 ≡ length (pattern_places v)
 unfolding pattern_places
 ahead_all v = let all : side v * side v - 0 ≡ side v * side v = omega arith in ap (λ n. length (among v 0 n)) all
 
-pub ahead_none : (v : Version) (i : ℕ) → i ≡ side v * side v → ahead_of v i ≡ 0
-ahead_none v i end = let none : side v * side v - i ≡ 0 = omega (arith, end) in ap (λ n. length (among v i n)) none
-
 pub bit_as_number : (b : Bool) → bool_byte b ≡ cond b 1 0
 bit_as_number true = refl
 bit_as_number false = refl
