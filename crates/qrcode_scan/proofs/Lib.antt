@@ -11,6 +11,7 @@ mod Read
 mod Sampled
 mod Seen
 mod ShownSquares
+mod Split
 mod Tried
 mod WholeCodes
 mod WhyUnread

@@ -6,6 +6,7 @@ pub mod Halves
 pub mod HandedOn
 pub mod Heads
 pub mod Scans
+pub mod Several
 pub mod Shades
 pub mod Squares
 pub mod Wholes

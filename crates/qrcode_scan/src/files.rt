@@ -30,9 +30,9 @@ pub fn pixels_of(alloc: Global, bytes: &[u8]) -> Result<Pixels, Unscanned>
     }
 }
 
-// Reads the width and height in a header; returns what follows too. `None` if one of them is 0 or
-// above 65,535.
-fn sides(file: &[u8]) -> Option<(usize, usize, &[u8])>
+/// Reads the width and height in a header; returns what follows too. `None` if one of them is 0 or
+/// above 65,535.
+pub(crate) fn sides(file: &[u8]) -> Option<(usize, usize, &[u8])>
     requires { 2 ≤ length file.now }
     ensures value { IfSome result (λ head. (head.0, head.1, head.2.now) ≡ sides_of file.now) }
     ensures at_most { IfSome result (λ head. (head.0 ≤ 65535) × (head.1 ≤ 65535)) }
@@ -47,8 +47,8 @@ fn sides(file: &[u8]) -> Option<(usize, usize, &[u8])>
     Some((across, down, rest))
 }
 
-// Skips the white space at the end of a header; `None` if another byte is there.
-fn raster(rest: &[u8]) -> Option<&[u8]>
+/// Skips the white space at the end of a header; `None` if another byte is there.
+pub(crate) fn raster(rest: &[u8]) -> Option<&[u8]>
     ensures value { IfSome result (λ bytes. bytes.now ≡ drop 1 rest.now) }
     ensures ended { IfSome result (λ _. is_ended rest.now ≡ true) }
     ensures none { IfNone result (is_ended rest.now ≡ false) }
@@ -161,8 +161,8 @@ fn is_plain(byte: u8) -> bool
     is_figure(byte) || is_white(byte)
 }
 
-// Whether a byte is 0 or 1.
-fn is_figure(byte: u8) -> bool
+/// Whether a byte is 0 or 1.
+pub(crate) fn is_figure(byte: u8) -> bool
     ensures { result ≡ (byte == 48 || byte == 49) }
 {
     matches!(byte, b'0' | b'1')

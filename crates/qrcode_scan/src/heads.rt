@@ -5,16 +5,16 @@ ghost use Rattle.qrcode_scan.specs.Heads.{is_white, after_space, digits_from};
 
 use crate::pixels::GREATEST_SIDE;
 
-// Whether a byte is white space.
+/// Whether a byte is white space.
 pub(crate) fn is_white(byte: u8) -> bool
     ensures { result ≡ is_white byte }
 {
     matches!(byte, b' ' | b'\t'..=b'\r')
 }
 
-// Skips white space and comments.
+/// Skips white space and comments.
 #[tactic(auto, unfolding(crate::specs::Heads::after_space))]
-fn after_space(bytes: &[u8]) -> &[u8]
+pub(crate) fn after_space(bytes: &[u8]) -> &[u8]
     ensures { result.now ≡ after_space false bytes.now }
 {
     let mut rest = bytes;

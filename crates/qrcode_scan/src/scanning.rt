@@ -86,13 +86,14 @@ impl fmt::Display for Unread {
 }
 
 // What helps if no code is found.
-const FLAT: &str = "codes must be flat and sharp, but zbarimg reads photographs";
+const FLAT: &str = "codes must be flat and sharp; for photographs, try zbarimg or ZXingReader";
 
 // Says why there are no pixels.
 fn cause_text(cause: Unscanned) -> &'static str {
     match cause {
         Unscanned::NotPicture =>
-            "it is neither a PNG, PBM or PGM file nor half blocks; convert it to PNG",
+            "it is neither a PNG, PBM or PGM file nor half blocks; convert it to PNG, a PDF by \
+            pdftoppm -png",
         Unscanned::NoSide =>
             "it has no pixels, or too many: at most 65,535 a side, 4,096 in half blocks",
         Unscanned::NoGrey => "its maximum grey must be 1 to 255; convert it to PNG",
