@@ -801,23 +801,31 @@ goq_answer goq_decode(const void *bytes, size_t bytes_length, uint32_t designato
    Micro 0 to 3. Errors: GOQ_NO_SUCH_SIDE, GOQ_NO_FORMAT; GOQ_OUT_OF_MEMORY. */
 goq_answer goq_mask(const uint8_t *modules, size_t modules_length, uint32_t *mask);
 
-/* Decodes the codes in a picture: a PNG, PBM or PGM file, or half blocks. It shows one code in an
-   even margin, or several that are found by their finder patterns; these come from top to bottom,
-   and from left to right if side by side. `codes` gets one item per code. The headers and segments
-   of all codes go to `parts`, their bytes to `bytes`, code after code, each from the start of the
-   buffer, and the numbers of codes, parts and bytes to `scan`; only scan->size is read. Per code,
-   GOQ_PARTS_MAX parts and GOQ_BYTES_MAX bytes are enough. After FNC1, a separator between elements
-   is byte 29. Errors: GOQ_NO_SUCH_STRUCT, GOQ_LARGE_PICTURE, GOQ_NOT_PICTURE, GOQ_BROKEN_PICTURE,
-   GOQ_NO_SQUARE; if a square was found but no code decodes, GOQ_NO_SUCH_SIDE, GOQ_NO_FORMAT,
-   GOQ_DAMAGED, GOQ_NOT_SPELLED; GOQ_SMALL_BUFFER; GOQ_OUT_OF_MEMORY. */
+/* Returns how many bytes of a file its first picture takes, with the white space and comments
+   behind it. PBM and PGM files may have several pictures, one after another: what follows these
+   bytes is the next one. All other files have one, which takes all bytes; so does a picture that is
+   cut off or wrong. The result is 0 only if `file_length` is. */
+size_t goq_picture_length(const void *file, size_t file_length);
+
+/* Decodes the codes in a picture: a PNG, PBM or PGM file, or half blocks. Of a file with several
+   pictures it reads the first; goq_picture_length says where the next one begins. A picture shows
+   one code in an even margin, or several that are found by their finder patterns; these come from
+   top to bottom, and from left to right if side by side. `codes` gets one item per code. The
+   headers and segments of all codes go to `parts`, their bytes to `bytes`, code after code, each
+   from the start of the buffer, and the numbers of codes, parts and bytes to `scan`; only
+   scan->size is read. Per code, GOQ_PARTS_MAX parts and GOQ_BYTES_MAX bytes are enough. After FNC1,
+   a separator between elements is byte 29. Errors: GOQ_NO_SUCH_STRUCT, GOQ_LARGE_PICTURE,
+   GOQ_NOT_PICTURE, GOQ_BROKEN_PICTURE, GOQ_NO_SQUARE; if a square was found but no code decodes,
+   GOQ_NO_SUCH_SIDE, GOQ_NO_FORMAT, GOQ_DAMAGED, GOQ_NOT_SPELLED; GOQ_SMALL_BUFFER;
+   GOQ_OUT_OF_MEMORY. */
 goq_answer goq_read_picture(const void *picture, size_t picture_length, goq_code *codes,
     size_t codes_length, goq_part *parts, size_t parts_length, void *bytes, size_t bytes_length,
     goq_scan *scan);
 
-/* Tells which squares in a picture look like codes but do not decode, and have no pixel of a code
-   that does. `missed` gets one item per square, and `count` their number. Errors:
-   GOQ_LARGE_PICTURE, GOQ_NOT_PICTURE, GOQ_BROKEN_PICTURE, GOQ_NO_SQUARE; if no code decodes,
-   GOQ_NO_SUCH_SIDE, GOQ_NO_FORMAT, GOQ_DAMAGED, GOQ_NOT_SPELLED; GOQ_SMALL_BUFFER;
+/* Tells which squares in a picture, given as to goq_read_picture, look like codes but do not
+   decode, and have no pixel of a code that does. `missed` gets one item per square, and `count`
+   their number. Errors: GOQ_LARGE_PICTURE, GOQ_NOT_PICTURE, GOQ_BROKEN_PICTURE, GOQ_NO_SQUARE; if
+   no code decodes, GOQ_NO_SUCH_SIDE, GOQ_NO_FORMAT, GOQ_DAMAGED, GOQ_NOT_SPELLED; GOQ_SMALL_BUFFER;
    GOQ_OUT_OF_MEMORY. */
 goq_answer goq_missed(const void *picture, size_t picture_length, goq_missed_code *missed,
     size_t missed_length, size_t *count);

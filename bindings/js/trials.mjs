@@ -113,6 +113,7 @@ const REFUSED = [
     [(it) => it.gs1([["20", "123"]]), "WrongLength", "it needs 2"],
     [(it) => it.read("text"), "NotPicture", "convert it to PNG"],
     [(it) => it.read(7), "TypeError", "ImageData"],
+    [(it) => it.read("P1 1 1 0\nP1 1 1 0"), "NoSquare", "picture 1: "],
     [(it) => it.readSquare([[1, 0], [1]]), "NoSuchSide", "not all of them"],
     [(it) => it.join([one]), "NotJoined", "square 1 has no structured append header"],
 ];

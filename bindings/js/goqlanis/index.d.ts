@@ -242,7 +242,8 @@ export interface Found extends AnyReading { parts: Part[]; text: string | null }
 export type Picture = Data | { width: number; height: number; data: Uint8ClampedArray };
 /** A code, rows of modules, or a byte for each module; without a quiet zone. */
 export type Square = QrCode | Iterable<Iterable<boolean | number>> | Exclude<Data, string>;
-/** Returns the codes in a picture. Throws NotPicture, BrokenPicture, NoSquare or another cause. */
+/** Returns the codes in a picture, or in all pictures of a PBM or PGM file, in order. Throws
+    NotPicture, BrokenPicture, NoSquare or another cause. */
 export function read(picture: Picture): Found[];
 /** A square that looks like a code but does not decode: modules per side, the pixels of its upper
     left corner, and why. */

@@ -4,7 +4,7 @@ import * as checks from "./checks.mjs";
 import { QrCode } from "./code.mjs";
 import { KINDS } from "./encoding.mjs";
 import { QrError, refusal, refuse } from "./errors.mjs";
-import { answer, nameOf, within } from "./memory.mjs";
+import { answer, nameOf, number, within } from "./memory.mjs";
 import { BLOCKS_MAX, BYTES_MAX, ECI, FNC1_FIRST, FNC1_SECOND, ONE_OF_SEVERAL, PARTS_MAX, POSITIONS,
     SEVERAL_MAX, SHIFT_JIS } from "./numbers.mjs";
 import { LEVELS, shown, versionName } from "./checks.mjs";
@@ -17,7 +17,7 @@ const JOINS = { NOT_SEVERAL: "square # has no structured append header",
     TWICE: "part # is there twice",
     PARITY: "the codes do not belong together: the parity of their data is wrong" };
 
-/** Returns the codes in a picture. */
+/** Returns the codes in a picture, or in all pictures of a file. */
 export function read(picture) {
     return withCodes(picture, (buffers, file, most) => {
         const codes = buffers.many("goq_code", most);
@@ -51,18 +51,40 @@ export function missed(picture) {
     });
 }
 
-/** Calls `ask` with room for more and more codes until there is enough. */
+/** Returns all that `ask` finds in a picture, or in all pictures of a file. */
 function withCodes(picture, ask) {
-    const file = fileOf(picture);
+    const pictures = picturesOf(fileOf(picture));
+    const of = (at) => (pictures.length < 2 ? "" : `picture ${at + 1}: `);
+    return pictures.flatMap((it, at) => inPicture(it, of(at), ask));
+}
+
+/** Returns the pictures in a file: PBM and PGM files may have several. */
+function picturesOf(file) {
+    return within((buffers) => {
+        const place = buffers.bytes(file), found = [];
+        let at = 0;
+        do {
+            const own = Number(number("goq_picture_length", place + at, file.length - at));
+            found.push(file.subarray(at, at + own));
+            at += own;
+        } while (file[at] === 0x50 && [0x31, 0x34, 0x35].includes(file[at + 1])); /* P1, P4, P5 */
+        if (at < file.length)
+            console.warn("the file has data after its picture, which is ignored");
+        return found;
+    });
+}
+
+/** Calls `ask` with room for more and more codes until there is enough; `of` begins messages. */
+function inPicture(picture, of, ask) {
     for (let most = 2; ; most *= 8) {
         const found = within((buffers) => {
-            const [said, make] = ask(buffers, [buffers.bytes(file), file.length], most);
+            const [said, make] = ask(buffers, [buffers.bytes(picture), picture.length], most);
             if (said === "SMALL_BUFFER")
                 return null;
             if (said === "NO_SUCH_SIDE")
                 throw refusal(said,
-                    "the picture shows no code: what it shows is not the size of a code");
-            refuse(said);
+                    "the picture shows no code: what it shows is not the size of a code", of);
+            refuse(said, of);
             return make();
         });
         if (found !== null)

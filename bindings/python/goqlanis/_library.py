@@ -43,6 +43,7 @@ _CALLS: Dict[str, List[Any]] = {
     "goq_read_any": [*_IN, *_OUT, _to(AnyRead)],
     "goq_read_text": [*_IN, *_OUT, _to(Read)],
     "goq_decode": [*_IN, _number, *_OUT, _COUNT],
+    "goq_picture_length": [_place, _size],
     "goq_read_picture": [*_IN, _to(Code), _size, _to(Part), _size, *_OUT, _to(Scan)],
     "goq_missed": [*_IN, _to(MissedCode), _size, _COUNT],
     "goq_check": [*_IN, _to(Checked), _size, _COUNT, _size, _to(Checks)],
@@ -76,6 +77,7 @@ def _load() -> ctypes.CDLL:
         call = getattr(loaded, name)
         call.argtypes, call.restype = arguments, _number
     loaded.goq_is_functional.restype = ctypes.c_bool
+    loaded.goq_picture_length.restype = _size
     return loaded
 
 

@@ -8,7 +8,7 @@ from ._checks import LEVELS, version_name
 from ._library import Checked, Checks, library
 from ._numbers import BLOCKS_MAX
 from .errors import refuse
-from .reading import PICTURES, Modules, Picture, _file_of, _modules_of, _refuse_picture
+from .reading import PICTURES, Modules, Picture, _file_of, _modules_of, _pictures, _refuse_picture
 
 LINES = """\
 version {0.version}, level {0.level}, mask {0.mask}
@@ -108,14 +108,14 @@ def check(picture: Union[Picture, Modules, Any]) -> Union[List[Check], Check]:
     """
     file = _file_of(picture)
     if file is not None:
-        return list(_checks(file))
+        return [found for it in _pictures(file) for found in _checks(*it)]
     modules, known = _modules_of(picture, PICTURES), Checked()
     wrong = (ctypes.c_size_t * BLOCKS_MAX)()
     refuse(library.goq_check_square(modules, len(modules), wrong, len(wrong), ctypes.byref(known)))
     return _check(known, wrong[:known.blocks])
 
 
-def _checks(picture: bytes) -> Iterator[Check]:
+def _checks(picture: bytes, of: str) -> Iterator[Check]:
     """Yields the checks of a picture; makes room for more of them until there is enough."""
     count, answer = 4, goq.SMALL_BUFFER
     while answer == goq.SMALL_BUFFER:
@@ -124,7 +124,7 @@ def _checks(picture: bytes) -> Iterator[Check]:
         answer = library.goq_check(picture, len(picture), checks, len(checks), wrong, len(wrong),
                                    ctypes.byref(counts))
         count *= 8
-    _refuse_picture(answer)
+    _refuse_picture(answer, of)
     numbers = iter(wrong)
     for known in checks[:counts.codes]:
         yield _check(known, list(islice(numbers, known.blocks)))

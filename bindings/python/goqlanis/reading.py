@@ -5,6 +5,7 @@ import io
 import operator
 import os
 import struct
+import warnings
 import zlib
 from typing import (Any, IO, Iterable, Iterator, List, NamedTuple, Optional, Sequence, Tuple, Union,
                     overload)
@@ -24,8 +25,10 @@ HEADED = ("the data begins with a header, of structured append, GS1 or a charact
           "UTF-8: join reads the first; read(code.png()) reads the others")
 # Answers after which another call may read the square, unless there is such a header.
 OTHERS = {goq.NOT_SPELLED: library.goq_read_text, goq.NOT_SHOWN: library.goq_read}
-# The most bytes of a picture that the library reads, and what else `read` takes.
+# The most bytes of a picture that the library reads, how each of several pictures in a file begins,
+# and what else `read` takes.
 MOST_PICTURE = 67_108_864
+ONE_OF_MANY = b"P1", b"P4", b"P5"
 PICTURES = "rows of modules, a Symbol, or a picture: a path, bytes or an open file"
 # The colour types of PNG, by how many numbers a pixel has.
 COLOUR_TYPES = {(1,): 0, (3,): 2, (4,): 6}
@@ -158,10 +161,11 @@ def read(picture: Union[Picture, Modules, Any]) -> Union[List[Code], Reading]:
     A picture is a path, the bytes of a file, an open file or a Pillow image: PNG, PBM, PGM or half
     blocks; or an array of pixels, as of numpy: rows, columns and 1, 3 or 4 numbers of uint8. Its
     codes are listed from top to bottom, and from left to right if they are side by
-    side. For a symbol, or for rows of modules without a quiet zone, each True or 1 if it is dark,
+    side. A PBM or PGM file may have several pictures, which are read in order. For a symbol, or for rows of modules without a quiet zone, each True or 1 if it is dark,
     the result is a single `Reading`.
 
-    Raises a subclass of Unread if nothing can be read, and OSError if a file cannot be opened.
+    Raises a subclass of Unread if a picture has nothing that can be read, and OSError if a file
+    cannot be opened.
 
     >>> encode("https://example.org").save("a.png", scale=4)
     >>> [(code.text, code.version, code.level) for code in read("a.png")]
@@ -183,7 +187,7 @@ Part(kind='byte', number=None, place=None, symbols=None, length=2))
     """
     file = _file_of(picture)
     if file is not None:
-        return list(_codes(file))
+        return [code for it in _pictures(file) for code in _codes(*it)]
     modules, out, found = _modules_of(picture, PICTURES), _bytes(), Read()
     _refuse(library.goq_read(modules, len(modules), out, len(out), ctypes.byref(found)), modules)
     return _reading(out, found)
@@ -202,7 +206,7 @@ def missed(picture: Picture) -> List[Missed]:
     """Returns the squares in a picture that look like codes but do not decode, next to those that
     `read` returns.
 
-    Raises a subclass of Unread if no code decodes.
+    Raises a subclass of Unread if no code of a picture decodes.
 
     >>> missed(encode("01234567").png())
     []
@@ -210,16 +214,37 @@ def missed(picture: Picture) -> List[Missed]:
     file = _file_of(picture)
     if file is None:
         raise TypeError(f"missed takes {PICTURES.partition(', or ')[2]}")
+    return [square for it in _pictures(file) for square in _missed(*it)]
+
+
+def _pictures(file: bytes, of: str = "") -> List[Tuple[bytes, str]]:
+    """Returns the pictures in a file, each with what messages on it begin with."""
+    if len(file) > MOST_PICTURE:
+        raise refusal(goq.LARGE_PICTURE, of=of)
+    start, ends = ctypes.cast(file, ctypes.c_void_p).value or 0, [0]
+    while ends == [0] or file.startswith(ONE_OF_MANY, ends[-1]):
+        at = ends[-1]
+        ends.append(at + library.goq_picture_length(start + at, len(file) - at))
+    if ends[-1] < len(file):
+        warnings.warn(f"{of}the file has data after its picture, which is ignored", stacklevel=3)
+    if len(ends) == 2:
+        return [(file[:ends[1]], of)]
+    return [(file[at:end], f"{of}picture {number}: ")
+            for number, (at, end) in enumerate(zip(ends, ends[1:]), 1)]
+
+
+def _missed(picture: bytes, of: str) -> List[Missed]:
+    """Returns the squares in one picture; makes room for more of them until there is enough."""
     room, count, answer = 4, ctypes.c_size_t(), goq.SMALL_BUFFER
     while answer == goq.SMALL_BUFFER:
         found = (MissedCode * room)()
-        answer = library.goq_missed(file, len(file), found, room, ctypes.byref(count))
+        answer = library.goq_missed(picture, len(picture), found, room, ctypes.byref(count))
         room *= 8
-    _refuse_picture(answer)
+    _refuse_picture(answer, of)
     return [Missed(it.width, it.left, it.top, refusal(it.why)) for it in found[:count.value]]
 
 
-def _codes(picture: bytes, of: str = "") -> Iterator[Code]:
+def _codes(picture: bytes, of: str) -> Iterator[Code]:
     """Yields the codes of a picture; makes room for more of them until there is enough."""
     count, answer = 4, goq.SMALL_BUFFER
     while answer == goq.SMALL_BUFFER:
@@ -358,8 +383,9 @@ def join(squares: Iterable[Union[Modules, Picture]]) -> bytes:
     found = _checks.listed("squares", squares, "symbols, squares or pictures")
     files = [_file_of(it) for it in found]
     if any(file is not None for file in files):
-        return _joined([code for at, (it, file) in enumerate(zip(found, files)) for code in
-                        _codes(_symbol(it).png() if file is None else file, f"square {at + 1}: ")])
+        pictures = [_pictures(_symbol(it).png() if file is None else file, f"square {at + 1}: ")
+                    for at, (it, file) in enumerate(zip(found, files))]
+        return _joined([code for own in pictures for it in own for code in _codes(*it)])
     given = list(map(_modules_of, found))
     rows = (Square * len(given))(*(Square(it, len(it)) for it in given))
     out, count, place = _bytes(SEVERAL_MAX), ctypes.c_size_t(), ctypes.c_size_t()

@@ -1,6 +1,7 @@
 //! Calls that decode squares of modules and pictures.
 
-ghost use Rattle.std.specs.Prelude.{◌≡◌, ◌≢◌, length, IsSomeAnd};
+ghost use Rattle.std.specs.Prelude.{◌≡◌, ◌≢◌, ◌≤◌, drop, length, IsSomeAnd};
+ghost use Rattle.qrcode_scan.specs.Several.{IsBehind};
 ghost use Rattle.goqlanis_buffers.specs.Answers.{refusal_of};
 ghost use Rattle.goqlanis_buffers.specs.Scanning.{IsScanCause, IsScanned};
 ghost use Rattle.goqlanis_buffers.specs.Calls.{IsReported, TellsMask, WritesAnyReading, WritesReading, WritesTextReading};
@@ -14,6 +15,7 @@ use goqlanis_buffers::reading::{
     AnyReading, Reading, mask_of, read_any_into, read_into, read_text_into,
 };
 use goqlanis_buffers::scanning::{Code, Part, Scan, codes_of};
+use qrcode_scan::behind_picture;
 use std::alloc::Global;
 
 /// Decodes a square of modules: bytes, row by row, dark if not zero, without a quiet zone. Writes
@@ -102,11 +104,22 @@ pub extern "C" fn goq_mask(alloc: Global, modules: &[u8], mask: &mut u32) -> u32
     answer(mask_of(alloc, modules), mask)
 }
 
-/// Decodes the codes in a picture (a PNG, PBM or PGM file, or half blocks), from top to bottom, and
-/// from left to right if side by side. Writes one item per code to the start of `codes`; the
-/// headers and segments of all codes, code after code, to the start of `parts`; their bytes, code
-/// after code, to the start of `bytes`; and the numbers of these to `scan`, of which only the size
-/// is read.
+/// Returns how many bytes of a file its first picture takes, with the white space and comments
+/// behind it. All bytes, if the file has one picture; 0 only if there are no bytes.
+#[unsafe(no_mangle)]
+pub extern "C" fn goq_picture_length(file: &[u8]) -> usize
+    ensures behind { IsBehind file.now (drop result file.now) }
+    ensures at_most { result ≤ length file.now }
+    ensures at_least { 1 ≤ length file.now → 1 ≤ result }
+{
+    file.len() - behind_picture(file).len()
+}
+
+/// Decodes the codes in a picture (a PNG, PBM or PGM file, or half blocks; of several pictures the
+/// first), from top to bottom, and from left to right if side by side. Writes one item per code to
+/// the start of `codes`; the headers and segments of all codes, code after code, to the start of
+/// `parts`; their bytes, code after code, to the start of `bytes`; and the numbers of these to
+/// `scan`, of which only the size is read.
 ///
 /// Returns 0, or the number of the first `Refusal` that applies: `NoSuchStruct`; `LargePicture`;
 /// `NotPicture` or `BrokenPicture`; `NoSquare`; `NoSuchSide`, `NoFormat`, `Damaged` or

@@ -45,7 +45,8 @@ pub mod several;
 pub use charsets::Charset;
 pub use checking::{check, check_square, Check};
 pub use reading::{
-    missed, read, read_any, read_picture, read_text, Code, Missed, Part, Position, Reading, Unread,
+    missed, picture_length, read, read_any, read_picture, read_text, Code, Missed, Part, Position,
+    Reading, Unread,
 };
 
 /// Why a symbol cannot be made.

@@ -223,7 +223,31 @@ impl Code {
     }
 }
 
-/// Returns the codes in a picture, which is a PNG, PBM or PGM file or half blocks.
+/// Returns how many bytes of a file its first picture takes, with the white space and comments
+/// behind it. PBM and PGM files may have several pictures, one after another; what follows these
+/// bytes is the next one. All other files have one. The result is 0 only if the file is empty.
+///
+/// ```
+/// use goqlanis::{picture_length, read_picture, render::pbm, QrCode};
+///
+/// let picture = |data| QrCode::new(data).map(|it| it.render::<pbm::Bit>().build());
+/// let file = [picture("first")?, picture("second")?].concat();
+/// let (mut rest, mut found) = (&file[..], Vec::new());
+/// while !rest.is_empty() {
+///     let (picture, others) = rest.split_at(picture_length(rest));
+///     found.extend(read_picture(picture)?);
+///     rest = others;
+/// }
+/// assert_eq!(found[1].reading.data, b"second");
+/// # Ok::<(), Box<dyn std::error::Error>>(())
+/// ```
+pub fn picture_length(file: &[u8]) -> usize {
+    // SAFETY: the length is that of the file.
+    unsafe { sys::goq_picture_length(file.as_ptr(), file.len()) }
+}
+
+/// Returns the codes in a picture, which is a PNG, PBM or PGM file or half blocks: of several
+/// pictures in a file, those of the first (see `picture_length`).
 ///
 /// These are the one in an even margin, or those between finder patterns, from top to bottom, and
 /// from left to right if they are side by side.
