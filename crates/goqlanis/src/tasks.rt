@@ -99,9 +99,9 @@ fn refuse(
 // Runs a task.
 fn perform(rt: &HostRuntime, task: &Task, given: &ArgMatches<'_>) -> Result<ExitCode, Failure> {
     match task.purpose {
-        Purpose::Read => read(rt, &pictures_of(rt.alloc(), given)?),
-        Purpose::Check => check(rt, &pictures_of(rt.alloc(), given)?),
-        Purpose::Join => join_pictures(rt, &pictures_of(rt.alloc(), given)?),
+        Purpose::Read => read(rt, &pictures_of(rt, given)?),
+        Purpose::Check => check(rt, &pictures_of(rt, given)?),
+        Purpose::Join => join_pictures(rt, &pictures_of(rt, given)?),
         Purpose::Draw => match text_about(rt.alloc(), given)? {
             Some(text) => print(rt, text.as_bytes()),
             None => make(rt, task, &asked_for(rt, task, given)?),

@@ -1,9 +1,7 @@
 //! Advice on command lines that `clap` rejects, and help wrapped at 80 columns.
 
 use crate::nearest::nearest;
-use crate::options::{
-    ADVICE, Entry, OTHER_NAMES, Purpose, TASKS, Takes, Task, task_named, task_words,
-};
+use crate::options::{ADVICE, Entry, Purpose, TASKS, Takes, Task, task_named, task_words};
 use clap::error::Error;
 use goqlanis_core::Grouped;
 use std::alloc::{AllocError, Global};
@@ -32,6 +30,9 @@ pub fn advice(
     if let Some(value) = between(text, "invalid value '", "' for") {
         return value_help(alloc, task, text, value);
     }
+    if let Some(option) = between(text, "' for '", "' found; no more were expected") {
+        return Ok(Some(no_value_help(alloc, option)?));
+    }
     let Some(word) = between(text, "unexpected argument '", "' found") else {
         return Ok(None);
     };
@@ -47,10 +48,8 @@ pub fn advice(
     if let Some(owner) = owner_of(alloc, word)?.filter(|_| task.word.is_empty()) {
         return Ok(Some(format!(in alloc; "{word}: an option of goqlanis {owner}")?));
     }
-    if let Some(name) = between(text, "a similar argument exists: '--", "'") {
-        if !OTHER_NAMES.iter().any(|(hidden, _)| *hidden == name) {
-            return Ok(None);
-        }
+    if let Some(name) = meant_option(alloc, task, word)? {
+        return Ok(Some(format!(in alloc; "{word}: no such option; did you mean --{name}?")?));
     }
     Ok(Some(other_help(alloc, task, words, word)?))
 }
@@ -110,6 +109,23 @@ fn absent_help(
     )?))
 }
 
+// Returns the option of a task whose name is nearly `word`.
+fn meant_option(
+    alloc: Global,
+    task: &Task,
+    word: &str,
+) -> Result<Option<&'static str>, AllocError> {
+    let Some(name) = word.strip_prefix("--") else {
+        return Ok(None);
+    };
+    let options = task.all_options(alloc)?;
+    let names = options
+        .iter()
+        .map(|(_, entry)| entry.long)
+        .collect::<Vec<&'static str>>(alloc)?;
+    nearest(alloc, name, &names)
+}
+
 // Whether an option takes a text, other than a length.
 fn takes_any_text(takes: Takes) -> bool {
     match takes {
@@ -118,7 +134,8 @@ fn takes_any_text(takes: Takes) -> bool {
     }
 }
 
-// Advice on a value that begins with a hyphen, which `clap` takes for an option.
+// Advice on a value that begins with a hyphen, which `clap` takes for an option. The value may be a
+// password, so it is not shown.
 fn dash_help(
     alloc: Global,
     task: &Task,
@@ -133,7 +150,7 @@ fn dash_help(
         });
         if takes_text && word.starts_with('-') && value.starts_with(word) {
             return Ok(Some(format!(in alloc;
-                "{value}: if the value begins with -, write {option}={value}"
+                "{option}: if the value begins with -, write {option}=VALUE"
             )?));
         }
     }
@@ -265,18 +282,43 @@ fn other_help(
         _ if word.starts_with('-') => {
             format!(in alloc; "{word}: no such option; goqlanis{space}{name} --help lists them")
         }
-        _ if words.iter().any(|word| word.as_str() == "--version") => format!(in alloc;
-            "{word}: --version is the program's; for the code's version, use -v"
-        ),
-        _ if has_number(words, "--eci") => format!(in alloc;
-            "{word}: --eci takes no number: it marks UTF-8, ECI 26; for another, --charset iso-8859-1"
-        ),
+        _
+            if words
+                .iter()
+                .any(|word| matches!(word.as_str(), "--version" | "-V")) => {
+            format!(in alloc; "{word}: --version is the program's; for the code's version, use -v")
+        }
+        _ if is_unit(word) || words.iter().any(|word| is_unit(word.as_str())) => {
+            Ok(String::from_str(alloc, UNIT)?)
+        }
+        _ if has_number(words, "--eci") => no_value_help(alloc, "--eci"),
+        _ if words.iter().any(|word| word.as_str() == "--hidden") => {
+            no_value_help(alloc, "--hidden")
+        }
         Some(("TEXT", _)) => format!(in alloc;
             "{word}: only one TEXT; put quotes around one with spaces, e.g. \"hello world\""
         ),
         Some((name, _)) => format!(in alloc; "{word}: only one {name} at a time"),
         None => only_options_help(alloc, task, word),
     }
+}
+
+/// The advice on a length whose unit stands alone.
+pub const UNIT: &str = "write the unit with the number, e.g. --size 30mm";
+
+/// Whether a word is a unit of lengths alone.
+pub fn is_unit(word: &str) -> bool {
+    matches!(word, "mm" | "cm" | "in" | "pt" | "px")
+}
+
+// Advice on a value for an option that takes none.
+fn no_value_help(alloc: Global, option: &str) -> Result<String, AllocError> {
+    if option == "--eci" {
+        return format!(in alloc;
+            "--eci takes no number: it marks UTF-8, ECI 26; for another, --charset iso-8859-1"
+        );
+    }
+    format!(in alloc; "{option} takes no value; leave that out")
 }
 
 // Advice on a word without an option: the options that the payload needs.

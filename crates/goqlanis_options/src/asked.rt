@@ -2,13 +2,14 @@
 
 use crate::charsets::Coded;
 use crate::colours::{check_colours, ink_of, part_colour, part_inks};
-use crate::conflicts::{check_conflicts, check_target, is_given};
+use crate::conflicts::{check_conflicts, check_unit, is_given};
 use crate::exams::{AskedDamage, AskedExam, damage_of, exam_of, position_of};
 use crate::fields::Fields;
 use crate::frames::{frame_of, place_of};
 use crate::logos::{AskedLogo, logo_of};
 use crate::options::{Purpose, Task};
 use crate::sizes::{Sizes, sizes_of};
+use crate::targets::check_target;
 use crate::warnings::warn;
 use clap::ArgMatches;
 use goqlanis_core::{Choice, Request};
@@ -50,7 +51,7 @@ pub struct Lines<'a> {
     pub field: Option<&'a str>,
     /// The names of the columns, separated like fields, if the command line gives them.
     pub columns: Option<&'a str>,
-    /// Whether the first line has the names of the columns.
+    /// Whether the first line has the names of the columns, which `columns` may replace.
     pub has_header: bool,
 }
 
@@ -136,6 +137,7 @@ pub fn asked_for<'a, 'w>(
 ) -> Result<Asked<'a, 'w>, Failure> {
     let alloc = rt.alloc();
     check_conflicts(alloc, given)?;
+    check_unit(alloc, given)?;
     let target = target_of(alloc, given)?;
     let is_dry = given.get_flag("dry-run");
     let name = given.get_str("format").or(task.own_format());
@@ -173,7 +175,7 @@ pub fn asked_for<'a, 'w>(
         check_one_behind_another(alloc, &asked)?;
     }
     if asked.input.lines.is_none() && !matches!(task.purpose, Purpose::Several) {
-        check_target(alloc, &asked)?;
+        check_target(rt, &asked)?;
     }
     warn(rt, &asked)?;
     Ok(asked)
@@ -225,25 +227,25 @@ fn lines_of<'a>(alloc: Global, given: &ArgMatches<'a>) -> Result<Option<Lines<'a
         columns: given.get_str("columns"),
         has_header: given.get_flag("header"),
     };
-    if lines.delimiter.is_empty() {
-        return usage!(alloc; "--delimiter: it must not be empty, e.g. \";\"");
-    }
-    if lines.has_header && lines.columns.is_some() {
+    if lines.delimiter.is_empty() || lines.delimiter.contains(['"', '\n', '\r']) {
         return usage!(alloc;
-            "--header and --columns do not go together: one of them names the columns"
+            "--delimiter: it must not be empty, nor have quotation marks or line breaks, e.g. \";\""
         );
     }
     Ok(Some(lines))
 }
 
-/// Checks that several drawings go to files, or are text that can be printed one after another.
+/// Checks that several drawings go to files, can be printed one after another, or are pages of one
+/// PDF document.
 pub fn check_one_behind_another(alloc: Global, asked: &Asked<'_, '_>) -> Result<(), Failure> {
-    if matches!(asked.target, Target::File(_)) || asked.request.format.row().is_series {
+    let format = asked.request.format;
+    let is_pdf = format == Format::Pdf;
+    if matches!(asked.target, Target::File(_)) || format.row().is_series || is_pdf {
         return Ok(());
     }
     usage!(alloc;
         "pictures of this format cannot follow one another on standard output: add --output, e.g. \
-        -o a.png, and files are numbered; text, zpl, tspl and escpos can"
+        -o a.png, and files are numbered; text, pdf, zpl, tspl and escpos can"
     )
 }
 

@@ -1,6 +1,6 @@
 //! Options that do not go together.
 
-use crate::asked::{Asked, Source, Target};
+use crate::advice::{UNIT, is_unit};
 use crate::options::task_named;
 use clap::ArgMatches;
 use clap::parser::ValueSource;
@@ -48,27 +48,21 @@ pub(crate) fn check_conflicts(alloc: Global, given: &ArgMatches<'_>) -> Result<(
     Ok(())
 }
 
+/// Checks that TEXT is not the unit of a length before it.
+///
+/// Errors: `Usage` if it is; `OutOfMemory`.
+pub(crate) fn check_unit(alloc: Global, given: &ArgMatches<'_>) -> Result<(), Failure> {
+    let has_length = ["size", "module", "scale"]
+        .iter()
+        .any(|option| is_given(given, option));
+    if has_length && given.get_str("TEXT").is_some_and(is_unit) {
+        return usage!(alloc; "{UNIT}");
+    }
+    Ok(())
+}
+
 /// Whether the command line gives an option or the positional argument. (An absent flag still has a
 /// default value.)
 pub(crate) fn is_given(given: &ArgMatches<'_>, name: &str) -> bool {
     given.value_source(name.trim_start_matches('-')) == Some(ValueSource::CommandLine)
-}
-
-/// Checks that the drawing does not replace a file that is read. (Numbered files never do.)
-///
-/// Errors: `Usage` if it does; `OutOfMemory`.
-pub(crate) fn check_target(alloc: Global, asked: &Asked<'_, '_>) -> Result<(), Failure> {
-    let Target::File(path) = asked.target else {
-        return Ok(());
-    };
-    let input = match asked.input.source {
-        Source::File(path) => Some(path),
-        _ => None,
-    };
-    for (option, file) in [("input", input), ("logo", asked.logo_file)] {
-        if file == Some(path) {
-            return usage!(alloc; "--output {path}: --{option} reads this file; name another");
-        }
-    }
-    Ok(())
 }

@@ -176,7 +176,7 @@ impl Task {
             Purpose::Exam => (
                 "FOLDER",
                 "Folder for the pictures and answers.jsonl; with --grade a file of results instead, \
-                each line the name of a picture, a tab, and in hex what was read",
+                each line the name of a picture that was read, a tab, and in hex what was read",
             ),
             Purpose::Content(_) => return None,
         })

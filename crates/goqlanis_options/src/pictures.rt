@@ -1,10 +1,10 @@
 //! The options of tasks that decode pictures.
 
 use crate::asked::{Report, report_of};
+use crate::targets::is_same_file;
 use clap::ArgMatches;
 use goqlanis_files::failure::Failure;
 use goqlanis_files::usage;
-use std::alloc::Global;
 
 /// Pictures to decode, and what to write of them.
 #[derive(Clone, Copy)]
@@ -25,15 +25,16 @@ pub static STANDARD_INPUT: &[&str] = &["-"];
 ///
 /// Errors: `Usage` if the data would replace one of them; `OutOfMemory`.
 pub fn pictures_of<'a, 'w>(
-    alloc: Global,
+    rt: &HostRuntime,
     given: &'a ArgMatches<'w>,
 ) -> Result<Pictures<'a, 'w>, Failure> {
     let (names, output) = (given.get_strs("PICTURE"), given.get_str("output"));
+    let read = names.unwrap_or(STANDARD_INPUT);
     let both = output.filter(|path| {
-        *path != "-" && names.is_some_and(|names| names.iter().any(|name| name == path))
+        *path != "-" && read.iter().any(|name| is_same_file(rt, path, name))
     });
     if let Some(path) = both {
-        return usage!(alloc; "--output {path}: this picture is read; name another file");
+        return usage!(rt.alloc(); "--output {path}: this picture is read; name another file");
     }
     Ok(Pictures {
         names,

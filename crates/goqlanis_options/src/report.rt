@@ -2,6 +2,7 @@
 
 use crate::asked::{Asked, Report as Wanted, Target};
 use crate::charsets::{CharsetName, Coded};
+use crate::json::push_file;
 use crate::warnings::{Decimal, hundredths_of, warn_of_sizes};
 use goqlanis_core::{VersionName, dots, quiet_zone, scale};
 use goqlanis_files::failure::Failure;
@@ -25,7 +26,7 @@ macro_rules! push_either {
 
 // The facts to report about a code.
 #[derive(Clone, Copy)]
-struct Report {
+struct Report<'a> {
     version: VersionName,
     level: EcLevel,
     mask: usize,
@@ -48,6 +49,8 @@ struct Report {
     area: Option<Rectangle>,
     // The line that the code was made of, with `--lines`.
     line: Option<usize>,
+    // The file that it goes to.
+    file: Option<&'a str>,
 }
 
 /// Reports on a code, with the area in its middle, if `--verbose`, `--json` or `--dry-run` asks for
@@ -77,7 +80,7 @@ pub fn show_report(
 }
 
 // Returns the facts about a code.
-fn report_of(asked: &Asked<'_, '_>, code: &QrCode, area: Option<Rectangle>) -> Report {
+fn report_of<'a>(asked: &Asked<'a, '_>, code: &QrCode, area: Option<Rectangle>) -> Report<'a> {
     let request = &asked.request;
     let zone = quiet_zone(request, code);
     let all = (code.width() as u32).saturating_add(zone.saturating_mul(2));
@@ -100,6 +103,10 @@ fn report_of(asked: &Asked<'_, '_>, code: &QrCode, area: Option<Rectangle>) -> R
         coded: asked.coded,
         area,
         line: asked.doubts.place.map(|place| place.line),
+        file: match asked.target {
+            Target::File(path) => Some(path),
+            _ => None,
+        },
     }
 }
 
@@ -118,13 +125,16 @@ fn own_mask(code: &QrCode) -> usize {
 }
 
 // Formats a report as one line of JSON, or as lines of text.
-fn text_of(alloc: Global, report: &Report, is_json: bool) -> Result<String, AllocError> {
+fn text_of(alloc: Global, report: &Report<'_>, is_json: bool) -> Result<String, AllocError> {
     let (version, level, mask) = (report.version, report.level, report.mask);
     let (modules, zone) = (report.modules, report.zone);
     let mut text = String::new(alloc);
     text.push_str(if is_json { "{" } else { "" })?;
     if let Some(line) = report.line {
         push_either!(text, is_json; "\"line\": {line}, ", "line {line}: ")?;
+    }
+    if let Some(file) = report.file.filter(|_| is_json) {
+        push_file(&mut text, file)?;
     }
     push_either!(text, is_json;
         "\"version\": \"{version}\", \"level\": \"{level:?}\", \"mask\": {mask}, \
@@ -147,7 +157,7 @@ fn text_of(alloc: Global, report: &Report, is_json: bool) -> Result<String, Allo
 }
 
 // Appends the sizes of a report.
-fn push_sizes(text: &mut String, report: &Report, is_json: bool) -> Result<(), AllocError> {
+fn push_sizes(text: &mut String, report: &Report<'_>, is_json: bool) -> Result<(), AllocError> {
     let (zone, scale, side) = (report.zone, report.scale, report.side);
     let length = Decimal(hundredths_of(side, report.dots.unwrap_or(0)));
     if !report.is_length {
@@ -166,7 +176,7 @@ fn push_sizes(text: &mut String, report: &Report, is_json: bool) -> Result<(), A
 }
 
 // Appends the smallest size that many readers need.
-fn push_least(text: &mut String, report: &Report, is_json: bool) -> Result<(), AllocError> {
+fn push_least(text: &mut String, report: &Report<'_>, is_json: bool) -> Result<(), AllocError> {
     let (Some(least), Some(dots)) = (report.least, report.dots) else {
         return Ok(());
     };

@@ -1,7 +1,7 @@
 //! Warnings on standard error; the code is drawn anyway.
 
-use crate::asked::{Asked, Target, ending_format};
-use goqlanis_core::{Grouped, Ink, Request};
+use crate::asked::{Asked, Source, Target, ending_format};
+use goqlanis_core::{Choice, Grouped, Ink, Request};
 use goqlanis_files::doubted;
 use goqlanis_files::failure::{Doubts, Failure};
 use goqlanis_files::streams::shown;
@@ -9,10 +9,11 @@ use qrcode::types::Color;
 use qrcode_contents::fields::errors::Field;
 use qrcode_formats::Format;
 use qrcode_payloads::given::Given;
-use std::fmt;
+use std::{fmt, fs};
 
 /// Warns of colours with too little contrast, of UTF-8 text after the ECI of another character set,
-/// and of a file extension that belongs to another format.
+/// of a text that may be meant as a file, of `--micro` with an ECI, of placeholders in a title, and
+/// of a file extension that belongs to another format.
 ///
 /// Errors: `Refused` with the first warning if warnings are errors; `OutOfMemory`.
 pub fn warn(rt: &HostRuntime, asked: &Asked<'_, '_>) -> Result<(), Failure> {
@@ -20,6 +21,16 @@ pub fn warn(rt: &HostRuntime, asked: &Asked<'_, '_>) -> Result<(), Failure> {
     warn_of_colours(rt, doubts, &asked.request)?;
     if let Some(words) = asked.input.segments {
         warn_of_character_set(rt, doubts, words)?;
+    }
+    if let Source::Text(text) = asked.input.source {
+        warn_of_text(rt, asked, text)?;
+    }
+    if asked.input.is_eci && begins_with_micro(asked.request.choice) {
+        doubted!(rt, doubts; "Micro QR has no ECI: with --eci, the smallest version is 1")?;
+    }
+    let title = asked.request.frame.title;
+    if asked.input.lines.is_some() && title.contains('{') && title.contains('}') {
+        doubted!(rt, doubts; "all codes have the same title: in it, {{}} stands for itself")?;
     }
     if let Target::File(path) = asked.target {
         if is_named_otherwise(path, asked.request.format) {
@@ -30,6 +41,35 @@ pub fn warn(rt: &HostRuntime, asked: &Asked<'_, '_>) -> Result<(), Failure> {
         }
     }
     Ok(())
+}
+
+// Whether Micro QR is tried first.
+fn begins_with_micro(choice: Choice) -> bool {
+    match choice {
+        Choice::From(version) | Choice::Boosted(version) => version.is_micro(),
+        Choice::At(_) => false,
+    }
+}
+
+// Warns of a text that may be meant as standard input or as the name of a file.
+fn warn_of_text(rt: &HostRuntime, asked: &Asked<'_, '_>, text: &str) -> Result<(), Failure> {
+    let has_place = asked.input.lines.is_some() && text.contains('{') && text.contains('}');
+    let is_name = text.contains(['.', '/']) && !text.contains("://");
+    if has_place {
+        doubted!(rt, asked.doubts; "TEXT is the lines: {{}} stands for itself there")
+    } else if text == "-" {
+        doubted!(rt, asked.doubts;
+            "- is encoded as it stands; to encode standard input, leave it out"
+        )
+    } else if is_name && fs::exists(rt, text).unwrap_or(false) {
+        let text = shown(text);
+        doubted!(rt, asked.doubts;
+            "{text}: this name is encoded; for the file, write --input {text}, or goqlanis read \
+            {text} to decode it"
+        )
+    } else {
+        Ok(())
+    }
 }
 
 // Warns of a dark and a light colour that are too close, or else of a colour on the wrong side of

@@ -71,11 +71,11 @@ static FIELDS: &[Entry] = &[
         "Seconds that a password is valid, 1 to 4,294,967,295 [default: 30]"),
     entry!("counter", Text("NUMBER"),
         "Count from this number (HOTP) instead of using time"),
-    entry!("uid", Text("TEXT"), "Unique identifier of the event"),
+    entry!("uid", Text("TEXT"), "Unique identifier of the event, which RFC 5545 requires"),
     entry!("stamp", Text("TIME"),
-        "When the event was created, with zone or UTC, e.g. 2026-11-28T13:00Z"),
+        "When the event was created, e.g. 2026-11-28T13:00Z, which RFC 5545 requires"),
     entry!("begin", Text("TIME"),
-        "Start, e.g. 2026-11-28T14:00+01:00 (with time zone), 2026-11-28T13:00Z (UTC) or \
+        "Start, e.g. 2026-11-28T14:00+01:00 (an hour ahead of UTC), 2026-11-28T13:00Z (UTC) or \
         2026-11-28 (all day)"),
     entry!("end", Text("TIME"),
         "End, later than --begin, in the same form; for whole days, the day after the last"),

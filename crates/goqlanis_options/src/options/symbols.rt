@@ -46,11 +46,12 @@ pub static SEGMENTS: &[Entry] = &[
 pub static LINES: &[Entry] = &[
     entry!("lines", Nothing,
         "Make one code per input line. In --output, {} stands for the line number, {:04} for it in \
-        four digits, {text} for the line, {1} for its first field; without them a number is added"),
+        four digits, {text} for the line, {1} for its first field; without them a number is added. \
+        With -f pdf and no --output, each code is a page of one document"),
     entry!("header", Nothing,
         "With --lines: the first line names the columns, e.g. ssid,password for wifi or 01,10 for \
         gs1, and has no number; {ssid} in --output is that field"),
-    entry!("columns", Text("NAMES"), "With --lines: names of the columns, if no line has them"),
+    entry!("columns", Text("NAMES"), "With --lines: names of the columns, in place of those of --header if it has others"),
     entry!("field", Text("FIELD"), "With --lines: encode only this field of each line, by number or name"),
     entry!("delimiter", Text("TEXT"), "Separator of the fields in a line, e.g. ; or tab [default: ,]"),
 ];
@@ -121,7 +122,7 @@ pub static LOOKS: &[Entry] = &[
         ## per module; zpl, tspl, escpos: printers [default: FILE's extension (.txt: half-blocks); \
         to a terminal: terminal; else half-blocks]"),
     entry!("quiet-zone", 'q', Number("MODULES", 0, 255),
-        "Quiet zone on each side, 0 to 255 [default: 4, Micro QR 2]"),
+        "Quiet zone on each side, 0 to 255; readers need 4, of Micro QR 2 [default: 4, Micro QR 2]"),
     entry!("scale", 's', Text("PIXELS"),
         "Pixels per module, 1 to 1,000; in SVG, EPS and PDF also e.g. 2.5 [default: 8; 1 in PIC, \
         half-blocks, terminal, text, ascii]"),
@@ -143,7 +144,7 @@ pub static LOOKS: &[Entry] = &[
         "Colour of dark modules in PNG, SVG, EPS, PDF and PPM, e.g. \"#008\" or navy [default: black]"),
     entry!("light", Text("COLOUR"),
         "Colour of light modules, or transparent (PNG, SVG) [default: white]"),
-    entry!("invert", Nothing, "Swap dark and light"),
+    entry!("invert", Nothing, "Swap dark and light; not all readers accept that"),
     entry!("logo", Path,
         "Put a logo in the middle: an SVG or PNG file for SVG output, a PNG file for PNG output; \
         the code still decodes"),

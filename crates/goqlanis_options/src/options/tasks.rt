@@ -37,7 +37,7 @@ pub static TASKS: &[Task] = &[
             "Report version, level, mask, position, corrected errors, headers and segments on \
             standard error"),
         entry!("json", Nothing, "Write the data and the --verbose report as a JSON list")),
-    task!("check", Purpose::Check, "Report where the QR codes in a picture depart from the standard",
+    task!("check", Purpose::Check, "Report where the modules of QR codes in a picture depart from the standard",
         entry!("json", Nothing, "Write a JSON list instead of text")),
     task!("split", Purpose::Several, "Split data over up to 16 numbered files (structured append)",
         entry!("count", Number("N", 1, 16),
