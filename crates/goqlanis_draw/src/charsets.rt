@@ -21,8 +21,10 @@ pub(crate) fn text_code(
     bytes: &[u8],
 ) -> Result<(QrCode, Coded), Failure> {
     let Ok(text) = str::from_utf8(bytes) else {
-        return refused!(alloc; "the data is not UTF-8, from which --charset converts it: for Latin-1, use iconv -f latin1 \
-            -t utf-8 first");
+        return refused!(alloc;
+            "the data is not UTF-8, from which --charset converts it: for Latin-1, use iconv \
+            -f cp1252 -t utf-8 first"
+        );
     };
     let request = &asked.request;
     let made = match charset_named(name) {
@@ -32,8 +34,8 @@ pub(crate) fn text_code(
         }
         None if name.eq_ignore_ascii_case("shortest") => made(alloc, request, &CHARSETS, text)?,
         None => return usage!(alloc;
-            "--charset {name}: use shortest, utf-8, utf-16be, shift-jis, iso-8859-1 to iso-8859-16, \
-            without 12, or windows-1250, -1251, -1252 or -1256"
+            "--charset {name}: use shortest, utf-8, utf-16be, shift-jis, iso-8859-1 to \
+            iso-8859-16, without 12, or windows-1250, -1251, -1252 or -1256"
         ),
     };
     let (code, set) = made;

@@ -1,4 +1,4 @@
-//! Draws codes and writes them.
+//! Draws codes and writes drawings.
 
 ghost use Rattle.std.specs.Prelude.{◌≡◌, ℕ, List, None, Some, IfOk};
 ghost use Rattle.qrcode_gs1.specs.Elements.{Item};
@@ -34,25 +34,25 @@ use std::alloc::Global;
 use std::io::IsTerminal;
 use std::process::ExitCode;
 
-/// Encodes `bytes`, draws the code and writes it.
+/// Encodes `bytes`, and draws and reports the code as `draw_reported` does.
 pub(crate) fn draw_one(
     rt: &HostRuntime,
     asked: &Asked<'_, '_>,
     bytes: &[u8],
-) -> Result<ExitCode, Failure> {
+) -> Result<Option<Vec<u8>>, Failure> {
     let alloc = rt.alloc();
     check_empty(alloc, asked, bytes)?;
     if let Some(name) = asked.input.charset {
         let (code, coded) = text_code(alloc, asked, name, bytes)?;
         let coded = Some(coded);
-        return write_code(rt, &Asked { coded, ..*asked }, code);
+        return draw_reported(rt, &Asked { coded, ..*asked }, code);
     }
     let request = Request {
         manner: manner(alloc, asked, bytes)?,
         ..asked.request
     };
     match symbol_in(alloc, request.choice, request.manner, request.level, bytes) {
-        Ok(code) => write_code(rt, &Asked { request, ..*asked }, code),
+        Ok(code) => draw_reported(rt, &Asked { request, ..*asked }, code),
         Err(error) => Err(Failure::Refused(refusal_text(alloc, &request, bytes, error)?)),
     }
 }
@@ -233,42 +233,57 @@ pub(crate) fn application_code(
     }
 }
 
-/// Draws a code, reports it and writes it to its target; with `--dry-run` only reports it.
-pub(crate) fn write_code(
+/// Draws a code and reports it; with `--dry-run` only reports it, and returns `None`.
+pub(crate) fn draw_reported(
     rt: &HostRuntime,
     asked: &Asked<'_, '_>,
     code: QrCode,
-) -> Result<ExitCode, Failure> {
+) -> Result<Option<Vec<u8>>, Failure> {
     check_side(rt.alloc(), asked, &code)?;
     if asked.is_dry {
         let area = middle_of(rt.alloc(), asked, &code)?;
         show_report(rt, asked, &code, area)?;
-        return Ok(ExitCode::SUCCESS);
+        return Ok(None);
     }
     if let Some(damage) = asked.damage {
         let drawing = draw_damaged(rt, asked, damage, &code)?;
         show_report(rt, asked, &code, None)?;
-        return write_bytes(rt, asked, &drawing);
+        return Ok(Some(drawing));
     }
     let shown = draw_code(rt.alloc(), asked, code)?;
     warn_of_logo(rt, asked, &shown.drawing.code, shown.area)?;
     show_report(rt, asked, &shown.drawing.code, shown.area)?;
-    write_bytes(rt, asked, &shown.drawing.bytes)
+    Ok(Some(shown.drawing.bytes))
 }
 
-// Writes a drawing to its target.
-fn write_bytes(rt: &HostRuntime, asked: &Asked<'_, '_>, bytes: &[u8]) -> Result<ExitCode, Failure> {
-    let format = asked.request.format;
-    match asked.target {
-        Target::File(path) => write_file(rt, path, bytes),
-        Target::Terminal if !format.row().is_text && rt.stdout().is_terminal() =>
-            refused!(rt.alloc();
+/// Refuses a binary format that would go to a terminal.
+pub(crate) fn check_terminal(rt: &HostRuntime, asked: &Asked<'_, '_>) -> Result<(), Failure> {
+    let is_drawn = !asked.is_dry && matches!(asked.target, Target::Terminal);
+    if is_drawn && !asked.request.format.row().is_text && rt.stdout().is_terminal() {
+        return refused!(rt.alloc();
             "this format is not for a terminal: add --output FILE, or --output - to write it there \
             anyway"
-        ),
+        );
+    }
+    Ok(())
+}
+
+/// Writes a drawing to its target, if there is one.
+///
+/// Errors: those of `print` and `write_file`.
+pub(crate) fn write_drawing(
+    rt: &HostRuntime,
+    asked: &Asked<'_, '_>,
+    drawing: Option<Vec<u8>>,
+) -> Result<ExitCode, Failure> {
+    let Some(bytes) = drawing else {
+        return Ok(ExitCode::SUCCESS);
+    };
+    match asked.target {
+        Target::File(path) => write_file(rt, path, &bytes),
         // Its title may have characters that hide or reorder others on a terminal.
-        Target::Terminal if format == Format::SvgPath => write_data(rt, None, bytes),
-        Target::Terminal | Target::StandardOutput => print(rt, bytes),
+        Target::Terminal if asked.request.format == Format::SvgPath => write_data(rt, None, &bytes),
+        Target::Terminal | Target::StandardOutput => print(rt, &bytes),
     }
 }
 
@@ -281,8 +296,10 @@ pub(crate) fn manner(
     match manner_of(bytes) {
         _ if asked.input.is_bytes => Ok(Manner::Bytes),
         manner if !asked.input.is_eci => Ok(manner),
-        Manner::Bytes =>
-            refused!(alloc; "the data is not UTF-8: leave out --eci, or for Latin-1 use iconv -f latin1 -t utf-8 first"),
+        Manner::Bytes => refused!(alloc;
+            "the data is not UTF-8: leave out --eci, or for Latin-1 use iconv -f cp1252 -t utf-8 \
+            first"
+        ),
         _ => Ok(Manner::MarkedText),
     }
 }

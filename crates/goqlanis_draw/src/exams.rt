@@ -6,7 +6,7 @@ use crate::questions::{CONTENTS, Content, Question};
 use goqlanis_core::{Request, VersionName};
 use goqlanis_files::failure::Failure;
 use goqlanis_files::streams::{shown, write_file};
-use goqlanis_files::{refused, usage};
+use goqlanis_files::{doubted, refused, usage};
 use goqlanis_options::asked::{Asked, Target};
 use goqlanis_options::exams::{AskedDamage, Wrong};
 use qrcode::types::{EcLevel, Version};
@@ -49,11 +49,17 @@ pub(crate) fn write_exam(rt: &HostRuntime, asked: &Asked<'_, '_>) -> Result<Exit
     let folder = asked.exam.path;
     let pairs = pairs_of(rt.alloc(), asked.exam.pairs)?;
     make_folder(rt, folder)?;
+    let path = format!(in rt.alloc(); "{folder}/answers.jsonl")?;
+    if fs::exists(rt, path.as_str()).unwrap_or(false) {
+        let folder = shown(folder);
+        doubted!(rt, asked.doubts;
+            "{folder} has an exam: its pictures stay where this one has none of the same name"
+        )?;
+    }
     let mut answers = String::new(rt.alloc());
     for pair in &pairs {
         write_pair(rt, asked, *pair, &mut answers)?;
     }
-    let path = format!(in rt.alloc(); "{folder}/answers.jsonl")?;
     write_file(rt, path.as_str(), answers.as_bytes())
 }
 

@@ -36,8 +36,8 @@ struct Row {
 /// Prints how many results are right, by content and damage, and the names of pictures that were
 /// read as something else, or not read although they must be. If there are any, the status is 1.
 ///
-/// Errors: `Refused` if a file cannot be read, is not UTF-8, or has no answers, or a result is of no
-/// picture of the exam, or not hex; those of `print`.
+/// Errors: `Refused` if a file cannot be read, is not UTF-8, or has no answers, or a result is of
+/// no picture of the exam, or not hex; those of `print`.
 pub(crate) fn grade(rt: &HostRuntime, answers: &str, results: &str) -> Result<ExitCode, Failure> {
     let alloc = rt.alloc();
     let exam = text_of(rt, answers)?;
@@ -74,8 +74,8 @@ fn text_of(rt: &HostRuntime, path: &str) -> Result<String, Failure> {
     }
 }
 
-// Returns names of pictures and what was read of them, in hex. Refuses a line of another picture, or
-// in which that is not hex.
+// Returns names of pictures and what was read of them, in hex. Refuses a line of another picture,
+// or in which that is not hex.
 fn results_of<'a>(
     alloc: Global,
     path: &str,
@@ -141,10 +141,10 @@ fn grade_line(
         }
     }
     if matches!(outcome, Outcome::Missed | Outcome::Wrong) {
-        write!(names, "{}: {name}\n", word_of(outcome))?;
+        write!(names, "{}: {}\n", word_of(outcome), shown(name))?;
     }
-    let content = value_of(alloc, line, "content")?.unwrap_or("");
-    let damage = value_of(alloc, line, "damage")?.unwrap_or("");
+    let content = shown(value_of(alloc, line, "content")?.unwrap_or(""));
+    let damage = shown(value_of(alloc, line, "damage")?.unwrap_or(""));
     count(
         alloc,
         rows,
@@ -153,13 +153,13 @@ fn grade_line(
     )
 }
 
-// Returns the value of a field in a line of JSON as `goqlanis exam` writes it.
+// Returns the value of a field in a line of JSON as `goqlanis exam` writes it, or without spaces.
 fn value_of<'a>(alloc: Global, line: &'a str, key: &str) -> Result<Option<&'a str>, AllocError> {
-    let start = format!(in alloc; "\"{key}\": ")?;
+    let start = format!(in alloc; "\"{key}\":")?;
     let value = line.split_once(start.as_str()).and_then(|(_, rest)| {
         rest.split_once(|sign: char| matches!(sign, ',' | '}'))
     });
-    Ok(value.map(|(value, _)| value.trim_matches('"')))
+    Ok(value.map(|(value, _)| value.trim_start().trim_matches('"')))
 }
 
 fn word_of(outcome: Outcome) -> &'static str {

@@ -63,7 +63,7 @@ pub(crate) fn utf8<'a>(alloc: Global, bytes: &'a [u8]) -> Result<&'a str, Failur
     match str::from_utf8(bytes) {
         Ok(text) => Ok(text),
         Err(_) =>
-            refused!(alloc; "it is not UTF-8: for Latin-1, use iconv -f latin1 -t utf-8 first"),
+            refused!(alloc; "it is not UTF-8: for Latin-1, use iconv -f cp1252 -t utf-8 first"),
     }
 }
 

@@ -2,6 +2,7 @@
 #![tactic(auto)]
 
 mod charsets;
+mod columns;
 mod contents;
 mod damaging;
 mod drawing;
@@ -13,6 +14,7 @@ mod logos;
 mod making;
 mod middle;
 mod names;
+mod pages;
 mod questions;
 mod rows;
 mod segments;

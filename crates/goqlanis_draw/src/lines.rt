@@ -1,18 +1,18 @@
 //! `--lines`: one code for each line.
 
-use crate::drawing::draw_one;
+use crate::columns::{check_columns, check_delimiter};
+use crate::drawing::{draw_one, write_drawing};
 use crate::inputs::{is_blank, next_line, text_of, utf8};
 use crate::making::{draw_elements, draw_payload};
 use crate::names::{check_free, check_made, check_names, has_text, name_of};
-use crate::rows::{Columns, Line, Row, fields_of};
+use crate::pages::Pages;
+use crate::rows::{Columns, Line, Row, fields_of, identifier_in, is_identifier};
 use goqlanis_files::failure::{Doubts, Failure, Place};
 use goqlanis_files::progress::Progress;
 use goqlanis_files::streams::{ask, shown, unread};
 use goqlanis_files::{doubted, refused, usage};
 use goqlanis_options::asked::{Asked, Lines, Source, Target};
-use goqlanis_options::nearest::nearest;
-use goqlanis_options::options::fields::option_of;
-use qrcode_payloads::kinds::{Kind, fields_of as fields_in};
+use qrcode_payloads::kinds::Kind;
 use std::alloc::{AllocError, Global};
 use std::collections::BTreeSet;
 use std::fs;
@@ -30,15 +30,23 @@ pub(crate) enum Lined {
     Elements,
 }
 
-// How lines are taken.
+/// How lines are taken.
 #[derive(Clone, Copy)]
-struct Taking<'a> {
-    what: Lined,
-    lines: Lines<'a>,
+pub(crate) struct Taking<'a> {
+    pub what: Lined,
+    pub lines: Lines<'a>,
     // The name of the input in messages.
     name: &'a str,
     file: Option<&'a str>,
     progress: Progress,
+}
+
+// What earlier lines have written.
+#[derive(Drop)]
+struct Drawn {
+    // The names of files that later lines could use again, in lower case.
+    names: BTreeSet<String>,
+    pages: Pages,
 }
 
 impl<'a> Taking<'a> {
@@ -111,20 +119,21 @@ fn draw_from<R: Read + Drop>(
     drawn
 }
 
-// Returns the names of the columns: those of the command line, which commas may separate too, or of
-// the first line.
+// Returns the names of the columns: those of the command line, which commas may separate too, or
+// else of the first line. With `--header` the first line is read in both cases.
 fn columns_of<R: BufRead>(
     alloc: Global,
     taking: Taking<'_>,
     from: &mut R,
     line: &mut Vec<u8>,
 ) -> Result<Columns, Failure> {
+    let has_line = taking.lines.has_header && next_line(alloc, taking.name, from, line, 1)?;
     if let Some(names) = taking.lines.columns {
         let delimiter = taking.lines.delimiter;
         let is_own = names.contains(delimiter);
         return Columns::read(alloc, names, if is_own { delimiter } else { "," });
     }
-    if !taking.lines.has_header || !next_line(alloc, taking.name, from, line, 1)? {
+    if !has_line {
         return Ok(Columns::none(alloc));
     }
     let text = String::from_utf8_lossy(alloc, text_of(line, 1))?;
@@ -137,113 +146,6 @@ fn columns_of<R: BufRead>(
     }
 }
 
-// Warns of columns that are neither encoded nor part of a file name, and refuses payloads without
-// names of columns.
-fn check_columns(
-    rt: &HostRuntime,
-    taking: Taking<'_>,
-    asked: &Asked<'_, '_>,
-    columns: &Columns,
-) -> Result<(), Failure> {
-    let is_payload = matches!(taking.what, Lined::Payload(_));
-    if is_payload && columns.is_empty() && !taking.lines.has_header {
-        return usage!(rt.alloc();
-            "--lines: add --header if the first line names the columns, or name them with \
-            --columns, e.g. --columns ssid,password"
-        );
-    }
-    if let Lined::Payload(kind) = taking.what {
-        check_spelling(rt.alloc(), kind, asked.target, columns)?;
-    }
-    for (place, name) in columns.names().iter().enumerate() {
-        let number = place.saturating_add(1);
-        let is_named = is_in_path(rt.alloc(), asked.target, name.as_str())?;
-        if let Some(why) = left_out(taking, columns, number, is_named) {
-            let name = shown(name.as_str());
-            doubted!(rt, asked.doubts; "column {name} {why} is not encoded")?;
-        }
-    }
-    Ok(())
-}
-
-// Refuses the only name of a column if it has another delimiter inside, unless lines are encoded
-// whole.
-fn check_delimiter(
-    alloc: Global,
-    taking: Taking<'_>,
-    target: Target<'_>,
-    columns: &Columns,
-) -> Result<(), Failure> {
-    let has_names = matches!(target, Target::File(path) if path.contains('{'));
-    let is_whole = matches!(taking.what, Lined::Data) && taking.lines.field.is_none();
-    match columns.other_delimiter() {
-        Some(sign) if has_names || !is_whole => {
-            usage!(alloc; "the columns have another delimiter: add --delimiter \"{sign}\"")
-        }
-        _ => Ok(()),
-    }
-}
-
-// Refuses a column that seems to be a misspelt field, which would be lost.
-fn check_spelling(
-    alloc: Global,
-    kind: Kind,
-    target: Target<'_>,
-    columns: &Columns,
-) -> Result<(), Failure> {
-    let fields = fields_in(kind).iter();
-    let known = fields
-        .map(|field| option_of(*field).long)
-        .collect::<Vec<&'static str>>(alloc)?;
-    for name in columns.names() {
-        let name = name.as_str().trim();
-        if is_field(kind, name) || is_in_path(alloc, target, name)? {
-            continue;
-        }
-        if let Some(meant) = nearest(alloc, name, &known)? {
-            return usage!(alloc; "column {name}: did you mean {meant}?");
-        }
-    }
-    Ok(())
-}
-
-// Says why column `number` is not encoded, if it is not and is no part of a file name either.
-fn left_out(
-    taking: Taking<'_>,
-    columns: &Columns,
-    number: usize,
-    is_named: bool,
-) -> Option<&'static str> {
-    let name = columns.names().get(number.saturating_sub(1))?.as_str();
-    let is_first = columns.number_of(name.trim()) == Some(number);
-    match taking.what {
-        Lined::Data => {
-            let field = taking.lines.field?;
-            let is_selected = name.trim().eq_ignore_ascii_case(field);
-            (is_selected && !is_first).then_some("stands twice; this one")
-        }
-        Lined::Payload(kind) if !is_named && !is_field(kind, name) => {
-            Some("is no option of this command, so it")
-        }
-        Lined::Payload(_) if !is_first => Some("stands twice; this one"),
-        Lined::Elements if !is_named && !is_identifier(identifier_in(name)) => {
-            Some("is no application identifier, so it")
-        }
-        _ => None,
-    }
-}
-
-// Whether payloads of `kind` have a field of this name.
-fn is_field(kind: Kind, name: &str) -> bool {
-    fields_in(kind).iter().any(|field| option_of(*field).long.eq_ignore_ascii_case(name.trim()))
-}
-
-// Whether the path of the output has the column as a placeholder.
-fn is_in_path(alloc: Global, target: Target<'_>, name: &str) -> Result<bool, AllocError> {
-    let place = format!(in alloc; "{{{name}}}")?;
-    Ok(matches!(target, Target::File(path) if path.contains(place.as_str())))
-}
-
 // Draws each line, and reports the refused ones. In a table, lines without any data are left out.
 fn draw_each<R: BufRead>(
     rt: &HostRuntime,
@@ -254,7 +156,10 @@ fn draw_each<R: BufRead>(
     line: &mut Vec<u8>,
 ) -> Result<ExitCode, Failure> {
     let mut code = ExitCode::SUCCESS;
-    let mut taken = BTreeSet::new(rt.alloc());
+    let mut drawn = Drawn {
+        names: BTreeSet::new(rt.alloc()),
+        pages: Pages::new(rt.alloc()),
+    };
     let header = usize::from(taking.lines.has_header);
     let is_table = !columns.is_empty() || taking.lines.field.is_some();
     for number in 1..usize::MAX {
@@ -264,6 +169,7 @@ fn draw_each<R: BufRead>(
                 let name = shown(taking.name);
                 doubted!(rt, asked.doubts; "{name} has no lines: no code is made")?;
             }
+            drawn.pages.end(rt)?;
             return Ok(code);
         }
         let text = text_of(line, place);
@@ -276,7 +182,7 @@ fn draw_each<R: BufRead>(
             ..asked.doubts
         };
         let asked = Asked { doubts, ..*asked };
-        match draw_line(rt, &asked, taking, columns, &mut taken, (text, number)) {
+        match draw_line(rt, &asked, taking, columns, &mut drawn, (text, number)) {
             Ok(_) => taking.progress.show(rt, number),
             Err(Failure::Refused(why)) => {
                 taking.progress.clear(rt);
@@ -296,24 +202,29 @@ fn draw_line(
     asked: &Asked<'_, '_>,
     taking: Taking<'_>,
     columns: &Columns,
-    taken: &mut BTreeSet<String>,
+    drawn: &mut Drawn,
     numbered: (&[u8], usize),
 ) -> Result<ExitCode, Failure> {
     let alloc = rt.alloc();
     let (bytes, number) = numbered;
     let line = line_of(alloc, asked, taking, columns, bytes, number)?;
     let Target::File(path) = asked.target else {
-        return draw_what(rt, asked, taking, columns, &line, bytes);
+        let drawing = draw_what(rt, asked, taking, columns, &line, bytes)?;
+        return drawn.pages.write(rt, asked, drawing);
     };
     let name = name_of(alloc, path, columns, &line)?;
-    if has_text(path, columns) {
-        check_free(alloc, taken, name.as_str())?;
+    let may_be_taken = has_text(path, columns);
+    if may_be_taken {
+        check_free(alloc, &drawn.names, name.as_str())?;
     }
     check_made(rt, asked, name.as_str())?;
     let target = Target::File(name.as_str());
     let asked = Asked { target, ..*asked };
-    let code = draw_what(rt, &asked, taking, columns, &line, bytes)?;
-    taken.insert(name.as_str().to_ascii_lowercase(alloc)?)?;
+    let drawing = draw_what(rt, &asked, taking, columns, &line, bytes)?;
+    let code = write_drawing(rt, &asked, drawing)?;
+    if may_be_taken {
+        drawn.names.insert(name.as_str().to_lowercase(alloc)?)?;
+    }
     Ok(code)
 }
 
@@ -372,7 +283,7 @@ fn draw_what(
     columns: &Columns,
     line: &Line,
     bytes: &[u8],
-) -> Result<ExitCode, Failure> {
+) -> Result<Option<Vec<u8>>, Failure> {
     let alloc = rt.alloc();
     if let (Lined::Data, None) = (taking.what, taking.lines.field) {
         return draw_one(rt, asked, bytes);
@@ -381,6 +292,12 @@ fn draw_what(
     match (taking.what, taking.lines.field) {
         (Lined::Payload(kind), _) => {
             let row = Row::of(alloc, kind, columns, line, &asked.fields)?;
+            if let Some(name) = row.loose(columns) {
+                let label = columns.label(alloc, name)?;
+                doubted!(rt, asked.doubts;
+                    "{label}: the space or quotation mark at its start or end is encoded"
+                )?;
+            }
             draw_payload(rt, kind, asked, &row, columns)
         }
         (Lined::Elements, None) if !columns.is_empty() => {
@@ -427,15 +344,4 @@ fn elements_in(alloc: Global, columns: &Columns, line: &Line) -> Result<String, 
         }
     }
     Ok(text)
-}
-
-// Returns the application identifier that a column is named by, without its brackets.
-fn identifier_in(name: &str) -> &str {
-    name.trim()
-        .trim_start_matches(|sign: char| matches!(sign, '(' | '['))
-        .trim_end_matches(|sign: char| matches!(sign, ')' | ']'))
-}
-
-fn is_identifier(name: &str) -> bool {
-    !name.is_empty() && name.bytes().all(|byte| byte.is_ascii_digit())
 }

@@ -1,7 +1,10 @@
 //! Makes the codes that the command line asks for.
 
 use crate::contents::{payload_of, with_round_brackets};
-use crate::drawing::{application_code, draw_one, elements_code, segments_code, write_code};
+use crate::drawing::{
+    application_code, check_terminal, draw_one, draw_reported, elements_code, segments_code,
+    write_drawing,
+};
 use crate::exams::write_exam;
 use crate::grading::grade;
 use crate::lines::{Lined, draw_lines};
@@ -34,29 +37,31 @@ pub fn make(rt: &HostRuntime, task: &Task, asked: &Asked<'_, '_>) -> Result<Exit
 
 // Makes codes.
 fn draw(rt: &HostRuntime, task: &Task, asked: &Asked<'_, '_>) -> Result<ExitCode, Failure> {
+    if let Purpose::Exam = task.purpose {
+        return match asked.exam.answers {
+            Some(answers) => grade(rt, answers, asked.exam.path),
+            None => write_exam(rt, asked),
+        };
+    }
+    check_terminal(rt, asked)?;
     let what = match task.purpose {
         Purpose::Several => return draw_several(rt, asked, &data(rt, asked, MOST_IN_SEVERAL)?),
-        Purpose::Exam => {
-            return match asked.exam.answers {
-                Some(answers) => grade(rt, answers, asked.exam.path),
-                None => write_exam(rt, asked),
-            };
-        }
         Purpose::Content(kind) => Lined::Payload(kind),
         Purpose::Elements => Lined::Elements,
         _ => Lined::Data,
     };
     asked.fields.check(rt.alloc())?;
     warn_of_places(rt, asked)?;
-    match (asked.input.lines, what, asked.input.segments) {
-        (Some(lines), _, _) => draw_lines(rt, asked, lines, what),
-        (None, Lined::Payload(kind), _) => draw_content(rt, kind, asked),
-        (None, Lined::Elements, _) => draw_gs1(rt, asked),
+    let drawing = match (asked.input.lines, what, asked.input.segments) {
+        (Some(lines), _, _) => return draw_lines(rt, asked, lines, what),
+        (None, Lined::Payload(kind), _) => draw_content(rt, kind, asked)?,
+        (None, Lined::Elements, _) => draw_gs1(rt, asked)?,
         (None, Lined::Data, Some(words)) => {
-            write_code(rt, asked, segments_code(rt.alloc(), asked, words)?)
+            draw_reported(rt, asked, segments_code(rt.alloc(), asked, words)?)?
         }
-        (None, Lined::Data, None) => draw_one(rt, asked, &data(rt, asked, MOST_DATA)?),
-    }
+        (None, Lined::Data, None) => draw_one(rt, asked, &data(rt, asked, MOST_DATA)?)?,
+    };
+    write_drawing(rt, asked, drawing)
 }
 
 // Warns of placeholders in the name of a single file.
@@ -66,7 +71,7 @@ fn warn_of_places(rt: &HostRuntime, asked: &Asked<'_, '_>) -> Result<(), Failure
         Target::File(path) if is_single && path.contains('{') && path.contains('}') => {
             let path = shown(path);
             doubted!(rt, asked.doubts;
-                "--output {path}: {{}} stands for itself without --lines"
+                "--output {path}: without --lines this is the file name as it stands"
             )
         }
         _ => Ok(()),
@@ -74,7 +79,11 @@ fn warn_of_places(rt: &HostRuntime, asked: &Asked<'_, '_>) -> Result<(), Failure
 }
 
 // Draws a payload whose fields the options give.
-fn draw_content(rt: &HostRuntime, kind: Kind, asked: &Asked<'_, '_>) -> Result<ExitCode, Failure> {
+fn draw_content(
+    rt: &HostRuntime,
+    kind: Kind,
+    asked: &Asked<'_, '_>,
+) -> Result<Option<Vec<u8>>, Failure> {
     if matches!(asked.input.source, Source::File(_)) {
         return usage!(rt.alloc();
             "--input goes with --lines, which takes the fields from columns; without it, options \
@@ -91,7 +100,7 @@ pub(crate) fn draw_payload<G: Given>(
     asked: &Asked<'_, '_>,
     given: &G,
     columns: &Columns,
-) -> Result<ExitCode, Failure> {
+) -> Result<Option<Vec<u8>>, Failure> {
     let text = payload_of(rt.alloc(), kind, given, columns)?;
     if matches!(kind, Kind::Bill) {
         return draw_bill(rt, asked, text.as_str());
@@ -109,7 +118,11 @@ pub(crate) fn draw_payload<G: Given>(
 }
 
 // Draws a Swiss QR-bill, with the Swiss cross if the format supports it.
-fn draw_bill(rt: &HostRuntime, asked: &Asked<'_, '_>, text: &str) -> Result<ExitCode, Failure> {
+fn draw_bill(
+    rt: &HostRuntime,
+    asked: &Asked<'_, '_>,
+    text: &str,
+) -> Result<Option<Vec<u8>>, Failure> {
     check_bill(rt.alloc(), text)?;
     if asked.logo.is_some() {
         return usage!(rt.alloc(); "--logo, --logo-area: a bill has the Swiss cross in its middle");
@@ -176,15 +189,15 @@ fn check_bill(alloc: Global, text: &str) -> Result<(), Failure> {
         Err(_) => {
             let more = text.len() - BILL_ROOM;
             refused!(alloc;
-                "too long: a bill may use at most version 25 ({BILL_ROOM} bytes); shorten it by {more} \
-                bytes (a letter with an accent takes two)"
+                "too long: a bill may use at most version 25 ({BILL_ROOM} bytes); shorten it by \
+                {more} bytes (a letter with an accent takes two)"
             )
         }
     }
 }
 
 // Draws a GS1 element string, or data in an industry's own format.
-fn draw_gs1(rt: &HostRuntime, asked: &Asked<'_, '_>) -> Result<ExitCode, Failure> {
+fn draw_gs1(rt: &HostRuntime, asked: &Asked<'_, '_>) -> Result<Option<Vec<u8>>, Failure> {
     let bytes = data(rt, asked, MOST_DATA)?;
     let Ok(text) = str::from_utf8(&bytes) else {
         return refused!(rt.alloc(); "ELEMENTS: they are not UTF-8");
@@ -194,7 +207,7 @@ fn draw_gs1(rt: &HostRuntime, asked: &Asked<'_, '_>) -> Result<ExitCode, Failure
         return draw_elements(rt, asked, text);
     };
     let code = application_code(rt.alloc(), &asked.request, indicator, text)?;
-    write_code(rt, asked, code)
+    draw_reported(rt, asked, code)
 }
 
 /// Draws a GS1 element string.
@@ -202,10 +215,15 @@ pub(crate) fn draw_elements(
     rt: &HostRuntime,
     asked: &Asked<'_, '_>,
     text: &str,
-) -> Result<ExitCode, Failure> {
+) -> Result<Option<Vec<u8>>, Failure> {
+    if text.starts_with("http") {
+        return refused!(rt.alloc();
+            "ELEMENTS: a GS1 Digital Link is a plain text: goqlanis \"https://..\""
+        );
+    }
     let text = with_round_brackets(rt.alloc(), text)?;
     let code = elements_code(rt.alloc(), &asked.request, text.as_str())?;
-    write_code(rt, asked, code)
+    draw_reported(rt, asked, code)
 }
 
 // Returns the data to encode; at most `most` bytes are read.

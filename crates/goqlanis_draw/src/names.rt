@@ -5,7 +5,8 @@ use goqlanis_files::failure::Failure;
 use goqlanis_files::files::is_stream;
 use goqlanis_files::streams::is_unseen;
 use goqlanis_files::{refused, usage};
-use goqlanis_options::asked::{Asked, Source, Target};
+use goqlanis_options::asked::{Asked, Target};
+use goqlanis_options::targets::reader_of;
 use std::alloc::{AllocError, Global};
 use std::collections::BTreeSet;
 use std::fs;
@@ -74,7 +75,7 @@ pub(crate) fn check_free(
     taken: &BTreeSet<String>,
     name: &str,
 ) -> Result<(), Failure> {
-    if !taken.contains(name.to_ascii_lowercase(alloc)?.as_str()) {
+    if !taken.contains(name.to_lowercase(alloc)?.as_str()) {
         return Ok(());
     }
     refused!(alloc;
@@ -92,8 +93,8 @@ pub(crate) fn check_made(
         "a pipe, device or folder"
     } else if fs::symlink_metadata(rt, name).is_ok_and(|found| found.is_symlink()) {
         "a link"
-    } else if matches!(asked.input.source, Source::File(path) if path == name) {
-        "the input"
+    } else if let Some(reader) = reader_of(rt, asked, name) {
+        return refused!(rt.alloc(); "{name}: {reader} reads this file; each code gets its own");
     } else {
         return Ok(());
     };
@@ -139,8 +140,8 @@ fn check_name(alloc: Global, pattern: &str, path: &str) -> Result<(), Failure> {
         refused!(alloc; "its file name would end with a dot or a space, which Windows drops")
     } else if let Some(sign) = odd {
         refused!(alloc;
-            "its file name would begin with \"{sign}\", since a field is empty; {{}} in --output is \
-            the number of the line"
+            "its file name would begin with \"{sign}\", since a field is empty; {{}} in --output \
+            is the number of the line"
         )
     } else {
         Ok(())
@@ -150,14 +151,16 @@ fn check_name(alloc: Global, pattern: &str, path: &str) -> Result<(), Failure> {
 // Whether Windows reserves a name, with any file extension.
 fn is_reserved(name: &str) -> bool {
     let stem = name.split('.').next().unwrap_or("");
-    let device = stem.trim_end_matches(|character: char| character.is_ascii_digit());
-    let is_numbered = stem.len() == device.len().saturating_add(1);
+    let device = stem.trim_end_matches(|character: char| {
+        character.is_ascii_digit() || matches!(character, '\u{b9}' | '\u{b2}' | '\u{b3}')
+    });
+    let is_numbered = stem.chars().count() == device.chars().count().saturating_add(1);
     if is_numbered {
         return ["com", "lpt"]
             .iter()
             .any(|known| device.eq_ignore_ascii_case(known));
     }
-    ["con", "prn", "aux", "nul"]
+    ["con", "prn", "aux", "nul", "conin$", "conout$"]
         .iter()
         .any(|known| stem.eq_ignore_ascii_case(known))
 }

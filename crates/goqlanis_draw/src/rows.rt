@@ -7,6 +7,7 @@ ghost use Rattle.goqlanis_options.specs.Fields.{name_of};
 use goqlanis_files::failure::Failure;
 use goqlanis_files::refused;
 use goqlanis_options::fields::{DECISIVE, OPEN};
+use goqlanis_options::options::OTHER_NAMES;
 use goqlanis_options::options::fields::option_of;
 use qrcode_contents::fields::errors::Field;
 use qrcode_payloads::given::Given;
@@ -53,6 +54,14 @@ impl Columns {
         Some(place.saturating_add(1))
     }
 
+    /// Returns the number of the column that gives the option `name`, from 1: the one called so, or
+    /// else by another name that the option has.
+    pub(crate) fn field(&self, name: &str) -> Option<usize> {
+        let others = OTHER_NAMES.iter().filter(|(_, option)| *option == name);
+        let other = others.filter_map(|(other, _)| self.number_of(other)).next();
+        self.number_of(name).or(other)
+    }
+
     /// Returns the names with commas between.
     ///
     /// Errors: only `AllocError`.
@@ -77,7 +86,7 @@ impl Columns {
     ///
     /// Errors: only `AllocError`.
     pub(crate) fn label(&self, alloc: Global, name: &str) -> Result<String, AllocError> {
-        match self.number_of(name) {
+        match self.field(name) {
             Some(number) => format!(in alloc; "column {number}, {name}"),
             None => format!(in alloc; "--{name}"),
         }
@@ -150,9 +159,15 @@ impl Row {
         let is_open = is_open(alloc, columns, line)?;
         for field in fields_in(kind) {
             let name = option_of(*field).long;
-            let text = match columns.number_of(name) {
+            let text = match columns.field(name) {
                 Some(number) => {
-                    decided(alloc, name, number, line.field(alloc, number)?, is_open)?
+                    let text = line.field(alloc, number)?;
+                    let text = decided(alloc, name, number, text, is_open)?;
+                    if *field == Field::Hidden {
+                        truth(text)
+                    } else {
+                        text
+                    }
                 }
                 None => options.text(*field),
             };
@@ -163,6 +178,17 @@ impl Row {
             pairs.push(pair)?;
         }
         Ok(Row { pairs })
+    }
+
+    /// Returns the option of the first column whose text has a space or a quotation mark at its
+    /// start or end.
+    pub(crate) fn loose(&self, columns: &Columns) -> Option<&str> {
+        let is_mark = |sign: char| sign == '"' || sign.is_whitespace();
+        let mut loose = self.pairs.iter().filter(|(_, text)| {
+            text.as_str().starts_with(is_mark) || text.as_str().ends_with(is_mark)
+        });
+        let found = loose.find(|(name, _)| columns.field(name.as_str()).is_some());
+        found.map(|(name, _)| name.as_str())
     }
 }
 
@@ -187,9 +213,21 @@ fn decided<'a>(
     Ok(text)
 }
 
+// Returns true or false for yes or no, as tables say it too, and any other word as it is.
+fn truth(word: &str) -> &str {
+    let is_one_of = |words: &[&str]| words.iter().any(|known| word.eq_ignore_ascii_case(known));
+    if is_one_of(&["yes", "1"]) {
+        "true"
+    } else if is_one_of(&["no", "0"]) {
+        "false"
+    } else {
+        word
+    }
+}
+
 // Whether a line says that its network is open.
 fn is_open(alloc: Global, columns: &Columns, line: &Line) -> Result<bool, Failure> {
-    let Some(number) = columns.number_of("security") else {
+    let Some(number) = columns.field("security") else {
         return Ok(false);
     };
     let security = line.field(alloc, number)?;
@@ -227,7 +265,9 @@ pub(crate) fn fields_of(
         }
     }
     if is_open {
-        return refused!(alloc; "a field has no quotation mark at its end; a field has no line breaks");
+        return refused!(alloc;
+            "a field has no quotation mark at its end; a field has no line breaks"
+        );
     }
     Ok(fields)
 }
@@ -246,4 +286,16 @@ fn unquoted(alloc: Global, field: &str) -> Result<String, AllocError> {
     };
     let parts = inner.split("\"\"").collect::<Vec<&str>>(alloc)?;
     parts.join(alloc, "\"")
+}
+
+/// Returns the application identifier that a column is named by, without its brackets.
+pub(crate) fn identifier_in(name: &str) -> &str {
+    name.trim()
+        .trim_start_matches(|sign: char| matches!(sign, '(' | '['))
+        .trim_end_matches(|sign: char| matches!(sign, ')' | ']'))
+}
+
+/// Whether a name is an application identifier: digits alone.
+pub(crate) fn is_identifier(name: &str) -> bool {
+    !name.is_empty() && name.bytes().all(|byte| byte.is_ascii_digit())
 }

@@ -1,7 +1,8 @@
 //! `goqlanis split`: structured append.
 
-use crate::drawing::{check_empty, manner, write_code};
+use crate::drawing::{check_empty, draw_reported, manner};
 use crate::names::{check_made, check_names, name_of};
+use crate::pages::Pages;
 use crate::rows::{Columns, Line};
 use goqlanis_files::failure::Failure;
 use goqlanis_files::refused;
@@ -27,7 +28,9 @@ pub(crate) fn draw_several(
     bytes: &[u8],
 ) -> Result<ExitCode, Failure> {
     let alloc = rt.alloc();
-    check_one_behind_another(alloc, asked)?;
+    if !asked.is_dry {
+        check_one_behind_another(alloc, asked)?;
+    }
     check_names(rt, asked, &Columns::none(alloc))?;
     check_empty(alloc, asked, bytes)?;
     let versions = versions_of(alloc, asked)?;
@@ -54,16 +57,19 @@ fn draw_each(
     codes: Vec<QrCode>,
 ) -> Result<ExitCode, Failure> {
     let count = codes.len();
+    let mut pages = Pages::new(rt.alloc());
     for (index, code) in codes.into_iter().enumerate() {
         if let Target::File(path) = asked.target {
             let name = part_name(rt.alloc(), path, index.saturating_add(1))?;
             check_made(rt, asked, name.as_str())?;
             let target = Target::File(name.as_str());
-            write_code(rt, &Asked { target, ..*asked }, code)?;
+            let asked = Asked { target, ..*asked };
+            pages.write(rt, &asked, draw_reported(rt, &asked, code)?)?;
         } else {
-            write_code(rt, asked, code)?;
+            pages.write(rt, asked, draw_reported(rt, asked, code)?)?;
         }
     }
+    pages.end(rt)?;
     if let Target::File(path) = asked.target {
         warn_of_others(rt, path, count)?;
     }

@@ -6,7 +6,7 @@ use crate::reports::{push_file, push_heading};
 use goqlanis_core::VersionName;
 use goqlanis_files::failure::{Failure, warn_of_more};
 use goqlanis_files::refused;
-use goqlanis_files::streams::print;
+use goqlanis_files::streams::write_data;
 use goqlanis_options::asked::Report;
 use goqlanis_options::pictures::{Pictures, STANDARD_INPUT};
 use goqlanis_options::push_either;
@@ -29,12 +29,12 @@ pub fn check(rt: &HostRuntime, pictures: &Pictures<'_, '_>) -> Result<ExitCode, 
     for name in names {
         let file = if pictures.is_many { *name } else { "" };
         let checked = check_one(rt, is_json, name, file, &mut text);
-        is_standard = reported(rt, pictures.is_many, checked)? && is_standard;
+        is_standard = reported(rt, pictures.is_many || is_json, checked)? && is_standard;
     }
     if is_json {
         text.push_str(if text.is_empty() { "[\n]\n" } else { "\n]\n" })?;
     }
-    print(rt, text.as_bytes())?;
+    write_data(rt, None, text.as_bytes())?;
     Ok(status_of(is_standard))
 }
 

@@ -2,6 +2,7 @@
 
 use goqlanis_files::failure::{Failure, warn_of_more};
 use goqlanis_files::refused;
+use qrcode_scan::behind_picture;
 use std::alloc::{AllocError, Global};
 
 // The maximum size of a binary PBM picture, in bytes: 67,108,864 pixels, as for PNG.
@@ -19,12 +20,11 @@ pub(crate) fn pictures_in<'a>(
     let mut pictures = Vec::new(rt.alloc());
     let mut rest = file;
     for _ in 0..file.len() {
-        let behind = behind_picture(rest).unwrap_or(&[]);
-        let length = rest.len().saturating_sub(behind.len());
-        let picture = rest.get(..length).unwrap_or(rest);
+        let behind = behind_picture(rest);
+        let picture = &rest[..rest.len() - behind.len()];
         check_size(rt.alloc(), name, picture)?;
         pictures.push(picture)?;
-        rest = after_space(behind);
+        rest = behind;
         if !matches!(rest, [b'P', b'1' | b'4' | b'5', ..]) {
             break;
         }
@@ -59,81 +59,4 @@ fn check_size(alloc: Global, name: &str, picture: &[u8]) -> Result<(), Failure> 
         "cannot read {name}: it has more than 8,389,632 bytes, those of 67,108,864 pixels; \
         crop it, or make it smaller"
     )
-}
-
-// Returns what follows the first picture of a PBM or PGM file, if that picture is whole.
-fn behind_picture(file: &[u8]) -> Option<&[u8]> {
-    let (kind, head) = match file {
-        [b'P', kind, head @ ..] => (*kind, head),
-        _ => return None,
-    };
-    let (across, rest) = number(head)?;
-    let (down, rest) = number(rest)?;
-    let count = across.saturating_mul(down);
-    match kind {
-        b'1' => behind_figures(rest, count),
-        b'4' => behind_raster(rest, across.div_ceil(8).saturating_mul(down)),
-        b'5' => behind_greys(rest, count),
-        _ => None,
-    }
-}
-
-// Returns what follows this many greys, and the maximum grey before them: above 255 each has two
-// bytes.
-fn behind_greys(bytes: &[u8], count: usize) -> Option<&[u8]> {
-    let (greatest, rest) = number(bytes)?;
-    behind_raster(
-        rest,
-        if greatest < 256 {
-            count
-        } else {
-            count.saturating_mul(2)
-        },
-    )
-}
-
-// Returns what follows this many bytes of pixels, before which one white space ends the header.
-fn behind_raster(bytes: &[u8], count: usize) -> Option<&[u8]> {
-    bytes.get(count.saturating_add(1)..)
-}
-
-// Returns what follows this many characters 0 and 1.
-fn behind_figures(bytes: &[u8], count: usize) -> Option<&[u8]> {
-    let mut left = count;
-    for at in 0..bytes.len() {
-        if left == 0 {
-            return bytes.get(at..);
-        }
-        if matches!(bytes[at], b'0' | b'1') {
-            left -= 1;
-        }
-    }
-    None
-}
-
-// Reads a number after white space and comments, up to 65,535; returns what follows too.
-fn number(bytes: &[u8]) -> Option<(usize, &[u8])> {
-    let text = after_space(bytes);
-    let count = text.iter().position(|byte| !byte.is_ascii_digit());
-    let count = count.unwrap_or(text.len());
-    let number = str::from_utf8(text.get(..count)?)
-        .ok()?
-        .parse::<u16>()
-        .ok()?;
-    Some((number as usize, text.get(count..)?))
-}
-
-// Skips white space and comments.
-fn after_space(bytes: &[u8]) -> &[u8] {
-    let mut is_comment = false;
-    for at in 0..bytes.len() {
-        if is_comment {
-            is_comment = bytes[at] != b'\n';
-        } else if bytes[at] == b'#' {
-            is_comment = true;
-        } else if !matches!(bytes[at], b' ' | b'\t'..=b'\r') {
-            return bytes.get(at..).unwrap_or(bytes);
-        }
-    }
-    &[]
 }

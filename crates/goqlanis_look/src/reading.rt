@@ -23,7 +23,7 @@ pub fn read(rt: &HostRuntime, pictures: &Pictures<'_, '_>) -> Result<ExitCode, F
     for name in names {
         let file = if pictures.is_many { *name } else { "" };
         let read = read_one(rt, pictures.report, name, file, &mut data);
-        is_whole = reported(rt, pictures.is_many, read)? && is_whole;
+        is_whole = reported(rt, pictures.is_many || is_json, read)? && is_whole;
     }
     if is_json {
         let end = if data.is_empty() { "[\n]\n" } else { "\n]\n" };

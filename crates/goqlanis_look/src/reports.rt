@@ -2,8 +2,8 @@
 
 use crate::texts::text_of;
 use goqlanis_core::VersionName;
-use goqlanis_files::streams::is_unseen;
 use goqlanis_options::charsets::eci_name;
+use goqlanis_options::json::{self, push_string};
 use goqlanis_options::modes::mode_name;
 use goqlanis_options::push_either;
 use qrcode::types::Mode;
@@ -80,11 +80,10 @@ pub(crate) fn object_of(alloc: Global, scan: &Scan, file: &str) -> Result<String
 pub(crate) fn push_file(text: &mut String, file: &str) -> Result<(), AllocError> {
     text.push('{')?;
     if file.is_empty() {
-        return Ok(());
+        Ok(())
+    } else {
+        json::push_file(text, file)
     }
-    text.push_str("\"file\": \"")?;
-    push_string(text, file)?;
-    text.push_str("\", ")
 }
 
 // Appends the report on one code: members of a JSON object, or lines of text.
@@ -240,27 +239,4 @@ fn push_data(text: &mut String, scan: &Scan) -> Result<(), AllocError> {
     }
     let data = hex::encode(*text.allocator(), data)?;
     write!(text, "\"hex\": \"{data}\"}}")
-}
-
-// Appends the characters of a JSON string.
-fn push_string(text: &mut String, plain: &str) -> Result<(), AllocError> {
-    for character in plain.chars() {
-        push_escaped(text, character)?;
-    }
-    Ok(())
-}
-
-// Appends a character of a JSON string. Control and invisible characters become `\u` escapes.
-fn push_escaped(text: &mut String, character: char) -> Result<(), AllocError> {
-    match character {
-        '"' => text.push_str("\\\""),
-        '\\' => text.push_str("\\\\"),
-        _ if is_unseen(character) => {
-            for unit in character.encode_utf16(&mut [0; 2]) {
-                write!(text, "\\u{unit:04x}")?;
-            }
-            Ok(())
-        }
-        _ => text.push(character),
-    }
 }

@@ -91,6 +91,7 @@ impl Elements {
                 if least < most {
                     write!(text, " to {most}")?;
                 }
+                text.push_str(length_help(identifier.as_str(), count))?;
             }
             (Cause::Character, Some(rule)) => push_character(&mut text, rule.2, value.as_str())?,
             (Cause::CheckDigit, Some(rule)) => {
@@ -109,6 +110,15 @@ impl Elements {
             )?,
         }
         Ok(text)
+    }
+}
+
+// What would help with a value of this many characters, if its identifier allows no such length.
+fn length_help(identifier: &str, count: usize) -> &'static str {
+    match (identifier, count) {
+        ("01" | "02", 13) => "; put a 0 before a GTIN of 13 digits",
+        ("11" | "12" | "13" | "15" | "16" | "17", 8 | 10) => ": YYMMDD",
+        _ => "",
     }
 }
 

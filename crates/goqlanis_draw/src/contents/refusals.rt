@@ -62,6 +62,8 @@ fn what_is_wrong(kind: Kind, field: Field, cause: Cause) -> &'static str {
         (_, Field::Begin | Field::Stamp, Cause::Character) => "it is not written as a day or time",
         (_, Field::End, Cause::Character) => "it is not in the same form as --begin",
         (_, Field::Hidden, Cause::Word) => "it is neither true nor false",
+        (Kind::Vcard, Field::Family, Cause::Empty) =>
+            "it is missing or empty; a vCard has the family name apart from the full name",
         _ => cause_text(cause),
     }
 }
