@@ -1,14 +1,15 @@
-"""Tests of what goqlanis draws: colours of parts, labels, covered squares and logos."""
+"""Tests of what goqlanis draws: colours of parts, labels, covered squares, logos and documents."""
 import random
 import re
 import shlex
 from fractions import Fraction
 from itertools import product
 
+import documents
 import labels
 import parts
 import png
-from room import COLOURS, SYMBOLS, TOP, empty, file_of, put, run, written
+from room import COLOURS, SYMBOLS, TOP, empty, file_of, held, put, run, written
 
 
 def parts_have_their_colours(program):
@@ -218,3 +219,41 @@ def _is_in_the_middle(ran, pattern, side):
     unit = min(unit, 1 / unit)
     begins, is_wide = 4 + side / 2 - 3.5 * side / 46, 7 * side / 46
     return abs(unit * left - begins) < 1e-6 and abs(unit * 252 * part - is_wide) < 1e-6
+
+
+# Command lines that write documents, their lines, and the command lines of the pages.
+DOCUMENTS = [
+    ("--lines --pdf-title Café --finder-dark navy -s 2.5", "one\n\n" + 3000 * "a" + "\r\nthree", [
+        "--pdf-title Café --finder-dark navy -s 2.5 one",
+        "--pdf-title Café --finder-dark navy -s 2.5 three"]),
+    ("--lines --field 2 --size 30mm -o -", f"1,a\n2,{500 * 'b'}\n3,c", [
+        f"--size 30mm {it}" for it in ("a", 500 * "b", "c")]),
+    ("--lines --logo-area --dpi 300 --module 1mm --dark teal --invert", "a\nb\n", [
+        f"--logo-area --dpi 300 --module 1mm --dark teal --invert {it}" for it in "ab"]),
+    ("--lines --charset shortest -v 40 -q 0", "Привет\nмир", [
+        f"--charset shortest -v 40 -q 0 {it}" for it in ("Привет", "мир")]),
+    ("wifi --lines --header", "ssid,password\nGuests,pass;word\nStaff,12345678", [
+        "wifi --ssid Guests --password 'pass;word'", "wifi --ssid Staff --password 12345678"]),
+    ("bill --lines --header --iban CH5800791123000889012 --name a --code 2501 --city Biel --country CH",
+     "amount\n1\n2.50", [
+         "bill --iban CH5800791123000889012 --name a --code 2501 --city Biel --country CH "
+         f"--amount {it}" for it in ("1", "2.50")]),
+    ("gs1 --lines --columns 01,10 --delimiter ;", "09521234543213;A\n09521234543213;B", [
+        f"gs1 '(01)09521234543213(10){it}'" for it in "AB"]),
+    ("damage --lines --wrong-codewords 3 --turn 90", "a\nb", [
+        f"damage --wrong-codewords 3 --turn 90 {it}" for it in "ab"])]
+
+
+def a_document_has_the_pages_of_its_lines(program):
+    """On standard output, a PDF document has a page for each line that is not refused: that of the
+    PDF file of the same data, with the same contents and title. So has one of split data."""
+    for words, lines, each in DOCUMENTS:
+        ran = run(program, [*shlex.split(words), "-f", "pdf"], "/", lines.encode())
+        files = [documents.pages_of(written(program, f"{it} -f pdf")) for it in each]
+        if documents.pages_of(ran.stdout) != (files[0][0], sum((it[1] for it in files), [])):
+            return False
+    with empty() as folder:
+        run(program, ["split", "--count", "3", "-o", "a.pdf", "abc"], folder)
+        files = [documents.pages_of(held(folder, f"a-00000{it}.pdf")) for it in (1, 2, 3)]
+        ran = run(program, ["split", "--count", "3", "-f", "pdf", "abc"], folder)
+    return documents.pages_of(ran.stdout)[1] == sum((it[1] for it in files), [])

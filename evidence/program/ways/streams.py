@@ -30,6 +30,11 @@ def no_bytes_to_a_terminal(program):
         refused = in_terminal(program, ["-f", kind, "1"])
         if refused != (said, 1) or status or not asked.startswith(head):
             return False
+    for words in (["--lines"], ["split", "--count", "2"]):
+        asked, status = in_terminal(program, [*words, "-f", "pdf", "-o", "-", "1"])
+        refused = in_terminal(program, [*words, "-f", "pdf", "1"])
+        if refused != (said, 1) or status or not asked.endswith(b"%%EOF\n"):
+            return False
     return True
 
 
@@ -48,7 +53,8 @@ def a_closed_pipe_ends_a_run_quietly(program):
     reader, writer = os.pipe()
     os.close(reader)
     more = {"input": b"1\n2\n3\n", "stdout": writer, "stderr": subprocess.PIPE, "timeout": 60}
-    ran = [subprocess.run([program, it], check=False, **more) for it in ("1", "--lines", "--help")]
+    ran = [subprocess.run([program, *it.split()], check=False, **more)
+           for it in ("1", "--lines", "--lines -f pdf", "--help")]
     os.close(writer)
     return all((it.returncode, it.stderr) == (1, b"") for it in ran)
 
@@ -65,6 +71,23 @@ def lines_are_drawn_as_they_come(program):
             drawn.append(ran.stdout.read(len(drawing)))
         ran.stdin.close()
         return drawn == wanted and ran.stdout.read() == b"" and ran.wait(timeout=60) == 0
+
+
+def pages_are_written_as_their_lines_come(program):
+    """The first page of a document is written before the second line, and its end after the
+    input."""
+    pipes = {"stdin": subprocess.PIPE, "stdout": subprocess.PIPE}
+    with subprocess.Popen([program, "--lines", "-f", "pdf"], **pipes) as ran:
+        for line in (b"one\n", b"two\n"):
+            ran.stdin.write(line)
+            ran.stdin.flush()
+            drawn = b""
+            while not drawn.endswith(b"\nendstream\nendobj\n"):
+                drawn += os.read(ran.stdout.fileno(), 65536)
+            if b"xref" in drawn:
+                return False
+        ran.stdin.close()
+        return ran.stdout.read().endswith(b"%%EOF\n") and ran.wait(timeout=60) == 0
 
 
 def a_line_says_how_many_lines_are_done(program):

@@ -1,0 +1,46 @@
+"""Reads PDF documents as a viewer would, by PDF 1.4, 3.4 and 3.6: from the end to the table of
+objects, from there to the catalog, the tree of pages and the contents of each page."""
+import re
+
+
+def objects_of(file):
+    """Returns the trailer, and the texts of objects by number. An entry of the table has 20 bytes.
+    Objects begin where it says, and together fill the file between its head and the table."""
+    at = int(re.fullmatch(rb".*\nstartxref\n(\d+)\n%%EOF\n", file, re.DOTALL)[1])
+    size = int(re.match(rb"xref\n0 (\d+)\n0000000000 65535 f \n", file[at:])[1])
+    table = file.index(b"0000000000", at) + 20
+    entries = [file[table + 20 * it:table + 20 * it + 20] for it in range(size - 1)]
+    starts = [int(re.fullmatch(rb"(\d{10}) 00000 n \n", it)[1]) for it in entries]
+    ends = dict(zip(sorted(starts), [*sorted(starts)[1:], at]))
+    texts = {number: re.fullmatch(b"%d 0 obj\n(.*)\nendobj\n" % number, file[start:ends[start]],
+                                  re.DOTALL)[1] for number, start in enumerate(starts, 1)}
+    trailer = file[table + 20 * (size - 1):]
+    assert file[:min(starts)] == b"%PDF-1.4\n" and b"/Size %d/" % size in trailer
+    return trailer, texts
+
+
+def reference(name, text):
+    """Returns the number of the object that an entry of a dictionary names."""
+    return int(re.search(rb"/%s (\d+) 0 R" % name, text)[1])
+
+
+def pages_of(file):
+    """Returns the information of a document, and of each page, in order, what it says besides the
+    numbers of objects, and its contents. No object is left over."""
+    trailer, texts = objects_of(file)
+    assert trailer.startswith(b"trailer\n<<")
+    root, about = reference(b"Root", trailer), reference(b"Info", trailer)
+    top = reference(b"Pages", texts[root])
+    kids, count = re.fullmatch(rb"<</Type/Pages/Kids\[([^]]*)\]/Count (\d+)>>", texts[top]).groups()
+    numbers = [int(it) for it in re.findall(rb"(\d+) 0 R\s*", kids)]
+    used, pages = {root, about, top}, []
+    for number in numbers:
+        inside = reference(b"Contents", texts[number])
+        length, rest = re.fullmatch(rb"<</Length (\d+)>>\nstream\n(.*)", texts[inside],
+                                    re.DOTALL).groups()
+        assert reference(b"Parent", texts[number]) == top
+        assert rest[int(length):] == b"\nendstream"
+        pages.append((re.sub(rb" \d+ 0 R", b"", texts[number]), rest[:int(length)]))
+        used |= {number, inside}
+    assert int(count) == len(numbers) and used == set(texts)
+    return texts[about], pages
