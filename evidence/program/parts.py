@@ -104,6 +104,8 @@ def eps_cells(text, side, scale):
         words = line.split()
         if words[-1:] == ["setrgbcolor"]:
             color = tuple(int(it) for it in words[::3][:3])
+        elif words[-1:] == ["setgray"]:
+            color = 3 * (int(words[0]),)
         elif words[-1:] == ["rectfill"]:
             fill(cells, [int(it) / scale for it in words[:4]], color)
     return cells
@@ -117,6 +119,8 @@ def pdf_cells(file, side):
     for word in file.split(b"stream\n")[1].decode().split("\n"):
         if word.endswith(" rg"):
             color = tuple(round(255 * float(it)) for it in word.split()[:3])
+        elif word.endswith(" g"):
+            color = 3 * (round(255 * float(word.split()[0])),)
         elif " re" in word:
             boxes.append([int(it) for it in word.split()[:4]])
         if word.endswith("f"):

@@ -1,15 +1,20 @@
 -- The text of Encapsulated PostScript.
-use Rattle.std.specs.Prelude.{ℕ, zero, suc, Option, None, Some, ◌+◌, ◌-◌, ◌*◌, ◌/◌, List, ◌++◌, codes, decimal}
+use Rattle.std.specs.Prelude.{ℕ, zero, suc, Option, None, Some, ◌+◌, ◌-◌, ◌*◌, ◌/◌, ◌==◌, ◌&&◌, Bool, if◌then◌else◌, List, ◌++◌, codes, decimal}
 use Rattle.qrcode_types.specs.declared.types.Color.{Color}
 use Rattle.qrcode_render.specs.declared.eps.Color as eps
 use Rattle.qrcode_render.specs.Drawn.{drawn}
 use Rattle.qrcode_render.specs.Layout.{Layout, pixels_across, pixels_down}
 use Rattle.qrcode_render.specs.Paths.{thousandths}
 
--- sets the colour of what follows
-abbrev pub eps_paint : eps.Color → List ℕ
+-- whether red, green and blue are equal
+abbrev pub is_grey : eps.Color → Bool
+is_grey p = p.red == p.green && p.green == p.blue
+
+-- sets the colour of what follows; a grey is set as one, so that printers need only black ink
+unfoldable pub eps_paint : eps.Color → List ℕ
 eps_paint p =
-    decimal p.red ++ (codes " 255 div " ++ (decimal p.green ++ (codes " 255 div " ++ (decimal p.blue ++ codes " 255 div setrgbcolor\n"))))
+    if is_grey p then decimal p.red ++ codes " 255 div setgray\n"
+    else decimal p.red ++ (codes " 255 div " ++ (decimal p.green ++ (codes " 255 div " ++ (decimal p.blue ++ codes " 255 div setrgbcolor\n"))))
 
 -- the header of a picture of w by h pixels, each a point: its lower left corner is at 0 0
 abbrev pub eps_head : ℕ → ℕ → List ℕ

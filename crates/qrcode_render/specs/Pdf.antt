@@ -1,5 +1,5 @@
 -- PDF 1.4 with one page of the picture's size, on which the runs of dark modules are filled.
-use Rattle.std.specs.Prelude.{◌≡◌, ℕ, ◌+◌, ◌*◌, ◌/◌, ◌%◌, ◌^◌, ◌<◌, ◌==◌, if◌then◌else◌, List, [], ◌∷◌, ◌++◌, codes, decimal, length, map, flat_map}
+use Rattle.std.specs.Prelude.{◌≡◌, ℕ, ◌+◌, ◌*◌, ◌/◌, ◌%◌, ◌^◌, ◌<◌, ◌==◌, ◌&&◌, Bool, if◌then◌else◌, List, [], ◌∷◌, ◌++◌, codes, decimal, length, map, flat_map, get_or}
 use Rattle.std.specs.Char.Escape.{encode_utf16}
 use Rattle.std.specs.List.{range_with_len}
 use Rattle.std.specs.Str.{chars}
@@ -48,9 +48,13 @@ turn s = points s s.across ++ (codes " 0 0 -" ++ (points s s.down ++ (codes " 0 
 abbrev pub part : ℕ → List ℕ
 part c = millionths ((c * 1000000 + 127) / 255) ++ codes " "
 
--- sets the fill colour, given as red, green and blue
-abbrev pub paint : List ℕ → List ℕ
-paint parts = flat_map part parts ++ codes "rg\n"
+-- whether red, green and blue are equal
+abbrev pub is_grey : List ℕ → Bool
+is_grey parts = get_or parts 0 0 == get_or parts 1 0 && get_or parts 1 0 == get_or parts 2 0
+
+-- sets the fill colour, given as red, green and blue; a grey is set as one, so that printers need only black ink
+unfoldable pub paint : List ℕ → List ℕ
+paint parts = if is_grey parts then part (get_or parts 0 0) ++ codes "g\n" else flat_map part parts ++ codes "rg\n"
 
 -- fills the background
 abbrev pub ground : Paper → List ℕ

@@ -6,7 +6,7 @@ ghost use Rattle.std.specs.Prelude.{◌≡◌, ◌<◌, ◌≤◌, ◌^◌, stri
 ghost use Rattle.qrcode_types.specs.declared.types.QrError.TheVariants.{OutOfMemory};
 ghost use Rattle.qrcode_types.specs.Colors.{select_of};
 ghost use Rattle.qrcode_render.specs.Drawn.{drawn};
-ghost use Rattle.qrcode_render.specs.Eps.{begun_points, eps_boxes, eps_end, eps_file, eps_front, eps_paint, eps_rect, eps_sized_start, eps_start};
+ghost use Rattle.qrcode_render.specs.Eps.{begun_points, eps_boxes, eps_end, eps_file, eps_front, eps_paint, eps_rect, eps_sized_start, eps_start, is_grey};
 ghost use Rattle.qrcode_render.specs.Paths.{thousandths};
 ghost use Rattle.qrcode_render.specs.Setting.{fits, layout_of};
 
@@ -25,6 +25,15 @@ pub struct Color {
     pub green: u8,
     /// Blue, from 0 to 255.
     pub blue: u8,
+}
+
+impl Color {
+    // Whether red, green and blue are equal.
+    fn is_grey(self) -> bool
+        ensures { result ≡ is_grey self }
+    {
+        self.red == self.green && self.green == self.blue
+    }
 }
 
 impl Pixel for Color {
@@ -68,12 +77,11 @@ impl Strokes<Color> for Boxes {
     ghost rect = { eps_rect };
 
     fn head(alloc: Global, width: u32, height: u32, dark: Color, light: Color) -> QrResult<String> {
+        let (ground, ink) = (paint(alloc, light)?, paint(alloc, dark)?);
         Ok(format!(in alloc;
             "%!PS-Adobe-3.0 EPSF-3.0\n%%BoundingBox: 0 0 {width} {height}\n%%LanguageLevel: 2\n\
-             %%EndComments\n{} 255 div {} 255 div {} 255 div setrgbcolor\n\
-             0 0 {width} {height} rectfill\n0 {height} translate 1 -1 scale\n\
-             {} 255 div {} 255 div {} 255 div setrgbcolor\n",
-            light.red, light.green, light.blue, dark.red, dark.green, dark.blue
+             %%EndComments\n{ground}0 0 {width} {height} rectfill\n\
+             0 {height} translate 1 -1 scale\n{ink}"
         )?)
     }
 
@@ -129,11 +137,8 @@ pub fn layer(alloc: Global, renderer: &Renderer<Color>) -> QrResult<Vec<u8>>
     ensures memory { IsOkUnless result OutOfMemory }
 {
     let (dark, _) = renderer.colors();
-    let paint = format!(in alloc;
-        "{} 255 div {} 255 div {} 255 div setrgbcolor\n",
-        dark.red, dark.green, dark.blue
-    )?;
-    Ok(Canvas::after(paint, &renderer.modules())?.into_bytes())
+    let ink = paint(alloc, dark)?;
+    Ok(Canvas::after(ink, &renderer.modules())?.into_bytes())
 }
 
 // Returns the text before the first dark rectangle, for sides in pixels, with `dots` pixels to an
@@ -171,13 +176,23 @@ fn sized_head(
 {
     let (width, height) = sides;
     let head = sized_boxes(alloc, sides, dots)?;
+    let (ground, ink) = (paint(alloc, light)?, paint(alloc, dark)?);
     Ok(format!(in alloc;
         "{head}%%LanguageLevel: 2\n%%EndComments\n72 {dots} div dup scale\n\
-         {} 255 div {} 255 div {} 255 div setrgbcolor\n\
-         0 0 {width} {height} rectfill\n0 {height} translate 1 -1 scale\n\
-         {} 255 div {} 255 div {} 255 div setrgbcolor\n",
-        light.red, light.green, light.blue, dark.red, dark.green, dark.blue
+         {ground}0 0 {width} {height} rectfill\n0 {height} translate 1 -1 scale\n{ink}"
     )?)
+}
+
+// Returns PostScript that sets a colour; a grey is set as one.
+fn paint(alloc: Global, color: Color) -> QrResult<String>
+    ensures value { IfOk result (λ text. string_bytes text ≡ eps_paint color) }
+    ensures memory { IsOkUnless result OutOfMemory }
+{
+    let Color { red, green, blue } = color;
+    if color.is_grey() {
+        return Ok(format!(in alloc; "{red} 255 div setgray\n")?);
+    }
+    Ok(format!(in alloc; "{red} 255 div {green} 255 div {blue} 255 div setrgbcolor\n")?)
 }
 
 // Returns the lines that state the size of a picture, for sides in pixels.

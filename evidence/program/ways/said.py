@@ -154,7 +154,8 @@ def python_has_the_same_colours(program):
     named = dict(re.findall(r"\b([a-z]+)=([0-9a-f]{6})\b", python))
     held_there = dict(re.findall(r'\("([a-z]+)", 0x([0-9a-f]{6})\)', rattle))
     drawn = [run(program, ["-f", "eps", "--light", it, "1"], "/").stdout for it in named]
-    inks = [b"\n%d 255 div %d 255 div %d 255 div setrgbcolor\n" % tuple(bytes.fromhex(it))
-            for it in named.values()]
+    inks = [b"\n%d 255 div setgray\n" % parts[0] if len(set(parts)) == 1
+            else b"\n%d 255 div %d 255 div %d 255 div setrgbcolor\n" % tuple(parts)
+            for parts in map(bytes.fromhex, named.values())]
     rows = [ink in eps for ink, eps in zip(inks, drawn)]
     return len(named) == 148 and named == held_there and all(rows)

@@ -135,8 +135,8 @@ static EPS: [Row<eps::Color, Text>; 2] = [
     ))),
     Row(DARK, On(1), Usual, Default, Is(concat!(
         "%!PS-Adobe-3.0 EPSF-3.0\n%%BoundingBox: 0 0 24 24\n%%LanguageLevel: 2\n%%EndComments\n",
-        "255 255 div 255 255 div 255 255 div setrgbcolor\n0 0 24 24 rectfill\n",
-        "0 24 translate 1 -1 scale\n0 255 div 0 255 div 0 255 div setrgbcolor\n",
+        "255 255 div setgray\n0 0 24 24 rectfill\n",
+        "0 24 translate 1 -1 scale\n0 255 div setgray\n",
         "8 8 8 8 rectfill\nshowpage\n%%EOF\n"
     ))),
 ];
