@@ -1,6 +1,6 @@
 -- Values without the spaces, hyphens and the like that people write between their characters.
-use Rattle.std.specs.Prelude.{◌≡◌, ℕ, ◌==◌, ◌&&◌, ◌||◌, Bool, true, false, List, [], ◌∷◌, ◌++◌, Option, Some, None, chars, codes, drop, encode_utf8_all, eqb, length, if◌then◌else◌, refl}
-use Rattle.std.specs.List.{after_first, before_first, filter_map, list_all, starts_with}
+use Rattle.std.specs.Prelude.{◌≡◌, ℕ, ◌==◌, ◌&&◌, ◌||◌, ◌-◌, not, Bool, true, false, List, [], ◌∷◌, ◌++◌, Option, Some, None, chars, codes, drop, encode_utf8_all, eqb, length, take, if◌then◌else◌, refl}
+use Rattle.std.specs.List.{after_first, before_first, filter_map, list_all, list_any, starts_with}
 use Rattle.std.specs.Char.{to_ascii_lowercase, to_ascii_uppercase}
 use Rattle.std.specs.Str.{trim}
 use Rattle.qrcode_contents.specs.Phone.{is_number}
@@ -98,8 +98,26 @@ is_key_number text =
 abbrev pub key_number : List ℕ → List ℕ  -- a text without spaces and the characters between digits
 key_number text = plain Key (phone_number text)
 
+-- a telephone number without its country code: with a bracket, or a hyphen before its last three characters; a CPF may have the same digits
+abbrev pub is_local : List ℕ → Bool
+is_local text =
+    not (starts_with eqb text (codes "+")) && (list_any (is_byte 40) text || list_any (is_byte 45) (take (length text - 3) text))
+
 abbrev pub pix_key : List ℕ → List ℕ  -- a Pix key: a number without these, any other key in small letters, without white space around it
-pix_key text = if is_key_number (key_number text) then key_number text else plain Address (trim text)
+pix_key text = if is_key_number (key_number text) && not (is_local (trim text)) then key_number text else plain Address (trim text)
+
+-- telephone numbers without and with their country code, a CPF and a CNPJ
+local_row : is_local (codes "(11) 90000-0750") ≡ true
+local_row = refl
+
+plus_row : is_local (codes "+55 (11) 90000-0750") ≡ false
+plus_row = refl
+
+person_row : is_local (codes "123.456.789-09") ≡ false
+person_row = refl
+
+company_row : is_local (codes "00.038.166/0001-05") ≡ false
+company_row = refl
 
 abroad_row : without_zero (codes "+41(0)791234567") ≡ codes "+41791234567"
 unfolding without_zero with_zero is_country is_code dials_zero

@@ -1,8 +1,8 @@
 //! Removes spaces, hyphens and the like, which people write between the characters of a value.
 
 ghost use Rattle.std.specs.Prelude.{◌≡◌, IfOk, string_bytes};
-ghost use Rattle.std.specs.List.{list_all};
-ghost use Rattle.qrcode_payloads.specs.Plain.{is_removed, as_written, kept, plain, is_placed, has_form, is_code, is_country, dials_zero, with_zero, without_zero, phone_number, phone_digits, is_key_number, pix_key, is_byte, without_padding};
+ghost use Rattle.std.specs.List.{list_all, list_any};
+ghost use Rattle.qrcode_payloads.specs.Plain.{is_removed, as_written, kept, plain, is_placed, has_form, is_code, is_country, dials_zero, with_zero, without_zero, phone_number, phone_digits, is_key_number, is_local, pix_key, is_byte, without_padding};
 
 use qrcode_contents::fields::characters::{are_capitals_or_digits, are_digits, parts};
 use qrcode_contents::phone::is_number;
@@ -212,6 +212,22 @@ fn is_key_number(text: &str) -> bool
     matches!(bytes.len(), 11 | 14) && are_capitals_or_digits(text)
 }
 
+fn has_byte(bytes: &[u8], wanted: u8) -> bool
+    ensures { result ≡ list_any (is_byte wanted) bytes.now }
+{
+    bytes.iter().any(|byte| *byte == wanted)
+}
+
+// Whether a text is a telephone number without its country code: with a bracket, or a hyphen before
+// its last three characters. (A CPF may have the same digits.)
+fn is_local(text: &str) -> bool
+    ensures { result ≡ is_local text.now }
+{
+    let bytes = text.as_bytes();
+    let start = &bytes[..bytes.len().saturating_sub(3)];
+    !bytes.starts_with(b"+") && (has_byte(bytes, b'(') || has_byte(start, b'-'))
+}
+
 /// Returns a Pix key: a number without the characters between its digits, any other key in small
 /// letters, without white space around it.
 pub(crate) fn pix_key(alloc: Global, text: &str) -> Result<String, AllocError>
@@ -219,10 +235,11 @@ pub(crate) fn pix_key(alloc: Global, text: &str) -> Result<String, AllocError>
 {
     let spaceless = phone_number(alloc, text)?;
     let number = plain(alloc, spaceless.as_str(), Cleaning::Key)?;
-    if is_key_number(number.as_str()) {
+    let text = text.trim();
+    if is_key_number(number.as_str()) && !is_local(text) {
         return Ok(number);
     }
-    plain(alloc, text.trim(), Cleaning::Address)
+    plain(alloc, text, Cleaning::Address)
 }
 
 fn are_equals(bytes: &[u8]) -> bool
