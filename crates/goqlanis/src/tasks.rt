@@ -4,16 +4,17 @@ use clap::ArgMatches;
 use clap::error::{Error, ErrorKind};
 use goqlanis_draw::make;
 use goqlanis_files::failure::{Failure, status};
-use goqlanis_files::refused;
 use goqlanis_files::streams::{Escaped, print};
+use goqlanis_files::{refused, usage};
 use goqlanis_look::{check, join_pictures, read};
 use goqlanis_options::advice::{advice, wrapped_help};
 use goqlanis_options::asked::asked_for;
-use goqlanis_options::command::{command_of, end_of_help};
+use goqlanis_options::command::{command_of, end_of_help, usage_of};
 use goqlanis_options::completions::{completions_of, shell_named};
 use goqlanis_options::manual::manual_page;
 use goqlanis_options::options::{DRAWING, Purpose, Task, task_named};
 use goqlanis_options::pictures::pictures_of;
+use goqlanis_options::sizes::{UNIT_APART, has_unit_apart};
 use std::alloc::{AllocError, Global};
 use std::process::ExitCode;
 use std::{env, io};
@@ -31,10 +32,12 @@ pub fn run(rt: &HostRuntime) -> ExitCode {
 fn run_words(rt: &HostRuntime) -> Result<ExitCode, Failure> {
     let mut words = all_words(rt)?;
     let task = take_command(rt.alloc(), &mut words)?;
-    let help_end = end_of_help(rt.alloc(), task)?;
-    let given = match command_of(rt.alloc(), task, help_end.as_str())?.try_get_matches_from(
-        &words,
-    ) {
+    if task.draws() && has_unit_apart(&words) {
+        return usage!(rt.alloc(); "{UNIT_APART}");
+    }
+    let (usage, help_end) = (usage_of(rt.alloc(), task)?, end_of_help(rt.alloc(), task)?);
+    let command = command_of(rt.alloc(), task, usage.as_str(), help_end.as_str())?;
+    let given = match command.try_get_matches_from(&words) {
         Ok(given) => given,
         Err(error) => return refuse(rt, task, &words, &error),
     };

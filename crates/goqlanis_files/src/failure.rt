@@ -85,7 +85,10 @@ pub fn warn_of_more(rt: &HostRuntime, is_error: bool, name: &str) -> Result<(), 
     doubted(
         rt,
         doubts,
-        format_args!("{name} has data after its picture, which is ignored"),
+        format_args!(
+            "{} has data after its picture, which is ignored",
+            shown(name)
+        ),
     )
 }
 

@@ -23,6 +23,9 @@ pub enum Unwritten {
     /// The path names a folder.
     #[error("it is a folder; name a file in it")]
     IsFolder,
+    /// The path names a file that nobody may write to.
+    #[error("it is write-protected: allow writing with chmod u+w, or name another file")]
+    Protected,
     /// The new file was written under a temporary name, and cannot be renamed to its path.
     #[error("cannot replace it: {0}")]
     Place(io::Error),
@@ -85,8 +88,8 @@ fn open_folder(rt: &HostRuntime, name: &str) -> Result<Folder, Unwritten> {
 
 /// Writes `bytes` to the file at `path` atomically: to a temporary file in the same folder, which
 /// only its owner can read, and which is then renamed. Links are followed. Pipes, devices and files
-/// that are already open are written directly. In a folder that everybody may write to, another
-/// user's link, pipe or file is rejected.
+/// that are already open are written directly. A write-protected file is rejected; so is another
+/// user's link, pipe or file in a folder that everybody may write to.
 ///
 /// Errors: the `Unwritten` that says why; an old regular file is then as it was.
 pub fn write_whole(rt: &HostRuntime, path: &str, bytes: &[u8]) -> Result<(), Unwritten> {
@@ -107,6 +110,9 @@ pub fn write_whole(rt: &HostRuntime, path: &str, bytes: &[u8]) -> Result<(), Unw
         }
         if is_strange(rt, folder.way.as_str(), &found)? {
             return Err(Unwritten::Strange);
+        }
+        if found.is_file() && found.mode() & 0o222 == 0 {
+            return Err(Unwritten::Protected);
         }
         if found.is_file() {
             return replace(rt, folder, inside.as_str(), Some(found), bytes);

@@ -94,8 +94,8 @@ fn push_all(data: &mut Vec<u8>, scans: &[Scan], file: &str) -> Result<(), Failur
     }
     for scan in scans {
         if !file.is_empty() {
-            data.extend_from_slice(file.as_bytes())?;
-            data.extend_from_slice(b": ")?;
+            let name = format!(in *data.allocator(); "{}: ", shown(file))?;
+            data.extend_from_slice(name.as_bytes())?;
         }
         push_data(data, scan)?;
         data.push(b'\n')?;

@@ -2,6 +2,7 @@
 
 use crate::texts::text_of;
 use goqlanis_core::VersionName;
+use goqlanis_files::streams::shown;
 use goqlanis_options::charsets::eci_name;
 use goqlanis_options::json::{self, push_string};
 use goqlanis_options::modes::mode_name;
@@ -59,7 +60,7 @@ pub(crate) fn push_heading(text: &mut String, file: &str) -> Result<(), AllocErr
     if file.is_empty() {
         return Ok(());
     }
-    write!(text, "{file}:\n")
+    write!(text, "{}:\n", shown(file))
 }
 
 /// Returns a JSON object of a code with its data, on one line; it names the file unless that is

@@ -288,13 +288,8 @@ fn other_help(
                 .any(|word| matches!(word.as_str(), "--version" | "-V")) => {
             format!(in alloc; "{word}: --version is the program's; for the code's version, use -v")
         }
-        _ if is_unit(word) || words.iter().any(|word| is_unit(word.as_str())) => {
-            Ok(String::from_str(alloc, UNIT)?)
-        }
         _ if has_number(words, "--eci") => no_value_help(alloc, "--eci"),
-        _ if words.iter().any(|word| word.as_str() == "--hidden") => {
-            no_value_help(alloc, "--hidden")
-        }
+        _ if follows(words, "--hidden", word) => no_value_help(alloc, "--hidden"),
         Some(("TEXT", _)) => format!(in alloc;
             "{word}: only one TEXT; put quotes around one with spaces, e.g. \"hello world\""
         ),
@@ -303,12 +298,10 @@ fn other_help(
     }
 }
 
-/// The advice on a length whose unit stands alone.
-pub const UNIT: &str = "write the unit with the number, e.g. --size 30mm";
-
-/// Whether a word is a unit of lengths alone.
-pub fn is_unit(word: &str) -> bool {
-    matches!(word, "mm" | "cm" | "in" | "pt" | "px")
+// Whether `word` follows `option`.
+fn follows(words: &[String], option: &str, word: &str) -> bool {
+    let mut pairs = words.iter().zip(words.iter().skip(1));
+    pairs.any(|(one, next)| one.as_str() == option && next.as_str() == word)
 }
 
 // Advice on a value for an option that takes none.

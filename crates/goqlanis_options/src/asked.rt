@@ -2,14 +2,14 @@
 
 use crate::charsets::Coded;
 use crate::colours::{check_colours, ink_of, part_colour, part_inks};
-use crate::conflicts::{check_conflicts, check_unit, is_given};
+use crate::conflicts::{check_conflicts, is_given};
 use crate::exams::{AskedDamage, AskedExam, damage_of, exam_of, position_of};
 use crate::fields::Fields;
 use crate::frames::{frame_of, place_of};
 use crate::logos::{AskedLogo, logo_of};
 use crate::options::{Purpose, Task};
 use crate::sizes::{Sizes, sizes_of};
-use crate::targets::check_target;
+use crate::targets::{check_streams, check_target};
 use crate::warnings::warn;
 use clap::ArgMatches;
 use goqlanis_core::{Choice, Request};
@@ -137,7 +137,6 @@ pub fn asked_for<'a, 'w>(
 ) -> Result<Asked<'a, 'w>, Failure> {
     let alloc = rt.alloc();
     check_conflicts(alloc, given)?;
-    check_unit(alloc, given)?;
     let target = target_of(alloc, given)?;
     let is_dry = given.get_flag("dry-run");
     let name = given.get_str("format").or(task.own_format());
@@ -174,7 +173,9 @@ pub fn asked_for<'a, 'w>(
     if asked.input.lines.is_some() && !is_dry {
         check_one_behind_another(alloc, &asked)?;
     }
-    if asked.input.lines.is_none() && !matches!(task.purpose, Purpose::Several) {
+    if asked.input.lines.is_some() {
+        check_streams(rt, &asked)?;
+    } else if !matches!(task.purpose, Purpose::Several) {
         check_target(rt, &asked)?;
     }
     warn(rt, &asked)?;

@@ -5,20 +5,51 @@ use clap::builder::ValueParser;
 use clap::{Arg, ArgAction, Command};
 use std::alloc::{AllocError, Global};
 
-/// Builds the `clap` command of `task`, whose help ends with `end`.
+/// Builds the `clap` command of `task`, with its `usage`, or that of `clap` if it is empty. Its help
+/// ends with `end`.
 ///
 /// Errors: only `AllocError`.
-pub fn command_of<'a>(alloc: Global, task: &Task, end: &'a str) -> Result<Command<'a>, AllocError> {
+pub fn command_of<'a>(
+    alloc: Global,
+    task: &Task,
+    usage: &'a str,
+    end: &'a str,
+) -> Result<Command<'a>, AllocError> {
     let command = Command::new(alloc, "goqlanis")
         .about(task.about)
         .disable_help_flag(true)
         .args(arguments(alloc, task)?)?
         .after_help(end);
-    if task.word.is_empty() {
-        let usage = "goqlanis [OPTIONS] [TEXT]\n       goqlanis <COMMAND> [OPTIONS]";
-        return Ok(command.override_usage(usage));
+    if usage.is_empty() {
+        return Ok(command);
     }
-    Ok(command)
+    Ok(command.override_usage(usage))
+}
+
+/// Returns the usage of a task, if `clap` does not know it: of plain codes, and of payloads that
+/// need options unless a table has their fields.
+///
+/// Errors: only `AllocError`.
+pub fn usage_of(alloc: Global, task: &Task) -> Result<String, AllocError> {
+    let name = task.word;
+    if name.is_empty() {
+        let usage = "goqlanis [OPTIONS] [TEXT]\n       goqlanis <COMMAND> [OPTIONS]";
+        return String::from_str(alloc, usage);
+    }
+    let mut text = String::new(alloc);
+    for entry in &task.own_options(alloc)? {
+        if let Takes::Wanted(value) = entry.takes {
+            let long = entry.long;
+            if text.is_empty() {
+                write!(text, "goqlanis {name} [OPTIONS]")?;
+            }
+            write!(text, " --{long} <{value}>")?;
+        }
+    }
+    if !text.is_empty() {
+        write!(text, "\n       goqlanis {name} --lines [OPTIONS]")?;
+    }
+    Ok(text)
 }
 
 /// Returns the end of a task's help: for plain codes the list of commands, and examples; for other

@@ -1,6 +1,5 @@
 //! Options that do not go together.
 
-use crate::advice::{UNIT, is_unit};
 use crate::options::task_named;
 use clap::ArgMatches;
 use clap::parser::ValueSource;
@@ -44,19 +43,6 @@ pub(crate) fn check_conflicts(alloc: Global, given: &ArgMatches<'_>) -> Result<(
             }
             return usage!(alloc; "{one} and {other} do not go together: {help}");
         }
-    }
-    Ok(())
-}
-
-/// Checks that TEXT is not the unit of a length before it.
-///
-/// Errors: `Usage` if it is; `OutOfMemory`.
-pub(crate) fn check_unit(alloc: Global, given: &ArgMatches<'_>) -> Result<(), Failure> {
-    let has_length = ["size", "module", "scale"]
-        .iter()
-        .any(|option| is_given(given, option));
-    if has_length && given.get_str("TEXT").is_some_and(is_unit) {
-        return usage!(alloc; "{UNIT}");
     }
     Ok(())
 }

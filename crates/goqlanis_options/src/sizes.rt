@@ -216,6 +216,38 @@ static UNITS: &[(&str, usize, u64)] = &[
     ("pt", 3, 635),
 ];
 
+/// The advice on a length of two words, a number and its unit.
+pub const UNIT_APART: &str = "write the unit with the number, e.g. --size 30mm";
+
+/// Whether a command line has a length of two words, such as `--size 30 mm`.
+pub fn has_unit_apart(words: &[String]) -> bool {
+    let mut is_length = false;
+    for (word, next) in words.iter().zip(words.iter().skip(1)) {
+        let number = match word.as_str().split_once('=') {
+            Some(("--size" | "--module", number)) => number,
+            None if is_length => word.as_str(),
+            _ => "",
+        };
+        if is_number(number) && is_unit(next.as_str()) {
+            return true;
+        }
+        is_length = matches!(word.as_str(), "--size" | "--module");
+    }
+    false
+}
+
+// Whether a word is a number, without a unit.
+fn is_number(word: &str) -> bool {
+    word.bytes().any(|byte| byte.is_ascii_digit())
+        && word.bytes().all(|byte| byte.is_ascii_digit() || matches!(byte, b'.' | b','))
+}
+
+// Whether a word is a unit of lengths.
+fn is_unit(word: &str) -> bool {
+    let mut units = UNITS.iter().map(|(name, _, _)| *name).chain(["px"]);
+    units.any(|name| word.eq_ignore_ascii_case(name))
+}
+
 // Parses a length, into parts of an inch.
 fn parts_of(text: &str) -> Option<u64> {
     let end = text.len().checked_sub(2)?;

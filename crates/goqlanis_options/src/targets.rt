@@ -47,3 +47,18 @@ pub(crate) fn check_target(rt: &HostRuntime, asked: &Asked<'_, '_>) -> Result<()
         None => Ok(()),
     }
 }
+
+/// Checks that no line that is written becomes a line that is read, which would never end.
+///
+/// Errors: `Usage` if one does; `OutOfMemory`.
+pub(crate) fn check_streams(rt: &HostRuntime, asked: &Asked<'_, '_>) -> Result<(), Failure> {
+    for (name, path) in [
+        ("standard output", "/dev/stdout"),
+        ("standard error", "/dev/stderr"),
+    ] {
+        if let Some(reader) = reader_of(rt, asked, path) {
+            return usage!(rt.alloc(); "{name} goes to the file that {reader} reads; use another");
+        }
+    }
+    Ok(())
+}

@@ -170,7 +170,7 @@ pub fn warn_of_sizes(
 ) -> Result<(), Failure> {
     let doubts = asked.doubts;
     let side = modules.saturating_mul(scale);
-    if let Some(dots) = dots.filter(|_| asked.input.lines.is_none()) {
+    if let Some(dots) = dots {
         let (wanted, made) = (asked.hundredths.unwrap_or(0), hundredths_of(side, dots));
         if made.saturating_add(10) <= wanted {
             let (wanted, made) = (Decimal(wanted), Decimal(made));

@@ -51,7 +51,8 @@ pub static LINES: &[Entry] = &[
     entry!("header", Nothing,
         "With --lines: the first line names the columns, e.g. ssid,password for wifi or 01,10 for \
         gs1, and has no number; {ssid} in --output is that field"),
-    entry!("columns", Text("NAMES"), "With --lines: names of the columns, in place of those of --header if it has others"),
+    entry!("columns", Text("NAMES"),
+        "With --lines: names of the columns, if the first line has none; with --header, instead of its names"),
     entry!("field", Text("FIELD"), "With --lines: encode only this field of each line, by number or name"),
     entry!("delimiter", Text("TEXT"), "Separator of the fields in a line, e.g. ; or tab [default: ,]"),
 ];
@@ -101,8 +102,8 @@ pub static MARKS: &[Entry] = &[
     entry!("eci", Nothing, "Mark the data as UTF-8 (ECI 26); helps if readers show it wrongly"),
     entry!("charset", Text("NAME"),
         "Character set of the text, with its ECI: utf-8, utf-16be, shift-jis, iso-8859-1 to -16, \
-        windows-1250 to -1252 or -1256; shortest: that of the fewest bits, without utf-16be and \
-        windows [default: UTF-8 without ECI]"),
+        windows-1250 to -1252 or -1256; shortest: whichever takes the fewest bits, but for \
+        utf-16be and windows [default: UTF-8 without ECI]"),
 ];
 
 /// The mask option.

@@ -73,7 +73,7 @@ pub static TASKS: &[Task] = &[
     task!("vcard", Purpose::Content(Kind::Vcard), "Contact (vCard 3.0)"),
     task!("epc", Purpose::Content(Kind::Payment), "SEPA credit transfer (EPC QR code)"),
     task!("bill", Purpose::Content(Kind::Bill),
-        "Swiss QR-bill, with its cross in SVG, PNG, EPS and PDF; 46 mm wide in SVG, EPS, PDF, and at --dpi"),
+        "Swiss QR-bill, with its cross in SVG, PNG, EPS and PDF; 46 mm wide in SVG, EPS and PDF, at most that with --dpi"),
     task!("upi", Purpose::Content(Kind::Upi), "Payment by UPI (India)"),
     task!("pix", Purpose::Content(Kind::Pix), "Static payment by Pix (Brazil)"),
     task!("promptpay", Purpose::Content(Kind::Promptpay), "Payment by PromptPay (Thailand)"),
