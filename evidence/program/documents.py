@@ -24,6 +24,23 @@ def reference(name, text):
     return int(re.search(rb"/%s (\d+) 0 R" % name, text)[1])
 
 
+def leaves_of(texts, node, parent, used):
+    """Returns the numbers of the pages under a node of the tree, in order, each with that of the
+    node above it. Nodes count their pages, and name the node above them; none has more than 8,191
+    below, the most that a list may have."""
+    kids, count = re.fullmatch(rb"<</Type/Pages%s/Kids\[([^]]*)\]/Count (\d+)>>" % parent,
+                               texts[node]).groups()
+    numbers, leaves = [int(it) for it in re.findall(rb"(\d+) 0 R\s*", kids)], []
+    for number in numbers:
+        if texts[number].startswith(b"<</Type/Pages"):
+            used.add(number)
+            leaves += leaves_of(texts, number, b"/Parent %d 0 R" % node, used)
+        else:
+            leaves.append((number, node))
+    assert int(count) == len(leaves) and 0 < len(numbers) <= 8191
+    return leaves
+
+
 def pages_of(file):
     """Returns the information of a document, and of each page, in order, what it says besides the
     numbers of objects, and its contents. No object is left over."""
@@ -31,16 +48,14 @@ def pages_of(file):
     assert trailer.startswith(b"trailer\n<<")
     root, about = reference(b"Root", trailer), reference(b"Info", trailer)
     top = reference(b"Pages", texts[root])
-    kids, count = re.fullmatch(rb"<</Type/Pages/Kids\[([^]]*)\]/Count (\d+)>>", texts[top]).groups()
-    numbers = [int(it) for it in re.findall(rb"(\d+) 0 R\s*", kids)]
     used, pages = {root, about, top}, []
-    for number in numbers:
+    for number, above in leaves_of(texts, top, b"", used):
         inside = reference(b"Contents", texts[number])
         length, rest = re.fullmatch(rb"<</Length (\d+)>>\nstream\n(.*)", texts[inside],
                                     re.DOTALL).groups()
-        assert reference(b"Parent", texts[number]) == top
+        assert reference(b"Parent", texts[number]) == above
         assert rest[int(length):] == b"\nendstream"
         pages.append((re.sub(rb" \d+ 0 R", b"", texts[number]), rest[:int(length)]))
         used |= {number, inside}
-    assert int(count) == len(numbers) and used == set(texts)
+    assert used == set(texts)
     return texts[about], pages

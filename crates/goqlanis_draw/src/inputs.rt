@@ -24,8 +24,7 @@ pub(crate) fn next_line<R: BufRead>(
     let mut from = from.by_ref().take(MOST_IN_LINE as u64 + 2);
     match from.read_until(b'\n', line) {
         Ok(0) => Ok(false),
-        Ok(_) if number == 1 && matches!(line.as_slice(), [0xff, 0xfe, ..] | [0xfe, 0xff, ..]) =>
-            refused!(alloc;
+        Ok(_) if number == 1 && is_utf_16(line) => refused!(alloc;
             "cannot read {name}: it is UTF-16; use iconv -f utf-16 -t utf-8 first"
         ),
         Ok(_) if without_ending(line).len() <= MOST_IN_LINE => Ok(true),
@@ -38,6 +37,17 @@ pub(crate) fn next_line<R: BufRead>(
         }
         Err(error) => unread(alloc, name, &error),
     }
+}
+
+// Whether a file is UTF-16: by its byte order mark, or since it begins with two characters of ASCII.
+fn is_utf_16(line: &[u8]) -> bool {
+    matches!(
+        line,
+        [0xff, 0xfe, ..]
+            | [0xfe, 0xff, ..]
+            | [1..=127, 0, 1..=127, 0, ..]
+            | [0, 1..=127, 0, 1..=127, ..]
+    )
 }
 
 /// Strips the line ending, and from the first line the byte order mark that spreadsheets write.

@@ -6,12 +6,12 @@ use crate::inputs::{is_blank, next_line, text_of, utf8};
 use crate::making::{draw_elements, draw_payload};
 use crate::names::{check_free, check_made, check_names, has_text, name_of};
 use crate::pages::Pages;
-use crate::rows::{Columns, Line, Row, fields_of, identifier_in, is_identifier};
+use crate::rows::{Columns, Line, Row, fields_of, identifier_in, is_identifier, is_unfinished};
 use goqlanis_files::failure::{Doubts, Failure, Place};
 use goqlanis_files::progress::Progress;
 use goqlanis_files::streams::{ask, shown, unread};
 use goqlanis_files::{doubted, refused, usage};
-use goqlanis_options::asked::{Asked, Lines, Source, Target};
+use goqlanis_options::asked::{Asked, Lines, Report, Source, Target};
 use qrcode_payloads::kinds::Kind;
 use std::alloc::{AllocError, Global};
 use std::collections::BTreeSet;
@@ -69,6 +69,7 @@ pub(crate) fn draw_lines(
     what: Lined,
 ) -> Result<ExitCode, Failure> {
     let goes_to_file = matches!(asked.target, Target::File(_));
+    let has_reports = asked.report != Report::Nothing || asked.is_dry;
     let taking = Taking {
         what,
         lines,
@@ -77,7 +78,10 @@ pub(crate) fn draw_lines(
             Source::File(path) => Some(path),
             _ => None,
         },
-        progress: Progress::new(rt, !goes_to_file && rt.stdout().is_terminal()),
+        progress: Progress::new(
+            rt,
+            has_reports || !goes_to_file && rt.stdout().is_terminal(),
+        ),
     };
     match asked.input.source {
         Source::Text(text) => draw_from(rt, asked, taking, text.as_bytes()),
@@ -137,6 +141,12 @@ fn columns_of<R: BufRead>(
         return Ok(Columns::none(alloc));
     }
     let text = String::from_utf8_lossy(alloc, text_of(line, 1))?;
+    if text.starts_with("sep=") {
+        let place = taking.place(1);
+        return refused!(alloc;
+            "{place}sep= is for spreadsheets: remove this line, and add --delimiter"
+        );
+    }
     match Columns::read(alloc, text.as_str(), taking.lines.delimiter) {
         Err(Failure::Refused(why)) => {
             let place = taking.place(1);
@@ -175,6 +185,13 @@ fn draw_each<R: BufRead>(
         let text = text_of(line, place);
         if is_table && is_blank(text, taking.lines.delimiter) {
             continue;
+        }
+        if is_table && is_unfinished(rt.alloc(), text, taking.lines.delimiter)? {
+            let name = shown(taking.name);
+            return refused!(rt.alloc();
+                "cannot read {name}: line {place} ends within quotation marks, and fields have no \
+                line breaks; neither it nor the lines after it are encoded"
+            );
         }
         let place = taking.place(place);
         let doubts = Doubts {

@@ -18,6 +18,7 @@ use goqlanis_files::{doubted, refused};
 use goqlanis_options::asked::Asked;
 use goqlanis_options::logos::{AskedLogo, Logo, Middle};
 use qrcode::QrCode;
+use qrcode::types::Version;
 use qrcode_area::areas::Rectangle;
 use qrcode_area::excess::Excess;
 use qrcode_area::rectangles::Kept;
@@ -121,14 +122,44 @@ pub(crate) fn warn_of_logo(
     let (Some(area), Some(logo)) = (area.filter(|_| asked.logo_file.is_some()), &asked.logo) else {
         return Ok(());
     };
-    let (width, height) = logo_sides(wish_of(logo, code), logo.margin, area);
-    if width.min(height).saturating_mul(10) >= code.width() {
+    let wish = wish_of(logo, code);
+    if is_ample(wish, logo.margin, area, code.width()) {
         return Ok(());
     }
-    doubted!(rt, asked.doubts;
-        "the logo gets only {width} by {height} modules; for more, use a larger --logo-size, e.g. \
-        40%, or a larger version with -v"
-    )
+    let (width, height) = logo_sides(wish, logo.margin, area);
+    match ampler(rt.alloc(), logo, code) {
+        Some(version) => {
+            let name = VersionName(version);
+            doubted!(rt, asked.doubts;
+                "the logo gets only {width} by {height} modules; for more, use -v {name}"
+            )
+        }
+        None => doubted!(rt, asked.doubts;
+            "the logo gets only {width} by {height} modules; for more, use a larger --logo-size"
+        ),
+    }
+}
+
+// Whether a logo is at least a tenth of the code's side, across and down.
+fn is_ample(wish: LogoWish, margin: u8, area: Rectangle, side: usize) -> bool {
+    let (width, height) = logo_sides(wish, margin, area);
+    width.min(height).saturating_mul(10) >= side
+}
+
+// Returns the smallest larger version in which the logo is at least a tenth of the code's side.
+fn ampler(alloc: Global, logo: &AskedLogo<'_>, code: &QrCode) -> Option<Version> {
+    let (wish, level) = (wish_of(logo, code), code.error_correction_level());
+    for number in 1..41usize {
+        let (version, side) = (Version::Normal(number as i16), 4 * number + 17);
+        if side <= code.width() || !version.has_level(level) {
+            continue;
+        }
+        match logo_area(alloc, version, level, wish) {
+            Ok(area) if is_ample(wish, logo.margin, area, side) => return Some(version),
+            _ => {}
+        }
+    }
+    None
 }
 
 // Returns the sides of a logo in modules, as it fits into an area within its margin.

@@ -79,7 +79,7 @@ pub(crate) fn check_free(
         return Ok(());
     }
     refused!(alloc;
-        "{name} is the file of an earlier line; {{}} in --output is the number of the line"
+        "{name} is the file of an earlier line; {{}} in --output numbers the codes"
     )
 }
 
@@ -141,7 +141,7 @@ fn check_name(alloc: Global, pattern: &str, path: &str) -> Result<(), Failure> {
     } else if let Some(sign) = odd {
         refused!(alloc;
             "its file name would begin with \"{sign}\", since a field is empty; {{}} in --output \
-            is the number of the line"
+            numbers the codes"
         )
     } else {
         Ok(())
@@ -150,7 +150,7 @@ fn check_name(alloc: Global, pattern: &str, path: &str) -> Result<(), Failure> {
 
 // Whether Windows reserves a name, with any file extension.
 fn is_reserved(name: &str) -> bool {
-    let stem = name.split('.').next().unwrap_or("");
+    let stem = name.split('.').next().unwrap_or("").trim_end();
     let device = stem.trim_end_matches(|character: char| {
         character.is_ascii_digit() || matches!(character, '\u{b9}' | '\u{b2}' | '\u{b3}')
     });

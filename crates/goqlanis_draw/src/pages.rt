@@ -13,12 +13,15 @@ use qrcode_formats::Format;
 use std::alloc::{AllocError, Global};
 use std::process::ExitCode;
 
-// The largest offset that ten digits in the table of objects can hold.
-const MOST_BYTES: usize = 9_999_999_999;
+// The most bytes of pages. Where an object begins has ten digits in the table; the rest is for nodes.
+const MOST_BYTES: usize = 9_999_000_000;
 
-// The objects before the pages: the catalog, the tree of pages, which is written last, and the
-// information. After them each page has two: itself and its contents.
+// The objects before the pages: the catalog, the root of the tree of pages, which is written last,
+// and the information.
 const FIRST: usize = 3;
+
+// The most pages under a node of their tree. (An array of PDF 1.4 has at most 8,191 items.)
+const MOST_KIDS: usize = 1_000;
 
 /// A document, which is written page by page. Without any page nothing is written.
 #[derive(Drop)]
@@ -27,6 +30,9 @@ pub(crate) struct Pages {
     length: usize,
     // Where each object begins, by number.
     starts: Vec<usize>,
+    // The numbers of the nodes under the root. Behind each come its pages, each of two objects: the
+    // page and its contents.
+    nodes: Vec<usize>,
 }
 
 // The parts of a file of one page, each without the number of its object.
@@ -34,8 +40,8 @@ pub(crate) struct Pages {
 struct Parts<'a> {
     version: &'a str,
     catalog: &'a str,
-    // The page, before and after the reference to its contents.
-    page: (&'a str, &'a str),
+    // The page: before the references to its node and to its contents, between them, and after.
+    page: (&'a str, &'a str, &'a str),
     contents: &'a str,
     information: &'a str,
 }
@@ -46,6 +52,7 @@ impl Pages {
         Pages {
             length: 0,
             starts: Vec::new(alloc),
+            nodes: Vec::new(alloc),
         }
     }
 
@@ -89,12 +96,40 @@ impl Pages {
             self.starts.push(0)?;
             self.put_object(rt, parts.information)?;
         }
-        let (before, after) = parts.page;
-        let contents = self.starts.len().saturating_add(2);
-        let page = format!(in rt.alloc(); "{before}{contents} 0 R{after}")?;
+        if self.nodes.is_empty() || self.kids() >= MOST_KIDS {
+            self.end_node(rt)?;
+            self.starts.push(0)?;
+            self.nodes.push(self.starts.len())?;
+        }
+        let (before, between, after) = parts.page;
+        let (node, contents) = (self.node(), self.starts.len().saturating_add(2));
+        let page = format!(in rt.alloc(); "{before}{node} 0 R{between}{contents} 0 R{after}")?;
         self.put_object(rt, page.as_str())?;
         self.put_object(rt, parts.contents)?;
         Ok(ExitCode::SUCCESS)
+    }
+
+    // The number of the last node of the tree, if there is one.
+    fn node(&self) -> usize {
+        self.nodes.last().copied().unwrap_or(0)
+    }
+
+    // The number of pages under the last node.
+    fn kids(&self) -> usize {
+        self.starts.len().saturating_sub(self.node()) / 2
+    }
+
+    // Writes the last node of the tree, if there is one.
+    fn end_node(&mut self, rt: &HostRuntime) -> Result<(), Failure> {
+        if self.nodes.is_empty() {
+            return Ok(());
+        }
+        let (node, start) = (self.node(), self.length);
+        if let Some(place) = self.starts.get_mut(node.saturating_sub(1)) {
+            *place = start;
+        }
+        let text = node_of(rt.alloc(), node, self.kids())?;
+        self.put(rt, text.as_str())
     }
 
     // Writes the next object.
@@ -119,12 +154,14 @@ impl Pages {
         if self.starts.is_empty() {
             return Ok(());
         }
+        self.end_node(rt)?;
         let start = self.length;
-        if let Some(tree) = self.starts.get_mut(1) {
-            *tree = start;
+        if let Some(root) = self.starts.get_mut(1) {
+            *root = start;
         }
         let last = self.starts.len();
-        self.put(rt, tree_of(rt.alloc(), last)?.as_str())?;
+        let root = root_of(rt.alloc(), &self.nodes, last)?;
+        self.put(rt, root.as_str())?;
         let start = self.length;
         let size = last.saturating_add(1);
         let table = table_of(rt.alloc(), &self.starts)?;
@@ -142,25 +179,39 @@ fn parts_of(file: &str) -> Option<Parts<'_>> {
     let (catalog, rest) = rest.split_once("2 0 obj\n")?;
     let (_, rest) = rest.split_once("3 0 obj\n")?;
     let (page, rest) = rest.split_once("4 0 obj\n")?;
+    let (before, page) = page.split_once("2 0 R")?;
+    let (between, after) = page.split_once("4 0 R")?;
     let (contents, rest) = rest.split_once("5 0 obj\n")?;
     let (information, _) = rest.split_once("xref\n")?;
     Some(Parts {
         version,
         catalog,
-        page: page.split_once("4 0 R")?,
+        page: (before, between, after),
         contents,
         information,
     })
 }
 
-// Returns the tree of the pages of a document whose last object has this number.
-fn tree_of(alloc: Global, last: usize) -> Result<String, AllocError> {
-    let mut text = String::from_str(alloc, "2 0 obj\n<</Type/Pages/Kids[")?;
-    let count = last.saturating_sub(FIRST) / 2;
-    for index in 0..count {
-        write!(text, "{} 0 R\n", FIRST + 1 + 2 * index)?;
+// Returns the node of the tree with this number, which has `count` pages.
+fn node_of(alloc: Global, node: usize, count: usize) -> Result<String, AllocError> {
+    let mut text = format!(in alloc; "{node} 0 obj\n<</Type/Pages/Parent 2 0 R/Kids[")?;
+    let mut page = node.saturating_add(1);
+    for _ in 0..count {
+        write!(text, "{page} 0 R\n")?;
+        page = page.saturating_add(2);
     }
     write!(text, "]/Count {count}>>\nendobj\n")?;
+    Ok(text)
+}
+
+// Returns the root of the tree of a document whose last object has this number.
+fn root_of(alloc: Global, nodes: &[usize], last: usize) -> Result<String, AllocError> {
+    let mut text = String::from_str(alloc, "2 0 obj\n<</Type/Pages/Kids[")?;
+    for node in nodes {
+        write!(text, "{node} 0 R\n")?;
+    }
+    let pages = last.saturating_sub(FIRST).saturating_sub(nodes.len()) / 2;
+    write!(text, "]/Count {pages}>>\nendobj\n")?;
     Ok(text)
 }
 

@@ -272,6 +272,17 @@ pub(crate) fn fields_of(
     Ok(fields)
 }
 
+/// Whether a line of text ends within a field in quotation marks.
+///
+/// Errors: only `OutOfMemory`.
+pub(crate) fn is_unfinished(alloc: Global, line: &[u8], delimiter: &str) -> Result<bool, Failure> {
+    match str::from_utf8(line).map(|line| fields_of(alloc, line, delimiter)) {
+        Ok(Err(Failure::Refused(_))) => Ok(true),
+        Ok(Err(failure)) => Err(failure),
+        _ => Ok(false),
+    }
+}
+
 fn has_odd_quotes(text: &str) -> bool {
     text.bytes().filter(|byte| *byte == b'"').count() % 2 == 1
 }

@@ -257,3 +257,12 @@ def a_document_has_the_pages_of_its_lines(program):
         files = [documents.pages_of(held(folder, f"a-00000{it}.pdf")) for it in (1, 2, 3)]
         ran = run(program, ["split", "--count", "3", "-f", "pdf", "abc"], folder)
     return documents.pages_of(ran.stdout)[1] == sum((it[1] for it in files), [])
+
+
+def a_long_document_has_its_pages_in_order(program):
+    """The pages of a PDF document of 8,193 lines, which need nodes in the tree of pages, are those
+    of documents of 500 lines, in order."""
+    lines = [str(it) for it in range(8193)]
+    pages = [documents.pages_of(run(program, ["--lines", "-f", "pdf"], "/", "\n".join(it).encode()).stdout)[1]
+             for it in (lines, *(lines[at:at + 500] for at in range(0, len(lines), 500)))]
+    return len(pages[0]) == len(lines) and pages[0] == sum(pages[1:], [])

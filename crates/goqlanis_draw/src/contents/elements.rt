@@ -104,6 +104,9 @@ impl Elements {
                 )?;
             }
             (Cause::Range, _) => text.push_str("its value is no date, YYMMDD (DD may be 00)")?,
+            _ if identifier.bytes().any(|byte| !byte.is_ascii_digit()) => text.push_str(
+                "no such identifier is known; if ( belongs to the value before it, write \\(",
+            )?,
             _ => text.push_str(
                 "no such identifier is known; \
                 identifiers have two to four digits, as 01, 414 and 3103",

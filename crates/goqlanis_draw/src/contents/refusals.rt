@@ -39,7 +39,7 @@ pub(crate) fn not_made(
 fn what_is_wrong(kind: Kind, field: Field, cause: Cause) -> &'static str {
     match (kind, field, cause) {
         (_, Field::Amount, Cause::Character) =>
-            "use a point before the decimals and no other sign, e.g. 1949.75",
+            "write only digits, with a point before the decimals, e.g. 1949.75",
         (Kind::Pix, Field::Name | Field::City | Field::Description, Cause::Character) =>
             "it may only have ASCII characters: write a for \u{e3}, c for \u{e7}",
         (_, Field::Reference, Cause::Unused) => "it does not go with this account",
