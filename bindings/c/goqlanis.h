@@ -462,7 +462,9 @@ enum { GOQ_MODULES_MAX = 177 * 177 };
 /* The most bytes that a symbol decodes to: a buffer of this size holds any data that is read. */
 enum { GOQ_BYTES_MAX = 7089 };
 
-/* The most bytes that calls look at: longer data fits no symbols. */
+/* The most bytes that calls look at unless they check them. Longer data fits no symbols. Texts
+   (GOQ_AS_TEXT, GOQ_AS_MARKED_TEXT, goq_encode_charset, goq_decode), fields of goq_content, GS1
+   elements, and segments other than GOQ_BYTES are read to their end. */
 enum { GOQ_DATA_MAX = 1048576 };
 
 /* What a symbol is, besides its modules. */
@@ -814,9 +816,10 @@ size_t goq_picture_length(const void *file, size_t file_length);
    headers and segments of all codes go to `parts`, their bytes to `bytes`, code after code, each
    from the start of the buffer, and the numbers of codes, parts and bytes to `scan`; only
    scan->size is read. Per code, GOQ_PARTS_MAX parts and GOQ_BYTES_MAX bytes are enough. After FNC1,
-   a separator between elements is byte 29. Errors: GOQ_NO_SUCH_STRUCT, GOQ_LARGE_PICTURE,
-   GOQ_NOT_PICTURE, GOQ_BROKEN_PICTURE, GOQ_NO_SQUARE; if a square was found but no code decodes,
-   GOQ_NO_SUCH_SIDE, GOQ_NO_FORMAT, GOQ_DAMAGED, GOQ_NOT_SPELLED; GOQ_SMALL_BUFFER;
+   a separator between elements is byte 29. Of more than 64 codes in a picture some may be missed.
+   Errors: GOQ_NO_SUCH_STRUCT, GOQ_LARGE_PICTURE, GOQ_NOT_PICTURE, GOQ_BROKEN_PICTURE (also for a
+   PNG file of more than 67,108,864 pixels), GOQ_NO_SQUARE; if a square was found but no code
+   decodes, GOQ_NO_SUCH_SIDE, GOQ_NO_FORMAT, GOQ_DAMAGED, GOQ_NOT_SPELLED; GOQ_SMALL_BUFFER;
    GOQ_OUT_OF_MEMORY. */
 goq_answer goq_read_picture(const void *picture, size_t picture_length, goq_code *codes,
     size_t codes_length, goq_part *parts, size_t parts_length, void *bytes, size_t bytes_length,
@@ -895,7 +898,7 @@ goq_answer goq_encode_gs1(const goq_element *elements, size_t elements_length,
 /* Reports what an area takes of a symbol of this version and level. How many codewords of each
    block have modules in it goes to the start of `touched` (GOQ_BLOCKS_MAX are always enough), the
    rest to `taken`. Errors: GOQ_NO_SUCH_LEVEL, GOQ_NO_SUCH_VERSION, GOQ_LEVEL_NOT_IN_VERSION,
-   GOQ_NO_SUCH_AREA, GOQ_SMALL_BUFFER; GOQ_OUT_OF_MEMORY. */
+   GOQ_NO_SUCH_AREA (also for more than 31,329 rectangles), GOQ_SMALL_BUFFER; GOQ_OUT_OF_MEMORY. */
 goq_answer goq_reserve(uint32_t version, uint32_t level, const goq_rectangle *area,
     size_t area_length, size_t *touched, size_t touched_length, goq_taken *taken);
 
@@ -908,8 +911,9 @@ goq_answer goq_largest_area(uint32_t version, uint32_t level, const goq_wish *wi
 
 /* Makes an area of a symbol light, as room for a logo. Whatever the area shows afterwards, the
    symbol decodes to the same data and headers and nothing else. `modules` is the symbol, as written
-   by goq_encode. Errors: GOQ_NO_SUCH_SIDE, GOQ_NO_FORMAT, GOQ_NO_SUCH_AREA, GOQ_AREA_BLOCK with the
-   block that loses the most codewords in `place`, GOQ_AREA_FORMAT; GOQ_OUT_OF_MEMORY. */
+   by goq_encode. Errors: GOQ_NO_SUCH_SIDE, GOQ_NO_FORMAT, GOQ_NO_SUCH_AREA (also for more than
+   31,329 rectangles), GOQ_AREA_BLOCK with the block that loses the most codewords in `place`,
+   GOQ_AREA_FORMAT; GOQ_OUT_OF_MEMORY. */
 goq_answer goq_cover(uint8_t *modules, size_t modules_length, const goq_rectangle *area,
     size_t area_length, size_t *place);
 

@@ -206,13 +206,13 @@ type Card = "family" | "given" | "phone" | "email" | "url" | "birthday" | "note"
 export const wifi: Payload<"ssid" | "password" | "security" | "hidden">;
 export const mecard: Payload<Card>;
 export const vcard: Payload<Card | "name" | "organisation" | "title" | "mobile" | "workPhone"
-    | "homePhone">;
+    | "homePhone" | "nickname" | "fax">;
 export const payment: Payload<"name" | "iban" | "amount" | "bic" | "purpose" | "reference"
     | "message" | "information">;
 export const bill: Payload<"iban" | "name" | "street" | "number" | "code" | "city" | "country"
     | "amount" | "currency" | "reference" | "message" | "debtorName" | "debtorStreet"
     | "debtorNumber" | "debtorCode" | "debtorCity" | "debtorCountry">;
-export const mail: Payload<"address" | "subject" | "body">;
+export const mail: Payload<"address" | "subject" | "body" | "cc" | "bcc">;
 export const geo: Payload<"latitude" | "longitude">;
 export const tel: Payload<"number">;
 export const sms: Payload<"number" | "body">;
@@ -242,8 +242,9 @@ export interface Found extends AnyReading { parts: Part[]; text: string | null }
 export type Picture = Data | { width: number; height: number; data: Uint8ClampedArray };
 /** A code, rows of modules, or a byte for each module; without a quiet zone. */
 export type Square = QrCode | Iterable<Iterable<boolean | number>> | Exclude<Data, string>;
-/** Returns the codes in a picture, or in all pictures of a PBM or PGM file, in order. Throws
-    NotPicture, BrokenPicture, NoSquare or another cause. */
+/** Returns the codes in a picture, or in all pictures of a PBM or PGM file, in order. Of more than
+    64 codes in a picture some may be missed. Throws NotPicture, BrokenPicture, NoSquare or another
+    cause. */
 export function read(picture: Picture): Found[];
 /** A square that looks like a code but does not decode: modules per side, the pixels of its upper
     left corner, and why. */

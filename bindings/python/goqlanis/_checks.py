@@ -10,7 +10,7 @@ from .errors import NoSuchLevel, NoSuchSet, NoSuchVersion
 
 Call = TypeVar("Call", bound=Callable[..., Any])
 # The names of arguments in other packages, and what to use here.
-OTHERS = {"error": "level='H'", "error_correction": "level='H'", "boost_error": "boost=True",
+OTHERS = {"error": "level='H'", "error_correction": "level='H'", "boost_error": "boost=True, or leave it out for False",
           "mask_pattern": "mask=3", "encoding": "charset='iso-8859-1'", "symbol_count": "count=3",
           "mode": "encode_segments", "unit": "size='30mm' (SVG, EPS, PDF) or size=300 (pixels)",
           "box_size": "scale=8",
@@ -102,7 +102,8 @@ def text(name: str, value: Any) -> str:
         return str.__str__(value)
     if isinstance(value, BINARY):
         raise TypeError(f"{name} is a str, not bytes: take {name}.decode()")
-    raise TypeError(f"{name} is a str, not {shown(value)}: take str(..)")
+    helps = "take '', or leave it out" if value is None else "take str(..)"
+    raise TypeError(f"{name} is a str, not {shown(value)}: {helps}")
 
 
 def exact(value: Any) -> bytes:

@@ -35,6 +35,8 @@ MOST_SIDE = 65535
 MOST_COLOURFUL = 8192
 # No colour of its own.
 SAME = 0xFFFFFFFF
+# A character that XML 1.0 does not allow.
+NOT_IN_XML = re.compile("[^\t\n\r -\ud7ff\ue000-\ufffd\U00010000-\U0010ffff]")
 Size = Union[int, str, None]
 Length = Tuple[str, str]
 # Each unit in inches.
@@ -71,7 +73,7 @@ def drawn(modules: bytes, width: int, usual_zone: int, name: str, look: Look) ->
     """Draws modules in a format; the default quiet zone has `usual_zone` modules."""
     kind = KINDS.get(name) or OTHERS[name]
     if look.scale is not None and look.size is not None:
-        raise TypeError("scale and size: give one of them")
+        raise ValueError("scale and size: give one of them")
     zone = zone_of(look, usual_zone)
     across = width + 2 * zone
     length = _length(look.size) or _fraction(look.scale, across) if name == "svg" else None
@@ -104,8 +106,18 @@ def _framed(svg: bytes, length: Optional[Length], look: Look) -> bytes:
         svg = re.sub(rb'width="[0-9]+" height="[0-9]+"', sides.encode(), svg, count=1)
     if look.title is None:
         return svg
-    title = f"<title>{xml.escape(_checks.text('title', look.title))}</title>".encode()
+    title = f"<title>{_escaped('title', look.title)}</title>".encode()
     return re.sub(rb"<svg [^>]*>", lambda it: it[0] + title, svg, count=1)
+
+
+def _escaped(name: str, value: Any) -> str:
+    """Returns a text as XML has it."""
+    text = _checks.text(name, value)
+    found = NOT_IN_XML.search(text)
+    if found:
+        raise NotInFormat(f"{name}: it contains U+{ord(found[0]):04X}, which SVG does not allow: "
+                          "remove it")
+    return xml.escape(text)
 
 
 def _room(count: int) -> bytearray:
@@ -118,7 +130,7 @@ def _room(count: int) -> bytearray:
 def zone_of(look: Look, usual: int) -> int:
     """Returns the width of the quiet zone in modules."""
     if look.border is not None and look.quiet_zone is not None:
-        raise TypeError("border and quiet_zone are the same: give one of them")
+        raise ValueError("border and quiet_zone are the same: give one of them")
     name, value = ("border", look.border) if look.quiet_zone is None else \
         ("quiet_zone", look.quiet_zone)
     return usual if value is None else _checks.whole(name, value, 0, 4000, NoSuchSize)

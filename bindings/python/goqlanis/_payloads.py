@@ -221,7 +221,7 @@ def time(name: str, value: Time) -> str:
                         f"not {shown(value)}")
     if not isinstance(value, datetime.datetime):
         return value.isoformat()
-    if value.tzinfo is None:
+    if value.utcoffset() is None:
         raise ValueError(f"{name}: {value} has no time zone: take .astimezone(), or "
                          ".replace(tzinfo=datetime.timezone.utc)")
     try:

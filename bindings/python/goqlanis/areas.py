@@ -171,6 +171,8 @@ def loaded(logo: Any) -> Tuple[str, Tuple[int, int]]:
 def _sides(data: bytes) -> List[Any]:
     """Returns the width and height of an SVG file, which must be UTF-8 without entities, since
     these may take any time and memory to parse."""
+    if data.startswith(b"\xff\xd8"):
+        raise NotPicture("the logo is a JPEG file: save it as PNG or plain SVG")
     if b"<!ENTITY" in data or b"\0" in data:
         raise NotPicture("the logo has entities, or is not UTF-8: save it as plain SVG")
     try:

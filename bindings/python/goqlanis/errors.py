@@ -74,7 +74,7 @@ class NoSuchSize(Error, ValueError):
 
 
 class NotInFormat(Error, ValueError):
-    """The format does not have such colours, dots per inch, a title or logos."""
+    """The format does not have such colours, characters, dots per inch, a title or logos."""
 
 
 class NoSuchColour(Error, ValueError):
@@ -176,16 +176,16 @@ _CAUSES: Dict[int, Tuple[Type[Error], str]] = {
                    "header: read says more if it is upright"),
     goq.NOT_PICTURE: (NotPicture, "it is neither a PNG, PBM or PGM file nor half blocks; convert "
                       "it to PNG"),
-    goq.BROKEN_PICTURE: (BrokenPicture, "the picture is cut off, damaged, interlaced or more than "
-                         "65,535 pixels wide; save it anew"),
+    goq.BROKEN_PICTURE: (BrokenPicture, "the picture is cut off, damaged, interlaced, or more than "
+                         "65,535 pixels a side or 67,108,864 in all; save it anew, or smaller"),
     goq.NO_SQUARE: (NoSquare, "the picture shows no code, neither in an even margin nor by its "
                     "finder patterns"),
     goq.LARGE_PICTURE: (BrokenPicture, "the picture is more than 67,108,864 bytes: cut it into "
                         "smaller ones"),
     goq.NO_SUCH_SET: (NoSuchSet, "no character set has this name or number"),
     goq.NOT_IN_SET: (NotInSet, "the character set lacks a character of the text"),
-    goq.NO_SUCH_AREA: (NoSuchArea, "an area is a rectangle inside the code, or several: left, "
-                       "top, width and height in modules"),
+    goq.NO_SUCH_AREA: (NoSuchArea, "an area is a rectangle inside the code, or up to 31,329: "
+                       "left, top, width and height in modules"),
     goq.NO_AREA: (AreaTooLarge, "no central area leaves that reserve: use a higher level or less "
                   "reserve"),
     goq.AREA_BLOCK: (AreaTooLarge, "the area covers more codewords of a block than may be lost: "

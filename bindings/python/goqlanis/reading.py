@@ -5,6 +5,7 @@ import io
 import operator
 import os
 import struct
+import sys
 import warnings
 import zlib
 from typing import (Any, IO, Iterable, Iterator, List, NamedTuple, Optional, Sequence, Tuple, Union,
@@ -32,6 +33,10 @@ ONE_OF_MANY = b"P1", b"P4", b"P5"
 PICTURES = "rows of modules, a Symbol, or a picture: a path, bytes or an open file"
 # The colour types of PNG, by how many numbers a pixel has.
 COLOUR_TYPES = {(1,): 0, (3,): 2, (4,): 6}
+ARRAY = ("an array is a picture if it has rows, columns and 1, 3 or 4 numbers of uint8, 0 to 255; "
+         "or modules, each True or False")
+# How formats of numbers begin whose bytes are not in the order of this machine.
+SWAPPED = ">!" if sys.byteorder == "little" else "<"
 Modules = Union[Symbol, Sequence[Sequence[bool]]]
 Picture = Union[str, bytes, bytearray, memoryview, "os.PathLike[str]", IO[bytes]]
 # The kinds of parts by their numbers.
@@ -160,9 +165,10 @@ def read(picture: Union[Picture, Modules, Any]) -> Union[List[Code], Reading]:
 
     A picture is a path, the bytes of a file, an open file or a Pillow image: PNG, PBM, PGM or half
     blocks; or an array of pixels, as of numpy: rows, columns and 1, 3 or 4 numbers of uint8. Its
-    codes are listed from top to bottom, and from left to right if they are side by
-    side. A PBM or PGM file may have several pictures, which are read in order. For a symbol, or for rows of modules without a quiet zone, each True or 1 if it is dark,
-    the result is a single `Reading`.
+    codes are listed from top to bottom, and from left to right if they are side by side. Of more
+    than 64 codes in a picture some may be missed. A PBM or PGM file may have several pictures,
+    which are read in order. For a symbol, or for rows of modules without a quiet zone, each True or
+    1 if it is dark, the result is a single `Reading`.
 
     Raises a subclass of Unread if a picture has nothing that can be read, and OSError if a file
     cannot be opened.
@@ -302,12 +308,22 @@ def _array(given: Any) -> Optional[memoryview]:
         view = memoryview(given)
     except TypeError:
         return None
+    except (BufferError, ValueError):  # such as dates of numpy
+        raise TypeError(f"{ARRAY}; not {_checks.shown(given)}") from None
+    if view.ndim != 1 and 0 in (view.ndim, *view.shape):
+        raise _no_array(view)
     return view if view.ndim > 1 else None
+
+
+def _no_array(view: memoryview) -> TypeError:
+    """Returns the error for an array that is neither a picture nor modules."""
+    return TypeError(f"{ARRAY}; this one has the shape {_checks.shown(view.shape)}, of the type "
+                     f"{_checks.shown(view.format)}")
 
 
 def _form(view: memoryview) -> str:
     """Returns the type of the numbers of an array."""
-    return view.format.lstrip("<>=@")
+    return view.format.lstrip("<>=@!")
 
 
 def _file_of_array(given: Any) -> Optional[bytes]:
@@ -320,8 +336,7 @@ def _file_of_array(given: Any) -> Optional[bytes]:
     if view.ndim == 2 and (form in "?bhilqHILQ" or form == "B" and max(data, default=0) <= 1):
         return None
     if form != "B" or depth not in COLOUR_TYPES:
-        raise TypeError("an array is a picture if it has rows, columns and 1, 3 or 4 numbers of "
-                        "uint8, 0 to 255; or modules, each True or False")
+        raise _no_array(view)
     down, across = view.shape[:2]
     size = across * depth[0]
     rows = b"".join(b"\0" + data[at * size:(at + 1) * size] for at in range(down))
@@ -466,7 +481,8 @@ def _modules_of(square: Modules, of: str = "rows of modules, or a Symbol") -> by
 
 def _rows_of(view: memoryview) -> List[List[Any]]:
     """Returns the rows of an array of modules."""
-    numbers, across = memoryview(view.tobytes()).cast(_form(view)).tolist(), max(view.shape[1], 1)
+    step, across = -1 if view.format[0] in SWAPPED else 1, view.shape[1]
+    numbers = memoryview(view.tobytes()[::step]).cast(_form(view)).tolist()[::step]
     return [numbers[at:at + across] for at in range(0, len(numbers), across)]
 
 

@@ -63,7 +63,7 @@ impl Wish {
 /// Why an area may not show anything.
 #[derive(Clone, Copy, Debug, PartialEq, Eq)]
 pub enum Excess {
-    /// The area has no rectangle, or one that is not inside the symbol.
+    /// The area has no rectangle, more than 31,329, or one that is not inside the symbol.
     Outside,
     /// The area touches more codewords of this block than may be lost. Blocks are counted from 0.
     Block(usize),
@@ -77,7 +77,8 @@ pub enum Excess {
 
 says! { Excess:
     Excess::Block(block) => "block {block}: {}", sys::goq_strerror(sys::GOQ_AREA_BLOCK);
-    Excess::Outside => "{}", sys::goq_strerror(sys::GOQ_NO_SUCH_AREA);
+    Excess::Outside => "an area is a rectangle inside the code, or up to 31,329: left, top, width \
+        and height in modules";
     Excess::Format => "{}", sys::goq_strerror(sys::GOQ_AREA_FORMAT);
     Excess::Nowhere => "{}", sys::goq_strerror(sys::GOQ_NO_AREA);
     Excess::OutOfMemory => "{}", sys::goq_strerror(sys::GOQ_OUT_OF_MEMORY);

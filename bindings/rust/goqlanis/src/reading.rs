@@ -21,7 +21,8 @@ pub enum Unread {
     NotRead,
     /// The picture is not a PNG, PBM or PGM file, nor half blocks.
     NotPicture,
-    /// The picture is truncated, damaged, interlaced or too wide.
+    /// The picture is truncated, damaged, interlaced, or more than 65,535 pixels a side or
+    /// 67,108,864 in all.
     BrokenPicture,
     /// The picture shows no code.
     NoSquare,
@@ -250,7 +251,8 @@ pub fn picture_length(file: &[u8]) -> usize {
 /// pictures in a file, those of the first (see `picture_length`).
 ///
 /// These are the one in an even margin, or those between finder patterns, from top to bottom, and
-/// from left to right if they are side by side.
+/// from left to right if they are side by side. Of more than 64 codes in a picture some may be
+/// missed.
 ///
 /// ```
 /// use goqlanis::{read_picture, render::png, Part, QrCode};

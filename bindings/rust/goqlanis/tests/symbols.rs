@@ -333,4 +333,7 @@ fn logos() {
     assert_eq!(code.with_logo(logo, &whole).unwrap_err(), LogoError::Area(Excess::Nowhere));
     let outside = LogoOptions { area: Some(Rectangle { left: 20, top: 0, width: 2, height: 1 }), ..LogoOptions::default() };
     assert_eq!(code.with_logo(logo, &outside).unwrap_err(), LogoError::Area(Excess::Outside));
+    let many = vec![Rectangle { left: 9, top: 9, width: 1, height: 1 }; 31_330];
+    assert!(code.reserve(&many).unwrap_err().to_string().contains("or up to 31,329: left, top"));
+    assert!(code.reserve(&many[1..]).is_ok());
 }
