@@ -51,6 +51,9 @@ def _write_whole(path: str, data: bytes) -> None:
         folder = _opened(above)
         try:
             old = _found(folder, name)
+            if old is not None and stat.S_ISREG(old.st_mode) and not old.st_mode & 0o222:
+                raise PermissionError(errno.EACCES, "it is write-protected: allow writing with "
+                                      "chmod u+w, or name another file")
             if old is None or stat.S_ISREG(old.st_mode):
                 return _replace(folder, above, name, old, data)
             if not stat.S_ISLNK(old.st_mode):
