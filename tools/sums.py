@@ -60,6 +60,28 @@ def sources(name):
     return total.hexdigest()
 
 
+@functools.cache
+def kit_sum():
+    """Returns the checksum of what a check reads of the kit: its identity, sizes and times."""
+    total = hashlib.sha256((kit() / "KIT-ID").read_bytes())
+    folders = [kit() / it for it in ("bin", "toolchain", "logic_built", "rattle/logic")]
+    paths = [it for folder in folders for it in folder.rglob("*") if "__pycache__" not in it.parts]
+    for path in sorted([*paths, *kit().glob("rlibs/*/format")]):
+        if path.is_file():
+            found = path.stat()
+            total.update(f"{path} {found.st_size} {found.st_mtime_ns}\n".encode())
+    return total.hexdigest()
+
+
+def stamp(name):
+    """Returns the checksum of all that a check of a crate reads: the kit, what crates.txt says, the
+    sources, and the libraries below it as they were built."""
+    below = [CRATES / it / f"out/rlib/{it}.rlib/format" for it in sorted(all_below(name))]
+    sums = [hashlib.sha256(it.read_bytes()).hexdigest() for it in below if it.exists()]
+    read = (kit_sum(), name, crates()[name], sources(name), sums)
+    return hashlib.sha256(repr(read).encode()).hexdigest()
+
+
 def made(name):
     """Returns the times of the library and the program of a crate; a rebuild changes them."""
     files = {"library": f"rlib/{name}.rlib/format", "program": name}
