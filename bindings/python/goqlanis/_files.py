@@ -1,4 +1,5 @@
 """Writes files completely or not at all."""
+import contextlib
 import errno
 import io
 import os
@@ -97,12 +98,12 @@ def _replace(folder: int, above: str, name: str, old: Optional[os.stat_result],
     """Writes a new file in a folder, whose path is `above`, and renames it to `name`."""
     beside = f".goqlanis-{secrets.token_hex(8)}"
     try:
-        usual = _usual_rights(folder, beside)
-        descriptor = _created(folder, beside, 0o600)
-    except OSError as error:
-        why = f"{error.strerror} in the folder {os.path.abspath(above)}"
-        raise OSError(error.errno, why) from None
-    try:
+        try:
+            usual = _usual_rights(folder, beside)
+            descriptor = _created(folder, beside, 0o600)
+        except OSError as error:
+            why = f"{error.strerror} in the folder {os.path.abspath(above)}"
+            raise OSError(error.errno, why) from None
         # Between opening and renaming, nothing goes by the name: another file may have it by then.
         with open(descriptor, "wb") as file:
             rights = usual if old is None else _rights_after(descriptor, usual, old)
@@ -111,9 +112,10 @@ def _replace(folder: int, above: str, name: str, old: Optional[os.stat_result],
             os.fchmod(descriptor, rights)
             os.fsync(descriptor)
         os.replace(beside, name, src_dir_fd=folder, dst_dir_fd=folder)
-    except BaseException:
-        os.unlink(beside, dir_fd=folder)
-        raise
+    finally:
+        # Whatever ended it, also Ctrl-C at any place; after the renaming nothing has the name.
+        with contextlib.suppress(OSError):
+            os.unlink(beside, dir_fd=folder)
 
 
 def _created(folder: int, name: str, mode: int) -> int:
