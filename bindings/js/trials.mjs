@@ -75,6 +75,14 @@ const wanted = Object.fromEntries(Object.entries(TRIALS)
 
 /* What is refused: the call, the name of the error, and a part of what it says. */
 const one = goqlanis.encode("1");
+
+/** Returns a view of bytes that its buffer no longer has. */
+function outside() {
+    const buffer = new ArrayBuffer(16, { maxByteLength: 16 }), view = new Uint8Array(buffer, 8, 8);
+    buffer.resize(8);
+    return view;
+}
+
 const REFUSED = [
     [(it) => it.encode(42), "TypeError", "take '42'"],
     [(it) => it.encode([1, 2]), "TypeError", "encodeSegments"],
@@ -96,8 +104,12 @@ const REFUSED = [
     [(it) => it.encode("ж", { charset: "utf-8", version: "M3" }), "NoMode", "out charset"],
     [(it) => it.encodeSegments([["numeric", "12a"]]), "NotInMode", "segment 1: numeric"],
     [(it) => it.encodeSegments([["byte"], ["eci", "26"]]), "TypeError", "segment 1"],
+    [(it) => it.encode(outside()), "TypeError", "was resized"],
     [() => one.svg({ margin: 4 }), "TypeError", "quietZone: 4"],
+    [() => one.svg({ quietZone: 4001 }), "NoSuchSize", "from 0 to 4,000, not 4,001$"],
     [() => one.png({ scale: 99999 }), "NoSuchSize", "65,535"],
+    [() => one.png({ scale: "-1" }), "TypeError", "not '-1'$"],
+    [() => one.png({ scale: "1e9" }), "TypeError", "not '1e9'$"],
     [() => one.pbm({ dark: "navy" }), "NotInFormat", "black on white"],
     [() => one.svg({ dark: "nvy" }), "RangeError", "not a colour"],
     [() => one.svg({ finderDark: "nvy" }), "RangeError", "finderDark"],
@@ -125,7 +137,7 @@ for (const [call, name, part] of REFUSED) {
     try {
         call(goqlanis);
     } catch (error) {
-        said = `${error.name}: ${error.message}`;
+        said = `${error.name}: ${error.message}$`;
     }
     if (!said.startsWith(`${name}: `) || !said.includes(part) || said.length > 250)
         note(`${call}`, false, said);
@@ -134,6 +146,16 @@ note(`${REFUSED.length} wrong calls say what would help`, counts[1] === 0);
 const long = one.svg({ size: "2.5cm" });
 note("SVG has exactly the length that is asked for",
     long.includes(' width="2.5cm" height="2.5cm" viewBox="0 0 29 29"'), long.slice(0, 200));
+
+const wide = goqlanis.encode("1", { version: 40 }).pbm({ quietZone: 4000, scale: 1 });
+note("the widest quiet zone is drawn", new TextDecoder().decode(wide.subarray(0, 12))
+    === "P4\n8177 8177", wide.subarray(0, 12));
+const heard = [], { warn } = console;
+console.warn = (it) => heard.push(it);
+const events = [0, 250].map((it) => goqlanis.event({ begin: new Date(it), end: new Date(5000) }));
+console.warn = warn;
+note("milliseconds are left out, with a warning", events[0] === events[1]
+    && heard.join() === "begin: calendars have whole seconds: .250 is left out", heard);
 
 /* With too little memory a call says so, or makes what it always makes. */
 const found = { right: 0, OutOfMemory: 0 };

@@ -42,9 +42,10 @@ export function options(call, given, defaults) {
 export function whole(name, value, least, most, cause = "") {
     const range = `${name} is a whole number from ${grouped(least)} to ${grouped(most)}`;
     if (!Number.isInteger(value)) {
-        const near = Number(value);
-        const helps = value !== "" && typeof value !== "boolean" && value !== null
-            && Number.isFinite(near) ? `: take ${Math.round(near)}` : "";
+        const isNear = typeof value === "number" || typeof value === "bigint"
+            || (typeof value === "string" && value.trim() !== "");
+        const near = isNear ? Math.round(Number(value)) : NaN;
+        const helps = near >= least && near <= most ? `: take ${near}` : "";
         throw new TypeError(`${range}, not ${shown(value)}${helps}`);
     }
     if (value >= least && value <= most)
@@ -71,11 +72,15 @@ export function utf8(name, value) {
 
 /** Returns bytes, or null if the value has none. */
 export function bytesOf(value) {
-    if (value instanceof ArrayBuffer)
-        return new Uint8Array(value);
-    if (ArrayBuffer.isView(value))
-        return new Uint8Array(value.buffer, value.byteOffset, value.byteLength);
-    return null;
+    if (!(value instanceof ArrayBuffer) && !ArrayBuffer.isView(value))
+        return null;
+    try {
+        value.keys?.(); /* a view that lies outside its buffer has none */
+        return value instanceof ArrayBuffer ? new Uint8Array(value)
+            : new Uint8Array(value.buffer, value.byteOffset, value.byteLength);
+    } catch {
+        throw new TypeError("these bytes are gone: their buffer was resized or transferred");
+    }
 }
 
 /** Returns data as bytes, and whether it is text. */

@@ -38,8 +38,12 @@ function textOf(name, value) {
         return "";
     if (value === true)
         return "true";
-    if (value instanceof Date && !Number.isNaN(value.getTime()))
-        return value.toISOString().replace(/[.]\d+Z$/, "Z");
+    if (value instanceof Date && !Number.isNaN(value.getTime())) {
+        const [whole, rest] = value.toISOString().split(".");
+        if (rest !== "000Z")
+            console.warn(`${name}: calendars have whole seconds: .${rest.slice(0, 3)} is left out`);
+        return `${whole}Z`;
+    }
     if (typeof value === "bigint" || (typeof value === "number" && Number.isFinite(value)))
         return /e[+]/.test(`${value}`) ? `${BigInt(value)}`
             : /e-/.test(`${value}`) ? value.toFixed(20) : `${value}`;

@@ -64,7 +64,7 @@ export function drawn(code, format, given) {
 /** Returns the width of the quiet zone in modules. */
 export function zoneOf(code, { quietZone = null }) {
     return quietZone === null ? code.quietZone
-        : checks.whole("quietZone", quietZone, 0, 32000, "NoSuchSize");
+        : checks.whole("quietZone", quietZone, 0, 4000, "NoSuchSize");
 }
 
 /** Returns SVG with its sides as a length, if the size is one. */
