@@ -8,16 +8,17 @@ const MODES = { phone: "tel", number: "tel", mobile: "tel", workPhone: "tel", ho
     email: "email", address: "email", url: "url", link: "url", amount: "decimal" };
 
 /** Each kind: its name, what it is, the fields with their hints, and what makes a code of them; for
-    some, the level and the largest version that the format wants. */
+    some, the level and the largest version that the format wants. If `isFixed`, the format leaves
+    no choice of Micro QR, of a higher level or of a mark for UTF-8. */
 export const FORMS = {
-    text: { name: "Text", about: "", fields: { text: "" },
+    text: { name: "Text", about: "", fields: { text: "" }, isFixed: false,
         make: ({ text }, options) => encode(filled("text", text), options) },
-    link: { name: "Link", about: "", fields: { link: "as https://example.org" },
+    link: { name: "Link", about: "", fields: { link: "as https://example.org" }, isFixed: false,
         make: ({ link }, options) => encode(linked(link), options) },
     ...Object.fromEntries(Object.entries(PAYLOADS).map(([kind, row]) => [kind, formOf(kind, row)])),
-    gs1: { name: "GS1 elements", about: "", fields:
-        { elements: "as (01)09521234543213(17)291231(10)ABC123" },
-    make: ({ elements }, options) => encodeGs1(pairs(elements), gs1Options(options)) },
+    gs1: { name: "GS1 elements", about: "", isFixed: true,
+        fields: { elements: "as (01)09521234543213(17)291231(10)ABC123" },
+        make: ({ elements }, options) => encodeGs1(pairs(elements), gs1Options(options)) },
 };
 
 function formOf(kind, { about, more, fields }) {
@@ -25,7 +26,7 @@ function formOf(kind, { about, more, fields }) {
     const [, level, most] = /level (.) and at most version (\d+)/.exec(about) ?? [];
     return { name: name[0].toUpperCase() + name.slice(1),
         about: [rules.join("; "), more].join(" ").trim(),
-        fields, level, most: Number(most),
+        fields, level, most: Number(most), isFixed: level !== undefined,
         make: (values, options) => encode(payload(kind, values), options) };
 }
 

@@ -9,8 +9,12 @@ const TYPES = { svg: "image/svg+xml", png: "image/png", pdf: "application/pdf",
 /* The controls that say how the code is made; what the code holds is in the fields. */
 const OPTIONS = ["level", "version", "mask", "quietZone", "micro", "boost", "marked", "scale",
     "dpi", "dark", "light", "transparent"];
+/* The numbers that may be typed, with their words and bounds: larger ones keep the page busy. */
+const NUMBERS = { quietZone: ["Quiet zone", 0, 100], scale: ["Pixels per module", 1, 1000],
+    dpi: ["Dots per inch", 1, 65535] };
 let code = null;
 let logo = null; /* its bytes */
+let newest = 0; /* the number of the last logo that was given */
 const touched = new Set();
 
 /** Begins the panel; `state` is what the address holds, or null. */
@@ -37,7 +41,15 @@ export function start(state) {
         button.addEventListener("click", () => save(button.dataset.format));
     at("copy").addEventListener("click", copy);
     at("share").addEventListener("click", share);
-    showForm(state ?? {});
+    open(state ?? {});
+}
+
+/** Shows what an address holds, as if the page were opened with it. */
+export function open(state) {
+    at("form").reset();
+    newest++;
+    setLogo(null);
+    showForm(state);
 }
 
 /** Shows the form of the chosen kind, with these values, and draws. */
@@ -54,6 +66,10 @@ function showForm(state = {}) {
     if (form.level)
         at("level").value = form.level;
     at("level").disabled = form.level !== undefined;
+    for (const id of ["micro", "boost", "marked"]) {
+        at(id).disabled = form.isFixed;
+        at(id).checked &&= !form.isFixed;
+    }
     draw();
 }
 
@@ -66,10 +82,13 @@ function put(input, value) {
         input.value = value;
 }
 
-/** Returns a whole number that is typed, or null; what is no number is left to the library. */
+/** Returns a whole number that is typed, or null. */
 function whole(id) {
-    const text = at(id).value.trim();
-    return text === "" ? null : /^\d+$/.test(text) ? Number(text) : text;
+    const [name, least, most] = NUMBERS[id], text = at(id).value.trim();
+    if (text !== "" && !(/^\d+$/.test(text) && text >= least && text <= most))
+        throw new QrError("NoSuchSize",
+            `${name}: write a whole number from ${least} to ${most.toLocaleString("en")}`);
+    return text === "" ? null : Number(text);
 }
 
 function drawOptions(format) {
@@ -84,10 +103,10 @@ function make() {
     const names = Object.keys(form.fields);
     const values = Object.fromEntries(names.map((it) => [it, valueOf(at(`field-${it}`))]));
     const version = at("version").value || undefined;
-    const micro = at("micro").checked && version === undefined;
+    const micro = at("micro").checked && version === undefined, mask = at("mask").value;
     const made = form.make(values, { level: at("level").value, version, micro,
-        boost: at("boost").checked && version === undefined && !form.level,
-        marked: at("marked").checked, mask: whole("mask") });
+        boost: at("boost").checked && version === undefined,
+        marked: at("marked").checked, mask: mask === "" ? null : Number(mask) });
     if (form.most && !(Number(made.version) <= form.most))
         throw new QrError("NoRoom",
             `version ${made.version}: this format has at most version ${form.most}`);
@@ -99,6 +118,7 @@ function draw() {
     let failure = null, svg = "";
     code = null;
     try {
+        drawOptions("png");
         const made = make();
         svg = made.svg(drawOptions("svg"));
         code = made;
@@ -166,11 +186,19 @@ function warningsOf(made) {
     ];
 }
 
-/** Takes a logo, a file or undefined. */
+/** Takes a logo, a file or undefined, unless another comes before this is loaded. */
 export async function takeLogo(file) {
-    logo = file === undefined ? null : new Uint8Array(await file.arrayBuffer());
+    const own = ++newest;
+    const bytes = file === undefined ? null : new Uint8Array(await file.arrayBuffer());
+    if (own === newest) {
+        setLogo(bytes);
+        draw();
+    }
+}
+
+function setLogo(bytes) {
+    logo = bytes;
     at("no-logo").hidden = logo === null;
-    draw();
 }
 
 function tell(text) {

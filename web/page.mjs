@@ -71,6 +71,13 @@ try {
         : Uint8Array.from(atob(inside.textContent.trim()), (it) => it.charCodeAt(0)));
     make.start(stateOf(location.hash));
     read.start();
+    addEventListener("hashchange", () => {
+        const state = stateOf(location.hash);
+        if (state !== null) {
+            show("make");
+            make.open(state);
+        }
+    });
     at("starting").hidden = true;
     document.querySelector("main").hidden = false;
 } catch (error) {

@@ -8,27 +8,38 @@ const SHARP = ". Codes must be flat and sharp: take the picture anew, or cut it 
 const HELP = { NoSquare: SHARP, NoSuchSide: SHARP, NoFormat: SHARP, Damaged: SHARP };
 /* The most pixels of a side that a canvas is made for. */
 const MOST = 8192;
+/* Characters that hide or reorder others, as those that the program escapes. */
+const UNSEEN = /(?!\r?\n|\t)[\p{Cc}\p{Cf}\p{Default_Ignorable_Code_Point}\u2028\u2029]/gu;
+let newest = 0; /* the number of the last picture that was given */
 
 /** Begins the panel. */
 export function start() {
     at("file").addEventListener("change", () => take(at("file").files[0]));
 }
 
-/** Reads the codes of a file, and shows them or what is wrong. */
+/** Reads the codes of a file, and shows them or what is wrong, unless another was given since. */
 export async function take(file) {
     if (file === undefined)
         return;
-    at("heard").textContent = "Reading ..";
+    const own = ++newest, name = plain(file.name || "The picture");
+    at("heard").textContent = `${name}: reading ..`;
     at("found").replaceChildren();
+    let codes = [], said;
     try {
         const picture = await pictureOf(file);
-        const { codes, said } = readingOf(picture);
-        at("found").replaceChildren(...codes);
-        at("heard").textContent = said;
+        if (own === newest)
+            ({ codes, said } = readingOf(picture));
     } catch (error) {
-        at("heard").textContent = `${file.name || "The picture"}: ${error.message}`;
+        said = error.message;
+    }
+    if (own === newest) {
+        at("found").replaceChildren(...codes);
+        at("heard").textContent = `${name}: ${said}`;
     }
 }
+
+/** Returns a text with escapes for characters that hide or reorder others. */
+const plain = (text) => text.replace(UNSEEN, (it) => `\\u{${it.codePointAt(0).toString(16)}}`);
 
 /** Returns the bytes of a PNG, PBM or PGM file, or else the pixels that the browser decodes. */
 async function pictureOf(file) {
@@ -96,10 +107,10 @@ function itemOf(code, checked) {
         if (isLink) {
             const line = document.createElement("p");
             const how = { href: text, rel: "noopener noreferrer", target: "_blank" };
-            line.append(made("a", text, how));
+            line.append(made("a", plain(text), how));
             item.append(line);
         } else {
-            item.append(made("pre", text));
+            item.append(made("pre", plain(text)));
         }
         const turned = [code.position, ...(code.isInverted ? ["inverted"] : [])].join(", ");
         item.append(made("p", `Version ${code.version}, level ${code.level}, mask ${code.mask}; `
