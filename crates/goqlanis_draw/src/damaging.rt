@@ -7,7 +7,7 @@ use goqlanis_core::{Request, drawn, refusal_text};
 use goqlanis_files::failure::Failure;
 use goqlanis_files::{doubted, refused, usage};
 use goqlanis_options::asked::Asked;
-use goqlanis_options::exams::{AskedDamage, Wrong};
+use goqlanis_options::damage::{AskedDamage, Wrong};
 use qrcode::QrCode;
 use qrcode::types::Color;
 use qrcode_damage::damage::{Damage, TooMuch, damaged, most_codewords};
@@ -15,8 +15,8 @@ use qrcode_damage::laid::laid;
 use qrcode_reader::Position;
 use std::alloc::Global;
 
-/// Returns the damage that is asked for, in this code.
-pub(crate) fn damage_in(code: &QrCode, asked: AskedDamage) -> Damage {
+// Returns the damage that is asked for, in this code.
+fn damage_in(code: &QrCode, asked: AskedDamage) -> Damage {
     let most = most_codewords(code.version(), code.error_correction_level());
     Damage {
         codewords: match asked.codewords {
@@ -52,21 +52,8 @@ pub(crate) fn draw_damaged(
             data"
         )?;
     }
-    damaged_drawing(alloc, &asked.request, asked.position, code, damage)
-}
-
-/// Draws a code with this damage, in this position.
-///
-/// Errors: `Refused` if the code has too few codewords, bits or modules, or lacks the mask;
-/// `OutOfMemory`.
-pub(crate) fn damaged_drawing(
-    alloc: Global,
-    request: &Request<'_>,
-    position: Position,
-    code: &QrCode,
-    damage: Damage,
-) -> Result<Vec<u8>, Failure> {
-    let modules = damaged_modules(alloc, request, position, code, damage)?;
+    let request = &asked.request;
+    let modules = damaged_modules(alloc, request, asked.position, code, damage)?;
     match drawn(alloc, request, code, &modules, &[], None) {
         Ok(drawing) => Ok(drawing),
         Err(_) => Err(Failure::OutOfMemory),

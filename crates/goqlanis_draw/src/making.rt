@@ -5,8 +5,6 @@ use crate::drawing::{
     application_code, check_terminal, draw_one, draw_reported, elements_code, segments_code,
     write_drawing,
 };
-use crate::exams::write_exam;
-use crate::grading::grade;
 use crate::lines::{Lined, draw_lines};
 use crate::middle::{SWISS_CROSS, has_cross, read_logo};
 use crate::rows::Columns;
@@ -37,12 +35,6 @@ pub fn make(rt: &HostRuntime, task: &Task, asked: &Asked<'_, '_>) -> Result<Exit
 
 // Makes codes.
 fn draw(rt: &HostRuntime, task: &Task, asked: &Asked<'_, '_>) -> Result<ExitCode, Failure> {
-    if let Purpose::Exam = task.purpose {
-        return match asked.exam.answers {
-            Some(answers) => grade(rt, answers, asked.exam.path),
-            None => write_exam(rt, asked),
-        };
-    }
     check_terminal(rt, asked)?;
     let what = match task.purpose {
         Purpose::Several => return draw_several(rt, asked, &data(rt, asked, MOST_IN_SEVERAL)?),

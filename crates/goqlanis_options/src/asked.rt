@@ -3,7 +3,7 @@
 use crate::charsets::Coded;
 use crate::colours::{check_colours, ink_of, part_colour, part_inks};
 use crate::conflicts::{check_conflicts, is_given};
-use crate::exams::{AskedDamage, AskedExam, damage_of, exam_of, position_of};
+use crate::damage::{AskedDamage, damage_of, position_of};
 use crate::fields::Fields;
 use crate::frames::{frame_of, place_of};
 use crate::logos::{AskedLogo, logo_of};
@@ -106,10 +106,9 @@ pub struct Asked<'a, 'w> {
     /// The options that give the fields of a payload.
     pub fields: Fields<'a, 'w>,
     pub split: Split,
-    pub exam: AskedExam<'a>,
     /// What is wrong in the code, if it is to be damaged.
     pub damage: Option<AskedDamage>,
-    /// How codes of exams and damaged codes lie in their pictures.
+    /// How a damaged code lies in its picture.
     pub position: Position,
     pub target: Target<'a>,
     /// The side of the picture in hundredths of a millimetre, if `--size` is a length in pixels.
@@ -139,8 +138,7 @@ pub fn asked_for<'a, 'w>(
     check_conflicts(alloc, given)?;
     let target = target_of(alloc, given)?;
     let is_dry = given.get_flag("dry-run");
-    let name = given.get_str("format").or(task.own_format());
-    let format = format(rt, name, target, is_dry)?;
+    let format = format(rt, given.get_str("format"), target, is_dry)?;
     check_format(alloc, given, format)?;
     let sizes = sizes_of(alloc, task, given, format)?;
     let asked = Asked {
@@ -152,7 +150,6 @@ pub fn asked_for<'a, 'w>(
             count: given.get_one::<u8>("count"),
             most: version_of(alloc, given, "max-version")?.unwrap_or(Version::Normal(40)),
         },
-        exam: exam_of(given),
         damage: match task.purpose {
             Purpose::Damage => Some(damage_of(alloc, given)?),
             _ => None,

@@ -79,14 +79,13 @@ fn arguments<'a>(alloc: Global, task: &Task) -> Result<Vec<Arg<'a>>, AllocError>
     if let Some((name, help)) = task.operand() {
         let arg = Arg::new(alloc, name).help(help);
         arguments.push(match task.purpose {
-            Purpose::Exam => arg.required(true),
             Purpose::Join => arg.num_args(1..).action(ArgAction::Append).required(true),
             Purpose::Read | Purpose::Check => arg.num_args(1..).action(ArgAction::Append),
             _ => arg,
         })?;
     }
     for (heading, entry) in task.all_options(alloc)? {
-        let is_hidden = !task.word.is_empty() && task.draws() && is_common(task, heading, &entry);
+        let is_hidden = !task.word.is_empty() && task.draws() && is_common(heading, &entry);
         arguments.push(
             argument(alloc, entry)?
                 .help_heading(heading)
@@ -102,10 +101,8 @@ fn arguments<'a>(alloc: Global, task: &Task) -> Result<Vec<Arg<'a>>, AllocError>
 }
 
 // Whether an option is the same for all codes, so that the help of a command need not repeat it.
-// (Exams refuse `--output`.)
-fn is_common(task: &Task, heading: &str, entry: &Entry) -> bool {
-    let is_shown = matches!(entry.long, "output" | "format") && task.own_format().is_none();
-    heading != "Input" && heading != "Code" && !is_shown
+fn is_common(heading: &str, entry: &Entry) -> bool {
+    !matches!(heading, "Input" | "Code") && !matches!(entry.long, "output" | "format")
 }
 
 // Builds an option. A negative number after it is its value.

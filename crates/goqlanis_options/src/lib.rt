@@ -8,7 +8,7 @@ pub mod colours;
 pub mod command;
 pub mod completions;
 mod conflicts;
-pub mod exams;
+pub mod damage;
 pub mod fields;
 pub mod frames;
 pub mod json;

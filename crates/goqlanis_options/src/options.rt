@@ -101,8 +101,6 @@ pub enum Purpose {
     Draw,
     /// Makes a code from data, and damages it.
     Damage,
-    /// Makes an exam for readers, or grades one.
-    Exam,
     /// Splits data over several codes.
     Several,
     /// Decodes a picture.
@@ -173,11 +171,6 @@ impl Task {
                 (01)09521234543213(10)AB; write ( in a value as \\(; standard input if neither ELEMENTS \
                 nor --input is given. With --application: plain data",
             ),
-            Purpose::Exam => (
-                "FOLDER",
-                "Folder for the pictures and answers.jsonl; with --grade a file of results instead, \
-                each line the name of a picture that was read, a tab, and in hex what was read",
-            ),
             Purpose::Content(_) => return None,
         })
     }
@@ -222,7 +215,6 @@ impl Task {
     fn groups<'a>(&self, own: &'a [Entry]) -> [(&'static str, &'a [Entry]); 9] {
         let (place, data, mark, level, text, one) = match self.purpose {
             Purpose::Draw | Purpose::Damage => ("Code", DATA, MARKS, LEVELS, TEXTS, SEGMENTS),
-            Purpose::Exam => ("Code", NONE, NONE, NONE, NONE, NONE),
             Purpose::Several => ("Code", DATA, NONE, NORMAL_LEVELS, NONE, NONE),
             Purpose::Content(_) if self.has_its_level() => (
                 "Input", TABLES, NONE, NONE, NONE, NONE,
@@ -264,11 +256,6 @@ impl Task {
     /// Returns the size that the payload's format prescribes.
     pub fn own_size(&self) -> Option<&'static str> {
         self.is_bill().then_some("46mm")
-    }
-
-    /// Returns the default format, if it does not follow from the output.
-    pub fn own_format(&self) -> Option<&'static str> {
-        matches!(self.purpose, Purpose::Exam).then_some("png")
     }
 
     fn is_bill(&self) -> bool {

@@ -55,7 +55,7 @@ def every_option_has_a_case(program):
             if option[1] not in drawn and not given[task] & {*option} - {""}:
                 return False
         drawn = drawn or {long for _, long in options}
-    return len(tasks) == 22
+    return len(tasks) == 21
 
 
 def help_has_lines_of_80_characters(program):

@@ -62,7 +62,7 @@ const LEVEL: Takes = Word("LEVEL", &["L", "M", "Q", "H"]);
 
 // The value of `--format`: the names in the table of formats, which `bindings/same` compares.
 #[rattlefmt::skip]
-pub(super) const FORMAT: Takes = Word("FORMAT", &[
+const FORMAT: Takes = Word("FORMAT", &[
     "half-blocks", "terminal", "text", "png", "svg", "eps", "pic", "pbm", "pgm", "pdf", "zpl", "tspl", "escpos", "xbm",
     "ppm", "ascii",
 ]);

@@ -2,7 +2,6 @@
 
 use super::Takes::{self, Nothing, Number, Path, Text, Wanted, Word};
 use super::fields::option_of;
-use super::symbols::FORMAT;
 use super::{Entry, Purpose, Task};
 use qrcode_contents::fields::errors::Field;
 use qrcode_payloads::kinds::Kind;
@@ -18,15 +17,6 @@ macro_rules! task {
         }
     };
 }
-
-// How a code lies in its picture.
-const MIRROR: Entry = entry!("mirror", Nothing, "Swap left and right");
-
-const TURN: Entry = entry!(
-    "turn",
-    Word("DEGREES", &["0", "90", "180", "270"]),
-    "Turn the code clockwise, after --mirror [default: 0]"
-);
 
 /// The tasks of the commands.
 #[rattlefmt::skip]
@@ -57,17 +47,9 @@ pub static TASKS: &[Task] = &[
         entry!("wrong-patterns", Number("N", 0, 65535),
             "Wrong modules of finder, timing and alignment patterns and separators [default: 0]"),
         entry!("seed", Number("N", 0, u64::MAX), "Which ones are wrong [default: 0]"),
-        MIRROR, TURN),
-    task!("exam", Purpose::Exam, "Make pictures of whole and damaged codes, with the right answers",
-        entry!("pairs", Text("LIST"),
-            "Versions and levels, e.g. 1-L,40-H,M2-L; normal or micro for all of these [default: all]"),
-        entry!("seed", Number("N", 0, u64::MAX), "Another exam [default: 0]"),
-        entry!("grade", Path,
-            "Compare a file of results with these answers: FILE is answers.jsonl of an exam"),
-        MIRROR, TURN,
-        entry!("mask", Number("0-7", 0, 7),
-            "Mask pattern of all codes; Micro QR has only 0 to 3 [default: chosen by --seed]"),
-        entry!("format", 'f', FORMAT, "Output format [default: png]")),
+        entry!("mirror", Nothing, "Swap left and right"),
+        entry!("turn", Word("DEGREES", &["0", "90", "180", "270"]),
+            "Turn the code clockwise, after --mirror [default: 0]")),
     task!("wifi", Purpose::Content(Kind::Wifi), "Wi-Fi network"),
     task!("mecard", Purpose::Content(Kind::Mecard), "Contact (MECARD)"),
     task!("vcard", Purpose::Content(Kind::Vcard), "Contact (vCard 3.0)"),

@@ -1,4 +1,4 @@
-//! The options of damaged codes, and of exams for readers.
+//! The options of damaged codes.
 
 use crate::colours::part_colour;
 use clap::ArgMatches;
@@ -30,18 +30,6 @@ pub struct AskedDamage {
     pub seed: u64,
 }
 
-/// The exam that the command line asks for.
-#[derive(Clone, Copy)]
-pub struct AskedExam<'a> {
-    /// The folder of an exam, or the results of a reader.
-    pub path: &'a str,
-    /// The answers to compare the results with, instead of writing an exam.
-    pub answers: Option<&'a str>,
-    /// The versions and levels, separated by commas; all without it.
-    pub pairs: Option<&'a str>,
-    pub seed: u64,
-}
-
 /// Returns the damage that the command line asks for.
 ///
 /// Errors: `Usage` for a number of codewords that is not one; `OutOfMemory`.
@@ -51,7 +39,7 @@ pub fn damage_of(alloc: Global, given: &ArgMatches<'_>) -> Result<AskedDamage, F
         format_bits: given.get_one::<u8>("wrong-format").unwrap_or(0) as usize,
         version_bits: given.get_one::<u8>("wrong-version").unwrap_or(0) as usize,
         pattern_modules: given.get_one::<u16>("wrong-patterns").unwrap_or(0) as usize,
-        seed: seed_of(given),
+        seed: given.get_one::<u64>("seed").unwrap_or(0),
     })
 }
 
@@ -64,16 +52,6 @@ fn wrong_of(alloc: Global, word: &str) -> Result<Wrong, Failure> {
             "--wrong-codewords {word}: use a number, most (as many as are corrected) or beyond \
             (one more)"
         ),
-    }
-}
-
-/// Returns the exam that the command line asks for.
-pub fn exam_of<'a>(given: &ArgMatches<'a>) -> AskedExam<'a> {
-    AskedExam {
-        path: given.get_str("FOLDER").unwrap_or(""),
-        answers: given.get_str("grade"),
-        pairs: given.get_str("pairs"),
-        seed: seed_of(given),
     }
 }
 
@@ -97,8 +75,4 @@ pub(crate) fn position_of(alloc: Global, given: &ArgMatches<'_>) -> Result<Posit
         }
         _ => Ok(position),
     }
-}
-
-fn seed_of(given: &ArgMatches<'_>) -> u64 {
-    given.get_one::<u64>("seed").unwrap_or(0)
 }

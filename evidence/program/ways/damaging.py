@@ -1,0 +1,77 @@
+"""Tests of `goqlanis damage`: the judge of evidence/judge counts what is wrong in the squares."""
+from checked import form, reading
+from damage import bounds, wrong_in
+from room import modules_of, run
+from spelling import spelled
+
+PAIRS = [it.split("-") for it in "M1-L M2-L M2-M M3-L M3-M M4-L M4-M M4-Q".split()]
+PAIRS += [(str(version), level) for version in range(1, 41) for level in "LMQH"]
+# Pictures of one pixel a module.
+SMALL = ["-f", "pbm", "-s", "1", "-q", "0"]
+
+
+def _drawn(program, *words):
+    """Returns the rows of modules that `goqlanis damage` draws of some digits."""
+    return modules_of(run(program, ["damage", *SMALL, *words, "0123"], "/").stdout)
+
+
+def _square(program, *words):
+    """Returns the same as bytes."""
+    return bytes(sum(_drawn(program, *words), []))
+
+
+def as_much_is_wrong_as_asked(program):
+    """In all versions and levels, whole codes hold the data; with `most` and `beyond`, and wrong
+    bits, as many codewords and bits are wrong, and nothing else."""
+    for at, (version, level) in enumerate(PAIRS):
+        words = ["-v", version, "-l", level, "--seed", str(at)]
+        whole = _square(program, *words, "--wrong-codewords", "0")
+        bits = reading.read_bits(whole)
+        held = spelled(form(bits.version), bits.bits).data
+        if (bits.version, bits.level, bits.wrong, held) != (version, level, 0, b"0123"):
+            return False
+        has_version = version[0] != "M" and int(version) >= 7
+        most, count = bounds(version, level)[0], str(3 * has_version)
+        for name, wrong in (("most", most), ("beyond", most + 1)):
+            more = ["--wrong-codewords", name, "--wrong-format", "3", "--wrong-version", count]
+            found = wrong_in(whole, _square(program, *words, *more), version, level, bits.mask)
+            wanted = {wrong}, {3}, {3} if has_version else set(), 0
+            if (*map(set, found[:3]), found[3]) != wanted:
+                return False
+    return len(PAIRS) == 168
+
+
+def another_seed_is_other_damage(program):
+    """The same seed draws the same everywhere, and another one something else."""
+    squares = [_square(program, "-v", "7", "--seed", it) for it in ("1", "1", "2")]
+    return squares[0] == squares[1] != squares[2]
+
+
+def damaged_codes_are_turned(program):
+    """Codes are mirrored, and turned clockwise; goqlanis reads them in all eight positions."""
+    for version, level in (("M1", "L"), ("M3", "M"), ("1", "L")):
+        words = ["-v", version, "-l", level]
+        upright = _drawn(program, *words)
+        for mirror in ([], ["--mirror"]):
+            wanted = [row[::-1] for row in upright] if mirror else upright
+            for degrees in ("0", "90", "180", "270"):
+                more = [*words, *mirror, "--turn", degrees]
+                drawn = run(program, ["damage", *SMALL, *more, "0123"], "/").stdout
+                if modules_of(drawn) != wanted or run(program, ["read"], "/", drawn).stdout != b"0123":
+                    return False
+                wanted = [list(row) for row in zip(*wanted[::-1])]
+    return True
+
+
+def patterns_are_wrong(program):
+    """As many modules of patterns are wrong as asked for, beside wrong codewords and bits. These
+    versions have no bits after the codewords."""
+    for words, count in (("-v 1 -l L", 203), ("-v 7 -l H", 20), ("-v 40 -l M", 1000), ("-v M1 -l L", 70),
+                         ("-v M4 -l Q", 1)):
+        squares = [_square(program, *f"{words} --wrong-codewords {more}".split())
+                   for more in ("0", f"1 --wrong-format 2 --wrong-patterns {count}")]
+        bits = reading.read_bits(squares[0])
+        found = wrong_in(*squares, bits.version, bits.level, bits.mask)
+        if ({*found[0]}, {*found[1]}, {0, *found[2]}, found[3]) != ({1}, {2}, {0}, count):
+            return False
+    return True
