@@ -24,7 +24,7 @@ DIGITS_NORMAL, DIGITS_MICRO, PUBLISHED = (
 
 
 def told_header(kind, *numbers):
-    """Returns a header as evidence/others/symbols/make writes it."""
+    """Returns a header as lab/others/symbols/make writes it."""
     if kind == "symbol":
         return "symbol {} of {}, parity {}".format(*numbers)
     if kind == "FNC1":
@@ -33,7 +33,7 @@ def told_header(kind, *numbers):
 
 
 def told_of(square):
-    """Returns what the judge reads, as evidence/others/symbols/make writes it."""
+    """Returns what the judge reads, as lab/others/symbols/make writes it."""
     bits, found = reading.read_headed(square)
     name = f"{'Micro' if bits.version.startswith('M') else 'Normal'} {bits.version.lstrip('M')} {bits.level}, mask {bits.mask}"
     return f"{', '.join([name] + [told_header(*header) for header in found.headers])}: {found.data.hex()}" if bits.wrong == 0 else "wrong codewords"

@@ -1,15 +1,15 @@
-"""Symbols of text that other readers were shown (evidence/others/texts/look)."""
+"""Symbols of text that other readers were shown (lab/others/texts/look)."""
 from pathlib import Path
 
 import goqlanis
 from looks import not_read, square_of
 
-TEXTS = Path(__file__).resolve().parent.parent / "others" / "texts"
+TEXTS = Path(__file__).resolve().parents[2] / "lab" / "others" / "texts"
 PRIME = 4294967291
 
 
 def digest(square):
-    """Returns the digest of a symbol, as evidence/others/texts/digests has it."""
+    """Returns the digest of a symbol, as lab/others/texts/digests has it."""
     total = 0
     for module in square:
         total = (total * 257 + module + 1) % PRIME

@@ -14,7 +14,7 @@ DARK, LIGHT = "#012345", "#fedcba"
 
 
 def parts_of(path):
-    """Returns the rows of evidence/others/parts/types by version. segno names the module to the
+    """Returns the rows of lab/others/parts/types by version. segno names the module to the
     left of the second copy of the format word as part of it, but draws data there, as the standard
     says."""
     with open(path, encoding="ascii") as it:

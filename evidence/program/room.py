@@ -132,7 +132,7 @@ def cases():
 
 def squares():
     """Yields the rows of the symbols of other encoders, with what each holds."""
-    folder = TOP / "evidence" / "others" / "symbols"
+    folder = TOP / "lab" / "others" / "symbols"
     lines = [it.split() for it in (folder / "squares").read_text().splitlines() if it[:1].isdigit()]
     held_there = (folder / "readings").read_text().splitlines()
     for (side, digits), words in zip(lines, held_there, strict=True):

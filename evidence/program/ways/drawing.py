@@ -15,7 +15,7 @@ from room import COLOURS, SYMBOLS, TOP, empty, file_of, held, put, run, written
 def parts_have_their_colours(program):
     """In PNG, SVG, EPS and PDF each module has the colour of its part, by segno."""
     return parts.are_drawn(lambda words: written(program, shlex.join(words)),
-                           f"{TOP}/evidence/others/parts/types")
+                           f"{TOP}/lab/others/parts/types")
 
 
 def labels_show_the_dots(program):
@@ -48,9 +48,9 @@ def labels_are_those_of_zint(program):
 
 
 def covered_squares_are_those_that_others_read(program):
-    """The squares that zxing and zbar were shown (evidence/others/areas) are covered, nothing else
+    """The squares that zxing and zbar were shown (lab/others/areas) are covered, nothing else
     changes, and larger ones are rejected."""
-    found = (TOP / "evidence" / "others" / "areas" / "found").read_text()
+    found = (TOP / "lab" / "others" / "areas" / "found").read_text()
     lines = [line.split() for line in found.splitlines()]
     for version, level, size, _, _ in lines:
         words = ["-v", version, "-l", level, "-f", "pgm", "-s", "1", "-q", "0", "GOQLANIS"]
@@ -149,7 +149,7 @@ def a_logo_in_png_is_drawn_over_colours_of_parts(program):
     """Each module has the colour of the part that segno names, and those in the area, in the middle
     of 45 modules, the light one; the logo is drawn over these."""
     words = ["-v", "7", "-l", "H", "GOQLANIS"]
-    letters = parts.parts_of(f"{TOP}/evidence/others/parts/types")["7"]
+    letters = parts.parts_of(f"{TOP}/lab/others/parts/types")["7"]
     plain = _greys(run(program, [*words, "-f", "pgm", "-s", "1", "-q", "0"], "/").stdout)
     modules = [[int(it[0] == 0) for it in row] for row in plain]
     for row in modules[20:25]:

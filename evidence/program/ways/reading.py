@@ -59,7 +59,7 @@ def grades_are_those_of_the_standard(program):
 
 
 def _headers_said(headers):
-    """Returns what `read --verbose` prints for headers, given as in evidence/others/symbols."""
+    """Returns what `read --verbose` prints for headers, given as in lab/others/symbols."""
     words = ", ".join(headers)
     sets, other = {"ECI 0": "IBM437", "ECI 26": "UTF-8"}, "a character set without a known name"
     words = re.sub(r"ECI \d+", lambda it: f"{it[0]}, {sets.get(it[0], other)}", words)

@@ -1,4 +1,4 @@
-//! What segno 1.4.1 draws on a canvas; `evidence/oracle/make` writes it. A square stands here as
+//! What segno 1.4.1 draws on a canvas; `lab/oracle/make` writes it. A square stands here as
 //! the CRC-32 of its rows, lines of `#` and `.`.
 
 use qrcode_types::types::EcLevel::{self, H, L, M, Q};

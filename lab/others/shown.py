@@ -1,0 +1,80 @@
+"""Shared by the scripts that look what others make of symbols: goqlanis, files of modules, and what
+zxing and zbar read, by g++ and Debian 12's packages libzxing-dev and zxing-cpp-tools (1.4.0) and
+zbar-tools (0.23.92). It finds the modules of evidence/program, evidence/judge and lab/oracle.
+"""
+import os
+import subprocess
+import sys
+from pathlib import Path
+
+ROOT = Path(__file__).resolve().parents[2]
+sys.path[:0] = [str(ROOT / it) for it in ("evidence/program", "evidence/judge", "lab/oracle")]
+# The program that `rt ci goqlanis` left in out/, or the one that GOQLANIS names.
+PROGRAM = os.environ.get("GOQLANIS", str(ROOT / "crates" / "goqlanis" / "out" / "goqlanis"))
+
+
+def run(*words, data=None, may_fail=False):
+    """Returns the output of a command, as bytes, or nothing if it fails, unless it may."""
+    ran = subprocess.run(words, input=data, capture_output=True, check=False)
+    return ran.stdout if may_fail or ran.returncode == 0 else b""
+
+
+def drawn(*words):
+    """Returns what goqlanis draws."""
+    return subprocess.run([PROGRAM, *words], capture_output=True, check=True).stdout
+
+
+def pixels(picture, kind):
+    """Returns the pixels of a picture as ImageMagick reads them: gray, rgb or rgba."""
+    words = ["convert", picture, "-depth", "8", f"{kind}:-"]
+    return subprocess.run(words, capture_output=True, check=True).stdout
+
+
+def line_of(rows):
+    """Returns rows of modules as a line: the side, and hexadecimal digits, where 1 is a dark
+    module."""
+    bits = "".join("01"[bool(module)] for row in rows for module in row)
+    bits += "0" * (-len(bits) % 4)
+    return f"{len(rows)} {int(bits, 2):0{len(bits) // 4}x}"
+
+
+def pbm(rows, zone=0):
+    """Returns a PBM file of rows of modules in a quiet zone, at one pixel a module."""
+    wide = [0] * (len(rows[0]) + 2 * zone)
+    rows = [*[wide] * zone, *([0] * zone + row + [0] * zone for row in rows), *[wide] * zone]
+    text = "\n".join(" ".join(map(str, row)) for row in rows)
+    return f"P1\n{len(wide)} {len(rows)}\n{text}\n".encode()
+
+
+def pgm(rows):
+    """Returns a PGM file of rows of modules, at four pixels a module."""
+    pixels = b"".join(bytes(0 if it else 255 for it in row for _ in range(4)) * 4 for row in rows)
+    return b"P5 %d %d 255\n" % (4 * len(rows[0]), 4 * len(rows)) + pixels
+
+
+def zxing(squares, folder, *words):
+    """Returns the lines that zxing.cpp writes for lines of squares."""
+    program, source = folder / "zxing", Path(__file__).with_name("zxing.cpp")
+    subprocess.run(["g++", "-std=c++17", "-O2", "-o", program, source, "-lZXing"], check=True)
+    given = "".join(f"{it}\n" for it in squares)
+    ran = subprocess.run([program, *words], input=given, capture_output=True, text=True, check=True)
+    return ran.stdout.splitlines()
+
+
+def zbar(path):
+    """Returns what zbar reads of a picture, as bytes, or None."""
+    words = ["zbarimg", "-q", "--raw", "--oneshot", "-Sdisable", "-Sqrcode.enable", path]
+    ran = subprocess.run(words, capture_output=True, check=False)
+    return ran.stdout.removesuffix(b"\n") if ran.returncode == 0 else None
+
+
+def keep(text, found, words):
+    """Prints what was found and writes it to a file, or with the word `check` says whether it
+    stands there; returns the exit status."""
+    print(text, end="")
+    if words == ["check"]:
+        is_same = text == found.read_text()
+        print("the same" if is_same else f"OTHERS than in {found.name}")
+        return int(not is_same)
+    found.write_text(text)
+    return 0
