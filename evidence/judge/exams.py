@@ -1,7 +1,11 @@
 """Counts what is wrong in the symbols of an exam, of all pairs of version and level."""
 import goqlanis
+import reading
 from damage import bounds, wrong_in
-from looks import judged, square_of
+from looks import square_of
+
+# The headers of contents; of structured append without its parity.
+HEADERS = {"eci": [("ECI", 26)], "fnc1": [("FNC1",)], "append": [("symbol", 1, 2)]}
 
 
 def complaint(question, whole):
@@ -16,17 +20,25 @@ def complaint(question, whole):
         return f"{question.name}: {words}, {formats}, {versions}, {others} are wrong"
     if (question.must_read, question.goqlanis_reads) != (count <= required, count <= most):
         return f"{question.name}: {most} wrong codewords are corrected, {required} must be"
-    said = judged(square_of(question.symbol)) if question.goqlanis_reads else None
-    own = version, level, whole.mask, sum(words), question.data
-    return f"{question.name}: {said}" if said not in (own, None) else ""
+    if not question.goqlanis_reads:
+        return ""
+    bits, said = reading.read_headed(square_of(question.symbol))
+    found = *bits[:4], said.data, [it[:3] for it in said.headers]
+    own = (version, level, whole.mask, sum(words), question.data,
+           HEADERS.get(question.name.split("-")[2], []))
+    return f"{question.name}: {found}" if found != own else ""
 
 
 def questions():
     """The symbols of an exam have the damage and the data that it says"""
-    asked = [it for it in goqlanis.exam() if "-numeric-" in it.name]
+    exam = list(goqlanis.exam())
+    # The three questions of every third symbol: some of each version and level, and all contents.
+    asked = [it for at, it in enumerate(exam) if at // 3 % 3 == 0]
     pairs = {it.symbol.version + it.symbol.level for it in asked}
+    kinds = {it.name.split("-")[2] for it in asked}
     found = [complaint(it, asked[at // 3 * 3].symbol) for at, it in enumerate(asked)]
-    return [it for it in found if it] + ["no exam"] * (len(pairs) != 168), f"{len(asked)} symbols"
+    is_whole = len(pairs) == 168 and len(kinds) == 9
+    return [it for it in found if it] + ["no exam"] * (not is_whole), f"{len(asked)} symbols"
 
 
 TESTS = [questions]

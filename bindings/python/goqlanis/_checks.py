@@ -64,8 +64,10 @@ def whole(name: str, value: Any, least: int, most: int,
     """Returns a whole number in a range. Those of numpy are accepted; True and 2.0 are not."""
     number = index(value)
     if number is None:
+        near = _whole_of(value)
+        helps = f": take {near}" if near is not None and least <= near <= most else ""
         raise TypeError(f"{name} is a whole number from {least:,} to {most:,}, not {shown(value)}"
-                        f"{_whole_of(value)}")
+                        f"{helps}")
     if not least <= number <= most:
         raise error(f"{name} is a whole number from {least:,} to {most:,}, not "
                     f"{shown(number, '{:,}'.format)}")
@@ -80,13 +82,13 @@ def index(value: Any) -> Optional[int]:
         return None
 
 
-def _whole_of(value: Any) -> str:
-    """Says which whole number to give instead of a value, if there is one."""
+def _whole_of(value: Any) -> Optional[int]:
+    """Returns the whole number to give instead of a value, if there is one."""
     if isinstance(value, float) and abs(value) < 2**53:
-        return f": take {round(value)}"
+        return round(value)
     if isinstance(value, str) and value.strip().isdecimal() and len(value) < 40:
-        return f": take {int(value)}"
-    return ""
+        return int(value)
+    return None
 
 
 def flag(name: str, value: Any) -> bool:
