@@ -147,6 +147,8 @@ const long = one.svg({ size: "2.5cm" });
 note("SVG has exactly the length that is asked for",
     long.includes(' width="2.5cm" height="2.5cm" viewBox="0 0 29 29"'), long.slice(0, 200));
 
+const inches = ["1in", "72pt", "2.54cm", "25.4mm"].map((size) => one.eps({ size }));
+note("an inch has 72 points and 25.4 mm", inches.every((it) => it === inches[0]));
 const wide = goqlanis.encode("1", { version: 40 }).pbm({ quietZone: 4000, scale: 1 });
 note("the widest quiet zone is drawn", new TextDecoder().decode(wide.subarray(0, 12))
     === "P4\n8177 8177", wide.subarray(0, 12));
