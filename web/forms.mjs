@@ -4,6 +4,12 @@ import { PAYLOADS, QrError, encode, encodeGs1, payload } from "./goqlanis/index.
 
 const LONG = ["text", "body", "note", "description"];
 const SHORT = ["ssid", "iban", "bic", "url", "uid"];
+/* Hints in place of those of the library, which speak of its texts. */
+const OWN = { bic: "8 or 11 letters and digits; may be empty",
+    begin: "as 2026-11-28T14:00+01:00, or a day: 2026-11-28" };
+/* Words of the library for programs, and those of the page. */
+const SPOKEN = [[/; no level holds them.*$/, ""], [/ marked and eci/, ' "Mark text as UTF-8"'],
+    [/take scale: /, "take pixels per module: "], [/quietZone/g, "quiet zone"]];
 const MODES = { phone: "tel", number: "tel", mobile: "tel", workPhone: "tel", homePhone: "tel",
     email: "email", address: "email", url: "url", link: "url", amount: "decimal" };
 
@@ -23,9 +29,12 @@ export const FORMS = {
 
 function formOf(kind, { about, more, fields }) {
     const [name, ...rules] = about.replace(/^an? /, "").split("; ");
-    const [, level, most] = /level (.) and at most version (\d+)/.exec(about) ?? [];
+    const demand = /^its symbol must have level (.) and at most version (\d+)$/;
+    const [, level, most] = rules.map((it) => demand.exec(it)).find(Boolean) ?? [];
+    const said = rules.map((it) => it.replace(demand,
+        "such codes have level $1 and at most version $2")).join("; ");
     return { name: name[0].toUpperCase() + name.slice(1),
-        about: [rules.join("; "), more].join(" ").trim(),
+        about: [said && `${said[0].toUpperCase()}${said.slice(1)}.`, more].join(" ").trim(),
         fields, level, most: Number(most), isFixed: level !== undefined,
         make: (values, options) => encode(payload(kind, values), options) };
 }
@@ -43,13 +52,13 @@ function linked(link) {
     return text;
 }
 
-/** Returns the elements of a text such as (01)09521234543213(10)ABC. */
+/** Returns the elements of a text such as (01)09521234543213(10)A\\(B), in which a value is A(B. */
 function pairs(text) {
-    const found = [...text.trim().matchAll(/\((\d+)\)([^(]*)/g)];
+    const found = [...text.trim().matchAll(/\((\d+)\)((?:\\\(|[^(])*)/g)];
     if (found.map((it) => it[0]).join("") !== text.trim())
-        throw new QrError("WrongCharacter",
-            "elements: write each identifier in brackets, as (01)09521234543213", "elements");
-    return found.map((it) => [it[1], it[2]]);
+        throw new QrError("WrongCharacter", "elements: write each identifier in brackets, as "
+            + "(01)09521234543213, and a bracket in a value as \\(", "elements");
+    return found.map((it) => [it[1], it[2].replaceAll("\\(", "(")]);
 }
 
 /** Returns the options that encodeGs1 takes; it has no Micro QR, and bits are the fewest. */
@@ -62,14 +71,17 @@ const words = (name) => (SHORT.includes(name) ? name.toUpperCase()
     : name.replace(/[A-Z]/g, (it) => ` ${it.toLowerCase()}`)
         .replace(/^./, (it) => it.toUpperCase()));
 
-/** Returns what an error says, with its field as the form calls it. */
-export function saidOf({ field, message }) {
-    return field && message.startsWith(`${field}: `)
-        ? words(field) + message.slice(field.length) : message;
+/** Returns what an error says, in the words of the page. */
+export function saidOf({ name, field, message }) {
+    if (name === "EmptyField")
+        return `${words(field)}: fill this in.`;
+    const said = SPOKEN.reduce((text, [api, own]) => text.replace(api, own), message);
+    return field && said.startsWith(`${field}: `) ? words(field) + said.slice(field.length) : said;
 }
 
 /** Returns the element of a field, with its label, hint and place for an error. */
-export function fieldOf(name, hint) {
+export function fieldOf(name, given) {
+    const hint = OWN[name] ?? given;
     const box = document.createElement("div");
     const label = document.createElement("label");
     const below = document.createElement("p");

@@ -108,8 +108,8 @@ function make() {
         boost: at("boost").checked && version === undefined,
         marked: at("marked").checked, mask: mask === "" ? null : Number(mask) });
     if (form.most && !(Number(made.version) <= form.most))
-        throw new QrError("NoRoom",
-            `version ${made.version}: this format has at most version ${form.most}`);
+        throw new QrError("NoRoom", `The code has version ${made.version}: such codes have at most `
+            + `version ${form.most}.`);
     return logo === null ? made : made.withLogo(logo);
 }
 
@@ -143,15 +143,18 @@ function draw() {
 
 /** Shows an error at its field, if the field was typed into, else below the code. */
 function showWrong(error) {
-    for (const input of at("fields").querySelectorAll("input, select, textarea")) {
+    const inputs = [...at("fields").querySelectorAll("input, select, textarea")];
+    for (const input of inputs) {
         const isWrong = error?.field?.replace(/\[\d+\]$/, "") === input.name
             && touched.has(input.name);
         input.setAttribute("aria-invalid", isWrong);
         at(`error-${input.name}`).textContent = isWrong ? saidOf(error) : "";
     }
-    at("said").classList.toggle("wrong", error !== null && error.name !== "EmptyField");
+    const isBlank = error?.field !== undefined && inputs.every((it) => !valueOf(it));
+    at("said").classList.toggle("wrong",
+        error !== null && error.name !== "EmptyField" && !isBlank);
     if (error !== null)
-        at("said").textContent = saidOf(error);
+        at("said").textContent = isBlank ? "The code appears here as you type." : saidOf(error);
 }
 
 /** Says what the code is, and how large it will be. */
@@ -182,6 +185,9 @@ function warningsOf(made) {
             + "darker colour for the dark modules."] : []),
         ...(quietZone !== null && quietZone < made.quietZone ? [`The quiet zone is narrower than `
             + `the ${made.quietZone} modules that the standard wants.`] : []),
+        ...(/^.{1,7}$/u.test(at("field-password")?.value)
+            && ["", "WPA"].includes(at("field-security").value)
+            ? ["The password has fewer than 8 characters, which WPA needs."] : []),
         ...(logo === null ? [] : ["Only SVG shows the logo; other files leave its area light."]),
     ];
 }
@@ -220,7 +226,7 @@ function save(format) {
         setTimeout(() => URL.revokeObjectURL(link.href), 60000);
         tell(`Saved as code.${format}.`);
     } catch (error) {
-        tell(error.message);
+        tell(saidOf(error));
     }
 }
 

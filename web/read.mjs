@@ -112,19 +112,44 @@ function itemOf(code, checked) {
         } else {
             item.append(made("pre", plain(text)));
         }
-        const turned = [code.position, ...(code.isInverted ? ["inverted"] : [])].join(", ");
-        item.append(made("p", `Version ${code.version}, level ${code.level}, mask ${code.mask}; `
-            + `${turned}; ${code.wrong} codewords corrected. `
-            + `${code.parts.map(partOf).join("; ")}.`));
+        item.append(made("p", factsOf(code)));
     }
+    const departs = departuresOf(checked), list = document.createElement("ul");
+    list.append(...departs.map((it) => made("li", it)));
     item.append(made("h2", checked.isStandard ? "Check: as the standard says"
-        : "Check: it departs from the standard"), made("pre", `${checked}`));
+        : "Check: it departs from the standard"), ...(departs.length > 0 ? [list] : []));
+    const all = document.createElement("details");
+    all.append(made("summary", "All counts"), made("pre", `${checked}`));
+    item.append(all);
     return item;
 }
 
-function partOf({ kind, number, place, symbols, length }) {
+/** Says what is known of a code, beside what it holds. */
+function factsOf({ version, level, mask, position, isInverted, wrong, parts }) {
+    const headers = parts.map(headerOf).filter(Boolean);
+    return [`Version ${version}, level ${level}, mask ${mask}`,
+        ...(position === "upright" ? [] : [position]), ...(isInverted ? ["inverted"] : []),
+        ...(wrong > 0 ? [`corrected codewords: ${wrong}`] : []), ...headers].join("; ") + ".";
+}
+
+/** Says what departs from the standard. */
+function departuresOf(it) {
+    const damage = [["Wrong codewords in the worst block", Math.max(...it.wrongByBlock)],
+        ...Object.entries(it.wrongModules).map(([name, count]) => [`Wrong in ${name}`, count])];
+    const isWhole = damage.every(([, count]) => count === 0);
+    const counts = [...damage, ["Bits more than needed", it.bits - it.fewestBits],
+        ["Wrong bits of the terminator", it.wrongTerminator],
+        ["Wrong bits of padding", it.wrongPadding],
+        ["Segments whose character set readers guess", it.guessedSegments],
+        ["Masks with a lower penalty", isWhole && !it.isStandard ? it.masks.lower : 0]];
+    return [...(it.segments ? [] : ["The data is not segments and a terminator"]),
+        ...counts.filter(([, count]) => count > 0).map((each) => each.join(": "))];
+}
+
+/** Says what a header says, or nothing of a segment. */
+function headerOf({ kind, number, place, symbols }) {
     const names = { eci: `character set (ECI) ${number}`, fnc1First: "GS1 (FNC1 in first position)",
         fnc1Second: `FNC1 in second position, application ${number}`,
         oneOfSeveral: `code ${place + 1} of ${symbols}, parity ${number}` };
-    return names[kind] ?? `${length} bytes in ${kind} mode`;
+    return names[kind];
 }
