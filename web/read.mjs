@@ -134,8 +134,10 @@ function factsOf({ version, level, mask, position, isInverted, wrong, parts }) {
 
 /** Says what departs from the standard. */
 function departuresOf(it) {
+    const modules = Object.entries(it.wrongModules)
+        .map(([name, count]) => [`Wrong modules, ${name}`, count]);
     const damage = [["Wrong codewords in the worst block", Math.max(...it.wrongByBlock)],
-        ...Object.entries(it.wrongModules).map(([name, count]) => [`Wrong in ${name}`, count])];
+        ...modules];
     const isWhole = damage.every(([, count]) => count === 0);
     const counts = [...damage, ["Bits more than needed", it.bits - it.fewestBits],
         ["Wrong bits of the terminator", it.wrongTerminator],
