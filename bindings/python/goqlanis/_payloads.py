@@ -4,7 +4,7 @@ import datetime
 import decimal
 import numbers
 import warnings
-from typing import Any, Sequence, Tuple, Type, Union
+from typing import Any, Dict, List, Tuple, Type, Union
 
 from . import _checks
 from . import _numbers as goq
@@ -16,6 +16,9 @@ from .errors import NoRoom, TooLong, WrongField, refuse
 Number = Union[int, float, str, decimal.Decimal]
 
 Time = Union[str, datetime.date]
+# The arguments that are numbers, times and parties.
+NUMBERS = "amount", "latitude", "longitude", "digits", "period", "counter"
+TIMES, PARTIES = ("begin", "end", "stamp"), ("creditor", "debtor")
 # A number with more digits before the point, or zeros after it, fits no format.
 MOST_DIGITS = 40
 
@@ -86,14 +89,35 @@ for _each in (WrongField, *_CAUSES.values()):
         _each.__module__ = "goqlanis.contents"
 
 
-def text_of(kind: int, fields: Sequence[Tuple[str, str]]) -> str:
-    """Returns the text of a kind of payload; names and values are in the library's order."""
-    rows = (Field * len(fields))(*(_field(name, value) for name, value in fields))
+def text_of(kind: int, given: Dict[str, Any]) -> str:
+    """Returns the text of a kind of payload, whose fields are the arguments of a call, in the
+    library's order."""
+    fields: List[Tuple[str, Any]] = []
+    for name, value in given.items():
+        fields += _fields_of(name, value)
+    rows = (Field * len(fields))(*(_field(*it) for it in fields))
     out, count, place = _room(), ctypes.c_size_t(), ctypes.c_size_t()
     answer = library.goq_content(kind, rows, len(rows), out, BYTES_MAX, ctypes.byref(count),
                                  ctypes.byref(place))
     _refuse(answer, fields[place.value][0] if place.value < len(fields) else "text")
     return bytes(out[:count.value]).decode()
+
+
+def _fields_of(name: str, value: Any) -> List[Tuple[str, Any]]:
+    """Returns the fields of an argument: itself, or those of a party."""
+    if name in PARTIES:
+        if value is None and name == "debtor":
+            return []
+        if not hasattr(value, "_asdict"):
+            raise TypeError(f"{name} is a contents.Party(name, street, ..), not {shown(value)}")
+        return [(f"{name}.{part}", text) for part, text in value._asdict().items()]
+    if name == "hidden":
+        value = "true" if _checks.flag(name, value) else ""
+    elif name in NUMBERS:
+        value = "" if value is None and name == "amount" else number(name, value)
+    elif name in TIMES:
+        value = time(name, value)
+    return [(name, value)]
 
 
 def _field(name: str, value: str) -> Field:
@@ -230,5 +254,5 @@ def time(name: str, value: Time) -> str:
         raise OutOfRange(name, f"{name}: {value} is outside the years 1 to 9999 in UTC") from None
     if utc.microsecond:
         warnings.warn(f"{name}: calendars have whole seconds: .{utc.microsecond:06} is left out",
-                      stacklevel=4)
+                      stacklevel=5)
     return utc.replace(tzinfo=None, microsecond=0).isoformat() + "Z"

@@ -21,15 +21,13 @@ Traceback (most recent call last):
 goqlanis.contents.WrongCheckDigits: iban: the check digits do not match: look for a mistyped or \
 swapped digit
 """
-from typing import Any, Iterable, List, NamedTuple, Optional, Tuple
+from typing import Iterable, NamedTuple, Optional, Tuple, Union
 
-from . import _checks
 from . import _numbers as goq
-from ._checks import shown
 from ._payloads import (ControlCharacter, EmptyField, Number, OutOfRange, Time, TooLong,
                       TooManyDecimals, TooShort, UnknownIdentifier, UnknownWord, Unused,
                       WrongCharacter, WrongCheckDigits, WrongField, WrongLength, elements_of,
-                      number, string_of, text_of, time)
+                      number, string_of, text_of)
 
 __all__ = ["Party", "wifi", "mecard", "vcard", "payment", "bill", "mail", "geo", "tel", "sms",
            "totp", "hotp", "event", "upi", "pix", "promptpay", "gs1", "WrongField", "EmptyField",
@@ -48,9 +46,7 @@ def wifi(ssid: str, password: str = "", security: str = "", hidden: bool = False
     >>> wifi('"foo;bar\\\\baz"', hidden=True)
     'WIFI:T:nopass;S:\\\\"foo\\\\;bar\\\\\\\\baz\\\\";H:true;;'
     """
-    flag = "true" if _checks.flag("hidden", hidden) else ""
-    return text_of(goq.WIFI, [("ssid", ssid), ("password", password), ("security", security),
-                              ("hidden", flag)])
+    return text_of(goq.WIFI, locals())
 
 
 def mecard(family: str, given: str = "", phone: str = "", email: str = "", url: str = "",
@@ -64,10 +60,7 @@ def mecard(family: str, given: str = "", phone: str = "", email: str = "", url: 
     >>> mecard("Owen", "Sean", email="srowen@example.com")
     'MECARD:N:Owen,Sean;EMAIL:srowen@example.com;;'
     """
-    return text_of(goq.MECARD, [("family", family), ("given", given), ("phone", phone),
-                                ("email", email), ("url", url), ("birthday", birthday),
-                                ("note", note), ("street", street), ("city", city),
-                                ("region", region), ("code", code), ("country", country)])
+    return text_of(goq.MECARD, locals())
 
 
 def vcard(name: str, family: str, given: str = "", organisation: str = "", phone: str = "",
@@ -83,13 +76,7 @@ def vcard(name: str, family: str, given: str = "", organisation: str = "", phone
     >>> vcard("Frank Dawson", "Dawson", "Frank", email="fdawson@earthlink.net").splitlines()[2:5]
     ['N:Dawson;Frank;;;', 'FN:Frank Dawson', 'EMAIL:fdawson@earthlink.net']
     """
-    return text_of(goq.VCARD, [("name", name), ("family", family), ("given", given),
-                               ("organisation", organisation), ("phone", phone), ("email", email),
-                               ("url", url), ("street", street), ("city", city), ("region", region),
-                               ("code", code), ("country", country), ("note", note),
-                               ("title", title), ("birthday", birthday), ("mobile", mobile),
-                               ("work_phone", work_phone), ("home_phone", home_phone),
-                               ("nickname", nickname), ("fax", fax)])
+    return text_of(goq.VCARD, locals())
 
 
 def payment(name: str, iban: str, amount: Number, bic: str = "", purpose: str = "",
@@ -105,10 +92,8 @@ def payment(name: str, iban: str, amount: Number, bic: str = "", purpose: str = 
     >>> text.splitlines()[4:8]
     ['BPOTBEB1', 'Red Cross of Belgium', 'BE72000000001616', 'EUR1.00']
     """
-    return text_of(goq.PAYMENT, [("name", name), ("iban", iban),
-                                 ("amount", number("amount", amount)), ("bic", bic),
-                                 ("purpose", purpose), ("reference", reference),
-                                 ("message", message), ("information", information)])
+    amount = number("amount", amount)
+    return text_of(goq.PAYMENT, locals())
 
 
 class Party(NamedTuple):
@@ -135,17 +120,7 @@ def bill(iban: str, creditor: Party, amount: Optional[Number] = None, currency: 
     ...      reference="RF18539007547034").splitlines()[27:]
     ['SCOR', 'RF18539007547034', '', 'EPD']
     """
-    return text_of(goq.BILL, [("iban", iban), *_party("creditor", creditor),
-                              ("amount", _open(amount)), ("currency", currency),
-                              ("reference", reference), ("message", message),
-                              *(() if debtor is None else _party("debtor", debtor))])
-
-
-def _party(who: str, party: Any) -> Iterable[Tuple[str, str]]:
-    """Returns the fields of a party."""
-    if not isinstance(party, Party):
-        raise TypeError(f"{who} is a contents.Party(name, street, ..), not {shown(party)}")
-    return ((f"{who}.{name}", value) for name, value in zip(Party._fields, party))
+    return text_of(goq.BILL, locals())
 
 
 def mail(address: str, subject: str = "", body: str = "", cc: str = "", bcc: str = "") -> str:
@@ -154,8 +129,7 @@ def mail(address: str, subject: str = "", body: str = "", cc: str = "", bcc: str
     >>> mail("infobot@example.com", body="send current-issue\\nsend index")
     'mailto:infobot@example.com?body=send%20current-issue%0D%0Asend%20index'
     """
-    return text_of(goq.MAIL, [("address", address), ("subject", subject), ("body", body),
-                              ("cc", cc), ("bcc", bcc)])
+    return text_of(goq.MAIL, locals())
 
 
 def geo(latitude: Number, longitude: Number) -> str:
@@ -167,8 +141,7 @@ def geo(latitude: Number, longitude: Number) -> str:
     >>> geo(90, -22.43)
     'geo:90,-22.43'
     """
-    return text_of(goq.GEO, [("latitude", number("latitude", latitude)),
-                             ("longitude", number("longitude", longitude))])
+    return text_of(goq.GEO, locals())
 
 
 def tel(number: str) -> str:
@@ -177,7 +150,7 @@ def tel(number: str) -> str:
     >>> tel("+1-201-555-0123")
     'tel:+1-201-555-0123'
     """
-    return text_of(goq.TEL, [("number", number)])
+    return text_of(goq.TEL, locals())
 
 
 def sms(number: str, body: str = "") -> str:
@@ -186,7 +159,7 @@ def sms(number: str, body: str = "") -> str:
     >>> sms("+15105550101", "hello there")
     'sms:+15105550101?body=hello%20there'
     """
-    return text_of(goq.SMS, [("number", number), ("body", body)])
+    return text_of(goq.SMS, locals())
 
 
 def totp(account: str, secret: str, issuer: str = "", algorithm: str = "SHA1", digits: int = 6,
@@ -197,8 +170,7 @@ def totp(account: str, secret: str, issuer: str = "", algorithm: str = "SHA1", d
     >>> totp("alice@google.com", "jbsw y3dp ehpk 3pxp", "Example")
     'otpauth://totp/Example:alice@google.com?secret=JBSWY3DPEHPK3PXP&issuer=Example'
     """
-    key = _key(account, secret, issuer, algorithm, digits)
-    return text_of(goq.OTP, [*key, ("period", number("period", period)), ("counter", "")])
+    return _otp(account, secret, issuer, algorithm, digits, period, "")
 
 
 def hotp(account: str, secret: str, issuer: str = "", algorithm: str = "SHA1", digits: int = 6,
@@ -208,15 +180,12 @@ def hotp(account: str, secret: str, issuer: str = "", algorithm: str = "SHA1", d
     >>> hotp("alice@google.com", "JBSWY3DPEHPK3PXP", algorithm="SHA256", digits=8)
     'otpauth://hotp/alice@google.com?secret=JBSWY3DPEHPK3PXP&algorithm=SHA256&digits=8&counter=0'
     """
-    key = _key(account, secret, issuer, algorithm, digits)
-    return text_of(goq.OTP, [*key, ("period", ""), ("counter", number("counter", counter))])
+    return _otp(account, secret, issuer, algorithm, digits, "", counter)
 
 
-def _key(account: str, secret: str, issuer: str, algorithm: str,
-         digits: int) -> List[Tuple[str, str]]:
-    """Returns the fields that both kinds of one-time passwords have."""
-    return [("account", account), ("secret", secret), ("issuer", issuer),
-            ("algorithm", algorithm), ("digits", number("digits", digits))]
+def _otp(account: str, secret: str, issuer: str, algorithm: str, digits: int,
+         period: Union[int, str], counter: Union[int, str]) -> str:
+    return text_of(goq.OTP, locals())
 
 
 def event(begin: Time, end: Time, summary: str = "", location: str = "", description: str = "",
@@ -232,10 +201,7 @@ def event(begin: Time, end: Time, summary: str = "", location: str = "", descrip
     >>> event(begin, "1997-07-15T04:00Z", "Bastille Day Party").splitlines()[4:7]
     ['DTSTART:19970714T170000Z', 'DTEND:19970715T040000Z', 'SUMMARY:Bastille Day Party']
     """
-    return text_of(goq.EVENT, [("begin", time("begin", begin)), ("end", time("end", end)),
-                               ("summary", summary), ("location", location),
-                               ("description", description), ("uid", uid),
-                               ("stamp", time("stamp", stamp))])
+    return text_of(goq.EVENT, locals())
 
 
 def upi(payee: str, name: str = "", amount: Optional[Number] = None, note: str = "",
@@ -248,8 +214,7 @@ def upi(payee: str, name: str = "", amount: Optional[Number] = None, note: str =
     >>> upi("nadeem@npci", "nadeem chinna", 10, "Pay", category="0000")
     'upi://pay?pa=nadeem@npci&pn=nadeem%20chinna&mc=0000&tn=Pay&am=10.00&cu=INR'
     """
-    return text_of(goq.UPI, [("payee", payee), ("name", name), ("amount", _open(amount)),
-                             ("note", note), ("reference", reference), ("category", category)])
+    return text_of(goq.UPI, locals())
 
 
 def pix(payee: str, name: str, city: str, amount: Optional[Number] = None, reference: str = "",
@@ -262,9 +227,7 @@ def pix(payee: str, name: str, city: str, amount: Optional[Number] = None, refer
     >>> pix("123e4567-e12b-12d1-a456-426655440000", "Fulano de Tal", "BRASILIA")[-46:]
     '13Fulano de Tal6008BRASILIA62070503***63041D3D'
     """
-    return text_of(goq.PIX, [("payee", payee), ("name", name), ("city", city),
-                             ("amount", _open(amount)), ("reference", reference),
-                             ("description", description)])
+    return text_of(goq.PIX, locals())
 
 
 def promptpay(payee: str, amount: Optional[Number] = None) -> str:
@@ -275,12 +238,7 @@ def promptpay(payee: str, amount: Optional[Number] = None) -> str:
     >>> promptpay("000-000-0000", "4.22")
     '00020101021229370016A000000677010111011300660000000005802TH530376454044.226304E469'
     """
-    return text_of(goq.PROMPTPAY, [("payee", payee), ("amount", _open(amount))])
-
-
-def _open(amount: Optional[Number]) -> str:
-    """Returns an amount that may be left open."""
-    return "" if amount is None else number("amount", amount)
+    return text_of(goq.PROMPTPAY, locals())
 
 
 def gs1(elements: Iterable[Tuple[str, str]]) -> bytes:
