@@ -107,7 +107,9 @@ function scaleOf({ scale, size, dpi }, format, across) {
             : checks.whole("scale", scale, 1, MOST_SIDE, "NoSuchSize");
     if (scale !== null)
         throw new RangeError("scale and size: give one of them");
-    const length = lengthOf(size);
+    const length = lengthOf(size), close = `${size}`.replace(/\s/g, "");
+    if (length === null && lengthOf(close) !== null)
+        throw new TypeError(`size: ${shown(size)}: take '${close}'`);
     if (format === "svg" && length !== null)
         return 1;
     if (length !== null && dpi === null)

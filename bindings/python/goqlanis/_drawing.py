@@ -189,6 +189,9 @@ def _fitted(look: Look, across: int) -> int:
 def _pixels(look: Look, dots: Any) -> int:
     """Returns the pixels of a size, with `dots` pixels per inch."""
     size, found = look.size, _length(look.size)
+    close = "".join(size.split()) if isinstance(size, str) else ""
+    if not found and _length(close):
+        raise TypeError(f"size={shown(size)}: take {close!r}")
     if found and dots is None:
         raise NoSuchSize(f"size={shown(size)}: how many pixels are these? Take SVG, EPS or PDF, or "
                          "PNG with dpi=300")
