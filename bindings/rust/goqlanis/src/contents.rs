@@ -170,43 +170,68 @@ pub(crate) fn element_error(answer: u32, place: usize) -> ContentError {
     refused(answer, |cause| ContentError::Element(place, cause))
 }
 
-// An enum, with the word that the library takes for each variant.
+// Enums, with the word that the library takes for each variant.
 macro_rules! words {
-    ($(#[$about:meta])* $name:ident: $($(#[$told:meta])* $variant:ident = $word:literal,)+) => {
+    ($($(#[$about:meta])* $name:ident { $($(#[$told:meta])* $variant:ident = $word:literal,)+ })+) => {$(
         $(#[$about])*
         #[derive(Clone, Copy, Debug, Default, PartialEq, Eq)]
         pub enum $name {
             $($(#[$told])* $variant,)+
         }
 
-        impl $name {
-            fn word(self) -> &'static str {
+        impl Said for $name {
+            fn said(&self) -> String {
                 match self {
                     $($name::$variant => $word,)+
                 }
+                .to_string()
             }
         }
-
-        impl Said for $name {
-            fn said(&self) -> String {
-                self.word().to_string()
-            }
-        }
-    };
+    )+};
 }
 
 words! {
     /// How a network is secured.
-    Security:
-    /// No password.
-    Open = "open",
-    /// WEP.
-    Wep = "WEP",
-    /// WPA, WPA2, or both with WPA3.
-    #[default]
-    Wpa = "WPA",
-    /// Only WPA3.
-    Wpa3 = "WPA3",
+    Security {
+        /// No password.
+        Open = "open",
+        /// WEP.
+        Wep = "WEP",
+        /// WPA, WPA2, or both with WPA3.
+        #[default]
+        Wpa = "WPA",
+        /// Only WPA3.
+        Wpa3 = "WPA3",
+    }
+
+    /// The currency of a bill.
+    Currency {
+        /// Swiss francs, CHF.
+        #[default]
+        Franc = "CHF",
+        /// Euros, EUR.
+        Euro = "EUR",
+    }
+
+    /// The hash function of one-time passwords.
+    Algorithm {
+        /// SHA-1, the usual function.
+        #[default]
+        Sha1 = "SHA1",
+        /// SHA-256.
+        Sha256 = "SHA256",
+        /// SHA-512.
+        Sha512 = "SHA512",
+    }
+
+    /// How many digits a one-time password has.
+    Digits {
+        /// Six digits.
+        #[default]
+        Six = "6",
+        /// Eight digits.
+        Eight = "8",
+    }
 }
 
 // The text of a field of a payload, as the library takes it.
@@ -239,14 +264,12 @@ impl<T: Said> Said for Option<T> {
     }
 }
 
-// A payload, with the fields of the library in its order, and the method that returns its text.
-macro_rules! payload {
-    (
+// Payloads, each with the fields of the library in its order, and the method that returns its text.
+macro_rules! payloads {
+    ($(
         $(#[$about:meta])*
-        $name:ident of $kind:ident { $($(#[$told:meta])* $field:ident: $type:ty,)+ }
-        $(#[$made:meta])*
-        fn $call:ident
-    ) => {
+        $name:ident.$call:ident of $kind:ident { $($(#[$told:meta])* $field:ident: $type:ty,)+ }
+    )+) => {$(
         $(#[$about])*
         #[derive(Clone, Copy, Debug, Default, PartialEq, Eq)]
         pub struct $name<'a> {
@@ -254,17 +277,17 @@ macro_rules! payload {
         }
 
         impl $name<'_> {
-            $(#[$made])*
+            /// Returns the text, to be encoded by `QrCode::of_text`.
             pub fn $call(&self) -> ContentResult {
                 text_of(sys::$kind, given!(self; $($field),+))
             }
         }
-    };
+    )+};
 }
 
-payload! {
+payloads! {
     /// A Wi-Fi network.
-    Wifi of GOQ_WIFI {
+    Wifi.text of GOQ_WIFI {
         /// The name of the network, 1 to 32 bytes.
         ssid: &'a str,
         /// The password, empty for an open network.
@@ -274,13 +297,9 @@ payload! {
         /// Whether the network does not broadcast its name.
         hidden: bool,
     }
-    /// Returns the text, to be encoded by `QrCode::of_text`.
-    fn text
-}
 
-payload! {
     /// A contact, as MECARD. Empty fields are left out.
-    Contact of GOQ_MECARD {
+    Contact.mecard of GOQ_MECARD {
         /// The family name, or the only name.
         family: &'a str,
         /// The given name.
@@ -306,13 +325,9 @@ payload! {
         /// The country.
         country: &'a str,
     }
-    /// Returns the text, to be encoded by `QrCode::of_text`.
-    fn mecard
-}
 
-payload! {
     /// A contact, as vCard 3.0. Empty fields are left out.
-    Card of GOQ_VCARD {
+    Card.text of GOQ_VCARD {
         /// The full name, as it is displayed.
         name: &'a str,
         /// The family name.
@@ -354,13 +369,9 @@ payload! {
         /// The fax number.
         fax: &'a str,
     }
-    /// Returns the text, to be encoded by `QrCode::of_text`.
-    fn text
-}
 
-payload! {
     /// A SEPA credit transfer (EPC QR code), for a symbol of level M and at most version 13.
-    Payment of GOQ_PAYMENT {
+    Payment.text of GOQ_PAYMENT {
         /// The payee, up to 70 characters.
         name: &'a str,
         /// The account number.
@@ -378,18 +389,87 @@ payload! {
         /// A note to the payer, up to 70 characters.
         information: &'a str,
     }
-    /// Returns the text, to be encoded by `QrCode::of_text`.
-    fn text
-}
 
-words! {
-    /// The currency of a bill.
-    Currency:
-    /// Swiss francs, CHF.
-    #[default]
-    Franc = "CHF",
-    /// Euros, EUR.
-    Euro = "EUR",
+    /// A link that writes an e-mail. Empty fields are left out.
+    Mail.text of GOQ_MAIL {
+        /// The address of the recipient, or several with commas between.
+        address: &'a str,
+        /// The subject.
+        subject: &'a str,
+        /// The text.
+        body: &'a str,
+        /// The addresses that get a copy.
+        cc: &'a str,
+        /// The addresses that get a copy, unseen by the others.
+        bcc: &'a str,
+    }
+
+    /// A payment by UPI (India), in rupees. Empty fields are left out.
+    ///
+    /// ```
+    /// use goqlanis::contents::{Cause, ContentError, Upi};
+    ///
+    /// let upi = Upi { payee: "nadeem@npci", name: "nadeem chinna", cents: Some(1000), note: "Pay to mystar store", reference: "4894398cndhcd23", category: "0000" };
+    /// assert_eq!(upi.text()?, "upi://pay?pa=nadeem@npci&pn=nadeem%20chinna&mc=0000&tr=4894398cndhcd23&tn=Pay%20to%20mystar%20store&am=10.00&cu=INR");
+    /// assert_eq!(Upi { payee: "nadeem", ..upi }.text(), Err(ContentError::Refused("payee", Cause::Character)));
+    /// # Ok::<(), ContentError>(())
+    /// ```
+    Upi.text of GOQ_UPI {
+        /// The address of the payee, e.g. name@bank.
+        payee: &'a str,
+        /// The name of the payee.
+        name: &'a str,
+        /// The amount in paise; with `None`, the payer enters it.
+        cents: Option<u64>,
+        /// A note.
+        note: &'a str,
+        /// A reference, e.g. an order number.
+        reference: &'a str,
+        /// The category of a merchant, four digits.
+        category: &'a str,
+    }
+
+    /// A static payment by Pix (Brazil), in reais. All fields are ASCII.
+    ///
+    /// ```
+    /// use goqlanis::contents::{Cause, ContentError, Pix};
+    ///
+    /// let pix = Pix { payee: "123e4567-e12b-12d1-a456-426655440000", name: "Fulano de Tal", city: "BRASILIA", ..Pix::default() };
+    /// assert_eq!(pix.text()?, "00020126580014br.gov.bcb.pix0136123e4567-e12b-12d1-a456-4266554400005204000053039865802BR5913Fulano de Tal6008BRASILIA62070503***63041D3D");
+    /// assert_eq!(Pix { city: "São Paulo", ..pix }.text(), Err(ContentError::Refused("city", Cause::Character)));
+    /// # Ok::<(), ContentError>(())
+    /// ```
+    Pix.text of GOQ_PIX {
+        /// The Pix key of the payee.
+        payee: &'a str,
+        /// The name of the payee, up to 25 bytes of ASCII.
+        name: &'a str,
+        /// The city, up to 15 bytes of ASCII.
+        city: &'a str,
+        /// The amount in centavos; with `None`, the payer enters it.
+        cents: Option<u64>,
+        /// A reference (txid) of letters and digits.
+        reference: &'a str,
+        /// A description; together with the key, up to 73 bytes of ASCII.
+        description: &'a str,
+    }
+
+    /// A payment by PromptPay (Thailand), in baht.
+    ///
+    /// ```
+    /// use goqlanis::contents::{Cause, ContentError, PromptPay};
+    ///
+    /// let phone = PromptPay { payee: "0000000000", cents: Some(422) };
+    /// assert_eq!(phone.text()?, "00020101021229370016A000000677010111011300660000000005802TH530376454044.226304E469");
+    /// assert_eq!(PromptPay { cents: Some(0), ..phone }.text(), Err(ContentError::Refused("cents", Cause::Range)));
+    /// # Ok::<(), ContentError>(())
+    /// ```
+    PromptPay.text of GOQ_PROMPTPAY {
+        /// The 10 digits of a telephone number, 13 of a national or tax ID, or 15 of an e-wallet.
+        payee: &'a str,
+        /// The amount in satang; with `None`, the payer enters it.
+        cents: Option<u64>,
+    }
 }
 
 /// A name with its address.
@@ -438,24 +518,6 @@ impl Bill<'_> {
                 debtor.code, debtor.city, debtor.country),
         )
     }
-}
-
-payload! {
-    /// A link that writes an e-mail. Empty fields are left out.
-    Mail of GOQ_MAIL {
-        /// The address of the recipient, or several with commas between.
-        address: &'a str,
-        /// The subject.
-        subject: &'a str,
-        /// The text.
-        body: &'a str,
-        /// The addresses that get a copy.
-        cc: &'a str,
-        /// The addresses that get a copy, unseen by the others.
-        bcc: &'a str,
-    }
-    /// Returns the text, to be encoded by `QrCode::of_text`.
-    fn text
 }
 
 /// A place on the earth.
@@ -520,28 +582,6 @@ impl Default for Factor {
     }
 }
 
-words! {
-    /// The hash function of one-time passwords.
-    Algorithm:
-    /// SHA-1, the usual function.
-    #[default]
-    Sha1 = "SHA1",
-    /// SHA-256.
-    Sha256 = "SHA256",
-    /// SHA-512.
-    Sha512 = "SHA512",
-}
-
-words! {
-    /// How many digits a one-time password has.
-    Digits:
-    /// Six digits.
-    #[default]
-    Six = "6",
-    /// Eight digits.
-    Eight = "8",
-}
-
 /// One-time passwords of an account, for authenticator apps.
 #[derive(Clone, Copy, Debug, Default, PartialEq, Eq)]
 pub struct OneTime<'a> {
@@ -566,9 +606,12 @@ impl OneTime<'_> {
             Factor::Time(seconds) => (seconds.to_string(), String::new()),
             Factor::Counter(count) => (String::new(), count.to_string()),
         };
-        let (algorithm, digits) = (("algorithm", self.algorithm.word()), ("digits", self.digits.word()));
-        let key = [("account", self.account), ("secret", self.secret), ("issuer", self.issuer)];
-        text_of(sys::GOQ_OTP, &[key[0], key[1], key[2], algorithm, digits, ("period", &period), ("counter", &counter)])
+        let (algorithm, digits) = (self.algorithm.said(), self.digits.said());
+        text_of(
+            sys::GOQ_OTP,
+            &[("account", self.account), ("secret", self.secret), ("issuer", self.issuer),
+                ("algorithm", &algorithm), ("digits", &digits), ("period", &period), ("counter", &counter)],
+        )
     }
 }
 
@@ -647,83 +690,4 @@ impl Event<'_> {
                 ("description", self.description), ("uid", self.uid), ("stamp", &self.stamp.said())],
         )
     }
-}
-
-payload! {
-    /// A payment by UPI (India), in rupees. Empty fields are left out.
-    ///
-    /// ```
-    /// use goqlanis::contents::{Cause, ContentError, Upi};
-    ///
-    /// let upi = Upi { payee: "nadeem@npci", name: "nadeem chinna", cents: Some(1000), note: "Pay to mystar store", reference: "4894398cndhcd23", category: "0000" };
-    /// assert_eq!(upi.text()?, "upi://pay?pa=nadeem@npci&pn=nadeem%20chinna&mc=0000&tr=4894398cndhcd23&tn=Pay%20to%20mystar%20store&am=10.00&cu=INR");
-    /// assert_eq!(Upi { payee: "nadeem", ..upi }.text(), Err(ContentError::Refused("payee", Cause::Character)));
-    /// # Ok::<(), ContentError>(())
-    /// ```
-    Upi of GOQ_UPI {
-        /// The address of the payee, e.g. name@bank.
-        payee: &'a str,
-        /// The name of the payee.
-        name: &'a str,
-        /// The amount in paise; with `None`, the payer enters it.
-        cents: Option<u64>,
-        /// A note.
-        note: &'a str,
-        /// A reference, e.g. an order number.
-        reference: &'a str,
-        /// The category of a merchant, four digits.
-        category: &'a str,
-    }
-    /// Returns the text, to be encoded by `QrCode::of_text`.
-    fn text
-}
-
-payload! {
-    /// A static payment by Pix (Brazil), in reais. All fields are ASCII.
-    ///
-    /// ```
-    /// use goqlanis::contents::{Cause, ContentError, Pix};
-    ///
-    /// let pix = Pix { payee: "123e4567-e12b-12d1-a456-426655440000", name: "Fulano de Tal", city: "BRASILIA", ..Pix::default() };
-    /// assert_eq!(pix.text()?, "00020126580014br.gov.bcb.pix0136123e4567-e12b-12d1-a456-4266554400005204000053039865802BR5913Fulano de Tal6008BRASILIA62070503***63041D3D");
-    /// assert_eq!(Pix { city: "São Paulo", ..pix }.text(), Err(ContentError::Refused("city", Cause::Character)));
-    /// # Ok::<(), ContentError>(())
-    /// ```
-    Pix of GOQ_PIX {
-        /// The Pix key of the payee.
-        payee: &'a str,
-        /// The name of the payee, up to 25 bytes of ASCII.
-        name: &'a str,
-        /// The city, up to 15 bytes of ASCII.
-        city: &'a str,
-        /// The amount in centavos; with `None`, the payer enters it.
-        cents: Option<u64>,
-        /// A reference (txid) of letters and digits.
-        reference: &'a str,
-        /// A description; together with the key, up to 73 bytes of ASCII.
-        description: &'a str,
-    }
-    /// Returns the text, to be encoded by `QrCode::of_text`.
-    fn text
-}
-
-payload! {
-    /// A payment by PromptPay (Thailand), in baht.
-    ///
-    /// ```
-    /// use goqlanis::contents::{Cause, ContentError, PromptPay};
-    ///
-    /// let phone = PromptPay { payee: "0000000000", cents: Some(422) };
-    /// assert_eq!(phone.text()?, "00020101021229370016A000000677010111011300660000000005802TH530376454044.226304E469");
-    /// assert_eq!(PromptPay { cents: Some(0), ..phone }.text(), Err(ContentError::Refused("cents", Cause::Range)));
-    /// # Ok::<(), ContentError>(())
-    /// ```
-    PromptPay of GOQ_PROMPTPAY {
-        /// The 10 digits of a telephone number, 13 of a national or tax ID, or 15 of an e-wallet.
-        payee: &'a str,
-        /// The amount in satang; with `None`, the payer enters it.
-        cents: Option<u64>,
-    }
-    /// Returns the text, to be encoded by `QrCode::of_text`.
-    fn text
 }
