@@ -3,6 +3,7 @@
 `install(folder)` puts the modules in place, for the scripts of bindings/c that ask calls.txt,
 formats.txt and what other encoders answered. bridge.mjs makes the calls in Node.
 """
+import ast
 import ctypes
 import datetime
 import json
@@ -154,8 +155,7 @@ def draw_with(modules, length, width, drawing, out, room, count):
 def payload(kind, names):
     """Returns the call of the Python package that writes a kind of payload."""
     def call(*words, **more):
-        assert len(words) <= len(names.split()), f"{kind} has more fields than {names}"
-        fields = {**dict(zip(names.split(), words)), **more}
+        fields = {**dict(zip(names, words)), **more}
         fields = {FIELDS.get(name, name): it for name, it in fields.items() if it is not None}
         try:
             return ask(kind, fields)
@@ -165,16 +165,12 @@ def payload(kind, names):
     return call
 
 
-CARD = "street city region code country"
-OTP = "account secret issuer algorithm digits"
-PAYLOADS = {"wifi": "ssid password security hidden", "geo": "latitude longitude", "tel": "number",
-            "mecard": f"family given phone email url birthday note {CARD}",
-            "vcard": f"name family given organisation phone email url {CARD} note title birthday",
-            "payment": "name iban amount bic purpose reference message information",
-            "mail": "address subject body cc bcc", "sms": "number body",
-            "event": "begin end summary location description uid stamp",
-            "upi": "payee name amount note reference category",
-            "pix": "payee name city amount reference description", "promptpay": "payee amount"}
+# The calls of the Python package, with their arguments.
+NAMES = {it.name: [each.arg for each in it.args.args] for it in ast.parse(
+    (HERE.parent / "python" / "goqlanis" / "contents.py").read_text()).body
+    if isinstance(it, ast.FunctionDef)}
+PAYLOADS = ("wifi", "mecard", "vcard", "payment", "mail", "geo", "tel", "sms", "event", "upi",
+            "pix", "promptpay")
 
 
 def bill(iban, creditor, amount=None, currency="CHF", reference="", message="", debtor=None):
@@ -202,12 +198,12 @@ def install(folder):
     calls = (encode, encode_sequence, encode_segments, encode_gs1, smallest_version, is_functional,
              join, Symbol, Error)
     vars(module).update({it.__name__: it for it in calls})
-    made_here = {kind: payload(kind, names) for kind, names in PAYLOADS.items()}
+    made_here = {kind: payload(kind, NAMES[kind]) for kind in PAYLOADS}
     vars(module.contents).update(made_here, bill=bill, Party=Party, WrongField=WrongField,
                                  gs1=lambda elements: ask("gs1", list(elements)),
-                                 totp=payload("otp", f"{OTP} period"),
+                                 totp=payload("otp", NAMES["totp"]),
                                  hotp=lambda *words, counter=0, **more: payload(
-                                     "otp", f"{OTP} counter")(*words, counter=counter, **more))
+                                     "otp", NAMES["hotp"])(*words, counter=counter, **more))
     numbers = HERE.parent / "python" / "goqlanis" / "_numbers.py"
     module._numbers = SourceFileLoader("goqlanis._numbers", str(numbers)).load_module()
     fields = [(it, ctypes.c_uint32) for it in module._numbers.STRUCTS["goq_drawing"].split()]

@@ -19,6 +19,7 @@ Time = Union[str, datetime.date]
 # The arguments that are numbers, times and parties.
 NUMBERS = "amount", "latitude", "longitude", "digits", "period", "counter"
 TIMES, PARTIES = ("begin", "end", "stamp"), ("creditor", "debtor")
+PARTY = "name", "street", "number", "code", "city", "country"
 # A number with more digits before the point, or zeros after it, fits no format.
 MOST_DIGITS = 40
 
@@ -108,9 +109,9 @@ def _fields_of(name: str, value: Any) -> List[Tuple[str, Any]]:
     if name in PARTIES:
         if value is None and name == "debtor":
             return []
-        if not hasattr(value, "_asdict"):
+        if getattr(value, "_fields", ()) != PARTY:
             raise TypeError(f"{name} is a contents.Party(name, street, ..), not {shown(value)}")
-        return [(f"{name}.{part}", text) for part, text in value._asdict().items()]
+        return [(f"{name}.{part}", text) for part, text in zip(PARTY, value)]
     if name == "hidden":
         value = "true" if _checks.flag(name, value) else ""
     elif name in NUMBERS:
