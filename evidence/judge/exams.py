@@ -31,13 +31,14 @@ def complaint(question, whole):
 
 def questions():
     """The symbols of an exam have the damage and the data that it says"""
-    exam = list(goqlanis.exam())
-    # The three questions of every third symbol: some of each version and level, and all contents.
-    asked = [it for at, it in enumerate(exam) if at // 3 % 3 == 0]
-    pairs = {it.symbol.version + it.symbol.level for it in asked}
+    exam = {}
+    for it in goqlanis.exam():
+        exam.setdefault((it.symbol.version, it.symbol.level), []).append(it)
+    # The three questions of a symbol of each version and level, of all contents in turn.
+    asked = [it for at, own in enumerate(exam.values()) for it in own[3 * at % len(own):][:3]]
     kinds = {it.name.split("-")[2] for it in asked}
     found = [complaint(it, asked[at // 3 * 3].symbol) for at, it in enumerate(asked)]
-    is_whole = len(pairs) == 168 and len(kinds) == 9
+    is_whole = len(exam) == 168 and len(kinds) == 9
     return [it for it in found if it] + ["no exam"] * (not is_whole), f"{len(asked)} symbols"
 
 
