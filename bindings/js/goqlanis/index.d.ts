@@ -75,7 +75,10 @@ export function isFunctional(version: Version, x: number, y: number): boolean;
 /** A CSS name, "#rgb", "#rrggbb", "#rrggbbaa", [red, green, blue] or [red, green, blue, opacity],
     each 0 to 255; null is transparent. */
 export type Colour = string | number[] | null;
-export interface DrawOptions {
+/** Colours of patterns and data, in PNG, SVG, EPS and PDF; by default those of dark and light. */
+export type PartColours = { [part in `${"finder" | "alignment" | "timing" | "format" | "version"
+    | "data"}${"Dark" | "Light"}`]?: Colour };
+export interface DrawOptions extends PartColours {
     /** Pixels per module; the default is 8, for text and PIC 1. */
     scale?: number | null;
     /** In place of `scale`: the most pixels of a side, or a length, as "30mm" (cm, in, pt): SVG, EPS
@@ -88,19 +91,6 @@ export interface DrawOptions {
     light?: Colour;
     /** Dots per inch that a PNG file states. */
     dpi?: number | null;
-    /** Colours of patterns and data, in PNG, SVG, EPS and PDF; by default those of dark and light. */
-    finderDark?: Colour;
-    finderLight?: Colour;
-    alignmentDark?: Colour;
-    alignmentLight?: Colour;
-    timingDark?: Colour;
-    timingLight?: Colour;
-    formatDark?: Colour;
-    formatLight?: Colour;
-    versionDark?: Colour;
-    versionLight?: Colour;
-    dataDark?: Colour;
-    dataLight?: Colour;
 }
 /** The formats: "txt" and "light" are half blocks, "grey" is a byte per pixel, and "zpl", "tspl"
     and "escpos" are for printers. */

@@ -4,6 +4,7 @@ import os
 import re
 import warnings
 import xml.sax.saxutils as xml
+from collections import namedtuple
 from fractions import Fraction
 from itertools import product
 from typing import Any, Dict, NamedTuple, Optional, Tuple, Union
@@ -44,29 +45,11 @@ INCHES = {"mm": Fraction(10, 254), "cm": Fraction(100, 254), "in": Fraction(1),
           "pt": Fraction(1, 72)}
 
 
-class Look(NamedTuple):
-    """The options of a drawing, as a caller gives them; `border` and `quiet_zone` are the same.
-    Those of PARTS are False where parts have no colour of their own."""
-    scale: Any = None
-    border: Any = None
-    quiet_zone: Any = None
-    dark: Any = "black"
-    light: Any = "white"
-    dpi: Any = None
-    size: Any = None
-    title: Any = None
-    finder_dark: Any = False
-    finder_light: Any = False
-    alignment_dark: Any = False
-    alignment_light: Any = False
-    timing_dark: Any = False
-    timing_light: Any = False
-    format_dark: Any = False
-    format_light: Any = False
-    version_dark: Any = False
-    version_light: Any = False
-    data_dark: Any = False
-    data_light: Any = False
+# The options of a drawing, as a caller gives them; `border` and `quiet_zone` are the same. Those of
+# PARTS are False where parts have no colour of their own.
+Look = namedtuple("Look", ["scale", "border", "quiet_zone", "dark", "light", "dpi", "size", "title",
+                           *PARTS], defaults=[None, None, None, "black", "white", None, None, None,
+                                              *[False] * len(PARTS)])
 
 
 def drawn(modules: bytes, width: int, usual_zone: int, name: str, look: Look) -> bytes:
