@@ -84,7 +84,7 @@ export interface DrawOptions extends PartColours {
     /** In place of `scale`: the most pixels of a side, or a length, as "30mm" (cm, in, pt): SVG, EPS
         and PDF have it, PNG, with `dpi`, at most. */
     size?: number | string | null;
-    /** Light modules on each side; the default is 4, for Micro QR 2. */
+    /** Light modules on each side, up to 4,000; the default is 4, for Micro QR 2. */
     quietZone?: number | null;
     /** For PNG and SVG; opaque also for EPS, PDF and PPM. */
     dark?: Colour;
@@ -183,7 +183,7 @@ export class QrCode {
         options?: AreaOptions & { area?: Rectangle | null; margin?: number }): QrCode;
 }
 
-/** A field of a payload, as people write it. */
+/** A field of a payload, as people write it. Milliseconds of a Date are left out, and warned of. */
 export type Field = string | number | bigint | boolean | Date | null;
 /** The kinds of payloads, with what each field is. */
 export const PAYLOADS: Readonly<Record<string,
