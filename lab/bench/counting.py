@@ -13,6 +13,7 @@ import sys
 import tempfile
 import zlib
 from concurrent.futures import ThreadPoolExecutor
+from itertools import product
 from pathlib import Path
 
 HERE = Path(__file__).resolve().parent
@@ -40,6 +41,9 @@ CASES = {
     "mixed-1000": ("symbol", MIXED[:1000], 0, 1),
 }
 # The symbols that are read: a name, the version, and the number of bytes at level M.
+# What surrounds the code on pages that are scanned, by column and row of pixels.
+PAGES = {"scan-chess": lambda x, y: (x + y) % 2, "scan-wide-chess": lambda x, y: (x // 2 + y) % 2,
+         "scan-finders": lambda x, y: max(abs(x % 8 - 3), abs(y % 8 - 3)) in (0, 1, 3)}
 READ = {"read-1": ("1", 14), "read-10": ("10", 213), "read-40": ("40", 2331)}
 
 
@@ -156,6 +160,21 @@ def png_file(folder):
     os.environ["GOQLANIS_LIB"] = str(folder / "libgoqlanis.so.1")
     import goqlanis
     return goqlanis.encode(SYMBOLS["40"], "M").png(8)
+
+
+@functools.cache
+def page(folder, name):
+    """Returns a PBM file of 480 by 480 pixels: a code, and what surrounds it."""
+    build_calls(folder)
+    os.environ["GOQLANIS_LIB"] = str(folder / "libgoqlanis.so.1")
+    import goqlanis
+    code = goqlanis.encode(b"beside", "M", 1).matrix
+    rows = [[int(PAGES[name](x, y)) for x in range(480)] for y in range(480)]
+    for y, x in product(range(116), repeat=2):
+        is_code = 16 <= min(x, y) and max(x, y) < 100
+        rows[y][x] = int(is_code and code[y // 4 - 4][x // 4 - 4])
+    lines = (int("".join(map(str, row)), 2).to_bytes(60, "big") for row in rows)
+    return b"P4\n480 480\n" + b"".join(lines)
 
 
 def short(number):

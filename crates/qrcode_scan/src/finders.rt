@@ -82,6 +82,7 @@ pub(crate) fn finders(alloc: Global, pixels: &Pixels) -> Result<Found, AllocErro
     for y in 0..pixels.sides().1 {
         push_finders(&mut found, pixels, y)?;
     }
+    found.turned = all_centred(alloc, pixels, &found.turned)?;
     Ok(found)
 }
 
@@ -109,7 +110,8 @@ fn push_finders(found: &mut Found, pixels: &Pixels, y: usize) -> Result<(), Allo
 }
 
 // Appends a finder pattern to those whose modules are right, at most a quarter of them wrong; and
-// to those at any angle. Neither if it is known or there are too many.
+// to those at any angle, whose diagonals have its runs. Neither if it is known or there are too
+// many: then nothing more is looked at, so that time is linear.
 fn push_both(found: &mut Found, pixels: &Pixels, finder: Option<Finder>) -> Result<(), AllocError>
     requires upright { length found.old.upright.items ≤ 1024 }
     requires turned { length found.old.turned.items ≤ 48 }
@@ -119,27 +121,38 @@ fn push_both(found: &mut Found, pixels: &Pixels, finder: Option<Finder>) -> Resu
     let Some(finder) = finder else {
         return Ok(());
     };
-    if 4 * wrong_modules(pixels, finder) <= 49 {
-        push_new(&mut found.upright, Some(finder), MOST_FINDERS)?;
+    if found.upright.len() < MOST_FINDERS
+        && 4 * wrong_modules(pixels, finder) <= 49
+        && !is_known(&found.upright, finder)
+    {
+        found.upright.push(finder)?;
     }
-    if !is_known(&found.turned, finder) {
-        push_new(&mut found.turned, centred(pixels, finder), MOST_TURNED)?;
+    if found.turned.len() < MOST_TURNED
+        && !is_known(&found.turned, finder)
+        && has_diagonals(pixels, finder)
+    {
+        found.turned.push(finder)?;
     }
     Ok(())
 }
 
-// Appends a finder pattern, unless it is known or there are too many.
-fn push_new(found: &mut Vec<Finder>, finder: Option<Finder>, most: usize) -> Result<(), AllocError>
-    requires { length found.old.items ≤ most }
-    ensures { OnOk result (length found.new.items ≤ most) }
+// Whether both diagonals of a finder pattern have its runs.
+fn has_diagonals(pixels: &Pixels, finder: Finder) -> bool {
+    diagonal_of(pixels, finder, false).is_some() && diagonal_of(pixels, finder, true).is_some()
+}
+
+// Returns finder patterns at any angle with exact centres, each once.
+fn all_centred(alloc: Global, pixels: &Pixels, found: &[Finder]) -> Result<Vec<Finder>, AllocError>
+    ensures { IfOk result (λ all. length all.items ≤ length found.now) }
 {
-    let Some(finder) = finder else {
-        return Ok(());
-    };
-    if found.len() < most && !is_known(found, finder) {
-        found.push(finder)?;
+    let mut all = Vec::new(alloc);
+    for finder in found {
+        match centred(pixels, *finder) {
+            Some(finder) if !is_known(&all, finder) => all.push(finder)?,
+            _ => {}
+        }
     }
-    Ok(())
+    Ok(all)
 }
 
 // Whether a finder pattern has been found before.
@@ -335,7 +348,7 @@ fn finder_before(pixels: &Pixels, line: Line, end: usize) -> Option<usize>
     let total = end - start;
     if is_near(end - last, 1, total)
         && is_near(last - ring, 1, total)
-        && is_near(ring - middle, 3, total)
+        && is_middle(ring - middle, total)
         && is_near(middle - hole, 1, total)
         && is_near(hole - start, 1, total)
     {
@@ -351,6 +364,14 @@ pub(crate) fn is_near(run: usize, sevenths: usize, total: usize) -> bool
     requires { (run ≤ 65535) × (total ≤ 65535) × (sevenths ≤ 3) }
 {
     2 * (7 * run).abs_diff(sevenths * total) < sevenths * total + 7
+}
+
+// Whether a run is three sevenths of `total`, with an error of less than half of that. So runs of
+// equal lengths, as on a chess board, are no finder pattern.
+fn is_middle(run: usize, total: usize) -> bool
+    requires { (run ≤ 65535) × (total ≤ 65535) }
+{
+    2 * (7 * run).abs_diff(3 * total) < 3 * total
 }
 
 // Returns the end of the run of dark (or light) pixels that begins at `start`.
