@@ -7,7 +7,6 @@ use goqlanis_files::streams::shown;
 use goqlanis_files::{doubted, usage};
 use goqlanis_options::asked::{Asked, Target};
 use goqlanis_options::nearest::nearest;
-use goqlanis_options::options::OTHER_NAMES;
 use goqlanis_options::options::fields::option_of;
 use qrcode_contents::fields::errors::Field;
 use qrcode_payloads::given::Given;
@@ -146,9 +145,10 @@ fn check_spelling(
     let known = fields
         .map(|field| option_of(*field).long)
         .collect::<Vec<&'static str>>(alloc)?;
-    for name in columns.names() {
+    for (place, name) in columns.names().iter().enumerate() {
         let name = name.as_str().trim();
-        if field_called(kind, name).is_some() || is_in_path(alloc, target, name)? {
+        let is_known = columns.option(place.saturating_add(1)).is_some();
+        if is_known || is_in_path(alloc, target, name)? {
             continue;
         }
         if let Some(meant) = nearest(alloc, name, &known)? {
@@ -173,7 +173,7 @@ fn left_out(
             let is_selected = name.trim().eq_ignore_ascii_case(field);
             (is_selected && !is_first).then_some("stands twice; this one")
         }
-        Lined::Payload(kind) => match field_called(kind, name) {
+        Lined::Payload(_) => match columns.option(number) {
             None if !is_named => Some("is no option of this command, so it"),
             Some(field) if columns.field(field) != Some(number) => Some("stands twice; this one"),
             _ => None,
@@ -184,24 +184,6 @@ fn left_out(
         }
         _ => None,
     }
-}
-
-// Returns the option of payloads of `kind` that has this name, or else has it as another name.
-fn field_called(kind: Kind, name: &str) -> Option<&'static str> {
-    let name = name.trim();
-    let mut found = None;
-    for field in fields_in(kind) {
-        let long = option_of(*field).long;
-        if long.eq_ignore_ascii_case(name) {
-            return Some(long);
-        }
-        let is_other = OTHER_NAMES.iter().any(|(other, option)| *option == long
-            && other.eq_ignore_ascii_case(name));
-        if is_other {
-            found = Some(long);
-        }
-    }
-    found
 }
 
 // Whether the path of the output has the column as a placeholder.

@@ -4,7 +4,7 @@ use crate::columns::{check_columns, check_delimiter};
 use crate::drawing::{draw_one, write_drawing};
 use crate::inputs::{is_blank, next_line, text_of, utf8};
 use crate::making::{draw_elements, draw_payload};
-use crate::names::{check_free, check_made, check_names, has_text, name_of};
+use crate::names::{check_free, check_made, check_names, common_form, has_text, name_of};
 use crate::pages::Pages;
 use crate::rows::{Columns, Line, Row, fields_of, identifier_in, is_identifier, is_unfinished};
 use goqlanis_files::failure::{Doubts, Failure, Place};
@@ -12,6 +12,7 @@ use goqlanis_files::progress::Progress;
 use goqlanis_files::streams::{ask, shown, unread};
 use goqlanis_files::{doubted, refused, usage};
 use goqlanis_options::asked::{Asked, Lines, Report, Source, Target};
+use goqlanis_options::options::Purpose;
 use qrcode_payloads::kinds::Kind;
 use std::alloc::{AllocError, Global};
 use std::collections::BTreeSet;
@@ -44,7 +45,7 @@ pub(crate) struct Taking<'a> {
 // What earlier lines have written.
 #[derive(Drop)]
 struct Drawn {
-    // The names of files that later lines could use again, in lower case.
+    // The names of files that later lines could use again, in their common form.
     names: BTreeSet<String>,
     pages: Pages,
 }
@@ -55,6 +56,15 @@ impl<'a> Taking<'a> {
         Place {
             file: self.file,
             line,
+        }
+    }
+
+    // Returns the purpose of a command whose codes its lines are.
+    fn purpose(self) -> Purpose {
+        match self.what {
+            Lined::Data => Purpose::Draw,
+            Lined::Payload(kind) => Purpose::Content(kind),
+            Lined::Elements => Purpose::Elements,
         }
     }
 }
@@ -135,7 +145,8 @@ fn columns_of<R: BufRead>(
     if let Some(names) = taking.lines.columns {
         let delimiter = taking.lines.delimiter;
         let is_own = names.contains(delimiter);
-        return Columns::read(alloc, names, if is_own { delimiter } else { "," });
+        let delimiter = if is_own { delimiter } else { "," };
+        return Columns::read(alloc, taking.purpose(), names, delimiter);
     }
     if !has_line {
         return Ok(Columns::none(alloc));
@@ -147,7 +158,12 @@ fn columns_of<R: BufRead>(
             "{place}sep= is for spreadsheets: remove this line, and add --delimiter"
         );
     }
-    match Columns::read(alloc, text.as_str(), taking.lines.delimiter) {
+    match Columns::read(
+        alloc,
+        taking.purpose(),
+        text.as_str(),
+        taking.lines.delimiter,
+    ) {
         Err(Failure::Refused(why)) => {
             let place = taking.place(1);
             refused!(alloc; "{place}{why}")
@@ -225,6 +241,9 @@ fn draw_line(
     let alloc = rt.alloc();
     let (bytes, number) = numbered;
     let line = line_of(alloc, asked, taking, columns, bytes, number)?;
+    if number == 1 && !taking.lines.has_header && !columns.is_empty() {
+        warn_of_names(rt, asked, columns, &line)?;
+    }
     let Target::File(path) = asked.target else {
         let drawing = draw_what(rt, asked, taking, columns, &line, bytes)?;
         return drawn.pages.write(rt, asked, drawing);
@@ -240,9 +259,24 @@ fn draw_line(
     let drawing = draw_what(rt, &asked, taking, columns, &line, bytes)?;
     let code = write_drawing(rt, &asked, drawing)?;
     if may_be_taken {
-        drawn.names.insert(name.as_str().to_lowercase(alloc)?)?;
+        drawn.names.insert(common_form(alloc, name.as_str())?)?;
     }
     Ok(code)
+}
+
+// Warns of a first line that has the names which `--columns` gives.
+fn warn_of_names(
+    rt: &HostRuntime,
+    asked: &Asked<'_, '_>,
+    columns: &Columns,
+    line: &Line,
+) -> Result<(), Failure> {
+    if columns.are_names(&line.fields) {
+        doubted!(rt, asked.doubts;
+            "these are the names of the columns; add --header to leave them out"
+        )?;
+    }
+    Ok(())
 }
 
 // Returns a line, with its fields if they are needed.

@@ -10,6 +10,7 @@ use goqlanis_options::targets::reader_of;
 use std::alloc::{AllocError, Global};
 use std::collections::BTreeSet;
 use std::fs;
+use unicode_normalization::to_nfc;
 
 // The maximum length of a file name on Linux, in bytes.
 const MOST_IN_NAME: usize = 255;
@@ -68,14 +69,21 @@ fn unknown_word<'a>(path: &'a str, columns: &Columns) -> Option<&'a str> {
     })
 }
 
-/// Checks that `taken`, names in lower case, has neither `name` nor one that differs only in case,
-/// which some systems ignore.
+/// Returns a name in the form that all names have which some systems take for one: those that
+/// differ only in case, or in how accents are written.
+///
+/// Errors: only `AllocError`.
+pub(crate) fn common_form(alloc: Global, name: &str) -> Result<String, AllocError> {
+    to_nfc(alloc, name.to_lowercase(alloc)?.as_str())
+}
+
+/// Checks that `taken`, names in their common form, has none that some systems take for `name`.
 pub(crate) fn check_free(
     alloc: Global,
     taken: &BTreeSet<String>,
     name: &str,
 ) -> Result<(), Failure> {
-    if !taken.contains(name.to_lowercase(alloc)?.as_str()) {
+    if !taken.contains(common_form(alloc, name)?.as_str()) {
         return Ok(());
     }
     refused!(alloc;

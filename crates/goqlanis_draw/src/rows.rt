@@ -7,8 +7,8 @@ ghost use Rattle.goqlanis_options.specs.Fields.{name_of};
 use goqlanis_files::failure::Failure;
 use goqlanis_files::refused;
 use goqlanis_options::fields::{DECISIVE, OPEN};
-use goqlanis_options::options::OTHER_NAMES;
 use goqlanis_options::options::fields::option_of;
+use goqlanis_options::options::{OTHER_NAMES, Purpose, counts};
 use qrcode_contents::fields::errors::Field;
 use qrcode_payloads::given::Given;
 use qrcode_payloads::kinds::{Kind, fields_of as fields_in};
@@ -18,6 +18,10 @@ use std::alloc::{AllocError, Global};
 #[derive(Drop)]
 pub(crate) struct Columns {
     names: Vec<String>,
+    // The option of a payload that each column is called by, if there is one.
+    options: Vec<Option<&'static str>>,
+    // The options that columns give, each with the number of its column, from 1.
+    fields: Vec<(&'static str, usize)>,
 }
 
 impl Columns {
@@ -25,16 +29,47 @@ impl Columns {
     pub(crate) fn none(alloc: Global) -> Columns {
         Columns {
             names: Vec::new(alloc),
+            options: Vec::new(alloc),
+            fields: Vec::new(alloc),
         }
     }
 
-    /// Reads the names in a line.
+    /// Reads the names in a line, for codes of this purpose.
     ///
     /// Errors: `Refused` if a quotation mark is not closed; `OutOfMemory`.
-    pub(crate) fn read(alloc: Global, line: &str, delimiter: &str) -> Result<Columns, Failure> {
-        Ok(Columns {
-            names: fields_of(alloc, line, delimiter)?,
-        })
+    pub(crate) fn read(
+        alloc: Global,
+        purpose: Purpose,
+        line: &str,
+        delimiter: &str,
+    ) -> Result<Columns, Failure> {
+        let mut columns = Columns::none(alloc);
+        columns.names = fields_of(alloc, line, delimiter)?;
+        if let Purpose::Content(kind) = purpose {
+            columns.find_fields(kind)?;
+        }
+        Ok(columns)
+    }
+
+    // Finds the columns that give the fields of a payload: those called as their options, or else
+    // by other names.
+    fn find_fields(&mut self, kind: Kind) -> Result<(), AllocError> {
+        for name in &self.names {
+            self.options
+                .push(option_called(kind, name.as_str().trim()))?;
+        }
+        for field in fields_in(kind) {
+            let long = option_of(*field).long;
+            let mut options = self.options.iter();
+            let other = options.position(|option| *option == Some(long));
+            let number = self
+                .number_of(long)
+                .or(other.map(|place| place.saturating_add(1)));
+            if let Some(number) = number {
+                self.fields.push((long, number))?;
+            }
+        }
+        Ok(())
     }
 
     /// Whether there are none.
@@ -54,12 +89,26 @@ impl Columns {
         Some(place.saturating_add(1))
     }
 
-    /// Returns the number of the column that gives the option `name`, from 1: the one called so, or
-    /// else by another name that the option has.
+    /// Returns the number of the column that gives the option `name` of a payload, from 1.
     pub(crate) fn field(&self, name: &str) -> Option<usize> {
-        let others = OTHER_NAMES.iter().filter(|(_, option)| *option == name);
-        let other = others.filter_map(|(other, _)| self.number_of(other)).next();
-        self.number_of(name).or(other)
+        let mut fields = self.fields.iter();
+        let (_, number) = fields.find(|(option, _)| *option == name)?;
+        Some(*number)
+    }
+
+    /// Returns the option of a payload that column `number` is called by.
+    pub(crate) fn option(&self, number: usize) -> Option<&'static str> {
+        self.options
+            .get(number.saturating_sub(1))
+            .copied()
+            .flatten()
+    }
+
+    /// Whether each of these fields is the name of a column.
+    pub(crate) fn are_names(&self, fields: &[String]) -> bool {
+        fields
+            .iter()
+            .all(|field| self.number_of(field.as_str().trim()).is_some())
     }
 
     /// Returns the names with commas between.
@@ -91,6 +140,24 @@ impl Columns {
             None => format!(in alloc; "--{name}"),
         }
     }
+}
+
+// Returns the option of payloads of `kind` that has this name, or else has it as another name.
+fn option_called(kind: Kind, name: &str) -> Option<&'static str> {
+    let mut found = None;
+    for field in fields_in(kind) {
+        let long = option_of(*field).long;
+        if long.eq_ignore_ascii_case(name) {
+            return Some(long);
+        }
+        let is_other = OTHER_NAMES.iter().any(|(other, option)| *option == long
+            && other.eq_ignore_ascii_case(name)
+            && counts(other, Purpose::Content(kind)));
+        if is_other {
+            found = Some(long);
+        }
+    }
+    found
 }
 
 /// A line.
@@ -252,7 +319,6 @@ pub(crate) fn fields_of(
     for piece in line.split(delimiter) {
         if is_open {
             field.push_str(delimiter)?;
-            is_odd = is_odd != has_odd_quotes(delimiter);
         } else {
             field.clear();
             is_odd = false;

@@ -1,6 +1,6 @@
 //! The command line as a `clap` command.
 
-use crate::options::{EXAMPLES, Entry, OTHER_NAMES, Purpose, TASKS, Takes, Task};
+use crate::options::{EXAMPLES, Entry, OTHER_NAMES, Purpose, TASKS, Takes, Task, counts};
 use clap::builder::ValueParser;
 use clap::{Arg, ArgAction, Command};
 use std::alloc::{AllocError, Global};
@@ -87,7 +87,7 @@ fn arguments<'a>(alloc: Global, task: &Task) -> Result<Vec<Arg<'a>>, AllocError>
     for (heading, entry) in task.all_options(alloc)? {
         let is_hidden = !task.word.is_empty() && task.draws() && is_common(heading, &entry);
         arguments.push(
-            argument(alloc, entry)?
+            argument(alloc, task.purpose, entry)?
                 .help_heading(heading)
                 .hide(is_hidden),
         )?;
@@ -106,7 +106,7 @@ fn is_common(heading: &str, entry: &Entry) -> bool {
 }
 
 // Builds an option. A negative number after it is its value.
-fn argument<'a>(alloc: Global, entry: Entry) -> Result<Arg<'a>, AllocError> {
+fn argument<'a>(alloc: Global, purpose: Purpose, entry: Entry) -> Result<Arg<'a>, AllocError> {
     let arg = Arg::new(alloc, entry.long)
         .long(entry.long)
         .help(entry.help)
@@ -115,7 +115,7 @@ fn argument<'a>(alloc: Global, entry: Entry) -> Result<Arg<'a>, AllocError> {
         Some(letter) => arg.short(letter),
         None => arg,
     };
-    with_values(with_other_names(arg, entry.long)?, entry.takes)
+    with_values(with_other_names(arg, purpose, entry.long)?, entry.takes)
 }
 
 // Adds what an option takes.
@@ -134,9 +134,13 @@ fn with_values(arg: Arg<'_>, takes: Takes) -> Result<Arg<'_>, AllocError> {
 }
 
 // Adds the hidden aliases of the option called `name`.
-fn with_other_names<'a>(mut arg: Arg<'a>, name: &str) -> Result<Arg<'a>, AllocError> {
+fn with_other_names<'a>(
+    mut arg: Arg<'a>,
+    purpose: Purpose,
+    name: &str,
+) -> Result<Arg<'a>, AllocError> {
     for (other, option) in OTHER_NAMES {
-        if *option == name {
+        if *option == name && counts(other, purpose) {
             arg = match other.as_bytes() {
                 [letter] => arg.short_alias(char::from(*letter))?,
                 _ => arg.alias(other)?,

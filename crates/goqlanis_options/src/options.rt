@@ -31,7 +31,7 @@ mod parts;
 mod symbols;
 mod tasks;
 
-pub use habits::{ADVICE, OTHER_NAMES, OTHER_WORDS};
+pub use habits::{ADVICE, OTHER_NAMES, OTHER_WORDS, counts};
 pub use parts::{PART_COLOURS, PartColour};
 use symbols::{
     ABOUT, DATA, FILES, LEVELS, LINES, LOOKS, MARKS, MASKS, NORMAL_LEVELS, SEGMENTS, TABLES, TEXTS,

@@ -1,5 +1,8 @@
 //! Names that users of other programs, or of older versions, may type.
 
+use super::Purpose;
+use qrcode_payloads::kinds::Kind;
+
 /// Hidden aliases of options: short and long names.
 #[rattlefmt::skip]
 pub static OTHER_NAMES: &[(&str, &str)] = &[
@@ -32,6 +35,16 @@ pub static OTHER_NAMES: &[(&str, &str)] = &[
     ("lon", "longitude"), ("vpa", "payee"), ("key", "payee"), ("remark", "note"),
     ("txid", "reference"), ("label", "account"), ("key", "secret"),
 ];
+
+/// Whether an alias of an option counts in tasks of this purpose. A number may be that of a house,
+/// and what something goes to may be an address, so in contacts they mean nothing.
+pub fn counts(alias: &str, purpose: Purpose) -> bool {
+    match (alias, purpose) {
+        ("number", Purpose::Content(kind)) => matches!(kind, Kind::Tel | Kind::Sms),
+        ("to" | "recipient", Purpose::Content(kind)) => kind == Kind::Mail,
+        _ => true,
+    }
+}
 
 /// Hidden aliases of commands.
 #[rattlefmt::skip]
