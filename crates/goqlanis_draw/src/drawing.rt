@@ -10,7 +10,6 @@ ghost use Rattle.goqlanis_draw.specs.Labels.{label_text};
 use crate::charsets::text_code;
 use crate::contents::Elements;
 use crate::damaging::draw_damaged;
-use crate::middle::{draw_with_middle, has_pixels, middle_of, warn_of_logo};
 use crate::segments::{characters_of, is_empty, segments_of};
 use goqlanis_core::{
     Drawing, GREATEST_PAINTED, Request, Segment, application_refusal_text, drawing_of,
@@ -20,8 +19,10 @@ use goqlanis_core::{
 use goqlanis_files::failure::Failure;
 use goqlanis_files::streams::{print, write_data, write_file};
 use goqlanis_files::{refused, usage};
+use goqlanis_logos::middle::{draw_with_middle, has_pixels, middle_of, warn_of_logo};
 use goqlanis_options::asked::{Asked, Target};
 use goqlanis_options::report::show_report;
+use goqlanis_tables::pages::Pages;
 use qrcode::QrCode;
 use qrcode::bits::Manner;
 use qrcode::types::QrError;
@@ -59,7 +60,7 @@ pub(crate) fn draw_one(
 
 // A drawing, and the area in its middle if it has one.
 #[derive(Drop)]
-struct Shown {
+struct Picture {
     drawing: Drawing,
     area: Option<Rectangle>,
 }
@@ -67,21 +68,21 @@ struct Shown {
 // Draws `code` as the command line asks, with the logo, cross or area in its middle.
 //
 // Errors: `Refused` if the code has no such area; `OutOfMemory`.
-fn draw_code(alloc: Global, asked: &Asked<'_, '_>, code: QrCode) -> Result<Shown, Failure>
-    ensures symbol { IfOk result (λ shown. shown.drawing.code ≡ code) }
+fn draw_code(alloc: Global, asked: &Asked<'_, '_>, code: QrCode) -> Result<Picture, Failure>
+    ensures symbol { IfOk result (λ picture. picture.drawing.code ≡ code) }
     ensures shown { asked.now.logo ≡ None
-        → IfOk result (λ shown. IsShownIn asked.now.request shown.drawing) }
+        → IfOk result (λ picture. IsShownIn asked.now.request picture.drawing) }
 {
     if let Some(logo) = &asked.logo {
         let (area, bytes) = draw_with_middle(alloc, &asked.request, logo, &code)?;
         let drawing = Drawing { code, bytes };
-        return Ok(Shown {
+        return Ok(Picture {
             drawing,
             area: Some(area),
         });
     }
     match drawing_of(alloc, &asked.request, code) {
-        Ok(drawing) => Ok(Shown {
+        Ok(drawing) => Ok(Picture {
             drawing,
             area: None,
         }),
@@ -250,10 +251,10 @@ pub(crate) fn draw_reported(
         show_report(rt, asked, &code, None)?;
         return Ok(Some(drawing));
     }
-    let shown = draw_code(rt.alloc(), asked, code)?;
-    warn_of_logo(rt, asked, &shown.drawing.code, shown.area)?;
-    show_report(rt, asked, &shown.drawing.code, shown.area)?;
-    Ok(Some(shown.drawing.bytes))
+    let picture = draw_code(rt.alloc(), asked, code)?;
+    warn_of_logo(rt, asked, &picture.drawing.code, picture.area)?;
+    show_report(rt, asked, &picture.drawing.code, picture.area)?;
+    Ok(Some(picture.drawing.bytes))
 }
 
 /// Refuses a binary format that would go to a terminal.
@@ -284,6 +285,25 @@ pub(crate) fn write_drawing(
         // Its title may have characters that hide or reorder others on a terminal.
         Target::Terminal if asked.request.format == Format::SvgPath => write_data(rt, None, &bytes),
         Target::Terminal | Target::StandardOutput => print(rt, &bytes),
+    }
+}
+
+/// Writes a drawing to its target: PDF for standard output as the next page of a document, others as
+/// they are.
+///
+/// Errors: those of `Pages::add` and `write_drawing`.
+pub(crate) fn write_page(
+    rt: &HostRuntime,
+    asked: &Asked<'_, '_>,
+    pages: &mut Pages,
+    drawing: Option<Vec<u8>>,
+) -> Result<ExitCode, Failure> {
+    match (drawing, asked.request.format, asked.target) {
+        (Some(file), Format::Pdf, Target::Terminal | Target::StandardOutput) => {
+            pages.add(rt, &file)?;
+            Ok(ExitCode::SUCCESS)
+        }
+        (drawing, _, _) => write_drawing(rt, asked, drawing),
     }
 }
 

@@ -2,20 +2,12 @@
 #![tactic(auto)]
 
 mod charsets;
-mod columns;
 mod contents;
 mod damaging;
 mod drawing;
-mod inputs;
 mod lines;
-mod logos;
 mod making;
-mod middle;
-mod names;
-mod pages;
-mod rows;
 mod segments;
-mod shrinking;
 mod splitting;
 
 pub use making::make;

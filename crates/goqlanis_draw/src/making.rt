@@ -5,18 +5,18 @@ use crate::drawing::{
     application_code, check_terminal, draw_one, draw_reported, elements_code, segments_code,
     write_drawing,
 };
-use crate::lines::{Lined, draw_lines};
-use crate::middle::{SWISS_CROSS, has_cross, read_logo};
-use crate::rows::Columns;
+use crate::lines::draw_lines;
 use crate::splitting::{MOST_IN_SEVERAL, draw_several};
 use goqlanis_core::Ink;
 use goqlanis_files::failure::Failure;
 use goqlanis_files::streams::{MOST_DATA, read_file, read_standard_input, shown};
 use goqlanis_files::{doubted, refused, usage};
+use goqlanis_logos::middle::{SWISS_CROSS, has_cross, read_logo};
 use goqlanis_options::asked::{Asked, Source, Target};
 use goqlanis_options::logos::{AskedLogo, Middle};
 use goqlanis_options::options::{Purpose, Task};
 use goqlanis_options::warnings::warn_of_password;
+use goqlanis_tables::columns::Columns;
 use qrcode::QrCode;
 use qrcode::types::QrError;
 use qrcode_contents::bill;
@@ -36,22 +36,19 @@ pub fn make(rt: &HostRuntime, task: &Task, asked: &Asked<'_, '_>) -> Result<Exit
 // Makes codes.
 fn draw(rt: &HostRuntime, task: &Task, asked: &Asked<'_, '_>) -> Result<ExitCode, Failure> {
     check_terminal(rt, asked)?;
-    let what = match task.purpose {
-        Purpose::Several => return draw_several(rt, asked, &data(rt, asked, MOST_IN_SEVERAL)?),
-        Purpose::Content(kind) => Lined::Payload(kind),
-        Purpose::Elements => Lined::Elements,
-        _ => Lined::Data,
-    };
+    if let Purpose::Several = task.purpose {
+        return draw_several(rt, asked, &data(rt, asked, MOST_IN_SEVERAL)?);
+    }
     asked.fields.check(rt.alloc())?;
     warn_of_places(rt, asked)?;
-    let drawing = match (asked.input.lines, what, asked.input.segments) {
-        (Some(lines), _, _) => return draw_lines(rt, asked, lines, what),
-        (None, Lined::Payload(kind), _) => draw_content(rt, kind, asked)?,
-        (None, Lined::Elements, _) => draw_gs1(rt, asked)?,
-        (None, Lined::Data, Some(words)) => {
-            draw_reported(rt, asked, segments_code(rt.alloc(), asked, words)?)?
-        }
-        (None, Lined::Data, None) => draw_one(rt, asked, &data(rt, asked, MOST_DATA)?)?,
+    if let Some(lines) = asked.input.lines {
+        return draw_lines(rt, asked, task.purpose, lines);
+    }
+    let drawing = match (task.purpose, asked.input.segments) {
+        (Purpose::Content(kind), _) => draw_content(rt, kind, asked)?,
+        (Purpose::Elements, _) => draw_gs1(rt, asked)?,
+        (_, Some(words)) => draw_reported(rt, asked, segments_code(rt.alloc(), asked, words)?)?,
+        (_, None) => draw_one(rt, asked, &data(rt, asked, MOST_DATA)?)?,
     };
     write_drawing(rt, asked, drawing)
 }

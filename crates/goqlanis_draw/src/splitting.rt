@@ -1,13 +1,14 @@
 //! `goqlanis split`: structured append.
 
-use crate::drawing::{check_empty, draw_reported, manner};
-use crate::names::{check_made, check_names, name_of};
-use crate::pages::Pages;
-use crate::rows::{Columns, Line};
+use crate::drawing::{check_empty, draw_reported, manner, write_drawing, write_page};
 use goqlanis_files::failure::Failure;
 use goqlanis_files::refused;
 use goqlanis_files::streams::{MOST_DATA, shown};
 use goqlanis_options::asked::{Asked, Target, check_one_behind_another, versions_of};
+use goqlanis_tables::columns::Columns;
+use goqlanis_tables::fields::Line;
+use goqlanis_tables::names::{Pattern, check_made};
+use goqlanis_tables::pages::Pages;
 use qrcode::QrCode;
 use qrcode::types::QrError;
 use qrcode_append::{encode_among, encode_counted};
@@ -31,7 +32,7 @@ pub(crate) fn draw_several(
     if !asked.is_dry {
         check_one_behind_another(alloc, asked)?;
     }
-    check_names(rt, asked, &Columns::none(alloc))?;
+    let pattern = Pattern::read(rt, asked, &Columns::none(alloc))?;
     check_empty(alloc, asked, bytes)?;
     let versions = versions_of(alloc, asked)?;
     let level = asked.request.level;
@@ -41,7 +42,7 @@ pub(crate) fn draw_several(
         Some(count) => encode_counted(alloc, bytes, manner, versions, level, count as usize),
     };
     match made {
-        Ok(codes) => draw_each(rt, asked, codes),
+        Ok(codes) => draw_each(rt, asked, pattern.as_ref(), codes),
         Err(QrError::DataTooLong) => refused!(alloc;
             "the data does not fit: allow more codes (--count, up to 16), larger versions or a \
             lower --level; 16 codes hold at most 47,216 bytes, at --level L"
@@ -50,47 +51,43 @@ pub(crate) fn draw_several(
     }
 }
 
-// Draws codes one after another, each to a numbered file if `--output` is given.
+// Draws codes one after another, each to a numbered file if there is a pattern of names.
 fn draw_each(
     rt: &HostRuntime,
     asked: &Asked<'_, '_>,
+    pattern: Option<&Pattern<'_>>,
     codes: Vec<QrCode>,
 ) -> Result<ExitCode, Failure> {
     let count = codes.len();
     let mut pages = Pages::new(rt.alloc());
     for (index, code) in codes.into_iter().enumerate() {
-        if let Target::File(path) = asked.target {
-            let name = part_name(rt.alloc(), path, index.saturating_add(1))?;
+        if let Some(pattern) = pattern {
+            let name = part_name(rt.alloc(), pattern, index.saturating_add(1))?;
             check_made(rt, asked, name.as_str())?;
             let target = Target::File(name.as_str());
             let asked = Asked { target, ..*asked };
-            pages.write(rt, &asked, draw_reported(rt, &asked, code)?)?;
+            write_drawing(rt, &asked, draw_reported(rt, &asked, code)?)?;
         } else {
-            pages.write(rt, asked, draw_reported(rt, asked, code)?)?;
+            write_page(rt, asked, &mut pages, draw_reported(rt, asked, code)?)?;
         }
     }
     pages.end(rt)?;
-    if let Target::File(path) = asked.target {
-        warn_of_others(rt, path, count)?;
+    if let Some(pattern) = pattern {
+        warn_of_others(rt, pattern, count)?;
     }
     Ok(ExitCode::SUCCESS)
 }
 
 // Returns the file name of a part.
-fn part_name(alloc: Global, path: &str, number: usize) -> Result<String, Failure> {
-    let line = Line {
-        number,
-        text: String::new(alloc),
-        fields: Vec::new(alloc),
-    };
-    name_of(alloc, path, &Columns::none(alloc), &line)
+fn part_name(alloc: Global, pattern: &Pattern<'_>, number: usize) -> Result<String, Failure> {
+    pattern.name(alloc, &Line::of(alloc, number, b"", ",")?)
 }
 
 // Warns of files with higher numbers, left by an earlier run.
-fn warn_of_others(rt: &HostRuntime, path: &str, count: usize) -> Result<(), Failure> {
+fn warn_of_others(rt: &HostRuntime, pattern: &Pattern<'_>, count: usize) -> Result<(), Failure> {
     let mut others = String::new(rt.alloc());
     for number in count.saturating_add(1)..MOST_SYMBOLS + 1 {
-        let name = part_name(rt.alloc(), path, number)?;
+        let name = part_name(rt.alloc(), pattern, number)?;
         if fs::exists(rt, name.as_str()).unwrap_or(false) {
             write!(others, " {name}")?;
         }

@@ -86,22 +86,11 @@ impl Elements {
         let mut text = format!(in alloc; "element {number}, ({identifier}): ")?;
         match (cause, rule_of(identifier.as_bytes())) {
             (Cause::Length, Some(rule)) => {
-                let ((least, most), count) = (rule.1, value.len());
-                write!(text, "its value has {count} characters; it needs {least}")?;
-                if least < most {
-                    write!(text, " to {most}")?;
-                }
-                text.push_str(length_help(identifier.as_str(), count))?;
+                push_length(&mut text, identifier.as_str(), value.len(), rule.1)?;
             }
             (Cause::Character, Some(rule)) => push_character(&mut text, rule.2, value.as_str())?,
             (Cause::CheckDigit, Some(rule)) => {
-                let place = rule.3;
-                let digit = right_digit(alloc, identifier.as_str(), value.as_str(), place)?;
-                write!(
-                    text,
-                    "its check digit, at place {place}, would be {digit}; \
-                    look for a mistyped or swapped digit"
-                )?;
+                push_digit(&mut text, identifier.as_str(), value.as_str(), rule.3)?;
             }
             (Cause::Range, _) => text.push_str("its value is no date, YYMMDD (DD may be 00)")?,
             _ if identifier.bytes().any(|byte| !byte.is_ascii_digit()) => text.push_str(
@@ -114,6 +103,21 @@ impl Elements {
         }
         Ok(text)
     }
+}
+
+// Appends which length a value of `count` characters has to have.
+fn push_length(
+    text: &mut String,
+    identifier: &str,
+    count: usize,
+    range: (usize, usize),
+) -> Result<(), AllocError> {
+    let (least, most) = range;
+    write!(text, "its value has {count} characters; it needs {least}")?;
+    if least < most {
+        write!(text, " to {most}")?;
+    }
+    text.push_str(length_help(identifier, count))
 }
 
 // What would help with a value of this many characters, if its identifier allows no such length.
@@ -239,6 +243,20 @@ fn push_character(text: &mut String, digits: usize, value: &str) -> Result<(), A
         }
     }
     Ok(())
+}
+
+// Appends which check digit would be right at `place`, counted from 1.
+fn push_digit(
+    text: &mut String,
+    identifier: &str,
+    value: &str,
+    place: usize,
+) -> Result<(), AllocError> {
+    let digit = right_digit(*text.allocator(), identifier, value, place)?;
+    write!(
+        text,
+        "its check digit, at place {place}, would be {digit}; look for a mistyped or swapped digit"
+    )
 }
 
 // Returns the digit that would be right at `place`, counted from 1.

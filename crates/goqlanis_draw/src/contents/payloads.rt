@@ -4,8 +4,8 @@ ghost use Rattle.std.specs.Prelude.{◌≡◌, IfOk, string_bytes};
 ghost use Rattle.qrcode_payloads.specs.Texts.{payload_text};
 
 use super::refusals::not_made;
-use crate::rows::Columns;
 use goqlanis_files::failure::Failure;
+use goqlanis_tables::columns::Columns;
 use qrcode_payloads::given::Given;
 use qrcode_payloads::kinds::Kind;
 use qrcode_payloads::texts::text_of;

@@ -2,10 +2,10 @@
 
 ghost use Rattle.std.specs.Prelude.{IsErr};
 
-use crate::rows::Columns;
 use goqlanis_files::failure::Failure;
 use goqlanis_files::refused;
 use goqlanis_options::options::entry_of;
+use goqlanis_tables::columns::Columns;
 use qrcode_contents::fields::errors::{Cause, ContentError, Field};
 use qrcode_payloads::kinds::Kind;
 use std::alloc::Global;

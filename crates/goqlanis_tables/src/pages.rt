@@ -4,14 +4,10 @@
 //! document takes the page and its drawing operators from there, byte for byte; only the numbers of
 //! objects are new. What the document adds, the tree of pages and the table of objects, is tested.
 
-use crate::drawing::write_drawing;
 use goqlanis_files::failure::Failure;
 use goqlanis_files::refused;
 use goqlanis_files::streams::print;
-use goqlanis_options::asked::{Asked, Target};
-use qrcode_formats::Format;
 use std::alloc::{AllocError, Global};
-use std::process::ExitCode;
 
 // The most bytes of pages. Where an object begins has ten digits in the table; the rest is for nodes.
 const MOST_BYTES: usize = 9_999_000_000;
@@ -25,7 +21,7 @@ const MOST_KIDS: usize = 1_000;
 
 /// A document, which is written page by page. Without any page nothing is written.
 #[derive(Drop)]
-pub(crate) struct Pages {
+pub struct Pages {
     // The number of bytes written so far.
     length: usize,
     // Where each object begins, by number.
@@ -48,7 +44,7 @@ struct Parts<'a> {
 
 impl Pages {
     /// Returns a document without pages.
-    pub(crate) fn new(alloc: Global) -> Pages {
+    pub fn new(alloc: Global) -> Pages {
         Pages {
             length: 0,
             starts: Vec::new(alloc),
@@ -56,40 +52,30 @@ impl Pages {
         }
     }
 
-    /// Writes a drawing to its target: PDF for standard output as the next page, others as they
-    /// are.
+    /// Writes the page of a file that the library drew, as the next of the document.
     ///
-    /// Errors: `Refused` if the document would be too long; those of `write_drawing`.
-    pub(crate) fn write(
-        &mut self,
-        rt: &HostRuntime,
-        asked: &Asked<'_, '_>,
-        drawing: Option<Vec<u8>>,
-    ) -> Result<ExitCode, Failure> {
-        match (drawing, asked.request.format, asked.target) {
-            (Some(file), Format::Pdf, Target::Terminal | Target::StandardOutput) => {
-                match str::from_utf8(&file).ok().and_then(parts_of) {
-                    Some(parts) => self.add(rt, parts, file.len()),
-                    // (It has these parts.)
-                    None => Err(Failure::OutOfMemory),
-                }
-            }
-            (drawing, _, _) => write_drawing(rt, asked, drawing),
-        }
-    }
-
-    // Writes the page of a file of `length` bytes.
-    fn add(
-        &mut self,
-        rt: &HostRuntime,
-        parts: Parts<'_>,
-        length: usize,
-    ) -> Result<ExitCode, Failure> {
-        if self.length.saturating_add(length) > MOST_BYTES {
+    /// Errors: `Refused` if the document would be too long; those of `print`; `OutOfMemory`.
+    pub fn add(&mut self, rt: &HostRuntime, file: &[u8]) -> Result<(), Failure> {
+        let Some(parts) = str::from_utf8(file).ok().and_then(parts_of) else {
+            return refused!(rt.alloc();
+                "this PDF file is not one of a page, as those that goqlanis draws"
+            );
+        };
+        if self.length.saturating_add(file.len()) > MOST_BYTES {
             return refused!(rt.alloc();
                 "the PDF document would have more than 10 GB: write several, of fewer lines each"
             );
         }
+        self.begin_page(rt, parts)?;
+        let (before, between, after) = parts.page;
+        let (node, contents) = (self.node(), self.starts.len().saturating_add(2));
+        let page = format!(in rt.alloc(); "{before}{node} 0 R{between}{contents} 0 R{after}")?;
+        self.put_object(rt, page.as_str())?;
+        self.put_object(rt, parts.contents)
+    }
+
+    // Writes what comes before a page: the head of the document, or the last full node.
+    fn begin_page(&mut self, rt: &HostRuntime, parts: Parts<'_>) -> Result<(), Failure> {
         if self.starts.is_empty() {
             self.put(rt, parts.version)?;
             self.put_object(rt, parts.catalog)?;
@@ -101,12 +87,7 @@ impl Pages {
             self.starts.push(0)?;
             self.nodes.push(self.starts.len())?;
         }
-        let (before, between, after) = parts.page;
-        let (node, contents) = (self.node(), self.starts.len().saturating_add(2));
-        let page = format!(in rt.alloc(); "{before}{node} 0 R{between}{contents} 0 R{after}")?;
-        self.put_object(rt, page.as_str())?;
-        self.put_object(rt, parts.contents)?;
-        Ok(ExitCode::SUCCESS)
+        Ok(())
     }
 
     // The number of the last node of the tree, if there is one.
@@ -150,7 +131,7 @@ impl Pages {
     /// Writes the end of the document, if it has pages: their tree, and where each object begins.
     ///
     /// Errors: those of `print`; `OutOfMemory`.
-    pub(crate) fn end(&mut self, rt: &HostRuntime) -> Result<(), Failure> {
+    pub fn end(&mut self, rt: &HostRuntime) -> Result<(), Failure> {
         if self.starts.is_empty() {
             return Ok(());
         }

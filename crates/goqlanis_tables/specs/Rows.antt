@@ -4,7 +4,7 @@ use Rattle.std.specs.declared.alloc.Global.{Global}
 use Rattle.std.specs.declared.string.String.{String}
 use Rattle.qrcode_contents.specs.declared.fields.errors.Field.{Field}
 use Rattle.goqlanis_options.specs.Fields.{name_of}
-use Rattle.goqlanis_draw.specs.declared.rows.Row.{Row}
+use Rattle.goqlanis_tables.specs.declared.rows.Row.{Row}
 
 abbrev pub pair_of : String Global × String Global → List ℕ × List ℕ  -- a name and its text
 pair_of pair = (string_bytes pair.0, string_bytes pair.1)

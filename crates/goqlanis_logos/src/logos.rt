@@ -99,6 +99,18 @@ struct Root<'a> {
     space: &'a str,
 }
 
+impl<'a> Root<'a> {
+    fn set(&mut self, name: &str, value: &'a str) {
+        match name {
+            "width" => self.width = value,
+            "height" => self.height = value,
+            "viewBox" => self.view = value,
+            "xmlns" => self.space = value,
+            _ => {}
+        }
+    }
+}
+
 // Returns the width and height of an SVG file, in proportion.
 fn svg_sides(text: &str) -> Result<(u32, u32), &'static str> {
     if text.contains("<script") || text.contains("<!ENTITY") || has_handler(text) {
@@ -121,13 +133,7 @@ fn svg_sides(text: &str) -> Result<(u32, u32), &'static str> {
         let Some((name, value, rest)) = next_attribute(left) else {
             return Err(UNKNOWN);
         };
-        match name {
-            "width" => root.width = value,
-            "height" => root.height = value,
-            "viewBox" => root.view = value,
-            "xmlns" => root.space = value,
-            _ => {}
-        }
+        root.set(name, value);
         left = rest;
     }
     Err(UNKNOWN)

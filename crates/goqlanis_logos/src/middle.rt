@@ -22,14 +22,14 @@ use qrcode::types::Version;
 use qrcode_area::areas::Rectangle;
 use qrcode_area::excess::Excess;
 use qrcode_area::rectangles::Kept;
-use qrcode_formats::{Format, Middle as Drawn};
+use qrcode_formats::Format;
 use std::alloc::{AllocError, Global};
 
 // The maximum size of a logo file: 1 MiB.
 const MOST_LOGO: usize = 1_048_576;
 
 /// The Swiss cross in the middle of a bill.
-pub(crate) const SWISS_CROSS: AskedLogo<'static> = AskedLogo {
+pub const SWISS_CROSS: AskedLogo<'static> = AskedLogo {
     middle: Middle::Cross,
     size: LogoSize::Largest,
     kept: Kept::ButAlignment,
@@ -37,17 +37,17 @@ pub(crate) const SWISS_CROSS: AskedLogo<'static> = AskedLogo {
 };
 
 /// Whether the format supports the Swiss cross.
-pub(crate) fn has_cross(format: Format) -> bool {
-    format.row().middle != Drawn::Light
+pub fn has_cross(format: Format) -> bool {
+    format.row().middle != qrcode_formats::Middle::Light
 }
 
 /// Reads the logo file, once for all codes; returns `None` without `--logo`.
-pub(crate) fn read_logo(rt: &HostRuntime, asked: &Asked<'_, '_>) -> Result<Option<Logo>, Failure> {
+pub fn read_logo(rt: &HostRuntime, asked: &Asked<'_, '_>) -> Result<Option<Logo>, Failure> {
     let Some(path) = asked.logo_file else {
         return Ok(None);
     };
     let file = read_file(rt, path, MOST_LOGO)?;
-    Ok(Some(if asked.request.format.row().middle == Drawn::Pixels {
+    Ok(Some(if asked.request.format.row().middle == qrcode_formats::Middle::Pixels {
         pixels_of(rt, asked.doubts.is_error, path, &file)?
     } else {
         element_of(rt, asked.doubts.is_error, path, &file)?
@@ -55,7 +55,7 @@ pub(crate) fn read_logo(rt: &HostRuntime, asked: &Asked<'_, '_>) -> Result<Optio
 }
 
 /// Whether what is in the middle is drawn as pixels.
-pub(crate) fn has_pixels(asked: &Asked<'_, '_>) -> bool {
+pub fn has_pixels(asked: &Asked<'_, '_>) -> bool {
     asked
         .logo
         .as_ref()
@@ -65,7 +65,7 @@ pub(crate) fn has_pixels(asked: &Asked<'_, '_>) -> bool {
 /// Returns the area in the middle of a code, if the command line asks for one.
 ///
 /// Errors: `Refused` if the code has no such area; `OutOfMemory`.
-pub(crate) fn middle_of(
+pub fn middle_of(
     alloc: Global,
     asked: &Asked<'_, '_>,
     code: &QrCode,
@@ -80,13 +80,13 @@ pub(crate) fn middle_of(
 /// the drawing.
 ///
 /// Errors: `Refused` if the code has no such area; `OutOfMemory`.
-pub(crate) fn draw_with_middle(
+pub fn draw_with_middle(
     alloc: Global,
     request: &Request<'_>,
     logo: &AskedLogo<'_>,
     code: &QrCode,
 ) -> Result<(Rectangle, Vec<u8>), Failure> {
-    let is_png = request.format.row().middle == Drawn::Pixels;
+    let is_png = request.format.row().middle == qrcode_formats::Middle::Pixels;
     let area = area_of(alloc, code, wish_of(logo, code))?;
     let bytes = match logo.middle {
         Middle::Logo(Logo::Pixels(pixels, across, down)) => {
@@ -113,7 +113,7 @@ pub(crate) fn draw_with_middle(
 /// Warns of a logo that is less than a tenth of the code's side, across or down.
 ///
 /// Errors: `Refused` if warnings are errors; `OutOfMemory`.
-pub(crate) fn warn_of_logo(
+pub fn warn_of_logo(
     rt: &HostRuntime,
     asked: &Asked<'_, '_>,
     code: &QrCode,

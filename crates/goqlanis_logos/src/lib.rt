@@ -1,0 +1,6 @@
+//! What stands in the middle of a code: a logo, read from a file, the Swiss cross, or nothing.
+#![tactic(auto)]
+
+mod logos;
+pub mod middle;
+mod shrinking;

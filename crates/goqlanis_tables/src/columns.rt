@@ -1,0 +1,175 @@
+//! The names of columns.
+
+use crate::fields::{fields_of, not_closed};
+use goqlanis_files::failure::Failure;
+use goqlanis_options::options::fields::option_of;
+use goqlanis_options::options::{OTHER_NAMES, Purpose, counts};
+use qrcode_payloads::kinds::{Kind, fields_of as fields_in};
+use std::alloc::{AllocError, Global};
+
+/// The names of columns, in order; there may be none.
+#[derive(Drop)]
+pub struct Columns {
+    names: Vec<String>,
+    // The option of a payload that each column is called by, if there is one.
+    options: Vec<Option<&'static str>>,
+    // The options that columns give, each with the number of its column, from 1.
+    fields: Vec<(&'static str, usize)>,
+}
+
+impl Columns {
+    /// Returns no names.
+    pub fn none(alloc: Global) -> Columns {
+        Columns {
+            names: Vec::new(alloc),
+            options: Vec::new(alloc),
+            fields: Vec::new(alloc),
+        }
+    }
+
+    /// Reads the names in a line, for codes of this purpose.
+    ///
+    /// Errors: `Refused` if a quotation mark is not closed; `OutOfMemory`.
+    pub fn read(
+        alloc: Global,
+        purpose: Purpose,
+        line: &str,
+        delimiter: &str,
+    ) -> Result<Columns, Failure> {
+        let Some(names) = fields_of(alloc, line, delimiter)? else {
+            return not_closed(alloc);
+        };
+        let mut columns = Columns {
+            names,
+            options: Vec::new(alloc),
+            fields: Vec::new(alloc),
+        };
+        if let Purpose::Content(kind) = purpose {
+            columns.find_options(kind)?;
+        }
+        Ok(columns)
+    }
+
+    // Finds the options of a payload that columns give: each by the column that is called so, or
+    // else by the first that is called by another name of it.
+    fn find_options(&mut self, kind: Kind) -> Result<(), AllocError> {
+        for name in &self.names {
+            self.options
+                .push(option_called(kind, name.as_str().trim()))?;
+        }
+        for field in fields_in(kind) {
+            let long = option_of(*field).long;
+            if let Some(number) = self.number_of(long).or(self.number_by_option(long)) {
+                self.fields.push((long, number))?;
+            }
+        }
+        Ok(())
+    }
+
+    // Returns the number of the first column that is called by an option, from 1.
+    fn number_by_option(&self, long: &str) -> Option<usize> {
+        let mut options = self.options.iter();
+        let place = options.position(|option| *option == Some(long))?;
+        Some(place.saturating_add(1))
+    }
+
+    /// Whether there are none.
+    pub fn is_empty(&self) -> bool {
+        self.names.is_empty()
+    }
+
+    /// Returns the names in order.
+    pub fn names(&self) -> &[String] {
+        &self.names
+    }
+
+    /// Returns the number of the column called `name`, from 1.
+    pub fn number_of(&self, name: &str) -> Option<usize> {
+        let mut names = self.names.iter();
+        let place = names.position(|known| known.as_str().trim().eq_ignore_ascii_case(name))?;
+        Some(place.saturating_add(1))
+    }
+
+    /// Returns the number of the column that gives the option `name` of a payload, from 1.
+    pub fn field(&self, name: &str) -> Option<usize> {
+        let mut fields = self.fields.iter();
+        let (_, number) = fields.find(|(option, _)| *option == name)?;
+        Some(*number)
+    }
+
+    /// Returns the option of a payload that column `number` is called by.
+    pub fn option(&self, number: usize) -> Option<&'static str> {
+        *self.options.get(number.saturating_sub(1))?
+    }
+
+    /// Whether each of these fields is the name of a column.
+    pub fn are_names(&self, fields: &[String]) -> bool {
+        fields
+            .iter()
+            .all(|field| self.number_of(field.as_str().trim()).is_some())
+    }
+
+    /// Returns the names with commas between.
+    ///
+    /// Errors: only `AllocError`.
+    pub fn list(&self, alloc: Global) -> Result<String, AllocError> {
+        let names = self.names.iter();
+        let names = names.map(|name| name.as_str()).collect::<Vec<&str>>(alloc)?;
+        names.join(alloc, ", ")
+    }
+
+    /// Returns the name of another delimiter, if there is only one name and it has one inside.
+    pub fn other_delimiter(&self) -> Option<&'static str> {
+        let [name] = self.names.as_slice() else {
+            return None;
+        };
+        let (_, shown) = [(';', ";"), ('\t', "tab"), ('|', "|"), (',', ",")]
+            .iter()
+            .find(|(sign, _)| name.as_str().contains(*sign))?;
+        Some(*shown)
+    }
+
+    /// Returns what messages call the option `name`: its column, if it has one.
+    ///
+    /// Errors: only `AllocError`.
+    pub fn label(&self, alloc: Global, name: &str) -> Result<String, AllocError> {
+        match self.field(name) {
+            Some(number) => format!(in alloc; "column {number}, {name}"),
+            None => format!(in alloc; "--{name}"),
+        }
+    }
+}
+
+// Returns the option of payloads of `kind` that has this name, or else has it as another name.
+fn option_called(kind: Kind, name: &str) -> Option<&'static str> {
+    let mut found = None;
+    for field in fields_in(kind) {
+        let long = option_of(*field).long;
+        if long.eq_ignore_ascii_case(name) {
+            return Some(long);
+        }
+        if has_other_name(kind, long, name) {
+            found = Some(long);
+        }
+    }
+    found
+}
+
+// Whether an option of payloads of `kind` has this name as another name.
+fn has_other_name(kind: Kind, long: &str, name: &str) -> bool {
+    OTHER_NAMES.iter().any(|(other, option)| *option == long
+        && other.eq_ignore_ascii_case(name)
+        && counts(other, Purpose::Content(kind)))
+}
+
+/// Returns the application identifier that a column is named by, without its brackets.
+pub fn identifier_in(name: &str) -> &str {
+    name.trim()
+        .trim_start_matches(|sign: char| matches!(sign, '(' | '['))
+        .trim_end_matches(|sign: char| matches!(sign, ')' | ']'))
+}
+
+/// Whether a name is an application identifier: digits alone.
+pub fn is_identifier(name: &str) -> bool {
+    !name.is_empty() && name.bytes().all(|byte| byte.is_ascii_digit())
+}

@@ -1,0 +1,12 @@
+//! The lines of an input with a code in each (`--lines`): their fields, the columns that name these,
+//! and the names of files that are made of them.
+#![tactic(auto)]
+
+pub mod checks;
+pub mod columns;
+pub mod fields;
+mod inputs;
+pub mod names;
+pub mod pages;
+pub mod rows;
+pub mod tables;

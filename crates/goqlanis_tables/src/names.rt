@@ -1,0 +1,304 @@
+//! Names of numbered files, and of files named after lines, from the pattern in `--output`.
+
+use crate::columns::Columns;
+use crate::fields::Line;
+use goqlanis_files::failure::Failure;
+use goqlanis_files::files::is_stream;
+use goqlanis_files::streams::is_unseen;
+use goqlanis_files::{refused, usage};
+use goqlanis_options::asked::{Asked, Target};
+use goqlanis_options::targets::reader_of;
+use std::alloc::{AllocError, Global};
+use std::collections::BTreeSet;
+use std::fs;
+use unicode_normalization::to_nfc;
+
+// The maximum length of a file name on Linux, in bytes.
+const MOST_IN_NAME: usize = 255;
+
+// A part of a path: a text as it stands, or a placeholder.
+#[derive(Clone, Copy)]
+enum Part<'a> {
+    Text(&'a str),
+    // The number of the line, with zeros before it up to this width: `{}`, `{:04}`.
+    Number(usize),
+    // The line: `{text}`.
+    Line,
+    // A field of the line, counted from 1: `{1}`, `{url}`.
+    Field(usize),
+}
+
+/// A path with placeholders for numbers and lines.
+#[derive(Drop)]
+pub struct Pattern<'a> {
+    path: &'a str,
+    // Whether it has placeholders. If not, the number stands before the file extension.
+    has_places: bool,
+    parts: Vec<Part<'a>>,
+}
+
+impl<'a> Pattern<'a> {
+    /// Parses the path in `--output`, if there is one.
+    ///
+    /// Errors: `Usage` if it does not name a file for each code; `OutOfMemory`.
+    pub fn read(
+        rt: &HostRuntime,
+        asked: &Asked<'a, '_>,
+        columns: &Columns,
+    ) -> Result<Option<Pattern<'a>>, Failure> {
+        let Target::File(path) = asked.target else {
+            return Ok(None);
+        };
+        let pattern = Pattern::of(rt.alloc(), path, columns)?;
+        let folder = path.rsplit_once('/').map_or("", |(folder, _)| folder);
+        if is_stream(rt, path) {
+            usage!(rt.alloc();
+                "--output {path}: each code gets its own file; name one, e.g. a.png, or leave out \
+                --output for text"
+            )
+        } else if Pattern::of(rt.alloc(), folder, columns)?.has_places {
+            usage!(rt.alloc();
+                "--output: {{}}, {{text}} and {{1}} are for the file name, not for its folder"
+            )
+        } else if pattern.has_text() && asked.input.lines.is_none() {
+            usage!(rt.alloc();
+                "--output: {{text}} and {{1}} are for --lines; {{}} is the number"
+            )
+        } else {
+            check_words(rt.alloc(), path, columns)?;
+            Ok(Some(pattern))
+        }
+    }
+
+    // Parses a path.
+    fn of(alloc: Global, path: &'a str, columns: &Columns) -> Result<Pattern<'a>, AllocError> {
+        let mut parts = parts_of(alloc, path, columns)?;
+        let has_places = parts.iter().any(|part| !matches!(part, Part::Text(_)));
+        if !has_places {
+            parts = numbered(alloc, path)?;
+        }
+        Ok(Pattern {
+            path,
+            has_places,
+            parts,
+        })
+    }
+
+    /// Whether it has a placeholder for text of the line.
+    pub fn has_text(&self) -> bool {
+        self.parts
+            .iter()
+            .any(|part| matches!(part, Part::Line | Part::Field(_)))
+    }
+
+    /// Returns the file name for a line.
+    ///
+    /// Errors: `Refused` if the line lacks a field, or the name is none that a file may have;
+    /// `OutOfMemory`.
+    pub fn name(&self, alloc: Global, line: &Line<'_>) -> Result<String, Failure> {
+        let mut name = String::new(alloc);
+        for part in &self.parts {
+            let number = line.number;
+            match *part {
+                Part::Text(text) => name.push_str(text)?,
+                Part::Number(width) => write!(name, "{number:0width$}")?,
+                Part::Line => push_clean(&mut name, line.text.as_str())?,
+                Part::Field(number) => push_clean(&mut name, line.field(alloc, number)?)?,
+            }
+        }
+        if self.has_places {
+            check_name(alloc, self.path, name.as_str())?;
+        }
+        Ok(name)
+    }
+}
+
+// Returns the parts of a path.
+fn parts_of<'a>(
+    alloc: Global,
+    path: &'a str,
+    columns: &Columns,
+) -> Result<Vec<Part<'a>>, AllocError> {
+    let mut parts = Vec::new(alloc);
+    let mut pieces = path.split('{');
+    parts.push(Part::Text(pieces.next().unwrap_or("")))?;
+    for piece in pieces {
+        let (part, rest) = place_of(piece, columns).unwrap_or((Part::Text("{"), piece));
+        parts.push(part)?;
+        parts.push(Part::Text(rest))?;
+    }
+    Ok(parts)
+}
+
+// Returns the parts of a path in which the number stands before the file extension.
+fn numbered(alloc: Global, path: &str) -> Result<Vec<Part<'_>>, AllocError> {
+    let (stem, dot, ending) = match path.rsplit_once('.') {
+        Some((stem, ending)) if !ending.contains('/') => (stem, ".", ending),
+        _ => (path, "", ""),
+    };
+    let parts = [
+        Part::Text(stem),
+        Part::Text("-"),
+        Part::Number(6),
+        Part::Text(dot),
+        Part::Text(ending),
+    ];
+    Vec::from_slice(alloc, &parts)
+}
+
+// Parses the placeholder whose `{` precedes `piece`; returns it and the rest after its `}`.
+fn place_of<'a>(piece: &'a str, columns: &Columns) -> Option<(Part<'a>, &'a str)> {
+    let (word, rest) = piece.split_once('}')?;
+    let place = match (word, word.parse::<usize>(), columns.number_of(word)) {
+        ("", _, _) => Part::Number(0),
+        (_, _, Some(number)) => Part::Field(number),
+        ("text", _, _) => Part::Line,
+        (_, Ok(number), _) if number > 0 && !word.starts_with('+') => Part::Field(number),
+        _ => Part::Number(word.strip_prefix(":0")?.parse::<u8>().ok()? as usize),
+    };
+    Some((place, rest))
+}
+
+// Checks that a path has no placeholders that are unknown.
+fn check_words(alloc: Global, path: &str, columns: &Columns) -> Result<(), Failure> {
+    if path.contains("%0") || path.contains("%d") {
+        return usage!(alloc; "--output {path}: for the number in three digits, write {{:03}}");
+    }
+    let Some(word) = unknown_word(path, columns) else {
+        return Ok(());
+    };
+    if columns.is_empty() {
+        return usage!(alloc;
+            "--output: {{{word}}} is unknown; {{}} is the number, {{:04}} the same with zeros, \
+            {{text}} the line, {{1}} its first field; --header or --columns name others"
+        );
+    }
+    let list = columns.list(alloc)?;
+    usage!(alloc; "--output: {{{word}}} is unknown; the columns are {list}")
+}
+
+// Returns the first placeholder that is unknown.
+fn unknown_word<'a>(path: &'a str, columns: &Columns) -> Option<&'a str> {
+    path.split('{').skip(1).find_map(|piece| {
+        let (word, _) = piece.split_once('}')?;
+        place_of(piece, columns).is_none().then_some(word)
+    })
+}
+
+// Checks the file name of a generated path: not too long, not empty, not `.` or `..`, none that
+// Windows changes or reserves, and unless the pattern says so, since a field was empty, neither
+// hidden nor like an option.
+fn check_name(alloc: Global, pattern: &str, path: &str) -> Result<(), Failure> {
+    let (name, pattern) = (file_name(path), file_name(pattern));
+    if is_reserved(name) {
+        return refused!(alloc; "its file would be {name}, a name that Windows reserves");
+    }
+    let what = if name.len() > MOST_IN_NAME {
+        "have more than 255 bytes"
+    } else if matches!(name, "" | "." | "..") {
+        "be empty, \".\" or \"..\""
+    } else if name.ends_with('.') || name.ends_with(' ') {
+        "end with a dot or a space, which Windows drops"
+    } else if name.starts_with('.') && !pattern.starts_with('.') {
+        "begin with \".\", since a field is empty; {} in --output numbers the codes"
+    } else if name.starts_with('-') && !pattern.starts_with('-') {
+        "begin with \"-\", since a field is empty; {} in --output numbers the codes"
+    } else {
+        return Ok(());
+    };
+    refused!(alloc; "its file name would {what}")
+}
+
+// Whether Windows reserves a name, with any file extension.
+fn is_reserved(name: &str) -> bool {
+    let stem = name.split('.').next().unwrap_or("").trim_end();
+    let device = stem.trim_end_matches(|character: char| {
+        character.is_ascii_digit() || matches!(character, '\u{b9}' | '\u{b2}' | '\u{b3}')
+    });
+    let is_numbered = stem.chars().count() == device.chars().count().saturating_add(1);
+    if is_numbered {
+        return ["com", "lpt"]
+            .iter()
+            .any(|known| device.eq_ignore_ascii_case(known));
+    }
+    ["con", "prn", "aux", "nul", "conin$", "conout$"]
+        .iter()
+        .any(|known| stem.eq_ignore_ascii_case(known))
+}
+
+// Returns what follows the last slash.
+fn file_name(path: &str) -> &str {
+    path.rsplit('/').next().unwrap_or("")
+}
+
+/// The names of files that earlier lines have written.
+#[derive(Drop)]
+pub struct Names {
+    // In the form that all names have which some systems take for one.
+    known: BTreeSet<String>,
+}
+
+impl Names {
+    /// Returns no names.
+    pub fn new(alloc: Global) -> Names {
+        Names {
+            known: BTreeSet::new(alloc),
+        }
+    }
+
+    /// Checks that no line has written a file that some systems take for this one.
+    ///
+    /// Errors: `Refused`; `OutOfMemory`.
+    pub fn check(&self, alloc: Global, name: &str) -> Result<(), Failure> {
+        if !self.known.contains(common_form(alloc, name)?.as_str()) {
+            return Ok(());
+        }
+        refused!(alloc;
+            "{name} is the file of an earlier line; {{}} in --output numbers the codes"
+        )
+    }
+
+    /// Adds a name.
+    ///
+    /// Errors: only `OutOfMemory`.
+    pub fn add(&mut self, alloc: Global, name: &str) -> Result<(), Failure> {
+        self.known.insert(common_form(alloc, name)?)?;
+        Ok(())
+    }
+}
+
+// Returns a name in the form that all names have which differ from it only in case, or in how
+// accents are written.
+fn common_form(alloc: Global, name: &str) -> Result<String, AllocError> {
+    to_nfc(alloc, name.to_lowercase(alloc)?.as_str())
+}
+
+/// Checks that a generated name is a plain file, and not the input: no line may write elsewhere.
+pub fn check_made(rt: &HostRuntime, asked: &Asked<'_, '_>, name: &str) -> Result<(), Failure> {
+    let what = if is_stream(rt, name) {
+        "a pipe, device or folder"
+    } else if fs::symlink_metadata(rt, name).is_ok_and(|found| found.is_symlink()) {
+        "a link"
+    } else if let Some(reader) = reader_of(rt, asked, name) {
+        return refused!(rt.alloc(); "{name}: {reader} reads this file; each code gets its own");
+    } else {
+        return Ok(());
+    };
+    refused!(rt.alloc(); "{name} is {what}; each code gets its own file")
+}
+
+// Appends text to a file name. `_` replaces characters that some systems forbid, invisible ones, a
+// leading `.`, which would hide the file, and a leading `-`, which would look like an option.
+fn push_clean(name: &mut String, text: &str) -> Result<(), AllocError> {
+    for character in text.chars() {
+        let is_first = name.is_empty() || name.ends_with('/');
+        let is_clean = !is_unseen(character)
+            && !(is_first && matches!(character, '.' | '-'))
+            && !matches!(
+                character,
+                '/' | '\\' | ':' | '*' | '?' | '"' | '<' | '>' | '|'
+            );
+        name.push(if is_clean { character } else { '_' })?;
+    }
+    Ok(())
+}

@@ -1,0 +1,135 @@
+//! The fields of a payload in a line.
+
+ghost use Rattle.std.specs.Prelude.{◌≡◌, map};
+ghost use Rattle.goqlanis_options.specs.Fields.{name_of};
+ghost use Rattle.goqlanis_tables.specs.Rows.{pair_of, text_named, texts_of};
+
+use crate::columns::Columns;
+use crate::fields::Line;
+use goqlanis_files::failure::Failure;
+use goqlanis_files::refused;
+use goqlanis_options::fields::{DECISIVE, OPEN};
+use goqlanis_options::options::fields::option_of;
+use qrcode_contents::fields::errors::Field;
+use qrcode_payloads::given::Given;
+use qrcode_payloads::kinds::{Kind, fields_of};
+use std::alloc::Global;
+
+/// The fields of a payload in a line: names of options with their texts.
+#[derive(Drop)]
+pub struct Row {
+    pairs: Vec<(String, String)>,
+}
+
+impl Given for Row {
+    ghost fields = { λ row. texts_of row };
+
+    fn text(&self, field: Field) -> &str {
+        text_named(&self.pairs, option_of(field).long)
+    }
+}
+
+// The text of the first pair with this name; empty if there is none.
+fn text_named<'a>(pairs: &'a [(String, String)], name: &str) -> &'a str
+    ensures { result.now ≡ text_named (map pair_of pairs.now) name.now }
+{
+    for (known, text) in pairs {
+        if known.as_str() == name {
+            return text.as_str();
+        }
+    }
+    ""
+}
+
+impl Row {
+    /// Returns the fields of a line: those of its columns, and the others as `options` give them.
+    ///
+    /// Errors: `Refused` if the line has fewer fields than columns; `OutOfMemory`.
+    pub fn of<G: Given>(
+        alloc: Global,
+        kind: Kind,
+        columns: &Columns,
+        line: &Line<'_>,
+        options: &G,
+    ) -> Result<Row, Failure> {
+        let mut pairs = Vec::new(alloc);
+        let is_open = is_open(alloc, columns, line)?;
+        for field in fields_of(kind) {
+            let name = option_of(*field).long;
+            let text = match columns.field(name) {
+                Some(number) => {
+                    let text = line.field(alloc, number)?;
+                    let text = decided(alloc, name, number, text, is_open)?;
+                    if *field == Field::Hidden {
+                        truth(text)
+                    } else {
+                        text
+                    }
+                }
+                None => options.text(*field),
+            };
+            let pair = (
+                String::from_str(alloc, name)?,
+                String::from_str(alloc, text)?,
+            );
+            pairs.push(pair)?;
+        }
+        Ok(Row { pairs })
+    }
+
+    /// Returns the option of the first column whose text has a space or a quotation mark at its
+    /// start or end.
+    pub fn loose(&self, columns: &Columns) -> Option<&str> {
+        let is_mark = |sign: char| sign == '"' || sign.is_whitespace();
+        let mut loose = self.pairs.iter().filter(|(_, text)| {
+            text.as_str().starts_with(is_mark) || text.as_str().ends_with(is_mark)
+        });
+        let found = loose.find(|(name, _)| columns.field(name.as_str()).is_some());
+        found.map(|(name, _)| name.as_str())
+    }
+}
+
+// Returns the text of a column; refuses an empty one if that changes what the payload means. (An
+// open network has no password.)
+fn decided<'a>(
+    alloc: Global,
+    name: &str,
+    number: usize,
+    text: &'a str,
+    is_open: bool,
+) -> Result<&'a str, Failure> {
+    let may_be_empty = !DECISIVE.contains(&name) || is_open && name == "password";
+    if text.is_empty() && !may_be_empty {
+        let help = if name == "password" {
+            "for an open network, write open in a column security"
+        } else {
+            "leave the column out for none"
+        };
+        return refused!(alloc; "column {number}, {name}: it is empty; {help}");
+    }
+    Ok(text)
+}
+
+// Returns true or false for yes or no, as tables say it too, and any other word as it is.
+fn truth(word: &str) -> &str {
+    let is_one_of = |words: &[&str]| words.iter().any(|known| word.eq_ignore_ascii_case(known));
+    if is_one_of(&["yes", "1"]) {
+        "true"
+    } else if is_one_of(&["no", "0"]) {
+        "false"
+    } else {
+        word
+    }
+}
+
+// Whether a line says that its network is open.
+fn is_open(alloc: Global, columns: &Columns, line: &Line<'_>) -> Result<bool, Failure> {
+    let Some(number) = columns.field("security") else {
+        return Ok(false);
+    };
+    let security = line.field(alloc, number)?;
+    Ok(
+        OPEN.iter()
+            .any(|word| security.trim().eq_ignore_ascii_case(word)),
+    )
+}

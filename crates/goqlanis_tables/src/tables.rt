@@ -1,0 +1,255 @@
+//! Tables: inputs with a code in each line.
+
+use crate::columns::{Columns, identifier_in, is_identifier};
+use crate::fields::Line;
+use crate::inputs::{is_blank, next_line, text_of, utf8};
+use goqlanis_files::failure::{Failure, Place};
+use goqlanis_files::streams::shown;
+use goqlanis_files::{doubted, refused, usage};
+use goqlanis_options::asked::{Asked, Lines, Source, Target};
+use goqlanis_options::options::Purpose;
+use std::alloc::{AllocError, Global};
+use std::io::BufRead;
+
+/// An input with a code in each line.
+#[derive(Drop)]
+pub struct Table<'a> {
+    /// What is made of the lines.
+    pub purpose: Purpose,
+    /// How they are divided.
+    pub lines: Lines<'a>,
+    /// Where they come from.
+    pub source: Source<'a>,
+    /// The names of their columns.
+    pub columns: Columns,
+    /// The number of the only field that is encoded, from 1, if there is one.
+    pub field: Option<usize>,
+}
+
+impl<'a> Table<'a> {
+    /// Reads the names of the columns: those of the command line, which commas may separate too, or
+    /// else of the first line. With `--header` the first line is read in both cases.
+    ///
+    /// Errors: `Refused` if there are no such names; `Usage` if they have another delimiter, or none
+    /// is that of `--field`; `OutOfMemory`.
+    pub fn read<R: BufRead>(
+        alloc: Global,
+        asked: &Asked<'a, '_>,
+        purpose: Purpose,
+        lines: Lines<'a>,
+        from: &mut R,
+    ) -> Result<Table<'a>, Failure> {
+        let mut table = Table {
+            purpose,
+            lines,
+            source: asked.input.source,
+            columns: Columns::none(alloc),
+            field: None,
+        };
+        let mut line = Vec::new(alloc);
+        let has_line = lines.has_header && table.next(alloc, from, &mut line, 0)?;
+        let first = has_line.then_some(text_of(&line, 1));
+        table.columns = table.columns_of(alloc, first)?;
+        table.check_delimiter(alloc, asked.target)?;
+        if let (Some(name), false) = (lines.field, table.is_payload()) {
+            table.field = Some(table.field_number(alloc, name)?);
+        }
+        Ok(table)
+    }
+
+    // Returns the names of the columns, given the first line if it has names.
+    fn columns_of(&self, alloc: Global, first: Option<&[u8]>) -> Result<Columns, Failure> {
+        let delimiter = self.lines.delimiter;
+        match (self.lines.columns, first) {
+            (Some(names), _) if names.contains(delimiter) => {
+                Columns::read(alloc, self.purpose, names, delimiter)
+            }
+            (Some(names), _) => Columns::read(alloc, self.purpose, names, ","),
+            (None, Some(line)) => self.columns_in(alloc, line),
+            (None, None) => Ok(Columns::none(alloc)),
+        }
+    }
+
+    // Returns the names of the columns in the first line.
+    fn columns_in(&self, alloc: Global, line: &[u8]) -> Result<Columns, Failure> {
+        let text = String::from_utf8_lossy(alloc, line)?;
+        let place = self.place(0);
+        if text.starts_with("sep=") {
+            return refused!(alloc;
+                "{place}sep= is for spreadsheets: remove this line, and add --delimiter"
+            );
+        }
+        match Columns::read(alloc, self.purpose, text.as_str(), self.lines.delimiter) {
+            Err(Failure::Refused(why)) => refused!(alloc; "{place}{why}"),
+            read => read,
+        }
+    }
+
+    // Refuses the only name of a column if it has another delimiter inside, unless lines are
+    // encoded whole.
+    fn check_delimiter(&self, alloc: Global, target: Target<'_>) -> Result<(), Failure> {
+        let has_names = matches!(target, Target::File(path) if path.contains('{'));
+        match self.columns.other_delimiter() {
+            Some(sign) if has_names || !self.is_whole() => {
+                usage!(alloc; "the columns have another delimiter: add --delimiter \"{sign}\"")
+            }
+            _ => Ok(()),
+        }
+    }
+
+    // Returns the number of the field that `--field` selects.
+    fn field_number(&self, alloc: Global, name: &str) -> Result<usize, Failure> {
+        match (self.columns.number_of(name), name.parse::<u16>()) {
+            (Some(number), _) => Ok(number),
+            (None, Ok(number)) if number > 0 => Ok(number as usize),
+            _ if self.columns.is_empty() => usage!(alloc;
+                "--field {name}: use a whole number, 1 to 65,535, or name the columns with --header"
+            ),
+            _ => {
+                let list = self.columns.list(alloc)?;
+                usage!(alloc; "--field {name}: use a number, or one of the columns {list}")
+            }
+        }
+    }
+
+    /// Whether the lines have the fields of payloads.
+    pub fn is_payload(&self) -> bool {
+        matches!(self.purpose, Purpose::Content(_))
+    }
+
+    /// Whether the lines have element strings, or their values.
+    pub fn has_elements(&self) -> bool {
+        matches!(self.purpose, Purpose::Elements)
+    }
+
+    /// Whether lines are encoded whole.
+    pub fn is_whole(&self) -> bool {
+        !self.is_payload() && !self.has_elements() && self.lines.field.is_none()
+    }
+
+    // Whether fields of the lines count.
+    fn has_fields(&self) -> bool {
+        !self.columns.is_empty() || self.lines.field.is_some()
+    }
+
+    /// Returns what messages call the input.
+    pub fn name(&self) -> &'a str {
+        match self.source {
+            Source::Text(_) => "TEXT",
+            Source::File(path) => path,
+            Source::StandardInput => "standard input",
+        }
+    }
+
+    /// Returns the place of a line, by its number among those that are encoded, from 1; 0 is that of
+    /// the names.
+    pub fn place(&self, number: usize) -> Place<'a> {
+        let file = match self.source {
+            Source::File(path) => Some(path),
+            _ => None,
+        };
+        Place {
+            file,
+            line: number.saturating_add(usize::from(self.lines.has_header)),
+        }
+    }
+
+    /// Replaces `line` with the next one, ending included, which has this number. Returns `false` at
+    /// the end.
+    ///
+    /// Errors: `Refused` if it cannot be read, is too long or UTF-16; `OutOfMemory`.
+    pub fn next<R: BufRead>(
+        &self,
+        alloc: Global,
+        from: &mut R,
+        line: &mut Vec<u8>,
+        number: usize,
+    ) -> Result<bool, Failure> {
+        next_line(alloc, self.name(), from, line, self.place(number).line)
+    }
+
+    /// Returns a line that was read, or `None` if its fields count and all are empty.
+    ///
+    /// Errors: `Refused` if its fields count and it ends within quotation marks; `OutOfMemory`.
+    pub fn line<'b>(
+        &self,
+        alloc: Global,
+        read: &'b [u8],
+        number: usize,
+    ) -> Result<Option<Line<'b>>, Failure> {
+        let place = self.place(number).line;
+        let bytes = text_of(read, place);
+        if self.has_fields() && is_blank(bytes, self.lines.delimiter) {
+            return Ok(None);
+        }
+        let line = Line::of(alloc, number, bytes, self.lines.delimiter)?;
+        if self.has_fields() && line.is_unfinished() {
+            let name = shown(self.name());
+            return refused!(alloc;
+                "cannot read {name}: line {place} ends within quotation marks, and fields have no \
+                line breaks; neither it nor the lines after it are encoded"
+            );
+        }
+        Ok(Some(line))
+    }
+
+    /// Checks the number of fields in a line: there are no more than names of columns, and of
+    /// elements no fewer. A line that is encoded whole may have any number. Warns of a first line
+    /// that has the names which `--columns` gives.
+    ///
+    /// Errors: `Refused`, also if warnings are errors; `OutOfMemory`.
+    pub fn check_line(
+        &self,
+        rt: &HostRuntime,
+        asked: &Asked<'_, '_>,
+        line: &Line<'_>,
+    ) -> Result<(), Failure> {
+        if self.columns.is_empty() {
+            return Ok(());
+        }
+        let fields = line.fields(rt.alloc())?;
+        let (count, known) = (fields.len(), self.columns.names().len());
+        if count > known && !self.is_whole() || count < known && self.has_elements() {
+            return refused!(rt.alloc();
+                "fields: {count}, columns: {known}; put quotation marks around a field that contains \
+                the delimiter"
+            );
+        }
+        if line.number == 1 && !self.lines.has_header && self.columns.are_names(fields) {
+            doubted!(rt, asked.doubts;
+                "these are the names of the columns; add --header to leave them out"
+            )?;
+        }
+        Ok(())
+    }
+
+    /// Returns what is encoded of a line, unless it is a payload: the field that `--field` selects,
+    /// the elements in its fields, or all of it.
+    ///
+    /// Errors: `Refused` if it is not UTF-8, or lacks the field; `OutOfMemory`.
+    pub fn data(&self, alloc: Global, line: &Line<'_>) -> Result<String, Failure> {
+        let text = utf8(alloc, line.bytes)?;
+        match self.field {
+            Some(number) => Ok(String::from_str(alloc, line.field(alloc, number)?)?),
+            None if self.has_elements() && !self.columns.is_empty() => {
+                Ok(elements_in(alloc, &self.columns, line.fields(alloc)?)?)
+            }
+            None => Ok(String::from_str(alloc, text)?),
+        }
+    }
+}
+
+// Returns the element string of fields whose columns are named by application identifiers. Empty
+// fields are left out.
+fn elements_in(alloc: Global, columns: &Columns, fields: &[String]) -> Result<String, AllocError> {
+    let mut text = String::new(alloc);
+    for (name, field) in columns.names().iter().zip(fields) {
+        let name = identifier_in(name.as_str());
+        if is_identifier(name) && !field.is_empty() {
+            let value = field.as_str().split('(').collect::<Vec<&str>>(alloc)?;
+            let value = value.join(alloc, "\\(")?;
+            write!(text, "({name}){value}")?;
+        }
+    }
+    Ok(text)
+}
