@@ -10,8 +10,6 @@ use goqlanis_look::{check, join_pictures, read};
 use goqlanis_options::advice::{advice, wrapped_help};
 use goqlanis_options::asked::asked_for;
 use goqlanis_options::command::{command_of, end_of_help, usage_of};
-use goqlanis_options::completions::{completions_of, shell_named};
-use goqlanis_options::manual::manual_page;
 use goqlanis_options::options::{DRAWING, Purpose, Task, task_named};
 use goqlanis_options::pictures::pictures_of;
 use goqlanis_options::sizes::{UNIT_APART, has_unit_apart};
@@ -19,8 +17,8 @@ use std::alloc::{AllocError, Global};
 use std::process::ExitCode;
 use std::{env, io};
 
-// The version of the program and everything installed with it.
-const VERSION: &str = "1.0.0";
+// The version of the program and everything installed with it, as it is printed.
+const VERSION: &str = "goqlanis 1.0.0\n";
 
 /// Runs the program and returns its exit status. A failure is reported on one line of standard
 /// error.
@@ -105,23 +103,7 @@ fn perform(rt: &HostRuntime, task: &Task, given: &ArgMatches<'_>) -> Result<Exit
         Purpose::Read => read(rt, &pictures_of(rt, given)?),
         Purpose::Check => check(rt, &pictures_of(rt, given)?),
         Purpose::Join => join_pictures(rt, &pictures_of(rt, given)?),
-        Purpose::Draw => match text_about(rt.alloc(), given)? {
-            Some(text) => print(rt, text.as_bytes()),
-            None => make(rt, task, &asked_for(rt, task, given)?),
-        },
+        Purpose::Draw if given.get_flag("version") => print(rt, VERSION.as_bytes()),
         _ => make(rt, task, &asked_for(rt, task, given)?),
-    }
-}
-
-// Returns the text about the program that an option asks for, if any.
-fn text_about(alloc: Global, given: &ArgMatches<'_>) -> Result<Option<String>, AllocError> {
-    if let Some(shell) = given.get_str("completions").and_then(shell_named) {
-        Ok(Some(completions_of(alloc, shell)?))
-    } else if given.get_flag("manual") {
-        Ok(Some(manual_page(alloc)?))
-    } else if given.get_flag("version") {
-        Ok(Some(format!(in alloc; "goqlanis {VERSION}\n")?))
-    } else {
-        Ok(None)
     }
 }

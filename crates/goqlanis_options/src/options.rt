@@ -1,6 +1,4 @@
-//! The tables of tasks and options, which generate the command line, the manual page and the shell
-//! completions. (A `clap` command does not expose value names, or which values are paths, so the
-//! last two cannot be made from it.)
+//! The tables of tasks and options, which generate the command line.
 
 use qrcode_payloads::kinds::{Kind, fields_of};
 use std::alloc::{AllocError, Global};
@@ -59,14 +57,6 @@ pub enum Takes {
 }
 
 impl Takes {
-    /// Returns the words of which an option takes one; empty if it takes something else.
-    pub fn words(self) -> &'static [&'static str] {
-        match self {
-            Takes::Word(_, words) => words,
-            _ => &[],
-        }
-    }
-
     /// Returns the name that help shows for the value; empty without one.
     pub fn name(self) -> &'static str {
         match self {
@@ -87,7 +77,7 @@ pub struct Entry {
     pub short: Option<char>,
     /// The value that follows.
     pub takes: Takes,
-    /// The text shown in help and the manual.
+    /// The text shown in help.
     pub help: &'static str,
 }
 
@@ -120,7 +110,7 @@ pub enum Purpose {
 pub struct Task {
     /// The command's name; empty for a plain code, which needs no command.
     pub word: &'static str,
-    /// The text shown in help and the manual.
+    /// The text shown in help.
     pub about: &'static str,
     /// What the task does.
     pub purpose: Purpose,

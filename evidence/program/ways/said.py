@@ -1,9 +1,10 @@
-"""Tests of what goqlanis says about itself: help, manual, completions, version and colours."""
+"""Tests of what goqlanis says about itself: help, version and colours; of its manual and completions."""
 import os
 import re
 import shlex
 import shutil
 
+from manuals import commands, pages
 from room import HERE, TOP, by_shell, cases, empty, piped, put, run, written
 
 PAGES = HERE / "pages"
@@ -34,9 +35,8 @@ def examples_of_the_help_run(program):
 
 
 def _tasks(program):
-    """Returns the commands that the manual lists."""
-    manual = written(program, "--manual").decode()
-    return re.findall(r"^\.SS goqlanis (\S+)$", manual, re.MULTILINE)
+    """Returns the commands that the help lists."""
+    return commands(written(program, "--help").decode())
 
 
 def every_option_has_a_case(program):
@@ -64,12 +64,12 @@ def help_has_lines_of_80_characters(program):
 
 
 def _pages(program):
-    """Returns all help, the manual page and the completions of each shell, by the name of the file
-    that stores them."""
+    """Returns all help, and the manual page and the completions of each shell that are made from it,
+    by the name of the file that stores them."""
     asked = ["--help", *(f"{it} --help" for it in _tasks(program))]
-    shown = [f"$ goqlanis {it}\n".encode() + written(program, it) for it in asked]
-    shells = {it: written(program, f"--completions {it}") for it in ("bash", "zsh", "fish")}
-    return {"help": b"\n".join(shown), "manual": written(program, "--manual"), **shells}
+    shown = {it: written(program, it).decode() for it in asked}
+    help = "\n".join(f"$ goqlanis {it}\n{text}" for it, text in shown.items())
+    return {name: text.encode() for name, text in {"help": help, **pages(shown.get)}.items()}
 
 
 def pages_are_those_that_are_stored(program):
@@ -91,7 +91,7 @@ def shells_complete(program):
         'read --v' 'read -v' 'bill --currency E' 'epc --le'; do
         COMP_WORDS=(goqlanis $words); COMP_CWORD=$((${#COMP_WORDS[@]} - 1))
         COMPREPLY=(); _goqlanis; echo "${COMPREPLY[@]}"; done"""
-    bash = piped(["bash", "-c", asked], written(program, "--completions bash"))
+    bash = piped(["bash", "-c", asked], _pages(program)["bash"])
     options = b"--ssid --security --symbol-version --scale --size --svg-title --svg-desc --svg-id "
     options += b"--svg-class"
     wanted = [b"--level", b"png pic pbm pgm pdf ppm", b"", b"", b"wifi", options, b"--verbose", b"",
@@ -107,7 +107,7 @@ def _are_quoted(program):
     fish; this needs no shell."""
     found = 0
     for shell, ends in (("zsh", "\\;"), ("fish", "")):
-        for line in written(program, f"--completions {shell}").decode().splitlines():
+        for line in _pages(program)[shell].decode().splitlines():
             if " -d '" in line or line.startswith("      "):
                 try:
                     found += len(shlex.split(line.rstrip(f"{ends} "))) > 0
@@ -118,7 +118,7 @@ def _are_quoted(program):
 
 def _reads_completions(program, shell):
     """Whether a shell reads its completions, and fish completes with them as bash does."""
-    given = written(program, f"--completions {shell}")
+    given = _pages(program)[shell]
     read = piped([shell, "-n", "/dev/stdin"], given)
     if shell != "fish" or read.returncode or read.stderr:
         return not read.returncode and not read.stderr
@@ -134,7 +134,7 @@ def man_shows_the_manual(program):
     if not shutil.which("man"):
         return True
     with empty() as folder:
-        put(folder, "goqlanis.1", written(program, "--manual"))
+        put(folder, "goqlanis.1", _pages(program)["manual"])
         env = {"PATH": "/usr/bin:/bin", "LC_ALL": "C.UTF-8", "MANWIDTH": "140"}
         ran = piped(["man", "--warnings", "-l", "goqlanis.1"], cwd=folder, env=env)
         shown = " ".join(ran.stdout.decode().split())

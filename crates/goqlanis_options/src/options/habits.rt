@@ -94,6 +94,7 @@ pub static ADVICE: &[(&str, &str)] = &[
     ("--esc", "write the characters themselves, e.g. by printf"),
     ("--timezone --tz", "write the zone behind the time, e.g. 2026-11-28T14:00+01:00"),
     ("--lines --header --columns --field", "this command makes no codes of lines"),
+    ("--manual --completions", "./install and the packages put the manual and completions in place"),
     ("--rotate", "only damage turns codes, with --turn 90; other codes are drawn upright"),
     ("--bind --box", "only the code is drawn; leave it out"),
     ("--square --dotty --dotsize --dots --rounded --shape --style",

@@ -169,8 +169,6 @@ pub static LOOKS: &[Entry] = &[
 /// Options that print something about the program.
 #[rattlefmt::skip]
 pub static ABOUT: &[Entry] = &[
-    entry!("completions", Word("SHELL", &["bash", "zsh", "fish"]), "Write shell completions"),
-    entry!("manual", Nothing, "Write the manual page: goqlanis --manual | man -l -"),
     entry!("version", 'V', Nothing, "Print the version"),
 ];
 

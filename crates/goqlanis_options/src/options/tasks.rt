@@ -1,4 +1,4 @@
-//! The commands, in the order of help and manual.
+//! The commands, in the order of the help.
 
 use super::Takes::{self, Nothing, Number, Path, Text, Wanted, Word};
 use super::fields::option_of;
