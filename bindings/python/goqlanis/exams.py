@@ -1,4 +1,5 @@
 """Exams for readers: whole and damaged symbols, and what they hold."""
+import functools
 import random
 from typing import Any, Dict, Iterable, Iterator, List, NamedTuple, Tuple
 
@@ -82,7 +83,8 @@ def of_pairs(pairs: Iterable[Tuple[str, str]], seed: int) -> Iterator[Question]:
 def _made(name: str, level: str, version: str, chance: random.Random) -> Tuple[Symbol, bytes]:
     """Returns a symbol with a content, and its data; segments are full or of any length."""
     header, modes = CONTENTS[name]
-    encode_segments([*header, *((mode, LETTERS[mode][0]) for mode in modes[-1:])], level, version)
+    if version[0] == "M":  # which may lack the header or the modes
+        encode_segments([*header, *((mode, LETTERS[mode][0]) for mode in modes)], level, version)
     segments: List[Any] = list(header)
     for mode in modes:
         most = _most(segments, mode, level, version)
@@ -115,8 +117,14 @@ def _most(segments: List[Any], mode: str, level: str, version: str) -> int:
 
 def _questions(name: str, symbol: Symbol, data: bytes, seed: int) -> Iterator[Question]:
     """Yields the questions of a symbol."""
-    most, required = symbol.most_codewords, check(symbol).allowed_by_block
+    most, required = symbol.most_codewords, _required(symbol.version, symbol.level)
     for damage, codewords, bits in (("whole", 0, 0), ("most", most, 3), ("beyond", most + 1, 3)):
         found = symbol.damaged(codewords, bits, bits if symbol.width >= 45 else 0, seed=seed)
         yield Question(f"{name}-{damage}", found, data, damage,
                        found.is_promised and codewords <= required, found.is_promised)
+
+
+@functools.lru_cache(maxsize=None)
+def _required(version: str, level: str) -> int:
+    """Returns how many wrong codewords of each block the standard requires readers to correct."""
+    return check(encode_segments([], level, version)).allowed_by_block
