@@ -52,7 +52,7 @@ function linked(link) {
     return text;
 }
 
-/** Returns the elements of a text such as (01)09521234543213(10)A\\(B), in which a value is A(B. */
+/** Returns the elements of a text such as (01)09521234543213(10)A\(B), whose last value is A(B). */
 function pairs(text) {
     const found = [...text.trim().matchAll(/\((\d+)\)((?:\\\(|[^(])*)/g)];
     if (found.map((it) => it[0]).join("") !== text.trim())

@@ -185,7 +185,7 @@ function warningsOf(made) {
             + "darker colour for the dark modules."] : []),
         ...(quietZone !== null && quietZone < made.quietZone ? [`The quiet zone is narrower than `
             + `the ${made.quietZone} modules that the standard wants.`] : []),
-        ...(/^.{1,7}$/u.test(at("field-password")?.value)
+        ...(/^.{1,7}$/u.test(at("field-password")?.value ?? "")
             && ["", "WPA"].includes(at("field-security").value)
             ? ["The password has fewer than 8 characters, which WPA needs."] : []),
         ...(logo === null ? [] : ["Only SVG shows the logo; other files leave its area light."]),
