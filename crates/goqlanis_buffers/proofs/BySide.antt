@@ -11,8 +11,8 @@ use Rattle.qrcode_formats.specs.Formats.{row}
 use Rattle.qrcode_formats.specs.declared.Colours.TheVariants.{Fixed}
 use Rattle.qrcode_formats.specs.declared.Format.{Format}
 use Rattle.qrcode_formats.specs.declared.Format.TheVariants.{EscPos, Grey, Pbm, Pgm, Ppm, Tspl, Xbm}
-use Rattle.goqlanis_core.specs.Formats.{IsDrawn as IsSheetIn}
-use Rattle.goqlanis_core.specs.Sheets.{rgb}
+use Rattle.qrcode_sheets.specs.Formats.{IsDrawn as IsSheetIn}
+use Rattle.qrcode_sheets.specs.Sheets.{rgb}
 use Rattle.goqlanis_buffers.specs.Asking.{escpos_length, pbm_length, pgm_length, ppm_length, side_of, tspl_length, xbm_length, HasLength, IsDrawable}
 use Rattle.goqlanis_buffers.specs.Colours.{colour_shade}
 use Rattle.goqlanis_buffers.specs.Drawings.{sheet}
@@ -20,11 +20,11 @@ use Rattle.goqlanis_buffers.proofs.Tinted.{no_paints}
 use Rattle.std.proofs.Math.Nat.{zero-mul}
 use Rattle.goqlanis_buffers.specs.declared.pictures.Asked.{Asked}
 use Rattle.qrcode_render.specs.Bitmap.{row_of}
-use Rattle.qrcode_render.specs.Files.{inked, packed, pbm_file, pgm_file, ppm_file}
+use Rattle.qrcode_sheets.specs.Files.{inked, packed, pbm_file, pgm_file, ppm_file}
 use Rattle.qrcode_render.specs.Layout.{Layout, layout, pixels_across, pixels_down}
 use Rattle.qrcode_render.specs.Picture.{picture}
-use Rattle.qrcode_render.specs.Printers.{bytes_across, escpos_file, escpos_head, hex_pair, packed_file, tspl_file_at, tspl_head, tspl_head_at, tspl_row, tspl_tail, turned, xbm_file, xbm_head, xbm_row, xbm_tail}
-use Rattle.qrcode_render.specs.Shades.{colors_of}
+use Rattle.qrcode_sheets.specs.Printers.{bytes_across, escpos_file, escpos_head, hex_pair, packed_file, tspl_file_at, tspl_head, tspl_head_at, tspl_row, tspl_tail, turned, xbm_file, xbm_head, xbm_row, xbm_tail}
+use Rattle.goqlanis_buffers.specs.Shades.{colors_of}
 use Rattle.qrcode_render.specs.Texts.{marks_text, raw_bytes}
 
 -- the length of n pieces of the same size, joined

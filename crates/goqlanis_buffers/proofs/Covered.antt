@@ -9,7 +9,7 @@ use Rattle.qrcode_types.specs.declared.types.EcLevel.{EcLevel}
 use Rattle.qrcode_types.specs.declared.types.Version.{Version}
 use Rattle.qrcode_layout.specs.declared.masks.MaskPattern.{MaskPattern}
 use Rattle.qrcode_reader.specs.Formats.{HasFormat}
-use Rattle.qrcode_render.specs.Shades.{colors_of}
+use Rattle.goqlanis_buffers.specs.Shades.{colors_of}
 use Rattle.qrcode_area.specs.Areas.{AgreesOutside, LeavesReserve, MayShowAnything, covers, is_inside, touched}
 use Rattle.qrcode_area.specs.Reserves.{IsItsExcess, IsLeast, IsReserve}
 use Rattle.qrcode_area.specs.declared.areas.Rectangle.{Rectangle}

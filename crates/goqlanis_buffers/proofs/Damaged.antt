@@ -8,7 +8,7 @@ use Rattle.qrcode_layout.specs.declared.masks.MaskPattern.{MaskPattern}
 use Rattle.qrcode_symbol.specs.Reading.{ReadsBitsOnly}
 use Rattle.qrcode.specs.Reading.{EncodesBits, EncodesBytes, ReadsOnly}
 use Rattle.qrcode_reader.specs.Formats.{HasFormat}
-use Rattle.qrcode_render.specs.Shades.{colors_of}
+use Rattle.goqlanis_buffers.specs.Shades.{colors_of}
 use Rattle.qrcode_damage.specs.Damage.{IsPromised, IsWrongBy}
 use Rattle.goqlanis_buffers.specs.Checking.{flag}
 use Rattle.goqlanis_buffers.specs.Damaging.{wanted, IsDamagedTo}

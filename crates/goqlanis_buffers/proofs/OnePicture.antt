@@ -7,12 +7,12 @@ use Rattle.qrcode_types.specs.Versions.{side}
 use Rattle.qrcode_types.specs.declared.types.Color.{Color}
 use Rattle.qrcode_types.specs.declared.types.Color.TheVariants.{Light}
 use Rattle.qrcode_render.specs.Drawn.{drawn}
-use Rattle.qrcode_render.specs.Eps.{eps_paint, eps_rect}
-use Rattle.goqlanis_core.specs.Formats.{eps_text, IsDrawn}
-use Rattle.goqlanis_core.specs.Layers.{is_tone, layer, order, unit_layout, AreLayers, AreOver}
-use Rattle.goqlanis_core.specs.Parts.{part_of}
-use Rattle.goqlanis_core.specs.Sheets.{Sheet, eps_ink}
-use Rattle.goqlanis_core.specs.declared.layers.PartInk.{PartInk}
+use Rattle.qrcode_sheets.specs.Eps.{eps_paint, eps_rect}
+use Rattle.qrcode_sheets.specs.Formats.{eps_text, IsDrawn}
+use Rattle.qrcode_sheets.specs.Layers.{is_tone, layer, order, unit_layout, AreLayers, AreOver}
+use Rattle.qrcode_sheets.specs.Parts.{part_of}
+use Rattle.qrcode_sheets.specs.Sheets.{Sheet, eps_ink}
+use Rattle.qrcode_sheets.specs.declared.layers.PartInk.{PartInk}
 use Rattle.goqlanis_buffers.specs.Drawings.{sheet, IsDrawn as IsDrawing}
 use Rattle.goqlanis_buffers.specs.Tints.{ink_paint, Paint}
 use Rattle.goqlanis_buffers.specs.declared.pictures.Drawing.{Drawing}

@@ -2,7 +2,7 @@
 use Rattle.std.proofs.Common.{ℕ, ◌+◌, ◌<◌, List, [], ◌∷◌, ◌++◌, length, map, take, get_or, sym, subst}
 use Rattle.std.specs.List.{AllZip}
 use Rattle.std.proofs.lemmas.List.{take_more, map-append}
-use Rattle.qrcode_render.specs.Shades.{colors_of}
+use Rattle.goqlanis_buffers.specs.Shades.{colors_of}
 use Rattle.goqlanis_buffers.specs.Joining.{found_part, ArePartsOf, IsPartOf}
 use Rattle.goqlanis_buffers.specs.declared.joining.Found.{Found}
 use Rattle.goqlanis_buffers.specs.declared.joining.Square.{Square}

@@ -7,7 +7,7 @@ use Rattle.qrcode_types.specs.declared.types.Version.TheVariants.{Normal}
 use Rattle.qrcode.specs.Reading.{ReadsOnly}
 use Rattle.qrcode.specs.Texts.{ShowsTextOnly}
 use Rattle.qrcode_reader.specs.Readings.{HasNoVersion, HasNoFormat, HasDamagedBlock, ShowsNothing, SpellsNothing}
-use Rattle.qrcode_render.specs.Shades.{colors_of}
+use Rattle.goqlanis_buffers.specs.Shades.{colors_of}
 use Rattle.qrcode_formats.specs.Formats.{format_numbered}
 use Rattle.goqlanis_buffers.specs.Drawings.{has_side, is_sayable, IsDrawn}
 use Rattle.goqlanis_buffers.specs.declared.pictures.Drawing.{Drawing}

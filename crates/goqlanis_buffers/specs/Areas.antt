@@ -10,7 +10,7 @@ use Rattle.qrcode_symbol.specs.Reading.{ReadsBitsOnly}
 use Rattle.qrcode.specs.Reading.{EncodesBits, EncodesBytes, ReadsOnly}
 use Rattle.qrcode_reader.specs.Formats.{HasFormat}
 use Rattle.qrcode_reader.specs.declared.formats.FormatCopy.TheVariants.{First, Last}
-use Rattle.qrcode_render.specs.Shades.{colors_of}
+use Rattle.goqlanis_buffers.specs.Shades.{colors_of}
 use Rattle.qrcode_area.specs.Areas.{AgreesOutside, KeepsFormat, LeavesReserve, MayShowAnything, covers, is_inside, touched}
 use Rattle.qrcode_area.specs.Counting.{touched_places}
 use Rattle.qrcode_area.specs.Rectangles.{IsLargest, NoneLarger}

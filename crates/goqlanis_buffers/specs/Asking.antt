@@ -1,6 +1,6 @@
 -- Requests to draw, and the lengths of pictures.
 use Rattle.std.specs.Prelude.{◌≡◌, ◌+◌, ◌*◌, ◌/◌, ◌^◌, ◌<◌, ◌++◌, ℕ, List, [], codes, decimal, length, IsTrue}
-use Rattle.qrcode_render.specs.Printers.{bytes_across, escpos_head, tspl_head, tspl_tail, xbm_head, xbm_tail}
+use Rattle.qrcode_sheets.specs.Printers.{bytes_across, escpos_head, tspl_head, tspl_tail, xbm_head, xbm_tail}
 use Rattle.qrcode_formats.specs.declared.Format.{Format}
 use Rattle.goqlanis_buffers.specs.Answers.{HasSize, IsDrawingCause, IsOfSquare, IsPicture}
 use Rattle.goqlanis_buffers.specs.Drawings.{is_sayable}

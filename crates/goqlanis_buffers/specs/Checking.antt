@@ -2,7 +2,7 @@
 use Rattle.std.specs.Prelude.{◌≡◌, ◌⊎◌, ◌<◌, ◌≤◌, ⊤, ℕ, Bool, List, flat_map, length, Option, Some, None, Result, IfOk, IfErr, OnErr, IsTrue, if◌then◌else◌}
 use Rattle.std.specs.List.{AllZip}
 use Rattle.qrcode_types.specs.Versions.{has_level}
-use Rattle.qrcode_render.specs.Shades.{colors_of}
+use Rattle.goqlanis_buffers.specs.Shades.{colors_of}
 use Rattle.qrcode_reader.specs.Readings.{HasNoVersion, HasNoFormat, HasDamagedBlock}
 use Rattle.qrcode_check.specs.Checks.{is_standard, IsCheck}
 use Rattle.qrcode_check.specs.Correction.{grade}

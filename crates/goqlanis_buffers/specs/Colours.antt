@@ -1,7 +1,7 @@
 -- Colours of pictures: transparency, red, green and blue in the four bytes of a number.
 use Rattle.std.specs.Prelude.{ℕ, ◌-◌, ◌/◌, ◌%◌, ◌^◌, ◌==◌, nat_lt, ◌&&◌, Bool, true, false, List, [], ◌∷◌, ◌++◌, codes, if◌then◌else◌}
 use Rattle.std.specs.Fmt.{digit_glyph}
-use Rattle.goqlanis_core.specs.Sheets.{Shade}
+use Rattle.qrcode_sheets.specs.Sheets.{Shade}
 use Rattle.qrcode_formats.specs.Formats.{row}
 use Rattle.qrcode_formats.specs.declared.Colours.{Colours}
 use Rattle.qrcode_formats.specs.declared.Colours.TheVariants.{Any, Opaque, Fixed}

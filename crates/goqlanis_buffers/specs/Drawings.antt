@@ -1,12 +1,12 @@
 -- What the calls for C draw.
 use Rattle.std.specs.Prelude.{◌≡◌, ℕ, ◌==◌, nat_le, ◌&&◌, Bool, true, false, List, [], IsTrue, Option, None, Some, map, if◌then◌else◌}
 use Rattle.qrcode_render.specs.Layout.{layout}
-use Rattle.qrcode_render.specs.Paths.{plain}
-use Rattle.qrcode_render.specs.Shades.{colors_of}
+use Rattle.qrcode_sheets.specs.Paths.{plain}
+use Rattle.goqlanis_buffers.specs.Shades.{colors_of}
 use Rattle.goqlanis_core.specs.Drawings.{sized}
-use Rattle.goqlanis_core.specs.Formats.{IsDrawn as IsSheetIn}
-use Rattle.goqlanis_core.specs.Sheets.{Sheet}
-use Rattle.goqlanis_core.specs.declared.layers.PartInk.{PartInk}
+use Rattle.qrcode_sheets.specs.Formats.{IsDrawn as IsSheetIn}
+use Rattle.qrcode_sheets.specs.Sheets.{Sheet}
+use Rattle.qrcode_sheets.specs.declared.layers.PartInk.{PartInk}
 use Rattle.qrcode_formats.specs.Formats.{row}
 use Rattle.qrcode_formats.specs.declared.Density.{Density}
 use Rattle.qrcode_formats.specs.declared.Density.TheVariants.{Stored}

@@ -7,7 +7,7 @@ use Rattle.qrcode_reader.specs.declared.correction.WrongCodeword.{WrongCodeword}
 use Rattle.qrcode_reader.specs.declared.spell.headers.Header.TheVariants.{StructuredAppend}
 use Rattle.qrcode_reader.specs.declared.spell.parts.Part as piece
 use Rattle.qrcode_reader.specs.declared.spell.parts.Part.TheVariants.{Front}
-use Rattle.qrcode_render.specs.Shades.{colors_of}
+use Rattle.goqlanis_buffers.specs.Shades.{colors_of}
 use Rattle.qrcode_append.specs.Joining.{IsJoined, IsJoinRefused}
 use Rattle.qrcode_append.specs.declared.errors.JoinError.TheVariants as join
 use Rattle.qrcode_append.specs.declared.joining.Part.{Part}

@@ -16,6 +16,7 @@ pub mod Readings
 pub mod Scanning
 pub mod Segments
 pub mod Several
+pub mod Shades
 pub mod Symbols
 pub mod Tints
 pub mod contents

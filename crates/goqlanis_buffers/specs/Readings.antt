@@ -15,7 +15,7 @@ use Rattle.qrcode_reader.specs.declared.positions.AnyReading as reader
 use Rattle.qrcode_reader.specs.declared.positions.Position.{Position}
 use Rattle.qrcode_reader.specs.declared.positions.Position.TheVariants.{Upright, TurnedLeft, UpsideDown, TurnedRight, Mirrored, Flipped, Transposed, Antitransposed}
 use Rattle.qrcode_reader.specs.declared.correction.WrongCodeword.{WrongCodeword}
-use Rattle.qrcode_render.specs.Shades.{colors_of}
+use Rattle.goqlanis_buffers.specs.Shades.{colors_of}
 use Rattle.goqlanis_buffers.specs.Names.{level_named, version_named}
 use Rattle.goqlanis_buffers.specs.Outputs.{IsFilled}
 use Rattle.goqlanis_buffers.specs.declared.reading.AnyReading.{AnyReading}

@@ -9,10 +9,10 @@ use Rattle.qrcode_formats.specs.Formats.{row}
 use Rattle.qrcode_formats.specs.declared.Colours.{Colours}
 use Rattle.qrcode_formats.specs.declared.Colours.TheVariants.{Any, Opaque, Fixed}
 use Rattle.qrcode_formats.specs.declared.Format.{Format}
-use Rattle.goqlanis_core.specs.Sheets.{Shade, shade_of}
-use Rattle.goqlanis_core.specs.declared.layers.PartInk.{PartInk}
-use Rattle.goqlanis_core.specs.declared.parts.Part.{Part}
-use Rattle.goqlanis_core.specs.declared.parts.Part.TheVariants.{Finder, Alignment, Timing, FormatWord, VersionWord, Data}
+use Rattle.qrcode_sheets.specs.Sheets.{Shade, shade_of}
+use Rattle.qrcode_sheets.specs.declared.layers.PartInk.{PartInk}
+use Rattle.qrcode_sheets.specs.declared.parts.Part.{Part}
+use Rattle.qrcode_sheets.specs.declared.parts.Part.TheVariants.{Finder, Alignment, Timing, FormatWord, VersionWord, Data}
 use Rattle.goqlanis_buffers.specs.Colours.{colour_shade, named_shade}
 use Rattle.goqlanis_buffers.specs.declared.pictures.Drawing.{Drawing}
 use Rattle.goqlanis_buffers.specs.declared.tints.NamedTint.{NamedTint}

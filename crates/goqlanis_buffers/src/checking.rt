@@ -1,7 +1,7 @@
 //! Reports where codes of pictures, and squares of modules, depart from the standard.
 
 ghost use Rattle.std.specs.Prelude.{◌≡◌, All, flat_map, IfErr, IfOk};
-ghost use Rattle.qrcode_render.specs.Shades.{colors_of};
+ghost use Rattle.goqlanis_buffers.specs.Shades.{colors_of};
 ghost use Rattle.goqlanis_buffers.specs.Checking.{flag, letter_of, told_content, wrong_in, AreToldChecks, ChecksPicture, ChecksSquare, HasLevel, IsChecked, IsToldCheck, IsUncheckedFor};
 
 use crate::answers::Refusal;

@@ -3,12 +3,12 @@
 
 ghost use Rattle.std.specs.Prelude.{◌≡◌, ◌++◌, string_bytes, IfOk, OnOk, IsOkUnless};
 ghost use Rattle.qrcode_types.specs.declared.types.QrError.TheVariants.{OutOfMemory};
-ghost use Rattle.goqlanis_core.specs.Sheets.{shade_of};
+ghost use Rattle.qrcode_sheets.specs.Sheets.{shade_of};
 ghost use Rattle.goqlanis_buffers.specs.Colours.{blue_of, colour_name, green_of, has_colours, hex_text, named_shade, opacity_of, red_of};
 
-use goqlanis_core::sheet::Ink;
 use qrcode::types::QrResult;
 use qrcode_formats::{Colours, Format};
+use qrcode_sheets::sheet::Ink;
 use std::alloc::Global;
 use std::fmt::Write;
 

@@ -1,7 +1,7 @@
 //! Joins the data of several symbols (structured append), given as squares of modules.
 
 ghost use Rattle.std.specs.Prelude.{◌≡◌, ◌≢◌, ℕ, Some, length, map, IfOk, IfErr, IfSome, OnErr};
-ghost use Rattle.qrcode_render.specs.Shades.{colors_of};
+ghost use Rattle.goqlanis_buffers.specs.Shades.{colors_of};
 ghost use Rattle.goqlanis_buffers.specs.Answers.{refusal_of};
 ghost use Rattle.goqlanis_buffers.specs.Joining.{part_of, found_part, place_reported, refusal_reported, ArePartsOf, IsNoPart, IsPartOf, IsUnjoined, IsJoinedInto};
 

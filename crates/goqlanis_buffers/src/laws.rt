@@ -1,8 +1,8 @@
 //! Theorems that no other call states, as contracts of functions that do nothing.
 
 ghost use Rattle.std.specs.Prelude.{◌≡◌, ◌≢◌, ◌↔◌, ℕ, List, IsTrue};
-ghost use Rattle.goqlanis_core.specs.Formats.{IsDrawn};
-ghost use Rattle.goqlanis_core.specs.Sheets.{Sheet};
+ghost use Rattle.qrcode_sheets.specs.Formats.{IsDrawn};
+ghost use Rattle.qrcode_sheets.specs.Sheets.{Sheet};
 ghost use Rattle.qrcode_formats.specs.declared.Format.{Format};
 ghost use Rattle.qrcode_formats.specs.declared.Format.TheVariants.{Pdf, Png, SvgPath, Zpl};
 ghost use Rattle.goqlanis_buffers.specs.Drawings.{IsDrawn as IsDrawing};

@@ -3,8 +3,8 @@
 ghost use Rattle.std.specs.Prelude.{◌≡◌, ◌↔◌, ℕ, length, map, IfOk, IfErr, IsOkUnless, IsTrue};
 ghost use Rattle.qrcode_types.specs.declared.types.QrError.TheVariants.{OutOfMemory};
 ghost use Rattle.qrcode_formats.specs.Formats.{row};
-ghost use Rattle.qrcode_render.specs.Paths.{frame_of, plain};
-ghost use Rattle.qrcode_render.specs.Shades.{colors_of};
+ghost use Rattle.qrcode_sheets.specs.Paths.{frame_of, plain};
+ghost use Rattle.goqlanis_buffers.specs.Shades.{colors_of};
 ghost use Rattle.goqlanis_core.specs.Drawings.{sized};
 ghost use Rattle.goqlanis_buffers.specs.Colours.{colour_name};
 ghost use Rattle.goqlanis_buffers.specs.Calls.{TellsLength, WritesPicture};
@@ -18,12 +18,11 @@ use crate::colours::{has_colours, ink_of, name_of};
 use crate::lengths::known_length;
 use crate::symbols::{colors_of, fill};
 use crate::tints::{NamedTint, has_parts, have_tints, inks_of, is_plain, own_tints, version_for};
-use goqlanis_core::GREATEST_PAINTED;
-use goqlanis_core::render::draw;
-use goqlanis_core::sheet::Sheet;
-use qrcode::render::svg::{Frame, Size};
 use qrcode::types::{Color, QrResult};
 use qrcode_formats::{Density, Format, format_numbered};
+use qrcode_sheets::sheet::Sheet;
+use qrcode_sheets::svg_path::{Frame, Size};
+use qrcode_sheets::{GREATEST_PAINTED, draw};
 use std::alloc::Global;
 
 /// How C wants modules drawn. A colour is transparency, red, green and blue in its four bytes, from

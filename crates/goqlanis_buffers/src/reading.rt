@@ -7,7 +7,7 @@ ghost use Rattle.qrcode_reader.specs.Formats.{HasFormat};
 ghost use Rattle.qrcode_reader.specs.Readings.{IsReading};
 ghost use Rattle.goqlanis_buffers.specs.Answers.{IsMaskCause, IsReadingCause};
 ghost use Rattle.goqlanis_buffers.specs.Calls.{TellsMask, WritesAnyReading, WritesReading, WritesTextReading};
-ghost use Rattle.qrcode_render.specs.Shades.{colors_of};
+ghost use Rattle.goqlanis_buffers.specs.Shades.{colors_of};
 ghost use Rattle.goqlanis_buffers.specs.Readings.{mask_number_in, position_number, IsReported};
 
 use crate::answers::Refusal;

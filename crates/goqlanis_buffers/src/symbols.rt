@@ -2,7 +2,7 @@
 
 ghost use Rattle.std.specs.Prelude.{◌≡◌, ◌<◌, ◌≤◌, length, IfOk, IfErr, IsOkUnless, OnErr};
 ghost use Rattle.qrcode_types.specs.declared.types.QrError.TheVariants.{OutOfMemory};
-ghost use Rattle.qrcode_render.specs.Shades.{colors_of};
+ghost use Rattle.goqlanis_buffers.specs.Shades.{colors_of};
 ghost use Rattle.goqlanis_buffers.specs.Outputs.{module_bytes, IsDescribed, IsFilled, IsWritten, IsWrittenAs};
 ghost use Rattle.goqlanis_buffers.specs.Symbols.{IsMasked, IsMaskingCause};
 ghost use Rattle.goqlanis_buffers.specs.declared.answers.Refusal.TheVariants.{SmallBuffer};

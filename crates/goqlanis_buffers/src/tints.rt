@@ -7,9 +7,9 @@ ghost use Rattle.goqlanis_buffers.specs.Tints.{has_parts, have_tints, ink_paint,
 
 use crate::colours::{CLEAR, ink_of, name_of};
 use crate::pictures::Drawing;
-use goqlanis_core::{Part, PartInk};
 use qrcode::types::{Color, QrResult, Version};
 use qrcode_formats::{Colours, Format};
+use qrcode_sheets::{Part, PartInk};
 use std::alloc::{AllocError, Global};
 
 /// The colour of the dark or the light modules of a part, as C gives it.

@@ -17,7 +17,7 @@ use Rattle.qrcode.specs.Code.{Code}
 use Rattle.qrcode.specs.Reading.{EncodesBits}
 use Rattle.goqlanis_core.specs.Segments.{refusal_in, segment_bits, segment_refusal, segments_refusal, written_segments, IsSymbolOfSegments}
 use Rattle.goqlanis_core.specs.declared.segments.Segment.{Segment}
-use Rattle.goqlanis_core.proofs.Pieces.{flat_map_more}
+use Rattle.qrcode_sheets.proofs.Pieces.{flat_map_more}
 
 -- a successful push had no cause to fail
 pub taken_by : (r : Option QrError) (old after new : BitList) (u : Unit {0}) → Changes r old after new (Ok u) → r ≡ None

@@ -5,16 +5,16 @@ use Rattle.qrcode_types.specs.Versions.{side}
 use Rattle.qrcode_types.specs.declared.types.Color.{Color}
 use Rattle.qrcode_types.specs.declared.types.Version.{Version}
 use Rattle.qrcode_render.specs.Layout.{layout}
-use Rattle.qrcode_render.specs.Paths.{Frame, frame_of}
-use Rattle.qrcode_render.specs.declared.svg_path.Size.TheVariants.{Dots}
+use Rattle.qrcode_sheets.specs.Paths.{Frame, frame_of}
+use Rattle.qrcode_sheets.specs.declared.svg_path.Size.TheVariants.{Dots}
 use Rattle.qrcode.specs.Pictures.{quiet_zone}
-use Rattle.qrcode_area.specs.declared.areas.Rectangle.{Rectangle}
-use Rattle.goqlanis_core.specs.Formats.{IsDrawn}
-use Rattle.goqlanis_core.specs.Layers.{units}
+use Rattle.qrcode_sheets.specs.Formats.{IsDrawn}
+use Rattle.qrcode_sheets.specs.Layers.{units}
 use Rattle.goqlanis_core.specs.Masks.{AreUnder}
-use Rattle.goqlanis_core.specs.Sheets.{Sheet, shade_of}
+use Rattle.qrcode_sheets.specs.Sheets.{Sheet, shade_of}
 use Rattle.goqlanis_core.specs.declared.drawing.Drawing.{Drawing}
-use Rattle.goqlanis_core.specs.declared.pasting.Inset.{Inset}
+use Rattle.qrcode_sheets.specs.declared.pasting.Inset.{Inset}
+use Rattle.qrcode_sheets.specs.declared.pasting.Window.{Window}
 use Rattle.goqlanis_core.specs.declared.request.Request.{Request}
 
 abbrev pub zone_for : Request → Version → ℕ  -- the width of the quiet zone in modules: the requested one, or the standard's
@@ -39,7 +39,7 @@ sized (Some dots) f = record f { size = Dots dots }
 
 -- the sheet for these modules of a symbol, inside the quiet zone, with `over` or a picture over them. A module has at least one pixel a side; text ends
 -- with a newline
-abbrev pub sheet_for : Request → Version → List Color → List ℕ → Option (Rectangle × Inset) → Sheet
+abbrev pub sheet_for : Request → Version → List Color → List ℕ → Option (Window × Inset) → Sheet
 sheet_for r v s over inset = record {
   modules = s;
   at = layout (side v) (zone_for r v) (max (scale_for r v) 1) (max (scale_for r v) 1);

@@ -10,15 +10,16 @@ use Rattle.qrcode_area.specs.Rectangles.{only}
 use Rattle.qrcode_area.specs.declared.areas.Rectangle.{Rectangle}
 use Rattle.qrcode_png.specs.Image.{Shade, grey_shade}
 use Rattle.goqlanis_core.specs.Drawings.{sheet_for, unit_for, zone_for}
-use Rattle.goqlanis_core.specs.Formats.{IsDrawn}
+use Rattle.qrcode_sheets.specs.Formats.{IsDrawn}
 use Rattle.goqlanis_core.specs.Masks.{AreUnder}
 use Rattle.qrcode_formats.specs.declared.Format.{Format}
 use Rattle.qrcode_formats.specs.declared.Format.TheVariants.{Eps, Pdf}
 use Rattle.goqlanis_core.specs.declared.overlays.Inside.{Inside}
 use Rattle.goqlanis_core.specs.declared.overlays.Inside.TheVariants.{Nothing, Cross, Element, Pixels}
-use Rattle.goqlanis_core.specs.declared.pasting.Inset.{Inset}
+use Rattle.qrcode_sheets.specs.declared.pasting.Inset.{Inset}
+use Rattle.qrcode_sheets.specs.declared.pasting.Window.{Window}
 use Rattle.goqlanis_core.specs.Places.{place_in, HasRoom}
-use Rattle.goqlanis_core.specs.declared.places.Place.{Place}
+use Rattle.qrcode_sheets.specs.declared.places.Place.{Place}
 use Rattle.goqlanis_core.specs.declared.request.Request.{Request}
 
 -- light are the modules of the symbol under the requested mask, with those of the area light
@@ -66,8 +67,11 @@ element_for r v area Cross = cross_for r v
 element_for r v area (Element margin rest) = svg_element (place_in r v area margin) rest.now
 element_for r v area (Pixels n) = []
 
-abbrev pub inset_for : Rectangle → Inside → Option (Rectangle × Inset)  -- the picture to draw over the area, if there is one
-inset_for area (Pixels n) = Some (area, n)
+abbrev pub window_of : Rectangle → Window  -- the area as a window of a picture
+window_of area = record { left = area.left; top = area.top; width = area.width; height = area.height }
+
+abbrev pub inset_for : Rectangle → Inside → Option (Window × Inset)  -- the picture to draw over the area, if there is one
+inset_for area (Pixels n) = Some (window_of area, n)
 inset_for area inside = None
 
 abbrev pub LacksRoom : Version → Rectangle → Inside → Type 0  -- an element that has no room in the area

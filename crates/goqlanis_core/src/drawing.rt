@@ -3,23 +3,20 @@
 ghost use Rattle.std.specs.Prelude.{◌≡◌, ◌≤◌, ◌⊎◌, length, unwrap_or, IfOk, IfErr, IsOkUnless};
 ghost use Rattle.qrcode_types.specs.declared.types.QrError.TheVariants.{InvalidVersion, OutOfMemory};
 ghost use Rattle.qrcode.specs.Pictures.{quiet_zone};
-ghost use Rattle.goqlanis_core.specs.Formats.{IsDrawn};
+ghost use Rattle.qrcode_sheets.specs.Formats.{IsDrawn};
 ghost use Rattle.goqlanis_core.specs.Drawings.{IsShownIn, dots_for, scale_for, sheet_for, unit_for};
 ghost use Rattle.goqlanis_core.specs.Masks.{LacksMask};
-ghost use Rattle.goqlanis_core.specs.Sheets.{sheet_of};
+ghost use Rattle.qrcode_sheets.specs.Sheets.{sheet_of};
 ghost use Rattle.goqlanis_core.specs.Symbols.{IsSymbolIn, IsRefusedFor};
 
-use crate::layers::units;
 use crate::masking::modules_under;
-use crate::pasting::Inset;
-use crate::render::draw;
 use crate::request::{Choice, Request};
-use crate::sheet::Sheet;
 use qrcode::QrCode;
 use qrcode::bits::Manner;
-use qrcode::render::svg::{Frame, Size};
 use qrcode::types::{Color, EcLevel, QrResult};
-use qrcode_area::areas::Rectangle;
+use qrcode_sheets::sheet::Sheet;
+use qrcode_sheets::svg_path::{Frame, Size};
+use qrcode_sheets::{Inset, Window, draw, units};
 use std::alloc::Global;
 
 /// A symbol and its picture.
@@ -76,7 +73,7 @@ pub fn drawn(
     code: &QrCode,
     modules: &[Color],
     over: &[u8],
-    inset: Option<(Rectangle, Inset<'_>)>,
+    inset: Option<(Window, Inset<'_>)>,
 ) -> QrResult<Vec<u8>>
     requires { length modules.now ≡ length code.now.modules }
     ensures shown { IfOk result (λ file. IsDrawn request.now.format (sheet_for request.now
@@ -93,7 +90,7 @@ fn sheet<'a>(
     code: &QrCode,
     modules: &'a [Color],
     over: &'a [u8],
-    inset: Option<(Rectangle, Inset<'a>)>,
+    inset: Option<(Window, Inset<'a>)>,
 ) -> Sheet<'a, 'a, 'a>
     requires { length modules.now ≡ length code.now.modules }
     ensures value { sheet_of result ≡ sheet_for request.now code.now.version modules.entry.now

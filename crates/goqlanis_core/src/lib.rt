@@ -4,33 +4,21 @@
 
 pub mod areas;
 mod charsets;
-pub mod colours;
 mod drawing;
 mod elements;
-mod layers;
 pub mod masking;
 pub mod overlays;
-pub mod parts;
-pub mod pasting;
 pub mod places;
 mod refusal;
-pub mod render;
 mod request;
 mod segments;
-mod shades;
-pub mod sheet;
-mod terminal;
 
 pub use charsets::symbol_among;
 pub use drawing::{Drawing, dots, drawing_of, drawn, quiet_zone, scale, symbol_in};
 pub use elements::{symbol_for_application, symbol_of_elements};
-pub use layers::PartInk;
-pub use parts::Part;
 pub use refusal::{
     Grouped, VersionName, application_refusal_text, elements_refusal_text, refusal_text,
     segments_refusal_text,
 };
 pub use request::{Choice, Length, Request, manner_of};
 pub use segments::{Segment, push_data, symbol_of, unwritable};
-pub use shades::GREATEST_PAINTED;
-pub use sheet::Ink;

@@ -11,14 +11,14 @@ ghost use Rattle.goqlanis_core.specs.Overlays.{AreBeside, IsCrossSize, IsCrossWi
 
 use crate::drawing::{drawn, quiet_zone, scale, unit};
 use crate::masking::modules_under;
-use crate::pasting::Inset;
-use crate::places::{Place, place_in};
+use crate::places::place_in;
 use crate::request::Request;
 use qrcode::QrCode;
 use qrcode::types::{Color, QrResult};
 use qrcode_area::areas::{Area, Rectangle};
 use qrcode_area::covered::lightened;
 use qrcode_formats::Format;
+use qrcode_sheets::{Inset, Place, Window};
 use std::alloc::{AllocError, Global};
 
 /// Returns the modules along the side of the area that the Swiss cross of a bill covers, in a
@@ -189,11 +189,19 @@ pub fn with_logo(
 }
 
 // The picture to draw over the area, if there is one.
-fn inset_in<'a>(area: Rectangle, inside: Inside<'a>) -> Option<(Rectangle, Inset<'a>)>
+fn inset_in<'a>(area: Rectangle, inside: Inside<'a>) -> Option<(Window, Inset<'a>)>
     ensures { result ≡ inset_for area inside.entry }
 {
     match inside {
-        Inside::Pixels(inset) => Some((area, inset)),
+        Inside::Pixels(inset) => {
+            let window = Window {
+                left: area.left,
+                top: area.top,
+                width: area.width,
+                height: area.height,
+            };
+            Some((window, inset))
+        }
         _ => None,
     }
 }

@@ -3,12 +3,12 @@
 ghost use Rattle.std.specs.Prelude.{◌≡◌, IsUtf8};
 ghost use Rattle.qrcode_bits.specs.declared.bits.manner.Manner.TheVariants.{Bytes, Text};
 
-use crate::layers::PartInk;
-use crate::sheet::Ink;
 use qrcode::bits::Manner;
-use qrcode::render::svg::Frame;
 use qrcode::types::{EcLevel, Version};
 use qrcode_formats::Format;
+use qrcode_sheets::PartInk;
+use qrcode_sheets::sheet::Ink;
+use qrcode_sheets::svg_path::Frame;
 
 /// Which versions are allowed. They are in the order M1 to M4, then 1 to 40.
 #[derive(Clone, Copy)]

@@ -12,7 +12,7 @@ use crate::contents::Elements;
 use crate::damaging::draw_damaged;
 use crate::segments::{characters_of, is_empty, segments_of};
 use goqlanis_core::{
-    Drawing, GREATEST_PAINTED, Request, Segment, application_refusal_text, drawing_of,
+    Drawing, Request, Segment, application_refusal_text, drawing_of,
     elements_refusal_text, manner_of, quiet_zone, refusal_text, scale, segments_refusal_text,
     symbol_for_application, symbol_in, symbol_of, symbol_of_elements, unwritable,
 };
@@ -31,6 +31,7 @@ use qrcode_formats::{Format, Middle};
 use qrcode_gs1::errors::Gs1Error;
 use qrcode_gs1::symbol::errors::SymbolError;
 use qrcode_gs1::symbol::indicator_of;
+use qrcode_sheets::GREATEST_PAINTED;
 use std::alloc::Global;
 use std::io::IsTerminal;
 use std::process::ExitCode;

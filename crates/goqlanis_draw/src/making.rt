@@ -7,7 +7,6 @@ use crate::drawing::{
 };
 use crate::lines::draw_lines;
 use crate::splitting::{MOST_IN_SEVERAL, draw_several};
-use goqlanis_core::Ink;
 use goqlanis_files::failure::Failure;
 use goqlanis_files::streams::{MOST_DATA, read_file, read_standard_input, shown};
 use goqlanis_files::{doubted, refused, usage};
@@ -22,6 +21,7 @@ use qrcode::types::QrError;
 use qrcode_contents::bill;
 use qrcode_payloads::given::Given;
 use qrcode_payloads::kinds::Kind;
+use qrcode_sheets::sheet::Ink;
 use std::alloc::Global;
 use std::process::ExitCode;
 

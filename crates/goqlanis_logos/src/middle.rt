@@ -1,7 +1,7 @@
 //! The middle of a code: a logo, the Swiss cross, or an empty area.
 
 ghost use Rattle.std.specs.Prelude.{IfOk, IsErr};
-ghost use Rattle.goqlanis_core.specs.Places.{HasPixels};
+ghost use Rattle.qrcode_sheets.specs.Places.{HasPixels};
 
 use crate::logos::{element_of, pixels_of};
 use crate::shrinking::shrunk;
@@ -9,8 +9,7 @@ use goqlanis_core::areas::{LogoError, LogoSize, LogoWish, logo_area, roomier};
 use goqlanis_core::overlays::{
     CROSS_UNITS, Inside, cross_pixels, cross_size, cross_width, with_logo,
 };
-use goqlanis_core::pasting::Inset;
-use goqlanis_core::places::{Place, place_in};
+use goqlanis_core::places::place_in;
 use goqlanis_core::{Request, VersionName};
 use goqlanis_files::failure::Failure;
 use goqlanis_files::streams::read_file;
@@ -23,6 +22,7 @@ use qrcode_area::areas::Rectangle;
 use qrcode_area::excess::Excess;
 use qrcode_area::rectangles::Kept;
 use qrcode_formats::Format;
+use qrcode_sheets::{Inset, Place};
 use std::alloc::{AllocError, Global};
 
 // The maximum size of a logo file: 1 MiB.

@@ -1,6 +1,6 @@
 //! Logos with more pixels than their place in a drawing.
 
-use goqlanis_core::pasting::Inset;
+use qrcode_sheets::Inset;
 use std::alloc::{AllocError, Global};
 
 // A stretch of a row or column of pixels, each of which has `unit` parts.

@@ -3,11 +3,13 @@
 use crate::nearest::nearest;
 use crate::options::PART_COLOURS;
 use clap::ArgMatches;
-use goqlanis_core::colours::{Colour, NAMES, colour_named};
-use goqlanis_core::{Ink, PartInk, Request};
+use goqlanis_core::Request;
 use goqlanis_files::failure::Failure;
 use goqlanis_files::usage;
 use qrcode_formats::Colours;
+use qrcode_sheets::PartInk;
+use qrcode_sheets::colours::{Colour, NAMES, colour_named};
+use qrcode_sheets::sheet::Ink;
 use std::alloc::{AllocError, Global};
 
 /// Returns the colours of parts that the command line gives; `--invert` swaps dark and light.

@@ -3,7 +3,7 @@
 use clap::ArgMatches;
 use goqlanis_files::failure::Failure;
 use goqlanis_files::usage;
-use qrcode::render::svg::{Frame, Size};
+use qrcode_sheets::svg_path::{Frame, Size};
 use std::alloc::Global;
 
 /// Returns the position on a label, in dots from the left and from the top.

@@ -1,7 +1,7 @@
 //! Warnings on standard error; the code is drawn anyway.
 
 use crate::asked::{Asked, Source, Target, ending_format};
-use goqlanis_core::{Choice, Grouped, Ink, Request};
+use goqlanis_core::{Choice, Grouped, Request};
 use goqlanis_files::doubted;
 use goqlanis_files::failure::{Doubts, Failure};
 use goqlanis_files::streams::shown;
@@ -9,6 +9,7 @@ use qrcode::types::Color;
 use qrcode_contents::fields::errors::Field;
 use qrcode_formats::Format;
 use qrcode_payloads::given::Given;
+use qrcode_sheets::sheet::Ink;
 use std::{fmt, fs};
 
 /// Warns of colours with too little contrast, of UTF-8 text after the ECI of another character set,

@@ -1,13 +1,9 @@
-pub mod Attributes
-pub mod FilledRuns
 pub mod Folds
 pub mod Grids
 pub mod LineTexts
-pub mod PackedBits
 pub mod Pictures
 pub mod PixelRows
 pub mod RasterPictures
 pub mod Rectangles
 pub mod Sizes
 pub mod TextLines
-pub mod ZplFields

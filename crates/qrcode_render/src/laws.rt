@@ -4,45 +4,31 @@ ghost use Rattle.std.specs.Prelude.{◌≡◌, ◌↔◌, [], Some, IsTrue};
 ghost use Rattle.std.specs.Cmp.Lexicographic.{slice_cmp};
 ghost use Rattle.std.specs.Ordering.{nat_cmp};
 ghost use Rattle.std.specs.declared.cmp.Ordering.TheVariants.{Equal};
-ghost use Rattle.qrcode_render.specs.declared.eps.Color as eps;
 ghost use Rattle.qrcode_render.specs.declared.image.Luma.{Luma};
 ghost use Rattle.qrcode_render.specs.declared.image.LumaA.{LumaA};
 ghost use Rattle.qrcode_render.specs.declared.image.Rgb.{Rgb};
 ghost use Rattle.qrcode_render.specs.declared.image.Rgba.{Rgba};
-ghost use Rattle.qrcode_render.specs.declared.pbm.Bit.{Bit};
-ghost use Rattle.qrcode_render.specs.declared.pgm.Grey.{Grey};
 ghost use Rattle.qrcode_render.specs.declared.pic.Color as pic;
 ghost use Rattle.qrcode_render.specs.declared.string.Str.{Str};
 ghost use Rattle.qrcode_render.specs.declared.svg.Color as svg;
-ghost use Rattle.qrcode_render.specs.declared.svg_path.Path.{Path};
-ghost use Rattle.qrcode_render.specs.declared.svg_path.PathElement.{PathElement};
 ghost use Rattle.qrcode_render.specs.declared.unicode.Dense1x2.{Dense1x2};
 
 use crate::image::{Luma, LumaA, Rgb, Rgba};
-use crate::pbm::Bit;
-use crate::pgm::Grey;
 use crate::string::Str;
-use crate::svg::{Path, PathElement};
 use crate::unicode::Dense1x2;
-use crate::{eps, pic, svg};
+use crate::{pic, svg};
 use std::hash::Hash;
 
 /// Theorem: two pixels are equal by `==` exactly when they are the same, or, for those that are
 /// texts, when these have the same bytes. All PIC colours are equal.
 pub fn equality<'a>()
     ensures halves { (a b : Dense1x2) → IsTrue (⟦<Dense1x2 as PartialEq>⟧.eq a b) ↔ (a ≡ b) }
-    ensures bits { (a b : Bit) → IsTrue (⟦<Bit as PartialEq>⟧.eq a b) ↔ (a ≡ b) }
-    ensures greys { (a b : Grey) → IsTrue (⟦<Grey as PartialEq>⟧.eq a b) ↔ (a ≡ b) }
     ensures luma { (a b : Luma) → IsTrue (⟦<Luma as PartialEq>⟧.eq a b) ↔ (a ≡ b) }
     ensures luma_a { (a b : LumaA) → IsTrue (⟦<LumaA as PartialEq>⟧.eq a b) ↔ (a ≡ b) }
     ensures rgb { (a b : Rgb) → IsTrue (⟦<Rgb as PartialEq>⟧.eq a b) ↔ (a ≡ b) }
     ensures rgba { (a b : Rgba) → IsTrue (⟦<Rgba as PartialEq>⟧.eq a b) ↔ (a ≡ b) }
-    ensures eps { (a b : eps.Color) → IsTrue (⟦<eps::Color as PartialEq>⟧.eq a b) ↔ (a ≡ b) }
     ensures pic { (a b : pic.Color) → IsTrue (⟦<pic::Color as PartialEq>⟧.eq a b) }
     ensures svg { (a b : svg.Color) → IsTrue (⟦<svg::Color<'a> as PartialEq>⟧.eq a b)
-        ↔ (a.0.now ≡ b.0.now) }
-    ensures paths { (a b : Path) → IsTrue (⟦<Path<'a> as PartialEq>⟧.eq a b) ↔ (a.0.now ≡ b.0.now) }
-    ensures elements { (a b : PathElement) → IsTrue (⟦<PathElement<'a> as PartialEq>⟧.eq a b)
         ↔ (a.0.now ≡ b.0.now) }
     ensures texts { (a b : Str) → IsTrue (⟦<Str<'a> as PartialEq>⟧.eq a b) ↔ (a.0.now ≡ b.0.now) }
 {}

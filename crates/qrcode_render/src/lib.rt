@@ -1,4 +1,4 @@
-//! Draws a symbol: as text, as SVG, EPS, PDF or PIC, as rows of pixels, or for a printer.
+//! Draws a symbol: as text, as SVG or PIC, as rows of pixels, or on a canvas of the caller's.
 #![tactic(auto)]
 
 ghost use Rattle.std.specs.Prelude.{◌≡◌, ℕ, ◌+◌, ◌-◌, ◌*◌, ◌^◌, ◌<◌, ◌≤◌, length, fold, IfOk, OnOk, IsOkUnless, IsTrue};
@@ -15,32 +15,19 @@ use qrcode_types::types::{Color, QrResult};
 use std::alloc::Global;
 use std::marker::Model;
 
-mod backwards;
+pub mod backwards;
 mod cells;
-pub mod eps;
-pub mod escpos;
 pub mod grid;
 pub mod image;
 pub mod laws;
-pub mod packed;
 pub mod page;
-mod paths;
-pub mod pbm;
-pub mod pdf;
-pub mod pgm;
 pub mod pic;
-pub mod ppm;
 pub mod rows;
-mod runs;
 mod setters;
 pub mod string;
-mod strokes;
+pub mod strokes;
 pub mod svg;
-mod svg_path;
-pub mod tspl;
 pub mod unicode;
-pub mod xbm;
-pub mod zpl;
 
 /// A pixel type, which chooses the format of the picture. Its values stand for dark and light.
 pub trait Pixel: Copy {

@@ -193,7 +193,7 @@ impl<'a, P: Pixel> Renderer<'a, P> {
     }
 
     /// Returns the modules, including the quiet zone if it is on.
-    pub(crate) fn modules(&self) -> Modules
+    pub fn modules(&self) -> Modules
         requires { IsTrue (fits self.now) }
         ensures { result ≡ square_of self.now }
     {

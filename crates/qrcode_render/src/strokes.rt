@@ -58,7 +58,7 @@ impl<P: Copy, S: Strokes<P>> Plot<P, S> {
     /// Returns `head`, followed by the rectangles of the dark modules.
     ///
     /// Errors: only `OutOfMemory`.
-    pub(crate) fn after(head: String, modules: &Modules) -> QrResult<String>
+    pub fn after(head: String, modules: &Modules) -> QrResult<String>
         ensures value { IfOk result (λ text. string_bytes text ≡ drawn S.rect
             (square_layout modules.now) modules.now.content (string_bytes head)) }
         ensures memory { IsOkUnless result OutOfMemory }

@@ -9,7 +9,6 @@ ghost use Rattle.qrcode_render.specs.Svg.{svg_start, svg_rect, svg_end};
 use crate::Pixel;
 use crate::backwards::Backwards;
 use crate::strokes::{Plot, Strokes};
-pub use crate::svg_path::{Frame, Path, PathElement, Size, framed};
 use qrcode_types::types::{Color as ModuleColor, QrResult};
 use std::alloc::Global;
 

@@ -7,11 +7,11 @@ use crate::words::{Asked, number};
 use qrcode::render::image::{ImageBuffer, Luma, LumaA, Rgb, Rgba};
 use qrcode::render::string::Str;
 use qrcode::render::unicode::Dense1x2;
-use qrcode::render::{
-    Canvas, Pixel, Renderer, eps, escpos, fill_rect, pbm, pdf, pgm, pic, ppm, svg, tspl, xbm, zpl,
-};
+use qrcode::render::{Canvas, Pixel, Renderer, fill_rect, pic, svg};
 use qrcode::types::{Color, QrError, QrResult, Version};
 use qrcode_examples::label::Dot;
+use qrcode_sheets::svg_path::{Path, PathElement};
+use qrcode_sheets::{eps, escpos, pbm, pdf, pgm, ppm, tspl, xbm, zpl};
 use std::alloc::Global;
 
 /// Draws a picture in the format that `asked.kind` names, and returns its digest.
@@ -44,8 +44,8 @@ fn text_of(alloc: Global, asked: &Asked<'_>) -> QrResult<Digest> {
         "Word" => text::<Word>(alloc, asked),
         "Dense1x2" => text::<Dense1x2>(alloc, asked),
         "svg" => text::<svg::Color<'_>>(alloc, asked),
-        "svg-path" => text::<svg::Path<'_>>(alloc, asked),
-        "svg-path-element" => text::<svg::PathElement<'_>>(alloc, asked),
+        "svg-path" => text::<Path<'_>>(alloc, asked),
+        "svg-path-element" => text::<PathElement<'_>>(alloc, asked),
         "pic" => text::<pic::Color>(alloc, asked),
         _ => text::<eps::Color>(alloc, asked),
     }

@@ -150,7 +150,7 @@ def the_symbol_of_the_gallery(program):
 def python_has_the_same_colours(program):
     """The Python package has the CSS colour names of the program, and each draws its colour."""
     python = (TOP / "bindings/python/goqlanis/colours.txt").read_text(encoding="utf-8")
-    rattle = (TOP / "crates/goqlanis_core/src/colours.rt").read_text(encoding="utf-8")
+    rattle = (TOP / "crates/qrcode_sheets/src/colours.rt").read_text(encoding="utf-8")
     named = dict(re.findall(r"\b([a-z]+)=([0-9a-f]{6})\b", python))
     held_there = dict(re.findall(r'\("([a-z]+)", 0x([0-9a-f]{6})\)', rattle))
     drawn = [run(program, ["-f", "eps", "--light", it, "1"], "/").stdout for it in named]

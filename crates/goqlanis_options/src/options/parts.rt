@@ -2,7 +2,7 @@
 
 use super::Entry;
 use super::Takes::Text;
-use goqlanis_core::Part;
+use qrcode_sheets::Part;
 use qrcode::types::Color;
 
 /// The option for the colour of the dark or the light modules of one part of a code.

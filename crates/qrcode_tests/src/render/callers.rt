@@ -4,7 +4,8 @@ ghost use Rattle.std.specs.Prelude.{◌≡◌, ◌*◌, ◌≤◌, length};
 
 use crate::render::drawings::{MICRO_2, modules};
 use qrcode_render::image::Luma;
-use qrcode_render::{Renderer, pbm, svg};
+use qrcode_render::{Renderer, svg};
+use qrcode_sheets::pbm;
 use qrcode_types::types::{Color, QrResult};
 use std::alloc::Global;
 

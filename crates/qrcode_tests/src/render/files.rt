@@ -6,7 +6,9 @@ use crate::render::pictures::Size::{Default, Of, Same};
 use crate::render::pictures::Text::{Is, Starts};
 use crate::render::pictures::Zone::{Changed, On};
 use crate::render::pictures::{Colors, File, Row, Text, makes, writes};
-use qrcode_render::{Pixel, eps, escpos, pbm, pdf, pgm, ppm, svg, tspl, xbm, zpl};
+use qrcode_render::Pixel;
+use qrcode_sheets::svg_path::{Path, PathElement};
+use qrcode_sheets::{eps, escpos, pbm, pdf, pgm, ppm, tspl, xbm, zpl};
 use qrcode_types::types::Color;
 
 #[rattlefmt::skip]
@@ -142,9 +144,9 @@ static EPS: [Row<eps::Color, Text>; 2] = [
 ];
 
 #[rattlefmt::skip]
-static PATHS: [Row<svg::Path<'static>, Text>; 2] = [
+static PATHS: [Row<Path<'static>, Text>; 2] = [
     Row(
-        Drawing(2, "##\n.#"), On(1), Both(svg::Path("a\"b<c&d>"), svg::Path("t&n")), Of(3, 2),
+        Drawing(2, "##\n.#"), On(1), Both(Path("a\"b<c&d>"), Path("t&n")), Of(3, 2),
         Is(concat!(
             "<?xml version=\"1.0\" standalone=\"yes\"?><svg xmlns=\"http://www.w3.org/2000/svg\" ",
             "version=\"1.1\" width=\"12\" height=\"8\" viewBox=\"0 0 4 4\" ",
@@ -164,8 +166,8 @@ static PATHS: [Row<svg::Path<'static>, Text>; 2] = [
 ];
 
 #[rattlefmt::skip]
-static ELEMENTS: [Row<svg::PathElement<'static>, Text>; 2] = [
-    Row(MICRO_2, On(2), Dark(svg::PathElement("navy")), Default, Starts(concat!(
+static ELEMENTS: [Row<PathElement<'static>, Text>; 2] = [
+    Row(MICRO_2, On(2), Dark(PathElement("navy")), Default, Starts(concat!(
         "<svg xmlns=\"http://www.w3.org/2000/svg\" version=\"1.1\" width=\"136\" height=\"136\" ",
         "viewBox=\"0 0 17 17\" preserveAspectRatio=\"none\" shape-rendering=\"crispEdges\">",
         "<rect width=\"17\" height=\"17\" fill=\"#fff\"/><path fill=\"navy\" ",

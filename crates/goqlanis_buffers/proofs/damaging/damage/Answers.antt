@@ -3,7 +3,7 @@ use Rattle.qrcode_types.specs.declared.types.Color.{Color}
 use Rattle.qrcode_layout.specs.declared.masks.MaskPattern.{MaskPattern}
 use Rattle.qrcode_symbol.specs.Reading.{ReadsBitsOnly}
 use Rattle.qrcode.specs.Reading.{EncodesBits, EncodesBytes, ReadsOnly}
-use Rattle.qrcode_render.specs.Shades.{colors_of}
+use Rattle.goqlanis_buffers.specs.Shades.{colors_of}
 use Rattle.qrcode_damage.specs.Damage.{IsPromised, IsWrongBy}
 use Rattle.qrcode_damage.specs.declared.damage.Damage.{Damage}
 use Rattle.goqlanis_buffers.specs.Outputs.{module_bytes, IsFilled}

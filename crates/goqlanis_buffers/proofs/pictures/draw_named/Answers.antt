@@ -1,7 +1,7 @@
 use Rattle.std.proofs.Common.{rules, ◌∙◌}
 use Rattle.std.proofs.lemmas.Result.{IfOk-weaker}
 use Rattle.std.specs.Prelude.{IfOk}
-use Rattle.goqlanis_core.specs.Formats.{IsDrawn}
+use Rattle.qrcode_sheets.specs.Formats.{IsDrawn}
 use Rattle.goqlanis_buffers.specs.Drawings.{sheet}
 use Rattle.goqlanis_buffers.proofs.pictures.draw_named.Goals as goal
 

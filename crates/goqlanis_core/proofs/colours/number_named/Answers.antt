@@ -1,7 +1,0 @@
-use Rattle.goqlanis_core.specs.Colours.{names}
-use Rattle.goqlanis_core.proofs.colours.number_named.Goals as goal
-
--- the table of the code is the defined one
-pub returns : goal.returns
-unfolding names
-returns c = c.number_among.ensures

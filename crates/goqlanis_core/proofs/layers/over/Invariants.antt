@@ -1,7 +1,0 @@
-use Rattle.std.proofs.Common.{take}
-use Rattle.goqlanis_core.specs.Layers.{AreLayers}
-use Rattle.goqlanis_core.specs.Sheets.{sheet_of}
-use Rattle.goqlanis_core.proofs.layers.over.Given as goal
-
-abbrev pub invariant-loop-ink : goal.invariant-loop-ink
-invariant-loop-ink l = AreLayers l.format (sheet_of l.sheet) (take l.ink-index l.sheet.parts.now) l.text.items

@@ -1,0 +1,15 @@
+pub mod Colours
+pub mod Eps
+pub mod Files
+pub mod Formats
+pub mod Ink
+pub mod Layers
+pub mod Parts
+pub mod Pasted
+pub mod Paths
+pub mod Pdf
+pub mod Places
+pub mod Printers
+pub mod Sheets
+pub mod Terminal
+pub mod Zpl
