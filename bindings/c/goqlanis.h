@@ -378,7 +378,6 @@ enum {
     GOQ_WINDOWS_1251 = 22, /* of Windows, with Cyrillic letters */
     GOQ_WINDOWS_1252 = 23, /* of Windows, for Western Europe */
     GOQ_WINDOWS_1256 = 24, /* of Windows, with Arabic letters */
-    GOQ_UTF_16BE = 25, /* UTF-16 after its header, the big end first */
     GOQ_UTF_8 = 26 /* UTF-8 after its header */
 };
 

@@ -110,11 +110,11 @@ export function charset(value) {
     if (typeof value !== "string")
         throw new TypeError(`charset is a string, as 'shortest', not ${shown(value)}`);
     const name = value.toLowerCase().replace(/_/g, "-").replace("iso8859", "iso-8859")
-        .replace("utf8", "utf-8").replace("utf16", "utf-16").replace("utf-16-be", "utf-16be");
+        .replace("utf8", "utf-8");
     if (name === "shortest")
         return [];
     if (!Object.keys(CHARSETS).includes(name))
-        throw new QrError("NoSuchSet", `no charset ${shown(value)}: take 'shortest', 'utf-8', 'utf-16be', 'shift-jis', `
+        throw new QrError("NoSuchSet", `no charset ${shown(value)}: take 'shortest', 'utf-8', 'shift-jis', `
             + "'iso-8859-1' to 'iso-8859-16', without 12, "
             + "or 'windows-1250', -1251, -1252 or -1256");
     return [CHARSETS[name]];

@@ -26,7 +26,7 @@ export type Version = number | string;
 export type Charset = "iso-8859-1" | "iso-8859-2" | "iso-8859-3" | "iso-8859-4" | "iso-8859-5" |
     "iso-8859-6" | "iso-8859-7" | "iso-8859-8" | "iso-8859-9" | "iso-8859-10" | "iso-8859-11" |
     "iso-8859-13" | "iso-8859-14" | "iso-8859-15" | "iso-8859-16" | "shift-jis" | "windows-1250" |
-    "windows-1251" | "windows-1252" | "windows-1256" | "utf-16be" | "utf-8";
+    "windows-1251" | "windows-1252" | "windows-1256" | "utf-8";
 /** Bytes are any; a string is encoded so that readers show it. */
 export type Data = string | ArrayBuffer | ArrayBufferView;
 

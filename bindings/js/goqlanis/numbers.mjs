@@ -16,7 +16,8 @@ export const ISO_8859_1 = 3, ISO_8859_2 = 4, ISO_8859_3 = 5, ISO_8859_4 = 6, ISO
     ISO_8859_11 = 13;
 export const ISO_8859_13 = 15, ISO_8859_14 = 16, ISO_8859_15 = 17, ISO_8859_16 = 18;
 export const SHIFT_JIS = 20, WINDOWS_1250 = 21, WINDOWS_1251 = 22, WINDOWS_1252 = 23,
-    WINDOWS_1256 = 24, UTF_16BE = 25, UTF_8 = 26;
+    WINDOWS_1256 = 24;
+export const UTF_8 = 26;
 export const SEVERAL_MAX = 16;
 export const MODULES_MAX = 31329;
 export const BYTES_MAX = 7089;
@@ -138,7 +139,7 @@ export const CHARSETS = {
     "iso-8859-6": 8, "iso-8859-7": 9, "iso-8859-8": 10, "iso-8859-9": 11, "iso-8859-10": 12,
     "iso-8859-11": 13, "iso-8859-13": 15, "iso-8859-14": 16, "iso-8859-15": 17, "iso-8859-16": 18,
     "shift-jis": 20, "windows-1250": 21, "windows-1251": 22, "windows-1252": 23, "windows-1256": 24,
-    "utf-16be": 25, "utf-8": 26,
+    "utf-8": 26,
 };
 export const PAYLOADS = {
     "wifi": {"number": 0, "about": "a Wi-Fi network", "more": "", "fields": {"ssid": "the name of the network, 1 to 32 bytes", "password": "empty for an open network", "security": "\"open\", \"WEP\", \"WPA\" or \"WPA3\"; empty: WPA, or open if no password", "hidden": "\"true\" if the network does not broadcast its name"}},

@@ -162,13 +162,12 @@ def charset(value: Any) -> Tuple[int, ...]:
     """Returns the library's number of a character set, or nothing for the shortest."""
     name = text("charset", value).lower().replace("_", "-")
     name = name.replace("iso8859", "iso-8859").replace("utf8", "utf-8")
-    name = name.replace("utf16", "utf-16").replace("utf-16-be", "utf-16be")
     if name == "shortest":
         return ()
     if name not in CHARSETS:
-        raise NoSuchSet(f"no charset {shown(value)}: take 'shortest', 'utf-8', 'utf-16be', "
-                        "'shift-jis', 'iso-8859-1' to 'iso-8859-16', without 12, or 'windows-1250', "
-                        "-1251, -1252 or -1256")
+        raise NoSuchSet(f"no charset {shown(value)}: take 'shortest', 'utf-8', 'shift-jis', "
+                        "'iso-8859-1' to 'iso-8859-16', without 12, or 'windows-1250', -1251, "
+                        "-1252 or -1256")
     return CHARSETS[name],
 
 

@@ -46,7 +46,8 @@ UNMARKED = 0
 (ISO_8859_1, ISO_8859_2, ISO_8859_3, ISO_8859_4, ISO_8859_5, ISO_8859_6, ISO_8859_7, ISO_8859_8,
     ISO_8859_9, ISO_8859_10, ISO_8859_11) = range(3, 14)
 (ISO_8859_13, ISO_8859_14, ISO_8859_15, ISO_8859_16) = range(15, 19)
-(SHIFT_JIS, WINDOWS_1250, WINDOWS_1251, WINDOWS_1252, WINDOWS_1256, UTF_16BE, UTF_8) = range(20, 27)
+(SHIFT_JIS, WINDOWS_1250, WINDOWS_1251, WINDOWS_1252, WINDOWS_1256) = range(20, 25)
+UTF_8 = 26
 SEVERAL_MAX = 16
 MODULES_MAX = 31329
 BYTES_MAX = 7089
@@ -92,4 +93,4 @@ CHARSETS = {"iso-8859-1": 3, "iso-8859-2": 4, "iso-8859-3": 5, "iso-8859-4": 6, 
     "iso-8859-6": 8, "iso-8859-7": 9, "iso-8859-8": 10, "iso-8859-9": 11, "iso-8859-10": 12,
     "iso-8859-11": 13, "iso-8859-13": 15, "iso-8859-14": 16, "iso-8859-15": 17, "iso-8859-16": 18,
     "shift-jis": 20, "windows-1250": 21, "windows-1251": 22, "windows-1252": 23, "windows-1256": 24,
-    "utf-16be": 25, "utf-8": 26}
+    "utf-8": 26}

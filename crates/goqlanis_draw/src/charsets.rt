@@ -34,8 +34,8 @@ pub(crate) fn text_code(
         }
         None if name.eq_ignore_ascii_case("shortest") => made(alloc, request, &CHARSETS, text)?,
         None => return usage!(alloc;
-            "--charset {name}: use shortest, utf-8, utf-16be, shift-jis, iso-8859-1 to \
-            iso-8859-16, without 12, or windows-1250, -1251, -1252 or -1256"
+            "--charset {name}: use shortest, utf-8, shift-jis, iso-8859-1 to iso-8859-16, \
+            without 12, or windows-1250, -1251, -1252 or -1256"
         ),
     };
     let (code, set) = made;

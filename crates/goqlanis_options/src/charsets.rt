@@ -35,7 +35,7 @@ pub fn eci_name(number: u32) -> Option<&'static str> {
 #[rattlefmt::skip]
 static OTHERS: &[(u32, &str)] = &[
     (3, "latin1"), (3, "latin-1"), (20, "shift-jis"), (20, "sjis"), (21, "cp1250"), (22, "cp1251"),
-    (23, "cp1252"), (24, "cp1256"), (25, "utf16be"),
+    (23, "cp1252"), (24, "cp1256"),
 ];
 
 /// Returns the character set called `name`, such as `utf-8` or `iso-8859-5`, ignoring case.

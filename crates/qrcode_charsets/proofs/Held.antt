@@ -14,7 +14,7 @@ use Rattle.qrcode_charsets.specs.Fronts as fronts
 use Rattle.qrcode_charsets.specs.Fronts.{has_front, modes_of, manner_of}
 use Rattle.qrcode_charsets.specs.Laid.{cut_bytes, IsLaid, IsMeasured, IsHeld, IsHeldAt, IsLeastHolding}
 use Rattle.qrcode_charsets.specs.declared.sets.Charset.{Charset}
-use Rattle.qrcode_charsets.specs.declared.sets.Charset.TheVariants.{Unmarked, Utf8, OneByte, ShiftJis, Utf16}
+use Rattle.qrcode_charsets.specs.declared.sets.Charset.TheVariants.{Unmarked, Utf8, OneByte, ShiftJis}
 use Rattle.qrcode_charsets.specs.declared.shortest.measuring.Measured.{Measured}
 use Rattle.qrcode_charsets.proofs.Lists.{measured_least, laid_of}
 use Rattle.qrcode_charsets.proofs.Marks.{length_some}
@@ -34,7 +34,6 @@ as_in (OneByte p) m e =
     let is : MarkedText ≡ m = cc in
     subst (IsAsIn (OneByte p)) is (record { modes = refl; front = λ v. refl; bytes = λ b. refl; length = sym (length_some Utf8 26 refl) ∙ length_some (OneByte p) (page_designator p) refl })
 as_in ShiftJis m e = cc
-as_in Utf16 m e = cc
 
 module _ (c : Charset) (m : Manner) (like : IsAsIn c m) (v : Version) (l : EcLevel) (text bytes : List ℕ) (is : IsWritten c text bytes) where
   as_manner : IsHeld c v l text → HoldsAs m v l bytes

@@ -14,7 +14,5 @@ pub mod Rows
 pub mod Shown
 pub mod StandCuts
 pub mod StandIns
-pub mod Units
 pub mod Versions
-pub mod Whole
 pub mod Writings

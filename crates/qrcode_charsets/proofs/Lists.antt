@@ -22,12 +22,12 @@ use Rattle.qrcode_bits.proofs.Endings.{terminated-ending, ending-is_end, read_as
 use Rattle.qrcode_bits.proofs.LeastCuts.{AreAmong}
 use Rattle.qrcode_bits.proofs.ShownTexts.{segments_shown}
 use Rattle.qrcode_charsets.specs.Charsets.{character, IsWritten}
-use Rattle.qrcode_charsets.specs.Fronts.{front, has_front, modes_of, byte_mode}
+use Rattle.qrcode_charsets.specs.Fronts.{front, has_front, modes_of}
 use Rattle.qrcode_charsets.specs.Laid.{bits_of, cut_bytes, IsLaid, IsBestCut, IsMeasured, IsLeastLaid, HasRoom}
 use Rattle.qrcode_charsets.specs.Shortest.{IsWriting, CanShow}
 use Rattle.qrcode_charsets.specs.Shown.{ArePiecesShown, ShowsIn}
 use Rattle.qrcode_charsets.specs.declared.sets.Charset.{Charset}
-use Rattle.qrcode_charsets.specs.declared.sets.Charset.TheVariants.{Unmarked, Utf8, OneByte, ShiftJis, Utf16}
+use Rattle.qrcode_charsets.specs.declared.sets.Charset.TheVariants.{Unmarked, Utf8, OneByte, ShiftJis}
 use Rattle.qrcode_charsets.specs.declared.sets.Page.{Page}
 use Rattle.qrcode_charsets.specs.declared.shortest.measuring.Measured.{Measured}
 use Rattle.qrcode_charsets.proofs.Cuts.{chunks, AreOf, pieces_cut, readable_all, written_within}
@@ -72,7 +72,13 @@ segments_are_shown (OneByte page) m v text bytes ss w least =
     let cut = least.reached in
     in_page page (pieces_of bytes ss) text (modes_of_pieces bytes ss cut.among) (ap (map (character page)) (cut_joined v bytes ss cut.cut) ∙ w)
 segments_are_shown ShiftJis m v text bytes ss w least = absurd (true≢false (ap (λ set. is_among set Kanji) m))
-segments_are_shown Utf16 m v text bytes ss w least = absurd (true≢false (sym (ap (λ set. is_among set Numeric) m)))
+
+-- the other sets have the modes for text
+pub text_set : (c : Charset) → ¬ (c ≡ ShiftJis) → (modes_of c ≡ text_modes) × ((b : List ℕ) → cut_bytes c b ≡ b)
+text_set Unmarked pairs = (refl, λ b. refl)
+text_set Utf8 pairs = (refl, λ b. refl)
+text_set (OneByte p) pairs = (refl, λ b. refl)
+text_set ShiftJis pairs = absurd (pairs refl)
 
 -- so such a cut is the best one
 pub best_cut : (c : Charset) → modes_of c ≡ text_modes → ((b : List ℕ) → cut_bytes c b ≡ b) → (v : Version) (bytes : List ℕ) (ss : List Segment) → IsLeastCutIn text_modes v bytes ss → IsBestCut c v bytes ss
@@ -141,7 +147,6 @@ cut_of Unmarked v text ps h shown = pieces_cut text_modes v ps h (shown_modes Un
 cut_of Utf8 v text ps h shown = pieces_cut text_modes v ps h (shown_modes Utf8 ps text shown)
 cut_of (OneByte p) v text ps h shown = pieces_cut text_modes v ps h (shown_modes (OneByte p) ps text shown)
 cut_of ShiftJis v text ps h shown = stand_in_cut v text ps h shown
-cut_of Utf16 v text ps h shown = pieces_cut byte_mode v ps h (shown_modes Utf16 ps text shown)
 
 -- pieces that are shown as the text take at least the bits of some cut of its bytes
 pieces_laid : (c : Charset) (v : Version) (text : List ℕ) (ps : List Piece) → IsTrue (has_front v c) → AllByRecursion (IsReadable v) ps → ArePiecesShown c ps text

@@ -13,7 +13,7 @@ use Rattle.qrcode_bits.proofs.Numbers.{length-number_bits}
 use Rattle.qrcode_charsets.specs.Charsets.{page_designator, designator}
 use Rattle.qrcode_charsets.specs.Fronts.{designator_bits, front, has_front}
 use Rattle.qrcode_charsets.specs.declared.sets.Charset.{Charset}
-use Rattle.qrcode_charsets.specs.declared.sets.Charset.TheVariants.{Unmarked, Utf8, OneByte, ShiftJis, Utf16}
+use Rattle.qrcode_charsets.specs.declared.sets.Charset.TheVariants.{Unmarked, Utf8, OneByte, ShiftJis}
 use Rattle.qrcode_charsets.specs.declared.sets.Page.{Page}
 use Rattle.qrcode_charsets.specs.declared.sets.Page.TheVariants.{Latin1, Latin2, Latin3, Latin4, Cyrillic, Arabic, Greek, Hebrew, Latin5, Latin6, Thai, Latin7, Latin8, Latin9, Latin10, Windows1250, Windows1251, Windows1252, Windows1256}
 
@@ -53,12 +53,11 @@ pub unmarked_or : (c : Charset) → (c ≡ Unmarked) ⊎ IsMarked c
 unmarked_or Unmarked = inl refl
 unmarked_or Utf8 = inr (record { number = 26; is = refl; small = omega arith; normal = λ v. refl })
 unmarked_or ShiftJis = inr (record { number = 20; is = refl; small = omega arith; normal = λ v. refl })
-unmarked_or Utf16 = inr (record { number = 25; is = refl; small = omega arith; normal = λ v. refl })
 unmarked_or (OneByte p) = inr (record { number = page_designator p; is = refl; small = omega (arith, page_small p); normal = λ v. refl })
 
 -- the set with each designator
 set_of : ℕ → Charset
-set_of n = if n == 20 then ShiftJis else (if n == 25 then Utf16 else (if n == 26 then Utf8 else OneByte (page_of n)))
+set_of n = if n == 20 then ShiftJis else (if n == 26 then Utf8 else OneByte (page_of n))
 
 page_set : (p : Page) → set_of (page_designator p) ≡ OneByte p
 unfolding page_of set_of
@@ -88,7 +87,6 @@ set_is Unmarked n e = cc
 set_is Utf8 n e = let is : 26 ≡ n = cc in ap set_of (sym is)
 set_is (OneByte p) n e = let is : page_designator p ≡ n = cc in ap set_of (sym is) ∙ page_set p
 set_is ShiftJis n e = let is : 20 ≡ n = cc in ap set_of (sym is)
-set_is Utf16 n e = let is : 25 ≡ n = cc in ap set_of (sym is)
 
 -- two sets with one designator are one set
 pub same_set : (c d : Charset) (n : ℕ) → designator c ≡ Some n → designator d ≡ Some n → c ≡ d
@@ -113,14 +111,12 @@ pub length_some : (c : Charset) (n : ℕ) → Some n ≡ designator c → 12 ≡
 length_some Unmarked n e = cc
 length_some Utf8 n e = sym (length-front Utf8 (record { number = 26; is = refl; small = omega arith; normal = λ v. refl }))
 length_some ShiftJis n e = sym (length-front ShiftJis (record { number = 20; is = refl; small = omega arith; normal = λ v. refl }))
-length_some Utf16 n e = sym (length-front Utf16 (record { number = 25; is = refl; small = omega arith; normal = λ v. refl }))
 length_some (OneByte p) n e = sym (length-front (OneByte p) (record { number = page_designator p; is = refl; small = omega (arith, page_small p); normal = λ v. refl }))
 
 marked_normal : (c : Charset) (v : Version) (n : ℕ) → Some n ≡ designator c → IsTrue (has_front v c) → is_micro v ≡ false
 marked_normal Unmarked v n e h = cc
 marked_normal Utf8 v n e h = not-true (is_micro v) h
 marked_normal ShiftJis v n e h = not-true (is_micro v) h
-marked_normal Utf16 v n e h = not-true (is_micro v) h
 marked_normal (OneByte p) v n e h = not-true (is_micro v) h
 
 -- a designator is accepted if it has room

@@ -1,17 +1,19 @@
 -- The shortest segments of bytes that stand in for Shift JIS divide no code.
-use Rattle.std.proofs.Common.{◌≡◌, ◌⊎◌, ℕ, zero, suc, ◌+◌, ◌-◌, ◌<◌, ◌≤◌, Bool, true, ◌&&◌, List, [], ◌∷◌, ◌++◌, length, take, drop, length-append, append_assoc, Option, Some, Result, Ok, Err, IfOk, IsTrue, refl, sym, ap, ap₂, subst, ◌∙◌, arith, inl, inr, true≢false}
+use Rattle.std.proofs.Common.{◌≡◌, ◌⊎◌, ℕ, zero, suc, ◌+◌, ◌-◌, ◌<◌, ◌≤◌, Bool, true, ◌&&◌, List, [], ◌∷◌, ◌++◌, length, take, drop, length-append, append_assoc, Option, Some, Result, Ok, Err, IfOk, IfErr, IsTrue, refl, sym, ap, ap₂, subst, ◌∙◌, arith, inl, inr, true≢false}
 use Rattle.std.specs.Prelude.{map, slice_range, IsOkUnless}
 use Rattle.std.specs.List.{list_all}
 use Rattle.std.proofs.lemmas.Bool.{and_parts}
+use Rattle.std.proofs.lemmas.Bool.Decides.{nat_tests}
 use Rattle.std.proofs.lemmas.List.{take_at, drop_at, drop-drop, length-drop, drop_all, take_all}
 use Rattle.std.proofs.lemmas.List.Sums.{sum_by-cons}
 use Rattle.qrcode_types.specs.Characters.{is_digit, is_alphanumeric, is_lead, is_kanji, are_kanji, can_write, character_count}
-use Rattle.qrcode_types.specs.Modes.{has_mode}
+use Rattle.qrcode_types.specs.Modes.{has_mode, length_bits_count}
 use Rattle.qrcode_types.specs.declared.types.Mode.{Mode}
 use Rattle.qrcode_types.specs.declared.types.Mode.TheVariants.{Numeric, Alphanumeric, Byte, Kanji}
 use Rattle.qrcode_types.specs.declared.types.QrError.{QrError}
-use Rattle.qrcode_types.specs.declared.types.QrError.TheVariants.{OutOfMemory}
+use Rattle.qrcode_types.specs.declared.types.QrError.TheVariants.{UnsupportedCharacterSet, OutOfMemory}
 use Rattle.qrcode_types.specs.declared.types.Version.{Version}
+use Rattle.qrcode_types.specs.declared.types.Version.TheVariants.{Normal, Micro}
 use Rattle.qrcode_bits.specs.Cuts.{IsCutIn, IsLeastCutIn, NeedsCut}
 use Rattle.qrcode_bits.specs.ModeSets.{all_modes}
 use Rattle.qrcode_bits.specs.Segments.{Tile, cost_of, cost, total_cost}
@@ -22,13 +24,12 @@ use Rattle.qrcode_bits.proofs.LeastCuts.{HaveModes, AreAmong, AreWritable}
 use Rattle.qrcode_bits.proofs.SegmentRanges.{tile_le, write_both}
 use Rattle.qrcode_charsets.specs.Charsets.{IsWritten}
 use Rattle.qrcode_charsets.specs.Fronts.{has_front}
-use Rattle.qrcode_charsets.specs.Laid.{IsBestCut, whole}
+use Rattle.qrcode_charsets.specs.Laid.{IsBestCut}
 use Rattle.qrcode_charsets.specs.ShiftJis.{single_character, pair_character, stand_in}
 use Rattle.qrcode_charsets.specs.Shown.{ArePiecesShown}
 use Rattle.qrcode_charsets.specs.declared.sets.Charset.TheVariants.{ShiftJis}
 use Rattle.qrcode_charsets.proofs.PairCodes.{AreCodes, IsFirst, first_code, none_left, single_first, pair_first, single_plain}
 use Rattle.qrcode_charsets.proofs.StandIns.{stand_single, stand_pair, stand_both, stand_length, write_same, all_among, no_pairs, digit_high, letter_high, bytes_same}
-use Rattle.qrcode_charsets.proofs.Whole.{byte_room, has_byte_mode, memory_only}
 
 -- ---- no two segments in Byte mode are neighbours
 abbrev AreBoth : Segment → Segment → Type 0
@@ -42,6 +43,11 @@ Apart (s ∷ t ∷ ss) = (¬ AreBoth s t) × Apart (t ∷ ss)
 apart_rest : (s : Segment) (ss : List Segment) → Apart (s ∷ ss) → Apart ss
 apart_rest s [] apart = tt
 apart_rest s (u ∷ ss) apart = apart.1
+
+-- a length field of Byte mode has bits
+byte_room : (v : Version) → 0 < length_bits_count Byte v
+byte_room (Normal n) = grind (arith, nat_tests)
+byte_room (Micro n) = omega arith
 
 is_byte : (m : Mode) → (m ≡ Byte) ⊎ (¬ (m ≡ Byte))
 is_byte Numeric = inr (λ e. cc)
@@ -327,7 +333,20 @@ stand_ins_best items v text bytes (Ok x) w least = stand_in_best v text bytes _ 
 stand_ins_best items v text bytes (Err e) w least = tt
 
 -- ---- memory may run out
-any_cut : (v : Version) (bytes : List ℕ) → IsTrue (has_mode v Byte) → can_write Byte bytes ≡ true → IsCutIn all_modes v bytes (whole bytes)
+-- one segment of all bytes, or none if there are no bytes
+abbrev as_one : List ℕ → List Segment
+as_one [] = []
+as_one (b ∷ bytes) = record { mode = Byte; begin = 0; end = length (b ∷ bytes) } ∷ []
+
+has_byte_mode : (v : Version) → IsTrue (has_front v ShiftJis) → IsTrue (has_mode v Byte)
+has_byte_mode (Normal n) h = refl
+has_byte_mode (Micro n) h = cc
+
+memory_only : {A : Type 0} (r : Result A QrError) → IsOkUnless r OutOfMemory → IfErr r (λ e. (e ≡ UnsupportedCharacterSet) ⊎ (e ≡ OutOfMemory))
+memory_only (Ok x) h = tt
+memory_only (Err e) h = inr h
+
+any_cut : (v : Version) (bytes : List ℕ) → IsTrue (has_mode v Byte) → can_write Byte bytes ≡ true → IsCutIn all_modes v bytes (as_one bytes)
 any_cut v [] has can = record { cut = record { tiles = refl; modes = tt; writable = tt }; among = tt }
 any_cut v (b ∷ bytes) has can =
     let every = b ∷ bytes in
@@ -337,7 +356,7 @@ any_cut v (b ∷ bytes) has can =
 pub stand_needs : {A : Type 0} (v : Version) (text bytes : List ℕ) (r : Result A QrError) → IsTrue (has_front v ShiftJis) → IsWritten ShiftJis text bytes → IsOkUnless r OutOfMemory
     → NeedsCut (IsCutIn all_modes v (stand_in bytes)) r
 stand_needs v text bytes r has w memory = record {
-  no_cut = λ none. absurd (none (whole (stand_in bytes)) (any_cut v (stand_in bytes) (has_byte_mode v has) (bytes_same text bytes w).1));
+  no_cut = λ none. absurd (none (as_one (stand_in bytes)) (any_cut v (stand_in bytes) (has_byte_mode v has) (bytes_same text bytes w).1));
   accepts = λ ss cut. memory;
   causes = memory_only r memory;
 }

@@ -22,7 +22,7 @@ use Rattle.qrcode_charsets.specs.Laid.{cut_bytes}
 use Rattle.qrcode_charsets.specs.ShiftJis.{pair_character, stand_in}
 use Rattle.qrcode_charsets.specs.Shown.{ArePiecesShown}
 use Rattle.qrcode_charsets.specs.declared.sets.Charset.{Charset}
-use Rattle.qrcode_charsets.specs.declared.sets.Charset.TheVariants.{Unmarked, Utf8, OneByte, ShiftJis, Utf16}
+use Rattle.qrcode_charsets.specs.declared.sets.Charset.TheVariants.{Unmarked, Utf8, OneByte, ShiftJis}
 use Rattle.qrcode_charsets.proofs.Cuts.{chunks, AreOf, pieces_cut}
 use Rattle.qrcode_charsets.proofs.PairCodes.{AreCodes, IsFirst, first_code, none_left, single_is, single_plain, pair_is, IsSingle}
 use Rattle.qrcode_charsets.proofs.PairTable.{lead_range, no_row}
@@ -63,7 +63,6 @@ length-cut_bytes Unmarked text bytes w = refl
 length-cut_bytes Utf8 text bytes w = refl
 length-cut_bytes (OneByte p) text bytes w = refl
 length-cut_bytes ShiftJis text bytes w = stand_length text bytes w
-length-cut_bytes Utf16 text bytes w = refl
 
 -- ---- what a mode can write
 lead_high : (b : ℕ) → is_lead b ≡ true → 128 ≤ b

@@ -1,21 +1,17 @@
 -- Texts and their bytes in a set.
 use Rattle.std.proofs.Common.{◌≡◌, ◌⊎◌, inl, inr, ℕ, zero, suc, ◌+◌, ◌*◌, ◌<◌, ◌≤◌, true, List, [], ◌∷◌, ◌++◌, length, get_or, take, IsTrue, Option, Some, None, refl, sym, ap, ap₂, subst, ◌∙◌, arith, drop, take-append-drop, length-append}
-use Rattle.std.specs.Prelude.{map, flat_map, encode_utf8, encode_utf8_all, chars, IsUtf8}
+use Rattle.std.specs.Prelude.{map, encode_utf8, encode_utf8_all, chars, IsUtf8}
 use Rattle.std.specs.Char.{IsScalar}
-use Rattle.std.specs.Char.Escape.{encode_utf16}
-use Rattle.std.specs.Char.Utf16.{utf16_chars}
 use Rattle.std.specs.Str.{all_scalars}
 use Rattle.std.proofs.lemmas.Bool.{and_parts, and_from}
 use Rattle.std.proofs.lemmas.List.{append-nil, take_more, map_push, map-append, length-map}
-use Rattle.std.proofs.lemmas.List.Concat.{flat_map-append}
 use Rattle.std.proofs.lemmas.Str.{chars-encodes, encodes-append, length-encode, len_utf8_bounds, length-le-encodes, encodes-chars, scalars-chars, chars-append, chars-nil, chars_past_char, IsUtf8-encode}
-use Rattle.qrcode_charsets.specs.Charsets.{big_end, character, IsWritten, Has, widest, TextsAreWrittenOneWay, BytesAreReadOneWay}
+use Rattle.qrcode_charsets.specs.Charsets.{character, IsWritten, Has, TextsAreWrittenOneWay, BytesAreReadOneWay}
 use Rattle.qrcode_charsets.specs.declared.sets.Charset.{Charset}
-use Rattle.qrcode_charsets.specs.declared.sets.Charset.TheVariants.{Unmarked, Utf8, OneByte, ShiftJis, Utf16}
+use Rattle.qrcode_charsets.specs.declared.sets.Charset.TheVariants.{Unmarked, Utf8, OneByte, ShiftJis}
 use Rattle.qrcode_charsets.specs.declared.sets.Page.{Page}
 use Rattle.qrcode_charsets.proofs.PairCodes as pairs
 use Rattle.qrcode_charsets.proofs.Rows.{characters_apart, character_scalar}
-use Rattle.qrcode_charsets.proofs.Units.{read_units, same_units, length-units}
 
 -- two lists with the same characters have the same length
 lengths : (p : Page) (text bytes : List ℕ) → map (character p) bytes ≡ map Some text → length bytes ≡ length text
@@ -48,7 +44,6 @@ written_one_way Unmarked text bytes others e f = sym f.1 ∙ e.1
 written_one_way Utf8 text bytes others e f = sym f.1 ∙ e.1
 written_one_way (OneByte p) text bytes others e f = one_spelling p text bytes others e f
 written_one_way ShiftJis text bytes others e f = pairs.one_spelling text bytes others e f
-written_one_way Utf16 text bytes others e f = sym f.1 ∙ e.1
 
 same_utf8 : (text others bytes : List ℕ) → all_scalars text ≡ true → all_scalars others ≡ true → encode_utf8_all text ≡ bytes → encode_utf8_all others ≡ bytes → others ≡ text
 same_utf8 text others bytes s t e f = sym (chars-encodes others t) ∙ ap chars (f ∙ sym e) ∙ chars-encodes text s
@@ -58,7 +53,6 @@ read_one_way Unmarked text others bytes e f = same_utf8 text others bytes e.0 f.
 read_one_way Utf8 text others bytes e f = same_utf8 text others bytes e.0 f.0 e.1 f.1
 read_one_way (OneByte p) text others bytes e f = same_items text others (sym e ∙ f)
 read_one_way ShiftJis text others bytes e f = same_items text others (sym e ∙ f)
-read_one_way Utf16 text others bytes e f = same_items text others (sym (read_units text e.0) ∙ ap utf16_chars (same_units (flat_map encode_utf16 text) (flat_map encode_utf16 others) (e.1 ∙ sym f.1)) ∙ read_units others f.0)
 
 pub utf8_written : (utf8 : List ℕ) → IsUtf8 utf8 → IsTrue (all_scalars (chars utf8)) × (encode_utf8_all (chars utf8) ≡ utf8)
 utf8_written utf8 u = (scalars-chars utf8 u, encodes-chars utf8 u)
@@ -88,17 +82,12 @@ written-nil Unmarked = (refl, refl)
 written-nil Utf8 = (refl, refl)
 written-nil (OneByte p) = refl
 written-nil ShiftJis = refl
-written-nil Utf16 = (refl, refl)
 
 pub written-append : (c : Charset) (text others bytes more : List ℕ) → IsWritten c text bytes → IsWritten c others more → IsWritten c (text ++ others) (bytes ++ more)
 written-append Unmarked text others bytes more e f = (all_both text others e.0 f.0, encodes-append text others ∙ ap₂ (λ (a b : List ℕ). a ++ b) e.1 f.1)
 written-append Utf8 text others bytes more e f = (all_both text others e.0 f.0, encodes-append text others ∙ ap₂ (λ (a b : List ℕ). a ++ b) e.1 f.1)
 written-append (OneByte p) text others bytes more e f = map-append (character p) bytes more ∙ ap₂ (λ (a b : List (Option ℕ)). a ++ b) e f ∙ sym (map-append Some text others)
 written-append ShiftJis text others bytes more e f = pairs.codes_before text bytes more e ∙ ap (λ (x : List (Option ℕ)). map Some text ++ x) f ∙ sym (map-append Some text others)
-written-append Utf16 text others bytes more e f = (
-  all_both text others e.0 f.0,
-  ap (flat_map big_end) (flat_map-append encode_utf16 text others) ∙ flat_map-append big_end (flat_map encode_utf16 text) (flat_map encode_utf16 others) ∙ ap₂ (λ (a b : List ℕ). a ++ b) e.1 f.1,
-)
 
 encodes_at_most : (text : List ℕ) → length (encode_utf8_all text) ≤ 4 * length text
 encodes_at_most [] = omega arith
@@ -112,14 +101,12 @@ written_at_least Unmarked text bytes e = omega (arith, ap length e.1)
 written_at_least Utf8 text bytes e = omega (arith, ap length e.1)
 written_at_least (OneByte p) text bytes e = omega (arith, lengths p text bytes e, encodes_at_most text)
 written_at_least ShiftJis text bytes e = omega (arith, (pairs.code_lengths text bytes e).0, encodes_at_most text)
-written_at_least Utf16 text bytes e = omega (arith, ap length e.1, (length-units text).0, encodes_at_most text)
 
-pub written_at_most : (c : Charset) (text bytes : List ℕ) → IsWritten c text bytes → length bytes ≤ widest c * length (encode_utf8_all text)
+pub written_at_most : (c : Charset) (text bytes : List ℕ) → IsWritten c text bytes → length bytes ≤ length (encode_utf8_all text)
 written_at_most Unmarked text bytes e = omega (arith, ap length e.1)
 written_at_most Utf8 text bytes e = omega (arith, ap length e.1)
 written_at_most (OneByte p) text bytes e = omega (arith, lengths p text bytes e, length-le-encodes text)
 written_at_most ShiftJis text bytes e = omega (arith, (pairs.code_lengths text bytes e).1)
-written_at_most Utf16 text bytes e = omega (arith, ap length e.1, (length-units text).1)
 
 -- the characters of the first bytes, and of the others
 pub written_split : (p : Page) (bytes more text : List ℕ) → map (character p) (bytes ++ more) ≡ map Some text
@@ -149,7 +136,6 @@ has_parts Unmarked a b h = let s = both_all a b h.1.0 in ((encode_utf8_all a, (s
 has_parts Utf8 a b h = let s = both_all a b h.1.0 in ((encode_utf8_all a, (s.0, refl)), (encode_utf8_all b, (s.1, refl)))
 has_parts (OneByte p) a b h = let s = written_parts p h.0 a b h.1 in ((s.0, s.2), (s.1, s.3))
 has_parts ShiftJis a b h = let s = pairs.codes_apart a b h.0 h.1 in ((s.0, s.3), (s.1, s.4))
-has_parts Utf16 a b h = let s = both_all a b h.1.0 in ((flat_map big_end (flat_map encode_utf16 a), (s.0, refl)), (flat_map big_end (flat_map encode_utf16 b), (s.1, refl)))
 
 -- a set that lacks a character lacks a text up to it, and the whole text
 pub lacks_first : (c : Charset) (text : List ℕ) (i x : ℕ) → i < length text → x ≡ get_or text i x → ¬ Has c (x ∷ []) → ¬ Has c (take (i + 1) text)
@@ -162,23 +148,8 @@ lacks_whole c text i x inside is none has =
     lacks_first c text i x inside is none (has_parts c (take (i + 1) text) (drop (i + 1) text) (subst (Has c) (sym (take-append-drop (i + 1) text)) has)).0
 
 -- the bytes of a text are within a limit if those in UTF-8 are
-pub written_limit : (c : Charset) (utf8 bytes : List ℕ) (most : ℕ) → IsUtf8 utf8 → IsWritten c (chars utf8) bytes → length utf8 ≤ most → length bytes ≤ widest c * most
-written_limit c utf8 bytes most u written within =
-    in_width c (written_at_most c (chars utf8) bytes written) where
-      in_width : (c : Charset) → length bytes ≤ widest c * length (encode_utf8_all (chars utf8)) → length bytes ≤ widest c * most
-      in_width Unmarked h = omega (arith, within, h, ap length (encodes-chars utf8 u))
-      in_width Utf8 h = omega (arith, within, h, ap length (encodes-chars utf8 u))
-      in_width (OneByte p) h = omega (arith, within, h, ap length (encodes-chars utf8 u))
-      in_width ShiftJis h = omega (arith, within, h, ap length (encodes-chars utf8 u))
-      in_width Utf16 h = omega (arith, within, h, ap length (encodes-chars utf8 u))
-
--- such a limit is at most twice the other
-pub by_width : (c : Charset) (n : ℕ) → n ≤ widest c * 1048576 → n ≤ 2097152
-by_width Unmarked n h = omega (arith, h)
-by_width Utf8 n h = omega (arith, h)
-by_width (OneByte p) n h = omega (arith, h)
-by_width ShiftJis n h = omega (arith, h)
-by_width Utf16 n h = omega (arith, h)
+pub written_limit : (c : Charset) (utf8 bytes : List ℕ) (most : ℕ) → IsUtf8 utf8 → IsWritten c (chars utf8) bytes → length utf8 ≤ most → length bytes ≤ most
+written_limit c utf8 bytes most u written within = omega (arith, written_at_most c (chars utf8) bytes written, within, ap length (encodes-chars utf8 u))
 
 -- ---- reading
 -- what is written in UTF-8, with a designator or without

@@ -1,11 +1,10 @@
 -- The character sets in which texts are written.
-use Rattle.std.specs.Prelude.{◌≡◌, ℕ, ◌-◌, ◌/◌, ◌%◌, ◌==◌, nat_lt, List, [], ◌∷◌, Option, Some, None, map, flat_map, slice_index, slice_index_or, encode_utf8_all, IsTrue, if◌then◌else◌}
-use Rattle.std.specs.Char.Escape.{encode_utf16}
+use Rattle.std.specs.Prelude.{◌≡◌, ℕ, ◌-◌, ◌/◌, ◌%◌, ◌==◌, nat_lt, List, [], ◌∷◌, Option, Some, None, map, slice_index, slice_index_or, encode_utf8_all, IsTrue, if◌then◌else◌}
 use Rattle.std.specs.Str.{all_scalars}
 use Rattle.qrcode_charsets.specs.ShiftJis.{shift_jis_characters}
 use Rattle.qrcode_charsets.specs.Table.{character_table}
 use Rattle.qrcode_charsets.specs.declared.sets.Charset.{Charset}
-use Rattle.qrcode_charsets.specs.declared.sets.Charset.TheVariants.{Unmarked, Utf8, OneByte, ShiftJis, Utf16}
+use Rattle.qrcode_charsets.specs.declared.sets.Charset.TheVariants.{Unmarked, Utf8, OneByte, ShiftJis}
 use Rattle.qrcode_charsets.specs.declared.sets.Page.{Page}
 use Rattle.qrcode_charsets.specs.declared.sets.Page.TheVariants.{Latin1, Latin2, Latin3, Latin4, Cyrillic, Arabic, Greek, Hebrew, Latin5, Latin6, Thai, Latin7, Latin8, Latin9, Latin10, Windows1250, Windows1251, Windows1252, Windows1256}
 
@@ -39,7 +38,7 @@ character p b =
     if nat_lt b 128 then Some b else
     (if slice_index (characters p) (b - 128) == 0 then None else Some (slice_index (characters p) (b - 128)))
 
-abbrev pub big_end : ℕ → List ℕ  -- a unit of sixteen bits as two bytes, the big end first
+abbrev pub big_end : ℕ → List ℕ  -- sixteen bits as two bytes, the big end first
 big_end unit = unit / 256 ∷ unit % 256 ∷ []
 
 -- no two bytes of a set of one byte have the same character
@@ -51,17 +50,9 @@ IsWritten Unmarked text bytes = IsTrue (all_scalars text) × (encode_utf8_all te
 IsWritten Utf8 text bytes = IsTrue (all_scalars text) × (encode_utf8_all text ≡ bytes)
 IsWritten (OneByte p) text bytes = map (character p) bytes ≡ map Some text
 IsWritten ShiftJis text bytes = shift_jis_characters bytes ≡ map Some text
-IsWritten Utf16 text bytes = IsTrue (all_scalars text) × (flat_map big_end (flat_map encode_utf16 text) ≡ bytes)
 
 abbrev pub Has : Charset → List ℕ → Type 0  -- the set has all characters of the text
 Has c text = (bytes : List ℕ) × IsWritten c text bytes
-
-abbrev pub widest : Charset → ℕ  -- how many bytes a text has at most for each byte that it has in UTF-8
-widest Unmarked = 1
-widest Utf8 = 1
-widest (OneByte p) = 1
-widest ShiftJis = 1
-widest Utf16 = 2
 
 -- in each set a text is written as one list of bytes, and these are the bytes of one text
 abbrev pub TextsAreWrittenOneWay : Type 0
@@ -76,4 +67,3 @@ designator Unmarked = None
 designator Utf8 = Some 26
 designator (OneByte p) = Some (page_designator p)
 designator ShiftJis = Some 20
-designator Utf16 = Some 25

@@ -1,5 +1,5 @@
 -- What stands before the segments of a text in a set, and the modes of the segments.
-use Rattle.std.specs.Prelude.{ℕ, not, Bool, true, false, List, [], ◌++◌, Option, Some, None}
+use Rattle.std.specs.Prelude.{ℕ, not, Bool, true, List, [], ◌++◌, Option, Some, None}
 use Rattle.qrcode_types.specs.Bits.{number_bits}
 use Rattle.qrcode_types.specs.Versions.{is_micro}
 use Rattle.qrcode_types.specs.declared.types.Version.{Version}
@@ -10,7 +10,7 @@ use Rattle.qrcode_bits.specs.declared.bits.manner.Manner.TheVariants.{Text, Mark
 use Rattle.qrcode_bits.specs.declared.optimize.mode_sets.Modes.{Modes}
 use Rattle.qrcode_charsets.specs.Charsets.{designator}
 use Rattle.qrcode_charsets.specs.declared.sets.Charset.{Charset}
-use Rattle.qrcode_charsets.specs.declared.sets.Charset.TheVariants.{Unmarked, Utf8, OneByte, ShiftJis, Utf16}
+use Rattle.qrcode_charsets.specs.declared.sets.Charset.TheVariants.{Unmarked, Utf8, OneByte, ShiftJis}
 
 abbrev pub designator_bits : Option ℕ → List Bool  -- the mode indicator of ECI and the designator
 designator_bits None = []
@@ -24,10 +24,6 @@ has_front v Unmarked = true
 has_front v Utf8 = not (is_micro v)
 has_front v (OneByte p) = not (is_micro v)
 has_front v ShiftJis = not (is_micro v)
-has_front v Utf16 = not (is_micro v)
-
-abbrev pub byte_mode : Modes  -- Byte mode alone
-byte_mode = record { numeric = false; alphanumeric = false; byte = true; kanji = false }
 
 -- The modes that write a text in the set.
 abbrev pub modes_of : Charset → Modes
@@ -35,7 +31,6 @@ modes_of Unmarked = text_modes
 modes_of Utf8 = text_modes
 modes_of (OneByte p) = text_modes
 modes_of ShiftJis = all_modes
-modes_of Utf16 = byte_mode
 
 -- The manner in which bytes are written in these modes, and take as many bits: each designator takes as many as that of UTF-8.
 abbrev pub manner_of : Charset → Option Manner
@@ -43,4 +38,3 @@ manner_of Unmarked = Some Text
 manner_of Utf8 = Some MarkedText
 manner_of (OneByte p) = Some MarkedText
 manner_of ShiftJis = None
-manner_of Utf16 = None

@@ -1,9 +1,8 @@
 -- The results of the search for a set and a version.
-use Rattle.std.specs.Prelude.{◌≡◌, ℕ, ◌<◌, ◌≤◌, ◌+◌, nat_lt, Bool, List, [], ◌∷◌, ◌++◌, length, IsTrue, Option, Some, None, if◌then◌else◌}
+use Rattle.std.specs.Prelude.{◌≡◌, ℕ, ◌<◌, ◌≤◌, ◌+◌, nat_lt, Bool, List, ◌++◌, length, IsTrue, Option, Some, None, if◌then◌else◌}
 use Rattle.qrcode_types.specs.Versions.{has_level, capacity}
 use Rattle.qrcode_types.specs.declared.types.Version.{Version}
 use Rattle.qrcode_types.specs.declared.types.EcLevel.{EcLevel}
-use Rattle.qrcode_types.specs.declared.types.Mode.TheVariants.{Byte}
 use Rattle.qrcode_bits.specs.Cuts.{IsCut, IsCutIn}
 use Rattle.qrcode_bits.specs.Manners.{rank}
 use Rattle.qrcode_bits.specs.Segments.{total_cost}
@@ -17,7 +16,7 @@ use Rattle.qrcode_charsets.specs.ShiftJis.{stand_in}
 use Rattle.qrcode_charsets.specs.Shortest.{IsAt}
 use Rattle.qrcode_charsets.specs.Shown.{ArePiecesShown}
 use Rattle.qrcode_charsets.specs.declared.sets.Charset.{Charset}
-use Rattle.qrcode_charsets.specs.declared.sets.Charset.TheVariants.{Unmarked, Utf8, OneByte, ShiftJis, Utf16}
+use Rattle.qrcode_charsets.specs.declared.sets.Charset.TheVariants.{Unmarked, Utf8, OneByte, ShiftJis}
 use Rattle.qrcode_charsets.specs.declared.shortest.measuring.Measured.{Measured}
 
 -- the bits of a text in a set: what names the set, and the segments
@@ -29,7 +28,6 @@ cut_bytes Unmarked bytes = bytes
 cut_bytes Utf8 bytes = bytes
 cut_bytes (OneByte p) bytes = bytes
 cut_bytes ShiftJis bytes = stand_in bytes
-cut_bytes Utf16 bytes = bytes
 
 -- what names the set, and some segments of the text in it, take that many bits
 pub record IsLaid (c : Charset) (v : Version) (text : List ℕ) (used : ℕ) : Type 0 where
@@ -39,10 +37,6 @@ pub record IsLaid (c : Charset) (v : Version) (text : List ℕ) (used : ℕ) : T
   pub segments : List Segment
   pub cut : IsCutIn (modes_of c) v (cut_bytes c bytes) segments
   pub length : used ≡ length (front c) + total_cost v segments
-
-abbrev pub whole : List ℕ → List Segment  -- one segment of all bytes, or none if there are no bytes
-whole [] = []
-whole (b ∷ bytes) = record { mode = Byte; begin = 0; end = length (b ∷ bytes) } ∷ []
 
 -- segments in which a reader shows the bytes as their text, and no such segments take fewer bits
 pub record IsBestCut (c : Charset) (v : Version) (bytes : List ℕ) (segments : List Segment) : Type 0 where

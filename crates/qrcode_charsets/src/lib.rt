@@ -1,5 +1,5 @@
-//! Texts in character sets other than UTF-8: ISO/IEC 8859 and Windows sets, Shift JIS and UTF-16,
-//! and which takes the fewest bits.
+//! Texts in character sets other than UTF-8: ISO/IEC 8859 and Windows sets, and Shift JIS, and which
+//! takes the fewest bits.
 #![tactic(auto)]
 
 pub mod laws;
@@ -10,4 +10,3 @@ mod shift_jis;
 pub mod shortest;
 mod table;
 pub mod texts;
-mod utf16;

@@ -61,8 +61,6 @@ pub enum Charset {
     /// Shift JIS after its designator: ASCII, half-width katakana and the characters of JIS X 0208,
     /// except eight that readers show differently.
     ShiftJis,
-    /// UTF-16 after its designator, with the big end first.
-    Utf16,
 }
 
 /// UTF-8 without a designator, then, in the order of their designators, the sets that zxing and
@@ -89,7 +87,6 @@ impl Charset {
             Charset::Utf8 => Some(26),
             Charset::OneByte(page) => Some(page.designator()),
             Charset::ShiftJis => Some(20),
-            Charset::Utf16 => Some(25),
         }
     }
 
@@ -120,7 +117,6 @@ impl Charset {
             22 => Page::Windows1251,
             23 => Page::Windows1252,
             24 => Page::Windows1256,
-            25 => return Some(Charset::Utf16),
             26 => return Some(Charset::Utf8),
             _ => return None,
         };

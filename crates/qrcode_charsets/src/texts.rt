@@ -6,16 +6,15 @@ ghost use Rattle.qrcode_charsets.specs.Codes.{code_bytes};
 ghost use Rattle.qrcode_charsets.specs.declared.sets.Charset.TheVariants.{OneByte};
 
 use crate::sets::{Charset, Page};
-use crate::{shift_jis, utf16};
+use crate::shift_jis;
 use std::alloc::{AllocError, Global};
 
-// The bytes of a character: those of UTF-8, one byte, or one or two units of two bytes.
+// The bytes of a character: those of UTF-8, one byte, or two.
 #[derive(Copy, Clone)]
 pub(crate) enum Code {
     Utf8(char),
     One(u8),
     Two(u16),
-    Four(u16, u16),
 }
 
 impl Code {
@@ -30,10 +29,6 @@ impl Code {
             }
             Code::One(byte) => Ok(bytes.push(byte)?),
             Code::Two(unit) => bytes.extend_from_slice(&unit.to_be_bytes()),
-            Code::Four(first, second) => {
-                bytes.extend_from_slice(&first.to_be_bytes())?;
-                bytes.extend_from_slice(&second.to_be_bytes())
-            }
         }
     }
 }
@@ -91,7 +86,6 @@ impl Charset {
             },
             Charset::OneByte(page) => page.decode(alloc, bytes),
             Charset::ShiftJis => shift_jis::decode(alloc, bytes),
-            Charset::Utf16 => utf16::decode(alloc, bytes),
         }
     }
 
@@ -107,7 +101,6 @@ impl Charset {
                 None => None,
             },
             Charset::ShiftJis => shift_jis::code(character),
-            Charset::Utf16 => Some(utf16::code(character)),
         }
     }
 }

@@ -55,7 +55,6 @@ charsets! {
     Windows1251 = GOQ_WINDOWS_1251, "Of Windows, with Cyrillic letters.";
     Windows1252 = GOQ_WINDOWS_1252, "Of Windows, for Western Europe.";
     Windows1256 = GOQ_WINDOWS_1256, "Of Windows, with Arabic letters.";
-    Utf16Be = GOQ_UTF_16BE, "UTF-16 after its header, the big end first.";
     Utf8 = GOQ_UTF_8, "UTF-8 after its header.";
     // Up to here.
 }

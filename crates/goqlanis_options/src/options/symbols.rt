@@ -101,9 +101,9 @@ pub static TEXTS: &[Entry] = &[
 pub static MARKS: &[Entry] = &[
     entry!("eci", Nothing, "Mark the data as UTF-8 (ECI 26); helps if readers show it wrongly"),
     entry!("charset", Text("NAME"),
-        "Character set of the text, with its ECI: utf-8, utf-16be, shift-jis, iso-8859-1 to -16, \
+        "Character set of the text, with its ECI: utf-8, shift-jis, iso-8859-1 to -16, \
         windows-1250 to -1252 or -1256; shortest: whichever takes the fewest bits, but for \
-        utf-16be and windows [default: UTF-8 without ECI]"),
+        windows [default: UTF-8 without ECI]"),
 ];
 
 /// The mask option.

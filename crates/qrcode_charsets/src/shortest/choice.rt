@@ -153,7 +153,7 @@ fn manner_of(set: Charset) -> Option<Manner>
     match set {
         Charset::Unmarked => Some(Manner::Text),
         Charset::Utf8 | Charset::OneByte(_) => Some(Manner::MarkedText),
-        Charset::ShiftJis | Charset::Utf16 => None,
+        Charset::ShiftJis => None,
     }
 }
 

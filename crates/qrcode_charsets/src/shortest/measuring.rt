@@ -1,20 +1,20 @@
 //! Finds the set and the segments in which a text takes the fewest bits in a version.
 
-ghost use Rattle.std.specs.Prelude.{◌≡◌, List, ℕ, ◌*◌, ◌≤◌, chars, length, IfOk, IsOkUnless, IsTrue, MatchOption};
+ghost use Rattle.std.specs.Prelude.{◌≡◌, List, ℕ, ◌≤◌, chars, length, IfOk, IsOkUnless, IsTrue, MatchOption};
 ghost use Rattle.qrcode_types.specs.Versions.{is_valid};
 ghost use Rattle.qrcode_types.specs.declared.types.QrError.TheVariants.{OutOfMemory};
 ghost use Rattle.qrcode_bits.specs.Cuts.{IsCutIn, NeedsCut};
 ghost use Rattle.qrcode_bits.specs.Refusals.{data_limit};
-ghost use Rattle.qrcode_charsets.specs.Charsets.{IsWritten, widest};
+ghost use Rattle.qrcode_charsets.specs.Charsets.{IsWritten};
 ghost use Rattle.qrcode_charsets.specs.Fronts.{front, has_front, modes_of};
-ghost use Rattle.qrcode_charsets.specs.Laid.{cut_bytes, IsLaid, IsBestCut, IsCutOf, IsMeasured, NoneLaid, IsLeastLaid, less_of, whole};
+ghost use Rattle.qrcode_charsets.specs.Laid.{cut_bytes, IsLaid, IsBestCut, IsCutOf, IsMeasured, NoneLaid, IsLeastLaid, less_of};
 ghost use Rattle.qrcode_charsets.specs.declared.sets.Charset.TheVariants.{ShiftJis};
 
 use crate::sets::Charset;
 use crate::shift_jis;
 use qrcode_bits::optimize::{Modes, Segment, least_segments_in, total_encoded_len};
-use qrcode_types::types::{Mode, QrError, QrResult, Version};
-use std::alloc::{AllocError, Global};
+use qrcode_types::types::{QrError, QrResult, Version};
+use std::alloc::Global;
 
 // A text in a set, in segments of the fewest bits, and the bits that it takes together with what
 // names the set.
@@ -43,9 +43,7 @@ fn has_front(set: Charset, version: Version) -> bool
 {
     match set {
         Charset::Unmarked => true,
-        Charset::Utf8 | Charset::OneByte(_) | Charset::ShiftJis | Charset::Utf16 => {
-            !version.is_micro()
-        },
+        Charset::Utf8 | Charset::OneByte(_) | Charset::ShiftJis => !version.is_micro(),
     }
 }
 
@@ -83,7 +81,7 @@ fn cut(alloc: Global, set: Charset, bytes: Vec<u8>, version: Version) -> QrResul
     requires valid { IsTrue (is_valid version) }
     requires exists { IsTrue (has_front version set) }
     requires written { (text : List ℕ) × IsWritten set text bytes.items }
-    requires length_at_most { length bytes.items ≤ widest set * data_limit }
+    requires length_at_most { length bytes.items ≤ data_limit }
     ensures measured { IfOk result (IsCutOf set version bytes.items) }
     ensures refusals { NeedsCut
         (IsCutIn (modes_of set) version (cut_bytes set bytes.items)) result }
@@ -109,7 +107,7 @@ fn segments_of(
     requires valid { IsTrue (is_valid version) }
     requires exists { IsTrue (has_front version set) }
     requires written { (text : List ℕ) × IsWritten set text bytes.now }
-    requires length_at_most { length bytes.now ≤ widest set * data_limit }
+    requires length_at_most { length bytes.now ≤ data_limit }
     ensures best { IfOk result (λ segments.
         IsBestCut set version bytes.now segments.items) }
     ensures refusals { NeedsCut
@@ -117,7 +115,6 @@ fn segments_of(
 {
     match set {
         Charset::ShiftJis => pair_segments(alloc, bytes, version),
-        Charset::Utf16 => Ok(one_segment(alloc, bytes)?),
         _ => least_segments_in(alloc, bytes, version, Modes::TEXT),
     }
 }
@@ -135,22 +132,6 @@ fn pair_segments(alloc: Global, bytes: &[u8], version: Version) -> QrResult<Vec<
 {
     let stand_in = shift_jis::stand_in(alloc, bytes)?;
     least_segments_in(alloc, &stand_in, version, Modes::ALL)
-}
-
-// Returns one segment of all bytes, or none if there are no bytes.
-fn one_segment(alloc: Global, bytes: &[u8]) -> Result<Vec<Segment>, AllocError>
-    ensures { IfOk result (λ segments. segments.items ≡ whole bytes.now) }
-{
-    let mut segments = Vec::new(alloc);
-    if !bytes.is_empty() {
-        let whole = Segment {
-            mode: Mode::Byte,
-            begin: 0,
-            end: bytes.len(),
-        };
-        segments.push(whole)?;
-    }
-    Ok(segments)
 }
 
 // Measures `text` for a version in the first of `sets` in which it takes the fewest bits, or

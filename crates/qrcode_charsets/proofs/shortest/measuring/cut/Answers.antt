@@ -5,7 +5,6 @@ use Rattle.qrcode_bits.proofs.LeastCuts.{cost_most}
 use Rattle.qrcode_bits.proofs.Several.{small_inside}
 use Rattle.qrcode_charsets.specs.Fronts.{modes_of}
 use Rattle.qrcode_charsets.specs.Laid.{IsBestCut}
-use Rattle.qrcode_charsets.proofs.Writings.{by_width}
 use Rattle.qrcode_charsets.proofs.shortest.measuring.cut.Goals as goal
 use Rattle.qrcode_charsets.proofs.shortest.measuring.cut.Goals.{In_ok-segments}
 
@@ -19,15 +18,15 @@ pub total_encoded_len-requires-clause-ranges : goal.total_encoded_len-requires-c
 total_encoded_len-requires-clause-ranges c =
     let k = (goal.at.total_encoded_len-requires-clause-ranges c).In_ok-segments in
     let bytes = c.args.bytes.items in
-    small_inside (length bytes) c.deref-2.result.now (omega (arith, by_width c.args.set (length bytes) c.requires.length_at_most))
+    small_inside (length bytes) c.deref-2.result.now (omega (arith, c.requires.length_at_most))
     (subst (AreInside (length bytes)) (sym c.deref-2.ensures.value) (cut_inside c.args.version bytes c.in_ok-segments.segments.items (best k).cut))
 
 pub total_encoded_len-requires-clause-fits : goal.total_encoded_len-requires-clause-fits
 total_encoded_len-requires-clause-fits c =
     let k = (goal.at.total_encoded_len-requires-clause-fits c).In_ok-segments in
-    omega (arith, short k, ap (total_cost c.args.version) c.deref-2.ensures.value, c.requires.length_at_most, by_width c.args.set (length c.args.bytes.items) c.requires.length_at_most)
+    omega (arith, short k, ap (total_cost c.args.version) c.deref-2.ensures.value, c.requires.length_at_most)
 
 pub overflow_add-used : goal.overflow_add-used
 overflow_add-used c =
     let k = (goal.at.overflow_add-used c).In_ok-segments in
-    omega (arith, short k, ap (total_cost c.args.version) c.deref-2.ensures.value, c.requires.length_at_most, by_width c.args.set (length c.args.bytes.items) c.requires.length_at_most, c.front_length.ensures.at_most, c.total_encoded_len.ensures)
+    omega (arith, short k, ap (total_cost c.args.version) c.deref-2.ensures.value, c.requires.length_at_most, c.front_length.ensures.at_most, c.total_encoded_len.ensures)

@@ -1,34 +1,19 @@
-use Rattle.std.proofs.Common.{Vec, Global, Ok, sym, subst, arith, rules}
+use Rattle.std.proofs.Common.{Vec, Global, sym, subst}
 use Rattle.std.specs.Prelude.{IfOk}
-use Rattle.qrcode_types.proofs.Writing.{are_bytes}
 use Rattle.qrcode_bits.specs.Cuts.{IsCutIn, NeedsCut}
 use Rattle.qrcode_bits.specs.declared.optimize.Segment.{Segment}
 use Rattle.qrcode_charsets.specs.Fronts.{modes_of}
 use Rattle.qrcode_charsets.specs.Laid.{IsBestCut, cut_bytes}
 use Rattle.qrcode_charsets.specs.declared.sets.Charset.{Charset}
-use Rattle.qrcode_charsets.proofs.Lists.{best_cuts}
-use Rattle.qrcode_charsets.proofs.Whole.{text_set, whole_best_of, needs_whole}
+use Rattle.qrcode_charsets.proofs.Lists.{text_set, best_cuts}
 use Rattle.qrcode_charsets.proofs.shortest.measuring.segments_of.Goals as goal
-
-pub returns-in_err-one_segment-in-Utf16-clause-refusals : goal.returns-in_err-one_segment-in-Utf16-clause-refusals
-returns-in_err-one_segment-in-Utf16-clause-refusals c =
-    needs_whole c.args.set c.args.version c.args.bytes.now c.from_residual.result c.in-Utf16.is c.requires.exists (are_bytes c.args.bytes.now (λ k. omega (arith, c.type_inv.bytes k))) (search rules)
-
-pub returns-in_ok-one_segment-in-Utf16-clause-best : goal.returns-in_ok-one_segment-in-Utf16-clause-best
-returns-in_ok-one_segment-in-Utf16-clause-best c =
-    whole_best_of c.args.set c.args.version c.args.bytes.now c.in_ok-one_segment-in-Utf16.field-0.items c.in-Utf16.is c.requires.exists (are_bytes c.args.bytes.now (λ k. omega (arith, c.type_inv.bytes k)))
-    c.in_ok-one_segment-in-Utf16.ensures
-
-pub returns-in_ok-one_segment-in-Utf16-clause-refusals : goal.returns-in_ok-one_segment-in-Utf16-clause-refusals
-returns-in_ok-one_segment-in-Utf16-clause-refusals c =
-    needs_whole c.args.set c.args.version c.args.bytes.now (Ok c.in_ok-one_segment-in-Utf16.field-0) c.in-Utf16.is c.requires.exists (are_bytes c.args.bytes.now (λ k. omega (arith, c.type_inv.bytes k))) tt
 
 pub returns-in_default : goal.returns-in_default
 returns-in_default c =
-    let like = text_set c.args.set c.in_default.not-ShiftJis c.in_default.not-Utf16 in
+    let like = text_set c.args.set c.in_default.not-ShiftJis in
     record {
-      best = best_cuts (λ (x : Vec Segment Global). x.items) c.args.set like.0 like.2 c.args.version c.args.bytes.now c.least_segments_in.result c.least_segments_in.ensures.least;
-      refusals = subst (λ b. NeedsCut (IsCutIn (modes_of c.args.set) c.args.version b) c.least_segments_in.result) (sym (like.2 c.args.bytes.now))
+      best = best_cuts (λ (x : Vec Segment Global). x.items) c.args.set like.0 like.1 c.args.version c.args.bytes.now c.least_segments_in.result c.least_segments_in.ensures.least;
+      refusals = subst (λ b. NeedsCut (IsCutIn (modes_of c.args.set) c.args.version b) c.least_segments_in.result) (sym (like.1 c.args.bytes.now))
           (subst (λ set. NeedsCut (IsCutIn set c.args.version c.args.bytes.now) c.least_segments_in.result) (sym like.0) c.least_segments_in.ensures.refusals);
     }
 
