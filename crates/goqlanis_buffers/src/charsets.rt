@@ -1,6 +1,6 @@
 //! Texts in character sets that C numbers.
 
-ghost use Rattle.std.specs.Prelude.{◌≡◌, ◌≢◌, ◌<◌, ℕ, chars, length, map, Some, IfErr, IfNone, IfOk, IfSome, IsFalse, IsTrue, OnErr};
+ghost use Rattle.std.specs.Prelude.{◌≡◌, ◌≢◌, ◌<◌, ℕ, chars, length, map, Some, IfErr, IfNone, IfOk, IfSome, OnErr};
 ghost use Rattle.qrcode_charsets.specs.Shortest.{NoneHas};
 ghost use Rattle.qrcode_charsets.specs.declared.sets.Charset.{Charset};
 ghost use Rattle.goqlanis_core.specs.Charsets.{IsShortestOf};
@@ -15,6 +15,7 @@ use goqlanis_core::symbol_among;
 use qrcode::QrCode;
 use qrcode::types::QrError;
 use qrcode_charsets::sets::{CHARSETS, Charset};
+use qrcode_charsets::shortest::any_has;
 use std::alloc::Global;
 
 /// Why a text is not encoded in any of some character sets.
@@ -129,19 +130,6 @@ fn place_lacked(sets: &[Charset], text: &str) -> Option<usize>
         return None;
     }
     sets[0].lacks(text)
-}
-
-// Returns whether one of `sets` has all characters of `text`.
-fn any_has(sets: &[Charset], text: &str) -> bool
-    ensures has { IsTrue result → ¬ NoneHas sets.now (chars text.now) }
-    ensures none { IsFalse result → NoneHas sets.now (chars text.now) }
-{
-    for set in sets {
-        if set.lacks(text).is_none() {
-            return true;
-        }
-    }
-    false
 }
 
 // Returns the sets with these numbers, or without numbers those of `CHARSETS`. Errors: the index of

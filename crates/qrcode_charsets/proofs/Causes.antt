@@ -11,7 +11,7 @@ use Rattle.qrcode_types.specs.declared.types.QrError.TheVariants.{DataTooLong, U
 use Rattle.qrcode_bits.specs.Manners.{rank}
 use Rattle.qrcode_bits.specs.Refusals.{data_limit}
 use Rattle.qrcode_bits.proofs.Shortness.{fitting_short}
-use Rattle.qrcode_charsets.specs.Laid.{cut_bytes, NoneHave, IsHeldAt, HasRoom}
+use Rattle.qrcode_charsets.specs.Laid.{cut_bytes, HasRoom}
 use Rattle.qrcode_charsets.specs.Shortest.{CanShow, NoneHas, IsRefused, NeedsText}
 use Rattle.qrcode_charsets.specs.declared.sets.Charset.{Charset}
 use Rattle.qrcode_charsets.proofs.Lists.{can_room}
@@ -27,12 +27,6 @@ room_short sets v l utf8 u room =
 
 pub can_has : (sets : List Charset) (v : Version) (l : EcLevel) (text : List ℕ) → CanShow sets v l text → ¬ NoneHas sets text
 can_has sets v l text can none = let room = can_room sets v l text can in none room.place room.set room.at (room.held.laid.bytes, room.held.laid.written)
-
--- no version has room
-pub none_shows : (sets : List Charset) (from : Version) (l : EcLevel) (text : List ℕ) → NoneHave sets (IsHeldAt from l text) (length sets) → (v : Version) → rank from ≤ rank v → ¬ CanShow sets v l text
-none_shows sets from l text none v above can =
-    let room = can_room sets v l text can in
-    none room.place (rank v) room.set room.at.0 room.at (record { version = v; is = refl; at_least = above; held = room.held })
 
 module _ {A : Type 0} (sets : List Charset) (from : Version) (l : EcLevel) (utf8 : List ℕ) where
   -- for a version that exists and a text within the limit, the causes are enough

@@ -33,14 +33,14 @@ module _ (sets : List Charset) (v : Version) (l : EcLevel) (utf8 : List ℕ) whe
   none_fits m least over room = omega (arith, over, least_room sets v l (chars utf8) m least room)
 
   pub some_laid : (m : Measured) → IsLeastLaid sets v (chars utf8) (length sets) m → ¬ NoneLaid sets v (chars utf8) (length sets)
-  some_laid m least none = none least.chosen.place m.used m.set least.chosen.at.0 least.chosen.at (laid_of v (chars utf8) m least.measured)
+  some_laid m least none = none least.place m.used m.set least.at.0 least.at (laid_of v (chars utf8) m least.measured)
 
   -- once the bits are found, only memory can run out
   pub memory_ran_out : (m : Measured) → IsFitting sets v l (chars utf8) m → IsUtf8 utf8 → (e : QrError) → e ≡ OutOfMemory → IsRefusedIn sets v l utf8 e
   memory_ran_out m fitting u e is =
-      let chosen = fitting.least.chosen in
-      let measured = fitting.least.measured in
+      let least = fitting.least in
+      let measured = least.measured in
       let held : IsHeld m.set v l (chars utf8) = record { exists = fitting.exists; used = m.used; laid = laid_of v (chars utf8) m measured; room = fitting.room } in
-      let short = room_short sets v l utf8 u (record { place = chosen.place; set = m.set; at = chosen.at; held = held }) in
-      let has : ¬ NoneHas sets (chars utf8) = λ none. none chosen.place m.set chosen.at (m.bytes.items, measured.written) in
+      let short = room_short sets v l utf8 u (record { place = least.place; set = m.set; at = least.at; held = held }) in
+      let has : ¬ NoneHas sets (chars utf8) = λ none. none least.place m.set least.at (m.bytes.items, measured.written) in
       refused_behind (valid_of v l fitting.exists) (omega (arith, short)) has fitting.exists e (inl is)

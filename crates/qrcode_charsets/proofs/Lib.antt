@@ -2,7 +2,6 @@ pub mod Causes
 pub mod Chosen
 pub mod Cuts
 pub mod Given
-pub mod Held
 pub mod Leasts
 pub mod Lists
 pub mod Marks
@@ -10,9 +9,9 @@ pub mod PairCodes
 pub mod PairReads
 pub mod PairRows
 pub mod PairTable
+pub mod Ranks
 pub mod Rows
 pub mod Shown
 pub mod StandCuts
 pub mod StandIns
-pub mod Versions
 pub mod Writings

@@ -202,4 +202,4 @@ measured_least v text m used measured laid =
 pub least_room : (sets : List Charset) (v : Version) (l : EcLevel) (text : List ℕ) (m : Measured) → IsLeastLaid sets v text (length sets) m → HasRoom sets v l text → m.used ≤ capacity v l
 least_room sets v l text m least room =
     let held = room.held in
-    omega (arith, least.chosen.least room.place held.used room.set room.at.0 room.at held.laid, held.room)
+    omega (arith, least.least room.place held.used room.set room.at.0 room.at held.laid, held.room)

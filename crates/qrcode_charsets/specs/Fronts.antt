@@ -5,8 +5,6 @@ use Rattle.qrcode_types.specs.Versions.{is_micro}
 use Rattle.qrcode_types.specs.declared.types.Version.{Version}
 use Rattle.qrcode_bits.specs.ModeSets.{all_modes, text_modes}
 use Rattle.qrcode_bits.specs.Written.{eci_bits}
-use Rattle.qrcode_bits.specs.declared.bits.manner.Manner.{Manner}
-use Rattle.qrcode_bits.specs.declared.bits.manner.Manner.TheVariants.{Text, MarkedText}
 use Rattle.qrcode_bits.specs.declared.optimize.mode_sets.Modes.{Modes}
 use Rattle.qrcode_charsets.specs.Charsets.{designator}
 use Rattle.qrcode_charsets.specs.declared.sets.Charset.{Charset}
@@ -31,10 +29,3 @@ modes_of Unmarked = text_modes
 modes_of Utf8 = text_modes
 modes_of (OneByte p) = text_modes
 modes_of ShiftJis = all_modes
-
--- The manner in which bytes are written in these modes, and take as many bits: each designator takes as many as that of UTF-8.
-abbrev pub manner_of : Charset → Option Manner
-manner_of Unmarked = Some Text
-manner_of Utf8 = Some MarkedText
-manner_of (OneByte p) = Some MarkedText
-manner_of ShiftJis = None

@@ -59,26 +59,18 @@ pub record IsMeasured (v : Version) (text : List ℕ) (m : Measured) : Type 0 wh
   pub best : IsBestCut m.set v m.bytes.items m.segments.items
   pub length : m.used ≡ length (front m.set) + total_cost v m.segments.items
 
--- of numbers that sets may have: none of the first sets has one
-abbrev pub NoneHave : List Charset → (Charset → ℕ → Type 0) → ℕ → Type 0
-NoneHave sets P count = (place k : ℕ) (d : Charset) → place < count → IsAt sets place d → ¬ P d k
-
--- c is the first of the first sets that has the smallest number
-pub record IsFirstLeast (sets : List Charset) (P : Charset → ℕ → Type 0) (count : ℕ) (c : Charset) (n : ℕ) : Type 0 where
-  pub place : ℕ
-  pub before : place < count
-  pub at : IsAt sets place c
-  pub least : (other k : ℕ) (d : Charset) → other < count → IsAt sets other d → P d k → n ≤ k
-  pub first : (other k : ℕ) (d : Charset) → other < place → IsAt sets other d → P d k → n < k
-
 -- the text can be written in none of the first sets
 abbrev pub NoneLaid : List Charset → Version → List ℕ → ℕ → Type 0
-NoneLaid sets v text count = NoneHave sets (λ d used. IsLaid d v text used) count
+NoneLaid sets v text count = (place used : ℕ) (d : Charset) → place < count → IsAt sets place d → ¬ IsLaid d v text used
 
 -- the first of the first sets in which the text takes the fewest bits
 pub record IsLeastLaid (sets : List Charset) (v : Version) (text : List ℕ) (count : ℕ) (m : Measured) : Type 0 where
   pub measured : IsMeasured v text m
-  pub chosen : IsFirstLeast sets (λ d used. IsLaid d v text used) count m.set m.used
+  pub place : ℕ
+  pub before : place < count
+  pub at : IsAt sets place m.set
+  pub least : (other used : ℕ) (d : Charset) → other < count → IsAt sets other d → IsLaid d v text used → m.used ≤ used
+  pub first : (other used : ℕ) (d : Charset) → other < place → IsAt sets other d → IsLaid d v text used → m.used < used
 
 -- the same in a version that has room for them
 pub record IsFitting (sets : List Charset) (v : Version) (l : EcLevel) (text : List ℕ) (m : Measured) : Type 0 where
@@ -107,31 +99,11 @@ pub record HasRoom (sets : List Charset) (v : Version) (l : EcLevel) (text : Lis
   pub at : IsAt sets place set
   pub held : IsHeld set v l text
 
--- a symbol from `from` on of this rank has room for the text in the set
-pub record IsHeldAt (from : Version) (l : EcLevel) (text : List ℕ) (c : Charset) (r : ℕ) : Type 0 where
-  pub version : Version
-  pub is : rank version ≡ r
-  pub at_least : rank from ≤ r
-  pub held : IsHeld c version l text
-
--- the smallest such version
-pub record IsLeastHolding (from : Version) (l : EcLevel) (text : List ℕ) (c : Charset) (v : Version) : Type 0 where
-  pub held : IsHeld c v l text
+-- the smallest version from `from` on that has room for the text in one of the sets, and the text there
+pub record IsChosen (sets : List Charset) (from : Version) (l : EcLevel) (text : List ℕ) (v : Version) (m : Measured) : Type 0 where
+  pub fitting : IsFitting sets v l text m
   pub at_least : rank from ≤ rank v
-  pub least : (r : ℕ) → IsHeldAt from l text c r → rank v ≤ r
-
--- the smallest version that has room for the text in one of the first sets
-pub record IsLeastVersion (sets : List Charset) (from : Version) (l : EcLevel) (text : List ℕ) (count : ℕ) (v : Version) : Type 0 where
-  pub set : Charset
-  pub held : IsHeld set v l text
-  pub at_least : rank from ≤ rank v
-  pub chosen : IsFirstLeast sets (IsHeldAt from l text) count set (rank v)
-
--- the smaller of two versions, the second if they are the same
-abbrev pub smaller_of : (found least : Option Version) → Option Version
-smaller_of found None = found
-smaller_of None (Some k) = Some k
-smaller_of (Some v) (Some k) = if nat_lt (rank v) (rank k) then Some v else Some k
+  pub none_below : (other : Version) → rank from ≤ rank other → rank other < rank v → ¬ HasRoom sets other l text
 
 -- the one with fewer bits of two, the second if they have as many
 abbrev pub less_of : (found least : Option Measured) → Option Measured

@@ -14,6 +14,8 @@ mod choice;
 mod drawing;
 mod measuring;
 
+pub use choice::any_has;
+
 /// Encodes `text` at level `ec_level`, in the smallest version from `from` on that can show it in
 /// one of `sets`, and there in the fewest bits over these sets: the set's designator, if any, and
 /// segments. Returns the code and its set, the first of those with the fewest bits. Readers that
@@ -34,8 +36,7 @@ pub fn shortest_from(
         IsShortestFrom sets.now from ec_level (chars text.now) made.1 made.0) }
     ensures refusals { NeedsText sets.now from ec_level text.now result }
 {
-    let version = choice::choose(alloc, text, sets, from, ec_level)?;
-    let measured = choice::choose_in(alloc, text, sets, version, ec_level)?;
+    let (version, measured) = choice::choose(alloc, text, sets, from, ec_level)?;
     drawing::symbol_of(alloc, measured, version, ec_level)
 }
 
@@ -54,8 +55,7 @@ pub fn shortest_boosted(
         IsShortestBoosted sets.now from ec_level (chars text.now) made.1 made.0) }
     ensures refusals { NeedsText sets.now from ec_level text.now result }
 {
-    let version = choice::choose(alloc, text, sets, from, ec_level)?;
-    let measured = choice::choose_in(alloc, text, sets, version, ec_level)?;
+    let (version, measured) = choice::choose(alloc, text, sets, from, ec_level)?;
     let highest = choice::highest_level(version, measured.used, ec_level);
     drawing::symbol_of(alloc, measured, version, highest)
 }

@@ -1,35 +1,32 @@
-//! Chooses the version, the set and the level of a text.
+//! Chooses the version and the set of a text.
 
-ghost use Rattle.std.specs.Prelude.{◌≡◌, ◌≢◌, ℕ, ◌+◌, ◌<◌, ◌≤◌, ◌↔◌, chars, length, IfOk, IfErr, IsOkUnless, IsTrue, IsFalse, MatchOption};
+ghost use Rattle.std.specs.Prelude.{◌≡◌, ◌<◌, ◌≤◌, ◌↔◌, chars, IfOk, IfErr, IsOkUnless, IsTrue, IsFalse};
 ghost use Rattle.qrcode_types.specs.Versions.{is_valid, has_level, level_number, capacity};
 ghost use Rattle.qrcode_types.specs.declared.types.EcLevel.{EcLevel};
 ghost use Rattle.qrcode_types.specs.declared.types.QrError.TheVariants.{OutOfMemory};
 ghost use Rattle.qrcode_bits.specs.Manners as manners;
-ghost use Rattle.qrcode_bits.specs.Refusals.{data_limit};
-ghost use Rattle.qrcode_charsets.specs.Fronts as fronts;
 ghost use Rattle.qrcode_charsets.specs.Given.{IsRefusedIn};
-ghost use Rattle.qrcode_charsets.specs.Laid.{HasRoom, IsFitting, IsHeld, IsHeldAt, IsLeastHolding, IsLeastVersion, NoneHave, smaller_of};
+ghost use Rattle.qrcode_charsets.specs.Laid.{HasRoom, IsChosen, IsFitting};
 ghost use Rattle.qrcode_charsets.specs.Shortest.{NeedsText, NoneHas};
-ghost use Rattle.qrcode_charsets.specs.declared.sets.Charset.TheVariants.{Unmarked};
 
-use super::measuring::{Measured, measure, measure_least};
+use super::measuring::{Measured, measure_least};
 use crate::sets::Charset;
-use qrcode_bits::bits::{DATA_LIMIT, Manner, encode_from};
+use qrcode_bits::bits::DATA_LIMIT;
 use qrcode_types::tables;
 use qrcode_types::types::{EcLevel, QrError, QrResult, Version};
 use std::alloc::Global;
 
-// Finds the smallest version from `from` on that can show the text in one of `sets`. Fails as
-// `shortest_from` does.
+// Finds the smallest version from `from` on that can show the text in one of `sets`, and the set
+// and the segments with the fewest bits there. Fails as `shortest_from` does.
 pub(super) fn choose(
     alloc: Global,
     text: &str,
     sets: &[Charset],
     from: Version,
     ec_level: EcLevel,
-) -> QrResult<Version>
-    ensures chosen { IfOk result
-        (IsLeastVersion sets.now from ec_level (chars text.now) (length sets.now)) }
+) -> QrResult<(Version, Measured)>
+    ensures chosen { IfOk result (λ made.
+        IsChosen sets.now from ec_level (chars text.now) made.0 made.1) }
     ensures refusals { NeedsText sets.now from ec_level text.now result }
 {
     if !from.is_valid() {
@@ -41,11 +38,17 @@ pub(super) fn choose(
     if !any_has(sets, text) {
         return Err(QrError::UnsupportedCharacterSet);
     }
-    match least_version(alloc, text, sets, from, ec_level) {
-        Ok(Some(version)) => Ok(version),
-        Ok(None) => Err(QrError::DataTooLong),
-        Err(error) => Err(error),
+    for place in rank(from)..45 {
+        let version = version_at(place);
+        match choose_in(alloc, text, sets, version, ec_level) {
+            Ok(measured) => return Ok((version, measured)),
+            Err(error) => match error {
+                QrError::OutOfMemory => return Err(error),
+                _ => {}
+            },
+        }
     }
+    Err(QrError::DataTooLong)
 }
 
 // Finds the set and the segments with the fewest bits in `version`. Fails as `shortest_in` does.
@@ -82,8 +85,8 @@ pub(super) fn choose_in(
     Ok(measured)
 }
 
-// Returns whether one of `sets` has all characters of `text`.
-fn any_has(sets: &[Charset], text: &str) -> bool
+/// Returns whether one of `sets` has all characters of `text`.
+pub fn any_has(sets: &[Charset], text: &str) -> bool
     ensures has { IsTrue result → ¬ NoneHas sets.now (chars text.now) }
     ensures none { IsFalse result → NoneHas sets.now (chars text.now) }
 {
@@ -95,154 +98,30 @@ fn any_has(sets: &[Charset], text: &str) -> bool
     false
 }
 
-// Finds the smallest version from `from` on that has room for the text in one of `sets`.
-fn least_version(
-    alloc: Global,
-    text: &str,
-    sets: &[Charset],
-    from: Version,
-    ec_level: EcLevel,
-) -> QrResult<Option<Version>>
-    requires valid { IsTrue (is_valid from) }
-    requires length_at_most { length text.now ≤ data_limit }
-    ensures least { IfOk result (λ found. MatchOption found
-        (NoneHave sets.now (IsHeldAt from ec_level (chars text.now)) (length sets.now))
-        (IsLeastVersion sets.now from ec_level (chars text.now) (length sets.now))) }
-    ensures memory { IsOkUnless result OutOfMemory }
-{
-    let mut least: Option<Version> = None;
-    for set in sets {
-        let found = version_in(alloc, text, *set, from, ec_level)?;
-        least = smaller_of(found, least);
-    }
-    Ok(least)
-}
-
-// Finds the smallest version from `from` on that has room for the text in `set`.
-fn version_in(
-    alloc: Global,
-    text: &str,
-    set: Charset,
-    from: Version,
-    ec_level: EcLevel,
-) -> QrResult<Option<Version>>
-    requires valid { IsTrue (is_valid from) }
-    requires length_at_most { length text.now ≤ data_limit }
-    ensures least { IfOk result (λ found. MatchOption found
-        ((rank : ℕ) → ¬ IsHeldAt from ec_level (chars text.now) set rank)
-        (IsLeastHolding from ec_level (chars text.now) set)) }
-    ensures memory { IsOkUnless result OutOfMemory }
-{
-    let Some(manner) = manner_of(set) else {
-        return first_version(alloc, text, set, from, ec_level);
-    };
-    let Some(bytes) = set.encode(alloc, text)? else {
-        return Ok(None);
-    };
-    match encode_from(alloc, &bytes, manner, from, ec_level) {
-        Ok(list) => Ok(Some(list.version())),
-        Err(QrError::DataTooLong) => Ok(None),
-        Err(error) => Err(error),
-    }
-}
-
-// Returns the manner in which bytes are written in the modes of `set`, if there is one.
-fn manner_of(set: Charset) -> Option<Manner>
-    ensures { result ≡ fronts.manner_of set }
-{
-    match set {
-        Charset::Unmarked => Some(Manner::Text),
-        Charset::Utf8 | Charset::OneByte(_) => Some(Manner::MarkedText),
-        Charset::ShiftJis => None,
-    }
-}
-
-// Finds the smallest version from `from` on that has room for the text in `set`, which has a
-// designator, by trying one after the other.
-fn first_version(
-    alloc: Global,
-    text: &str,
-    set: Charset,
-    from: Version,
-    ec_level: EcLevel,
-) -> QrResult<Option<Version>>
-    requires valid { IsTrue (is_valid from) }
-    requires length_at_most { length text.now ≤ data_limit }
-    requires marked { set ≢ Unmarked }
-    ensures least { IfOk result (λ found. MatchOption found
-        ((rank : ℕ) → ¬ IsHeldAt from ec_level (chars text.now) set rank)
-        (IsLeastHolding from ec_level (chars text.now) set)) }
-    ensures memory { IsOkUnless result OutOfMemory }
-{
-    let first = first_normal(from);
-    for number in first..41 {
-        let version = Version::Normal(number as i16);
-        if has_room(alloc, text, set, version, ec_level)? {
-            return Ok(Some(version));
-        }
-    }
-    Ok(None)
-}
-
-// Returns the number of the first Normal version from `from` on.
-fn first_normal(from: Version) -> usize
-    requires { IsTrue (is_valid from) }
-    ensures at_least { 1 ≤ result }
-    ensures from { manners.rank from ≤ 4 + result }
-    ensures least { (number : ℕ) → 1 ≤ number → manners.rank from ≤ 4 + number
-        → result ≤ number }
-{
-    match from {
-        Version::Micro(_) => 1,
-        Version::Normal(number) => number.unsigned_abs() as usize,
-    }
-}
-
-// Returns whether the version has room for the text in `set`.
-fn has_room(
-    alloc: Global,
-    text: &str,
-    set: Charset,
-    version: Version,
-    ec_level: EcLevel,
-) -> QrResult<bool>
-    requires valid { IsTrue (is_valid version) }
-    requires length_at_most { length text.now ≤ data_limit }
-    ensures held { IfOk result (λ room. IsTrue room
-        → IsHeld set version ec_level (chars text.now)) }
-    ensures none { IfOk result (λ room. IsFalse room
-        → ¬ IsHeld set version ec_level (chars text.now)) }
-    ensures memory { IsOkUnless result OutOfMemory }
-{
-    let Some(room) = tables::capacity(version, ec_level) else {
-        return Ok(false);
-    };
-    match measure(alloc, text, set, version)? {
-        Some(measured) => Ok(measured.used <= room),
-        None => Ok(false),
-    }
-}
-
-// Returns the smaller of two versions, the second if they are the same.
-fn smaller_of(found: Option<Version>, least: Option<Version>) -> Option<Version>
-    ensures { result ≡ smaller_of found least }
-{
-    let Some(known) = least else {
-        return found;
-    };
-    match found {
-        Some(version) if rank(version) < rank(known) => Some(version),
-        _ => Some(known),
-    }
-}
-
-// Returns the place of a version in the order of sizes.
+// Returns the place of a version in the order of sizes, from 1 to 44.
 fn rank(version: Version) -> usize
-    ensures { result ≡ manners.rank version }
+    requires { IsTrue (is_valid version) }
+    ensures value { result ≡ manners.rank version }
+    ensures at_least { 1 ≤ result }
+    ensures at_most { result ≤ 44 }
 {
     match version {
-        Version::Micro(number) => number.unsigned_abs() as usize,
-        Version::Normal(number) => 4 + number.unsigned_abs() as usize,
+        Version::Micro(number) => number as usize,
+        Version::Normal(number) => 4 + number as usize,
+    }
+}
+
+// Returns the version at this place.
+fn version_at(place: usize) -> Version
+    requires at_least { 1 ≤ place }
+    requires at_most { place ≤ 44 }
+    ensures valid { IsTrue (is_valid result) }
+    ensures place { manners.rank result ≡ place }
+{
+    if place <= 4 {
+        Version::Micro(place as i16)
+    } else {
+        Version::Normal(place as i16 - 4)
     }
 }
 

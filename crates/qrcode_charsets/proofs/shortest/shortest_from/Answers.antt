@@ -1,33 +1,27 @@
-use Rattle.std.proofs.Common.{rules}
 use Rattle.std.specs.Prelude.{chars}
 use Rattle.qrcode_charsets.proofs.Causes.{needs_handed_on, needs_found}
-use Rattle.qrcode_charsets.proofs.Chosen.{has_room, room_of, set_of, made_from}
+use Rattle.qrcode_charsets.proofs.Chosen.{has_room, has_set, made_from}
 use Rattle.qrcode_charsets.proofs.shortest.shortest_from.Goals as goal
 
 pub returns-in_err-version-clause-refusals : goal.returns-in_err-version-clause-refusals
 returns-in_err-version-clause-refusals c =
     needs_handed_on c.args.sets.now c.args.from c.args.ec_level c.args.text.now c.in_err-version.field-0.0 c.from_residual.result c.in_err-version.ensures.refusals c.from_residual.ensures
 
-pub returns-in_err-measured-clause-refusals : goal.returns-in_err-measured-clause-refusals
-returns-in_err-measured-clause-refusals c =
-    let sets = c.args.sets.now in
-    let v = c.in_ok-version.version in
-    let chosen = c.in_ok-version.ensures.chosen in
-    let has = set_of sets c.args.from c.args.ec_level (chars c.args.text.now) v chosen in
-    let accepted = c.in_err-measured.ensures.accepts (room_of sets c.args.from c.args.ec_level (chars c.args.text.now) v chosen) in
-    needs_found sets c.args.from c.args.ec_level c.args.text.now v c.from_residual-in_err-measured.result c.in_ok-version.ensures.refusals has (search rules)
-
 pub returns-clause-refusals : goal.returns-clause-refusals
 returns-clause-refusals c =
     let v = c.in_ok-version.version in
-    let has = set_of c.args.sets.now c.args.from c.args.ec_level (chars c.args.text.now) v c.in_ok-version.ensures.chosen in
-    needs_found c.args.sets.now c.args.from c.args.ec_level c.args.text.now v c.symbol_of.result c.in_ok-version.ensures.refusals has c.symbol_of.ensures.memory
+    let m = c.in_ok-version.measured in
+    let has = has_set c.args.sets.now v c.args.ec_level (chars c.args.text.now) m c.in_ok-version.ensures.chosen.fitting in
+    needs_found c.args.sets.now c.args.from c.args.ec_level c.args.text.now (v, m) c.symbol_of.result c.in_ok-version.ensures.refusals has c.symbol_of.ensures.memory
 
 pub symbol_of-requires-clause-room : goal.symbol_of-requires-clause-room
 symbol_of-requires-clause-room c =
-    has_room c.args.sets.now c.in_ok-version.version c.args.ec_level (chars c.args.text.now) c.in_ok-measured.measured c.in_ok-measured.ensures.fitting
+    let v = c.in_ok-version.version in
+    let m = c.in_ok-version.measured in
+    has_room c.args.sets.now v c.args.ec_level (chars c.args.text.now) m c.in_ok-version.ensures.chosen.fitting
 
 pub returns-clause-symbol : goal.returns-clause-symbol
 returns-clause-symbol c =
-    made_from c.args.sets.now c.args.from c.args.ec_level (chars c.args.text.now) c.in_ok-version.version c.in_ok-version.ensures.chosen
-    c.in_ok-measured.measured c.in_ok-measured.ensures.fitting c.symbol_of.result c.symbol_of.ensures.drawn
+    let v = c.in_ok-version.version in
+    let m = c.in_ok-version.measured in
+    made_from c.args.sets.now c.args.from c.args.ec_level (chars c.args.text.now) v m c.in_ok-version.ensures.chosen c.symbol_of.result c.symbol_of.ensures.drawn
