@@ -6,11 +6,13 @@ use goqlanis_draw::make;
 use goqlanis_files::failure::{Failure, status};
 use goqlanis_files::streams::{Escaped, print};
 use goqlanis_files::{refused, usage};
+use goqlanis_help::advice::{advice, wrapped_help};
+use goqlanis_help::command::{command_of, end_of_help, usage_of};
+use goqlanis_help::conflicts::check_conflicts;
+use goqlanis_help::tasks::{DRAWING, Task, task_named};
 use goqlanis_look::{check, join_pictures, read};
-use goqlanis_options::advice::{advice, wrapped_help};
 use goqlanis_options::asked::asked_for;
-use goqlanis_options::command::{command_of, end_of_help, usage_of};
-use goqlanis_options::options::{DRAWING, Purpose, Task, task_named};
+use goqlanis_options::options::Purpose;
 use goqlanis_options::pictures::pictures_of;
 use goqlanis_options::sizes::{UNIT_APART, has_unit_apart};
 use std::alloc::{AllocError, Global};
@@ -104,6 +106,9 @@ fn perform(rt: &HostRuntime, task: &Task, given: &ArgMatches<'_>) -> Result<Exit
         Purpose::Check => check(rt, &pictures_of(rt, given)?),
         Purpose::Join => join_pictures(rt, &pictures_of(rt, given)?),
         Purpose::Draw if given.get_flag("version") => print(rt, VERSION.as_bytes()),
-        _ => make(rt, task, &asked_for(rt, task, given)?),
+        purpose => {
+            check_conflicts(rt.alloc(), given)?;
+            make(rt, purpose, &asked_for(rt, purpose, given)?)
+        }
     }
 }

@@ -53,7 +53,7 @@ pub(crate) fn draw_damaged(
         )?;
     }
     let request = &asked.request;
-    let modules = damaged_modules(alloc, request, asked.position, code, damage)?;
+    let modules = damaged_modules(alloc, request, wanted.position, code, damage)?;
     match drawn(alloc, request, code, &modules, &[], None) {
         Ok(drawing) => Ok(drawing),
         Err(_) => Err(Failure::OutOfMemory),

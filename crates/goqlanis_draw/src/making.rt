@@ -13,7 +13,7 @@ use goqlanis_files::{doubted, refused, usage};
 use goqlanis_logos::middle::{SWISS_CROSS, has_cross, read_logo};
 use goqlanis_options::asked::{Asked, Source, Target};
 use goqlanis_options::logos::{AskedLogo, Middle};
-use goqlanis_options::options::{Purpose, Task};
+use goqlanis_options::options::Purpose;
 use goqlanis_options::warnings::warn_of_password;
 use goqlanis_tables::columns::Columns;
 use qrcode::QrCode;
@@ -26,25 +26,29 @@ use std::alloc::Global;
 use std::process::ExitCode;
 
 /// Makes codes, after reading the logo file if there is one.
-pub fn make(rt: &HostRuntime, task: &Task, asked: &Asked<'_, '_>) -> Result<ExitCode, Failure> {
+pub fn make(
+    rt: &HostRuntime,
+    purpose: Purpose,
+    asked: &Asked<'_, '_>,
+) -> Result<ExitCode, Failure> {
     let file = read_logo(rt, asked)?;
     let middle = file.as_ref().map_or(Middle::Light, Middle::Logo);
     let logo = asked.logo.map(|logo| AskedLogo { middle, ..logo });
-    draw(rt, task, &Asked { logo, ..*asked })
+    draw(rt, purpose, &Asked { logo, ..*asked })
 }
 
 // Makes codes.
-fn draw(rt: &HostRuntime, task: &Task, asked: &Asked<'_, '_>) -> Result<ExitCode, Failure> {
+fn draw(rt: &HostRuntime, purpose: Purpose, asked: &Asked<'_, '_>) -> Result<ExitCode, Failure> {
     check_terminal(rt, asked)?;
-    if let Purpose::Several = task.purpose {
+    if let Purpose::Several = purpose {
         return draw_several(rt, asked, &data(rt, asked, MOST_IN_SEVERAL)?);
     }
     asked.fields.check(rt.alloc())?;
     warn_of_places(rt, asked)?;
     if let Some(lines) = asked.input.lines {
-        return draw_lines(rt, asked, task.purpose, lines);
+        return draw_lines(rt, asked, purpose, lines);
     }
-    let drawing = match (task.purpose, asked.input.segments) {
+    let drawing = match (purpose, asked.input.segments) {
         (Purpose::Content(kind), _) => draw_content(rt, kind, asked)?,
         (Purpose::Elements, _) => draw_gs1(rt, asked)?,
         (_, Some(words)) => draw_reported(rt, asked, segments_code(rt.alloc(), asked, words)?)?,

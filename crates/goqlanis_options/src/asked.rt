@@ -2,16 +2,16 @@
 
 use crate::charsets::Coded;
 use crate::colours::{check_colours, ink_of, part_colour, part_inks};
-use crate::conflicts::{check_conflicts, is_given};
-use crate::damage::{AskedDamage, damage_of, position_of};
+use crate::damage::{AskedDamage, damage_of};
 use crate::fields::Fields;
 use crate::frames::{frame_of, place_of};
 use crate::logos::{AskedLogo, logo_of};
-use crate::options::{Purpose, Task};
+use crate::options::Purpose;
 use crate::sizes::{Sizes, sizes_of};
 use crate::targets::{check_streams, check_target};
 use crate::warnings::warn;
 use clap::ArgMatches;
+use clap::parser::ValueSource;
 use goqlanis_core::{Choice, Request};
 use goqlanis_files::failure::{Doubts, Failure};
 use goqlanis_files::streams::has_colours;
@@ -20,7 +20,6 @@ use qrcode::bits::Manner;
 use qrcode::types::{EcLevel, Version};
 use qrcode_append::Versions;
 use qrcode_formats::{Colours, Density, FORMATS, Format, Middle, format_named, format_of_ending};
-use qrcode_reader::Position;
 use std::alloc::Global;
 use std::fs;
 
@@ -108,8 +107,6 @@ pub struct Asked<'a, 'w> {
     pub split: Split,
     /// What is wrong in the code, if it is to be damaged.
     pub damage: Option<AskedDamage>,
-    /// How a damaged code lies in its picture.
-    pub position: Position,
     pub target: Target<'a>,
     /// The side of the picture in hundredths of a millimetre, if `--size` is a length in pixels.
     pub hundredths: Option<u64>,
@@ -127,38 +124,38 @@ pub struct Asked<'a, 'w> {
 
 /// Turns the options in `given` into a request, and warns on standard error of doubtful ones.
 ///
-/// Errors: options that contradict each other, an unknown format, version, size, colour or place,
-/// or an option that the format does not support; a warning if warnings are errors; `OutOfMemory`.
+/// Errors: an unknown format, version, size, colour or place, or an option that the format does not
+/// support; a warning if warnings are errors; `OutOfMemory`.
 pub fn asked_for<'a, 'w>(
     rt: &HostRuntime,
-    task: &Task,
+    purpose: Purpose,
     given: &'a ArgMatches<'w>,
 ) -> Result<Asked<'a, 'w>, Failure> {
     let alloc = rt.alloc();
-    check_conflicts(alloc, given)?;
     let target = target_of(alloc, given)?;
     let is_dry = given.get_flag("dry-run");
     let format = format(rt, given.get_str("format"), target, is_dry)?;
     check_format(alloc, given, format)?;
-    let sizes = sizes_of(alloc, task, given, format)?;
+    let sizes = sizes_of(alloc, purpose, given, format)?;
+    let request = request_of(alloc, purpose, given, format, &sizes)?;
+    let input = input_of(alloc, given)?;
+    let most = version_of(alloc, given, "max-version")?.unwrap_or(Version::Normal(40));
+    let damage = damage_of(alloc, purpose, given)?;
+    let logo = logo_of(alloc, given)?;
     let asked = Asked {
-        request: request_of(alloc, task, given, format, &sizes)?,
-        input: input_of(alloc, given)?,
+        request,
+        input,
         coded: None,
         fields: Fields::of(given),
         split: Split {
             count: given.get_one::<u8>("count"),
-            most: version_of(alloc, given, "max-version")?.unwrap_or(Version::Normal(40)),
+            most,
         },
-        damage: match task.purpose {
-            Purpose::Damage => Some(damage_of(alloc, given)?),
-            _ => None,
-        },
-        position: position_of(alloc, given)?,
+        damage,
         target,
         hundredths: sizes.hundredths,
         dots: sizes.dots,
-        logo: logo_of(alloc, given)?,
+        logo,
         logo_file: given.get_str("logo"),
         report: report_of(given),
         is_dry,
@@ -167,16 +164,29 @@ pub fn asked_for<'a, 'w>(
             place: None,
         },
     };
-    if asked.input.lines.is_some() && !is_dry {
-        check_one_behind_another(alloc, &asked)?;
-    }
-    if asked.input.lines.is_some() {
-        check_streams(rt, &asked)?;
-    } else if !matches!(task.purpose, Purpose::Several) {
-        check_target(rt, &asked)?;
-    }
+    check_files(rt, purpose, &asked)?;
     warn(rt, &asked)?;
     Ok(asked)
+}
+
+// Checks that what is drawn can go where it is to go.
+fn check_files(rt: &HostRuntime, purpose: Purpose, asked: &Asked<'_, '_>) -> Result<(), Failure> {
+    if asked.input.lines.is_none() {
+        return match purpose {
+            Purpose::Several => Ok(()),
+            _ => check_target(rt, asked),
+        };
+    }
+    if !asked.is_dry {
+        check_one_behind_another(rt.alloc(), asked)?;
+    }
+    check_streams(rt, asked)
+}
+
+/// Whether the command line gives an option or the positional argument. (An absent flag still has a
+/// default value.)
+pub fn is_given(given: &ArgMatches<'_>, name: &str) -> bool {
+    given.value_source(name.trim_start_matches('-')) == Some(ValueSource::CommandLine)
 }
 
 /// Returns what is reported.
@@ -320,82 +330,109 @@ fn version_of(
 
 fn request_of<'a>(
     alloc: Global,
-    task: &Task,
+    purpose: Purpose,
     given: &ArgMatches<'a>,
     format: Format,
     sizes: &Sizes,
 ) -> Result<Request<'a>, Failure> {
     let choice = choice_of(alloc, given)?;
+    let place = place_of(alloc, given)?;
+    let frame = frame_of(alloc, given)?;
+    let dark = ink_of(alloc, "dark", given.get_str("dark").unwrap_or("#000"))?;
+    let light = ink_of(alloc, "light", given.get_str("light").unwrap_or("#fff"))?;
+    let parts = part_inks(alloc, given)?;
     let request = Request {
         manner: Manner::Text,
         choice,
-        level: level_of(task, given, choice),
+        level: level_of(purpose, given, choice),
         mask: given.get_one::<u8>("mask").map(usize::from),
         format,
-        zone: given.get_one::<u8>("quiet-zone").or(task.own_zone()),
+        zone: given
+            .get_one::<u8>("quiet-zone")
+            .or(purpose.is_bill().then_some(0)),
         scale: sizes.scale,
         size: sizes.side,
         dpi: given.get_one::<u16>("dpi"),
         length: sizes.length,
-        place: place_of(alloc, given)?,
-        frame: frame_of(alloc, given)?,
-        dark: ink_of(alloc, "dark", given.get_str("dark").unwrap_or("#000"))?,
-        light: ink_of(alloc, "light", given.get_str("light").unwrap_or("#fff"))?,
-        parts: part_inks(alloc, given)?.leak(),
+        place,
+        frame,
+        dark,
+        light,
+        parts: parts.leak(),
         is_inverted: given.get_flag("invert"),
     };
     check_colours(alloc, &request)?;
     Ok(request)
 }
 
+// Options that not all formats support, besides the colours of parts.
+const LIMITED: &str =
+    "dark light dpi invert at logo svg-title svg-desc svg-id svg-class no-size pdf-title";
+
 // Checks that the format supports the given options.
-#[rattlefmt::skip]
 fn check_format(alloc: Global, given: &ArgMatches<'_>, format: Format) -> Result<(), Failure> {
     // (No option is called "".)
     let part = part_colour(given).unwrap_or("");
-    let is_svg = format == Format::SvgPath;
-    let row = format.row();
-    let rows: [(&[&str], bool, &str); 9] = [
-        (&["dark", "light"], row.colours != Colours::Fixed,
-            "only PNG, SVG, EPS, PDF and PPM have colours; add --format png, svg or eps"),
-        (&[part], row.parts != Colours::Fixed,
-            "only PNG, SVG, EPS and PDF have colours of parts; add --format png, svg, eps or pdf"),
-        (&["dpi"], !is_svg, "SVG has no resolution; leave it out: lengths are exact without it"),
-        (&["dpi"], row.density != Density::Nothing,
-            "text and PIC have no resolution; use another --format, e.g. png"),
-        (&["invert"], format != Format::Pic,
-            "PIC draws no light modules; use another --format"),
-        (&["at"], row.has_place,
-            "only labels have a place for the code; add --format zpl or tspl"),
-        (&["logo"], matches!(row.middle, Middle::Element | Middle::Pixels),
-            "only SVG and PNG take a logo; add --format svg, or use --logo-area instead and put \
-            the logo there yourself"),
-        (&["svg-title", "svg-desc", "svg-id", "svg-class", "no-size"], is_svg,
-            "only SVG has it; add --format svg"),
-        (&["pdf-title"], format == Format::Pdf,
-            "only PDF has it; add --format pdf"),
-    ];
-    for (options, has, why) in &rows {
-        let option = options.iter().find(|option| is_given(given, option));
-        if let Some(option) = option.filter(|_| !*has) {
+    for option in LIMITED.split(' ').chain([part]) {
+        if let Some(why) = lacked(format, option).filter(|_| is_given(given, option)) {
             return usage!(alloc; "--{option}: {why}");
         }
     }
     Ok(())
 }
 
+// Returns what a format lacks for an option, and what would help; `None` if it lacks nothing.
+#[rattlefmt::skip]
+fn lacked(format: Format, option: &str) -> Option<&'static str> {
+    let row = format.row();
+    let is_svg = format == Format::SvgPath;
+    match option {
+        "dark" | "light" => (row.colours == Colours::Fixed).then_some(
+            "only PNG, SVG, EPS, PDF and PPM have colours; add --format png, svg or eps"),
+        "dpi" if is_svg => Some(
+            "SVG has no resolution; leave it out: lengths are exact without it"),
+        "dpi" => (row.density == Density::Nothing).then_some(
+            "text and PIC have no resolution; use another --format, e.g. png"),
+        "invert" => (format == Format::Pic).then_some(
+            "PIC draws no light modules; use another --format"),
+        "at" => (!row.has_place).then_some(
+            "only labels have a place for the code; add --format zpl or tspl"),
+        "logo" => (!matches!(row.middle, Middle::Element | Middle::Pixels)).then_some(
+            "only SVG and PNG take a logo; add --format svg, or use --logo-area instead and put \
+            the logo there yourself"),
+        "svg-title" | "svg-desc" | "svg-id" | "svg-class" | "no-size" => (!is_svg).then_some(
+            "only SVG has it; add --format svg"),
+        "pdf-title" => (format != Format::Pdf).then_some(
+            "only PDF has it; add --format pdf"),
+        _ => (row.parts == Colours::Fixed).then_some(
+            "only PNG, SVG, EPS and PDF have colours of parts; add --format png, svg, eps or pdf"),
+    }
+}
+
 // Returns the level: the given one, or by default M; L for version M1, which has no other; and H
 // with a logo, to leave room for it, unless the payload's format fixes the level or the code is a
 // Micro one, which has no H.
-fn level_of(task: &Task, given: &ArgMatches<'_>, choice: Choice) -> EcLevel {
+fn level_of(purpose: Purpose, given: &ArgMatches<'_>, choice: Choice) -> EcLevel {
+    if let Some(level) = given.get_str("level").and_then(level_named) {
+        return level;
+    }
     let has_middle = given.contains_id("logo") || given.get_flag("logo-area");
-    match (given.get_str("level"), choice) {
-        (Some("L" | "l"), _) | (None, Choice::At(Version::Micro(1))) => EcLevel::L,
-        (None, Choice::At(Version::Micro(_))) => EcLevel::M,
-        (Some("Q" | "q"), _) => EcLevel::Q,
-        (Some("H" | "h"), _) => EcLevel::H,
-        (None, _) if has_middle && !task.has_its_level() => EcLevel::H,
+    match choice {
+        Choice::At(Version::Micro(1)) => EcLevel::L,
+        Choice::At(Version::Micro(_)) => EcLevel::M,
+        _ if has_middle && !purpose.has_its_level() => EcLevel::H,
         _ => EcLevel::M,
+    }
+}
+
+// Returns the level with this name.
+fn level_named(name: &str) -> Option<EcLevel> {
+    match name {
+        "L" | "l" => Some(EcLevel::L),
+        "M" | "m" => Some(EcLevel::M),
+        "Q" | "q" => Some(EcLevel::Q),
+        "H" | "h" => Some(EcLevel::H),
+        _ => None,
     }
 }
 

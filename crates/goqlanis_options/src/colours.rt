@@ -1,7 +1,7 @@
 //! The colour options.
 
 use crate::nearest::nearest;
-use crate::options::PART_COLOURS;
+use crate::options::part_colours;
 use clap::ArgMatches;
 use goqlanis_core::Request;
 use goqlanis_files::failure::Failure;
@@ -17,7 +17,7 @@ use std::alloc::{AllocError, Global};
 /// Errors: `Usage` for an unknown colour; `OutOfMemory`.
 pub fn part_inks<'a>(alloc: Global, given: &ArgMatches<'a>) -> Result<Vec<PartInk<'a>>, Failure> {
     let mut inks = Vec::new(alloc);
-    for colour in PART_COLOURS {
+    for colour in part_colours() {
         if let Some(text) = given.get_str(colour.entry.long) {
             inks.push(PartInk {
                 part: colour.part,
@@ -94,7 +94,7 @@ pub fn check_colours(alloc: Global, request: &Request<'_>) -> Result<(), Failure
 
 /// Returns the first option on the command line that colours a part.
 pub fn part_colour(given: &ArgMatches<'_>) -> Option<&'static str> {
-    let found = PART_COLOURS
+    let found = part_colours()
         .iter()
         .find(|colour| given.contains_id(colour.entry.long));
     Some(found?.entry.long)

@@ -1,6 +1,7 @@
 //! The options of damaged codes.
 
 use crate::colours::part_colour;
+use crate::options::Purpose;
 use clap::ArgMatches;
 use goqlanis_files::failure::Failure;
 use goqlanis_files::usage;
@@ -28,19 +29,32 @@ pub struct AskedDamage {
     /// Wrong modules of patterns.
     pub pattern_modules: usize,
     pub seed: u64,
+    /// How the code lies in its picture.
+    pub position: Position,
 }
 
-/// Returns the damage that the command line asks for.
+/// Returns the damage that the command line asks for, if a code is to be damaged.
 ///
-/// Errors: `Usage` for a number of codewords that is not one; `OutOfMemory`.
-pub fn damage_of(alloc: Global, given: &ArgMatches<'_>) -> Result<AskedDamage, Failure> {
-    Ok(AskedDamage {
-        codewords: wrong_of(alloc, given.get_str("wrong-codewords").unwrap_or("most"))?,
+/// Errors: `Usage` for a number of codewords that is not one, and with a colour of a part unless
+/// the code lies upright; `OutOfMemory`.
+pub(crate) fn damage_of(
+    alloc: Global,
+    purpose: Purpose,
+    given: &ArgMatches<'_>,
+) -> Result<Option<AskedDamage>, Failure> {
+    if !matches!(purpose, Purpose::Damage) {
+        return Ok(None);
+    }
+    let codewords = wrong_of(alloc, given.get_str("wrong-codewords").unwrap_or("most"))?;
+    let position = position_of(alloc, given)?;
+    Ok(Some(AskedDamage {
+        codewords,
         format_bits: given.get_one::<u8>("wrong-format").unwrap_or(0) as usize,
         version_bits: given.get_one::<u8>("wrong-version").unwrap_or(0) as usize,
         pattern_modules: given.get_one::<u16>("wrong-patterns").unwrap_or(0) as usize,
         seed: given.get_one::<u64>("seed").unwrap_or(0),
-    })
+        position,
+    }))
 }
 
 fn wrong_of(alloc: Global, word: &str) -> Result<Wrong, Failure> {
@@ -55,10 +69,8 @@ fn wrong_of(alloc: Global, word: &str) -> Result<Wrong, Failure> {
     }
 }
 
-/// Returns how codes lie in their pictures: mirrored if asked for, and then turned.
-///
-/// Errors: `Usage` with a colour of a part, unless codes lie upright; `OutOfMemory`.
-pub(crate) fn position_of(alloc: Global, given: &ArgMatches<'_>) -> Result<Position, Failure> {
+// Returns how the code lies in its picture: mirrored if asked for, and then turned.
+fn position_of(alloc: Global, given: &ArgMatches<'_>) -> Result<Position, Failure> {
     let position = match (given.get_str("turn"), given.get_flag("mirror")) {
         (Some("90"), false) => Position::TurnedRight,
         (Some("180"), false) => Position::UpsideDown,

@@ -1,12 +1,9 @@
-//! The command line of `goqlanis`: tables of options, parsing, and warnings.
+//! What the options of `goqlanis` mean, and warnings and reports.
 #![tactic(auto)]
 
-pub mod advice;
 pub mod asked;
 pub mod charsets;
 pub mod colours;
-pub mod command;
-mod conflicts;
 pub mod damage;
 pub mod fields;
 pub mod frames;

@@ -1,11 +1,12 @@
 //! The size options: `--scale`, `--size`, `--module` and `--dpi`.
 
-use crate::options::Task;
+use crate::options::Purpose;
 use clap::ArgMatches;
 use goqlanis_core::Length;
 use goqlanis_files::failure::Failure;
 use goqlanis_files::usage;
 use qrcode_formats::{Density, Format};
+use qrcode_payloads::kinds::Kind;
 use qrcode_payloads::numbers::decimal;
 use std::alloc::Global;
 
@@ -30,7 +31,7 @@ pub struct Sizes {
 /// `OutOfMemory`.
 pub fn sizes_of(
     alloc: Global,
-    task: &Task,
+    purpose: Purpose,
     given: &ArgMatches<'_>,
     format: Format,
 ) -> Result<Sizes, Failure> {
@@ -50,29 +51,30 @@ pub fn sizes_of(
     };
     if let Some(text) = given.get_str("scale") {
         if let Err(why) = take_scale(&mut sizes, text, format, is_exact) {
-            let tip = scale_tip(task, text);
+            let tip = scale_tip(purpose, text);
             return usage!(alloc; "--scale {text}: {why}{tip}");
         }
     }
-    take_lengths(alloc, task, given, &mut sizes, is_exact)?;
+    take_lengths(alloc, purpose, given, &mut sizes, is_exact)?;
     Ok(sizes)
 }
 
 // Parses the lengths of a side and of a module, if they are given.
 fn take_lengths(
     alloc: Global,
-    task: &Task,
+    purpose: Purpose,
     given: &ArgMatches<'_>,
     sizes: &mut Sizes,
     is_exact: bool,
 ) -> Result<(), Failure> {
-    // A size of the payload's format stands where no option says otherwise.
-    let has_own = (is_exact || given.contains_id("dpi"))
+    // The size of a bill stands where no option says otherwise.
+    let has_own = purpose.is_bill()
+        && (is_exact || given.contains_id("dpi"))
         && !given.get_flag("no-size")
         && !given.contains_id("scale")
         && !given.contains_id("module");
     for (option, is_side) in [("size", true), ("module", false)] {
-        let own = task.own_size().filter(|_| is_side && has_own);
+        let own = (is_side && has_own).then_some("46mm");
         let Some(text) = given.get_str(option).or(own) else {
             continue;
         };
@@ -115,9 +117,9 @@ fn take_scale(
 }
 
 // What else to say about a scale that is wrong: -s is no name of a network.
-fn scale_tip(task: &Task, text: &str) -> &'static str {
+fn scale_tip(purpose: Purpose, text: &str) -> &'static str {
     let is_number = text.starts_with(|first: char| first.is_ascii_digit() || first == '-');
-    if task.word == "wifi" && !is_number {
+    if matches!(purpose, Purpose::Content(Kind::Wifi)) && !is_number {
         "; the name of the network is --ssid"
     } else {
         ""

@@ -24,9 +24,8 @@ macro_rules! colour {
     };
 }
 
-/// The colour options of parts, for PNG, SVG, EPS and PDF.
 #[rattlefmt::skip]
-pub static PART_COLOURS: &[PartColour] = &[
+static PART_COLOURS: &[PartColour] = &[
     colour!("finder-dark", Finder, Dark, "Dark modules of finder patterns [default: as --dark]"),
     colour!("finder-light", Finder, Light,
         "Light modules in and around finder patterns [default: as --light]"),
@@ -41,3 +40,8 @@ pub static PART_COLOURS: &[PartColour] = &[
     colour!("data-dark", Data, Dark, "Dark modules of data and error correction"),
     colour!("data-light", Data, Light, "Light modules of data and error correction"),
 ];
+
+/// Returns the colour options of parts, for PNG, SVG, EPS and PDF.
+pub fn part_colours() -> &'static [PartColour] {
+    PART_COLOURS
+}

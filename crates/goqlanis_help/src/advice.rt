@@ -1,9 +1,11 @@
 //! Advice on command lines that `clap` rejects, and help wrapped at 80 columns.
 
-use crate::nearest::nearest;
-use crate::options::{ADVICE, Entry, Purpose, TASKS, Takes, Task, task_named, task_words};
+use crate::habits::advice_for;
+use crate::tasks::{Task, task_named, task_words, tasks};
 use clap::error::Error;
 use goqlanis_core::Grouped;
+use goqlanis_options::nearest::nearest;
+use goqlanis_options::options::{Entry, Purpose, Takes};
 use std::alloc::{AllocError, Global};
 
 /// Explains why `clap` rejected the command line and what to write instead, or returns `None` if
@@ -33,25 +35,35 @@ pub fn advice(
     if let Some(option) = between(text, "' for '", "' found; no more were expected") {
         return Ok(Some(no_value_help(alloc, option)?));
     }
-    let Some(word) = between(text, "unexpected argument '", "' found") else {
-        return Ok(None);
-    };
+    match between(text, "unexpected argument '", "' found") {
+        Some(word) => Ok(Some(unexpected_help(alloc, task, words, word)?)),
+        None => Ok(None),
+    }
+}
+
+// Advice on a word that the task does not take.
+fn unexpected_help(
+    alloc: Global,
+    task: &Task,
+    words: &[String],
+    word: &str,
+) -> Result<String, AllocError> {
     if let Some(help) = dash_help(alloc, task, words, word)? {
-        return Ok(Some(help));
+        return Ok(help);
     }
     if let Some(help) = known_help(alloc, task, word)? {
-        return Ok(Some(help));
+        return Ok(help);
     }
     if let Some(help) = command_help(alloc, task, words)? {
-        return Ok(Some(help));
+        return Ok(help);
     }
     if let Some(owner) = owner_of(alloc, word)?.filter(|_| task.word.is_empty()) {
-        return Ok(Some(format!(in alloc; "{word}: an option of goqlanis {owner}")?));
+        return format!(in alloc; "{word}: an option of goqlanis {owner}");
     }
-    if let Some(name) = meant_option(alloc, task, word)? {
-        return Ok(Some(format!(in alloc; "{word}: no such option; did you mean --{name}?")?));
+    match meant_option(alloc, task, word)? {
+        Some(name) => format!(in alloc; "{word}: no such option; did you mean --{name}?"),
+        None => other_help(alloc, task, words, word),
     }
-    Ok(Some(other_help(alloc, task, words, word)?))
 }
 
 // Advice on a telephone number that is given twice.
@@ -129,7 +141,7 @@ fn meant_option(
 // Whether an option takes a text, other than a length.
 fn takes_any_text(takes: Takes) -> bool {
     match takes {
-        Takes::Text(name) => !matches!(name, "SIZE" | "LENGTH" | "PIXELS"),
+        Takes::Text(name) => !matches!(name, "FILE" | "SIZE" | "LENGTH" | "PIXELS"),
         takes => matches!(takes, Takes::Wanted(_) | Takes::Texts(_)),
     }
 }
@@ -226,17 +238,16 @@ const CODE_OPTIONS: &str =
 // Advice on a word that other programs accept.
 fn known_help(alloc: Global, task: &Task, word: &str) -> Result<Option<String>, AllocError> {
     let name = task.word;
-    if task.has_its_level() && CODE_OPTIONS.split(' ').any(|option| option == word) {
+    if task.purpose.has_its_level() && CODE_OPTIONS.split(' ').any(|option| option == word) {
         return Ok(Some(format!(in alloc;
-            "{word}: the format of {name} demands level M, the smallest version and no ECI; leave it out"
+            "{word}: the format of {name} demands level M, the smallest version and no ECI; leave \
+            it out"
         )?));
     }
-    for (known, help) in ADVICE {
-        if task.draws() && known.split(' ').any(|known| known == word) {
-            return Ok(Some(format!(in alloc; "{word}: {help}")?));
-        }
+    match advice_for(word).filter(|_| task.draws()) {
+        Some(help) => Ok(Some(format!(in alloc; "{word}: {help}")?)),
+        None => Ok(None),
     }
-    Ok(None)
 }
 
 // Advice if the first word looks like a misspelled command, or if a command follows options.
@@ -330,7 +341,7 @@ fn only_options_help(alloc: Global, task: &Task, word: &str) -> Result<String, A
 
 // Returns the first command that has an option.
 fn owner_of(alloc: Global, word: &str) -> Result<Option<&'static str>, AllocError> {
-    for task in TASKS {
+    for task in tasks() {
         let options = task.own_options(alloc)?;
         if options
             .iter()

@@ -1,10 +1,10 @@
 //! Options that do not go together.
 
-use crate::options::task_named;
+use crate::tasks::task_named;
 use clap::ArgMatches;
-use clap::parser::ValueSource;
 use goqlanis_files::failure::Failure;
 use goqlanis_files::usage;
+use goqlanis_options::asked::is_given;
 use std::alloc::Global;
 
 // Options that exclude each other, with the advice for each.
@@ -31,7 +31,7 @@ static CONFLICTS: &[(&str, &[&str], &str)] = &[
 /// Checks that no two options exclude each other.
 ///
 /// Errors: `Usage` for the first two that do; `OutOfMemory`.
-pub(crate) fn check_conflicts(alloc: Global, given: &ArgMatches<'_>) -> Result<(), Failure> {
+pub fn check_conflicts(alloc: Global, given: &ArgMatches<'_>) -> Result<(), Failure> {
     for (one, others, help) in CONFLICTS {
         let other = others.iter().find(|other| is_given(given, other));
         if let Some(other) = other.filter(|_| is_given(given, one)) {
@@ -45,10 +45,4 @@ pub(crate) fn check_conflicts(alloc: Global, given: &ArgMatches<'_>) -> Result<(
         }
     }
     Ok(())
-}
-
-/// Whether the command line gives an option or the positional argument. (An absent flag still has a
-/// default value.)
-pub(crate) fn is_given(given: &ArgMatches<'_>, name: &str) -> bool {
-    given.value_source(name.trim_start_matches('-')) == Some(ValueSource::CommandLine)
 }

@@ -1,9 +1,30 @@
 //! The command line as a `clap` command.
 
-use crate::options::{EXAMPLES, Entry, OTHER_NAMES, Purpose, TASKS, Takes, Task, counts};
+use crate::tasks::{Headed, Task, tasks};
 use clap::builder::ValueParser;
 use clap::{Arg, ArgAction, Command};
+use goqlanis_options::options::{Entry, OTHER_NAMES, Purpose, Takes, counts};
 use std::alloc::{AllocError, Global};
+
+// The examples at the end of the help.
+const EXAMPLES: &str = "Examples:
+  goqlanis \"https://example.org\"
+      show a code in the terminal
+  goqlanis -o ticket.png --scale 8 -i ticket.txt
+      encode the bytes of a file, as PNG
+  goqlanis --micro -o code.svg 1234567
+      make a Micro QR code
+  goqlanis --lines -o seat.svg < seats.txt
+      write seat-000001.svg, seat-000002.svg and so on
+  goqlanis split --count 4 -o part.pbm -i ticket.txt
+      split data over 4 codes; goqlanis join part-*.pbm reads them back
+  goqlanis read ticket.png
+      decode a picture
+  goqlanis wifi --ssid Guests --password \"pass;word\"
+      make a code that joins a network
+  goqlanis gs1 -o label.png \"(01)09521234543213(17)271231(10)ABC123\"
+      make a GS1 label
+";
 
 /// Builds the `clap` command of `task`, with its `usage`, or that of `clap` if it is empty. Its help
 /// ends with `end`.
@@ -60,7 +81,7 @@ pub fn end_of_help(alloc: Global, task: &Task) -> Result<String, AllocError> {
     let mut text = String::new(alloc);
     if task.word.is_empty() {
         text.push_str("Commands (goqlanis wifi --help lists the options of wifi):\n")?;
-        for other in TASKS {
+        for other in tasks() {
             let (word, about) = (other.word, other.about);
             write!(text, "  {word:9}  {about}\n")?;
         }
@@ -77,20 +98,10 @@ pub fn end_of_help(alloc: Global, task: &Task) -> Result<String, AllocError> {
 fn arguments<'a>(alloc: Global, task: &Task) -> Result<Vec<Arg<'a>>, AllocError> {
     let mut arguments = Vec::new(alloc);
     if let Some((name, help)) = task.operand() {
-        let arg = Arg::new(alloc, name).help(help);
-        arguments.push(match task.purpose {
-            Purpose::Join => arg.num_args(1..).action(ArgAction::Append).required(true),
-            Purpose::Read | Purpose::Check => arg.num_args(1..).action(ArgAction::Append),
-            _ => arg,
-        })?;
+        arguments.push(positional(Arg::new(alloc, name).help(help), task.purpose))?;
     }
-    for (heading, entry) in task.all_options(alloc)? {
-        let is_hidden = !task.word.is_empty() && task.draws() && is_common(heading, &entry);
-        arguments.push(
-            argument(alloc, task.purpose, entry)?
-                .help_heading(heading)
-                .hide(is_hidden),
-        )?;
+    for headed in task.all_options(alloc)? {
+        arguments.push(argument(alloc, task, headed)?)?;
     }
     let help = Arg::new(alloc, "help")
         .short('h')
@@ -100,22 +111,40 @@ fn arguments<'a>(alloc: Global, task: &Task) -> Result<Vec<Arg<'a>>, AllocError>
     Ok(arguments)
 }
 
+// Adds how often the positional argument may be given.
+fn positional(arg: Arg<'_>, purpose: Purpose) -> Arg<'_> {
+    if purpose.draws() {
+        return arg;
+    }
+    let is_required = matches!(purpose, Purpose::Join);
+    arg.num_args(1..)
+        .action(ArgAction::Append)
+        .required(is_required)
+}
+
 // Whether an option is the same for all codes, so that the help of a command need not repeat it.
 fn is_common(heading: &str, entry: &Entry) -> bool {
     !matches!(heading, "Input" | "Code") && !matches!(entry.long, "output" | "format")
 }
 
 // Builds an option. A negative number after it is its value.
-fn argument<'a>(alloc: Global, purpose: Purpose, entry: Entry) -> Result<Arg<'a>, AllocError> {
+fn argument<'a>(alloc: Global, task: &Task, headed: Headed) -> Result<Arg<'a>, AllocError> {
+    let (heading, entry) = headed;
+    let is_hidden = !task.word.is_empty() && task.draws() && is_common(heading, &entry);
     let arg = Arg::new(alloc, entry.long)
         .long(entry.long)
         .help(entry.help)
+        .help_heading(heading)
+        .hide(is_hidden)
         .allow_negative_numbers(true);
     let arg = match entry.short {
         Some(letter) => arg.short(letter),
         None => arg,
     };
-    with_values(with_other_names(arg, purpose, entry.long)?, entry.takes)
+    with_values(
+        with_other_names(arg, task.purpose, entry.long)?,
+        entry.takes,
+    )
 }
 
 // Adds what an option takes.
