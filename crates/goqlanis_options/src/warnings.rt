@@ -152,11 +152,14 @@ pub fn warn_of_password<G: Given>(
     }
 }
 
+// The longest side of a page in PDF, in inches (PDF 1.4, Appendix C).
+const MOST_INCHES: u32 = 200;
+
 // The largest size of a graphic in ZPL, in bytes: ^GF takes five digits.
 const MOST_FIELD: u32 = 99_999;
 
 /// Warns of sizes that may be unexpected or unreadable: a side at least 0.1 mm below `--size`,
-/// modules under 0.25 mm, and a ZPL graphic that is too large for printers.
+/// modules under 0.25 mm, and a PDF page or ZPL graphic that is too large.
 ///
 /// The code has `modules` modules a side, quiet zone included, each of `scale` pixels; `dots` is
 /// the number of pixels per inch, if known.
@@ -185,6 +188,12 @@ pub fn warn_of_sizes(
             let module = Decimal(module);
             doubted!(rt, doubts;
                 "modules of {module} mm are under the 0.25 mm that many readers need"
+            )?;
+        }
+        if asked.request.format == Format::Pdf && side > dots.saturating_mul(MOST_INCHES) {
+            doubted!(rt, doubts;
+                "a page in PDF has at most 14,400 points (5,080 mm) a side, and this one has more; \
+                use a smaller --size, --module or --scale"
             )?;
         }
     }
