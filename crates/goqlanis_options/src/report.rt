@@ -126,34 +126,51 @@ fn own_mask(code: &QrCode) -> usize {
 
 // Formats a report as one line of JSON, or as lines of text.
 fn text_of(alloc: Global, report: &Report<'_>, is_json: bool) -> Result<String, AllocError> {
-    let (version, level, mask) = (report.version, report.level, report.mask);
-    let (modules, zone) = (report.modules, report.zone);
-    let mut text = String::new(alloc);
-    text.push_str(if is_json { "{" } else { "" })?;
+    let (start, end) = if is_json { ("{", "}\n") } else { ("", "\n") };
+    let mut text = String::from_str(alloc, start)?;
+    push_place(&mut text, report, is_json)?;
+    push_code(&mut text, report, is_json)?;
+    push_sizes(&mut text, report, is_json)?;
+    push_least(&mut text, report, is_json)?;
+    push_set(&mut text, report.coded, is_json)?;
+    push_area(&mut text, report.area, is_json)?;
+    text.push_str(end)?;
+    Ok(text)
+}
+
+// Appends the line of a report, and in JSON the file.
+fn push_place(text: &mut String, report: &Report<'_>, is_json: bool) -> Result<(), AllocError> {
     if let Some(line) = report.line {
         push_either!(text, is_json; "\"line\": {line}, ", "line {line}: ")?;
     }
-    if let Some(file) = report.file.filter(|_| is_json) {
-        push_file(&mut text, file)?;
+    match report.file {
+        Some(file) if is_json => push_file(text, file),
+        _ => Ok(()),
     }
+}
+
+// Appends version, level, mask and modules.
+fn push_code(text: &mut String, report: &Report<'_>, is_json: bool) -> Result<(), AllocError> {
+    let (version, level, mask) = (report.version, report.level, report.mask);
+    let (modules, zone) = (report.modules, report.zone);
     push_either!(text, is_json;
         "\"version\": \"{version}\", \"level\": \"{level:?}\", \"mask\": {mask}, \
         \"modules\": {modules}, \"quiet_zone\": {zone}",
         "version {version}, level {level:?}, mask {mask}\nmodules: {modules} by {modules}; "
-    )?;
-    push_sizes(&mut text, report, is_json)?;
-    push_least(&mut text, report, is_json)?;
-    push_set(&mut text, report.coded, is_json)?;
-    if let Some(area) = report.area {
-        let (width, height, left, top) = (area.width, area.height, area.left, area.top);
-        push_either!(text, is_json;
-            ", \"area\": {{\"width\": {width}, \"height\": {height}, \"column\": {left}, \
-            \"row\": {top}}}",
-            "\narea: {width} by {height} modules, from column {left} and row {top}"
-        )?;
-    }
-    text.push_str(if is_json { "}\n" } else { "\n" })?;
-    Ok(text)
+    )
+}
+
+// Appends the area in the middle, if there is one.
+fn push_area(text: &mut String, area: Option<Rectangle>, is_json: bool) -> Result<(), AllocError> {
+    let Some(area) = area else {
+        return Ok(());
+    };
+    let (width, height, left, top) = (area.width, area.height, area.left, area.top);
+    push_either!(text, is_json;
+        ", \"area\": {{\"width\": {width}, \"height\": {height}, \"column\": {left}, \
+        \"row\": {top}}}",
+        "\narea: {width} by {height} modules, from column {left} and row {top}"
+    )
 }
 
 // Appends the sizes of a report.
