@@ -6,6 +6,7 @@ ghost use Rattle.goqlanis_tables.specs.Rows.{pair_of, text_named, texts_of};
 
 use crate::columns::Columns;
 use crate::fields::Line;
+use crate::inputs::utf8;
 use goqlanis_files::failure::Failure;
 use goqlanis_files::refused;
 use goqlanis_options::fields::{DECISIVE, OPEN};
@@ -44,7 +45,7 @@ fn text_named<'a>(pairs: &'a [(String, String)], name: &str) -> &'a str
 impl Row {
     /// Returns the fields of a line: those of its columns, and the others as `options` give them.
     ///
-    /// Errors: `Refused` if the line has fewer fields than columns; `OutOfMemory`.
+    /// Errors: `Refused` if the line is not UTF-8, or has fewer fields than columns; `OutOfMemory`.
     pub fn of<G: Given>(
         alloc: Global,
         kind: Kind,
@@ -52,6 +53,7 @@ impl Row {
         line: &Line<'_>,
         options: &G,
     ) -> Result<Row, Failure> {
+        utf8(alloc, line.bytes)?;
         let mut pairs = Vec::new(alloc);
         let is_open = is_open(alloc, columns, line)?;
         for field in fields_of(kind) {
