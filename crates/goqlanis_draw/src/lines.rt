@@ -2,19 +2,21 @@
 
 use crate::drawing::{draw_one, write_drawing, write_page};
 use crate::making::{draw_elements, draw_payload};
-use goqlanis_files::doubted;
 use goqlanis_files::failure::{Doubts, Failure};
 use goqlanis_files::progress::Progress;
 use goqlanis_files::streams::{ask, shown, unread};
+use goqlanis_files::{doubted, refused};
 use goqlanis_options::asked::{Asked, Lines, Report, Source, Target};
 use goqlanis_options::options::Purpose;
 use goqlanis_tables::checks::check_columns;
 use goqlanis_tables::fields::Line;
-use goqlanis_tables::names::{Names, Pattern, check_made};
+use goqlanis_tables::inputs::next_line;
+use goqlanis_tables::names::{Pattern, check_made, common_form};
 use goqlanis_tables::pages::Pages;
 use goqlanis_tables::rows::Row;
 use goqlanis_tables::tables::Table;
 use qrcode_payloads::kinds::Kind;
+use std::collections::BTreeSet;
 use std::fs;
 use std::io::{BufRead, BufReader, IsTerminal, Read};
 use std::process::ExitCode;
@@ -24,8 +26,8 @@ use std::process::ExitCode;
 struct Output<'a> {
     // Names of files, if they go there.
     pattern: Option<Pattern<'a>>,
-    // The names of files that later lines could use again.
-    names: Names,
+    // The names of files that later lines could use again, in their common form.
+    names: BTreeSet<String>,
     pages: Pages,
     progress: Progress,
 }
@@ -64,7 +66,7 @@ fn draw_from<R: Read + Drop>(
     let table = Table::read(rt.alloc(), asked, purpose, lines, &mut from)?;
     let mut output = Output {
         pattern: Pattern::read(rt, asked, &table.columns)?,
-        names: Names::new(rt.alloc()),
+        names: BTreeSet::new(rt.alloc()),
         pages: Pages::new(rt.alloc()),
         progress: progress_of(rt, asked),
     };
@@ -95,7 +97,8 @@ fn draw_each<R: BufRead>(
     let mut code = ExitCode::SUCCESS;
     let mut read = Vec::new(rt.alloc());
     for number in 1..usize::MAX {
-        if !table.next(rt.alloc(), from, &mut read, number)? {
+        let place = table.place(number);
+        if !next_line(rt.alloc(), table.name(), from, &mut read, place.line)? {
             if number == 1 {
                 let name = shown(table.name());
                 doubted!(rt, asked.doubts; "{name} has no lines: no code is made")?;
@@ -107,7 +110,7 @@ fn draw_each<R: BufRead>(
                 Ok(_) => output.progress.show(rt, number),
                 Err(Failure::Refused(why)) => {
                     output.progress.clear(rt);
-                    let (place, why) = (table.place(number), shown(why.as_str()));
+                    let why = shown(why.as_str());
                     let _ = eprintln!(rt; "goqlanis: {place}{why}");
                     code = ExitCode::FAILURE;
                 }
@@ -138,15 +141,18 @@ fn draw_line(
         return write_page(rt, &asked, &mut output.pages, drawing);
     };
     let name = pattern.name(rt.alloc(), line)?;
-    if pattern.has_text() {
-        output.names.check(rt.alloc(), name.as_str())?;
+    let common = common_form(rt.alloc(), name.as_str())?;
+    if output.names.contains(common.as_str()) {
+        return refused!(rt.alloc();
+            "{name} is the file of an earlier line; {{}} in --output numbers the codes"
+        );
     }
     check_made(rt, &asked, name.as_str())?;
     let target = Target::File(name.as_str());
     let asked = Asked { target, ..asked };
     let code = write_drawing(rt, &asked, draw_data(rt, &asked, table, line)?)?;
     if pattern.has_text() {
-        output.names.add(rt.alloc(), name.as_str())?;
+        output.names.insert(common)?;
     }
     Ok(code)
 }

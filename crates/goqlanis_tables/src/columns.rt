@@ -59,18 +59,16 @@ impl Columns {
         }
         for field in fields_in(kind) {
             let long = option_of(*field).long;
-            if let Some(number) = self.number_of(long).or(self.number_by_option(long)) {
+            let mut options = self.options.iter();
+            let other = options.position(|option| *option == Some(long));
+            let number = self
+                .number_of(long)
+                .or(other.map(|place| place.saturating_add(1)));
+            if let Some(number) = number {
                 self.fields.push((long, number))?;
             }
         }
         Ok(())
-    }
-
-    // Returns the number of the first column that is called by an option, from 1.
-    fn number_by_option(&self, long: &str) -> Option<usize> {
-        let mut options = self.options.iter();
-        let place = options.position(|option| *option == Some(long))?;
-        Some(place.saturating_add(1))
     }
 
     /// Whether there are none.

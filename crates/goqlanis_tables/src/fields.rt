@@ -16,7 +16,7 @@ pub struct Line<'a> {
     /// Its text; � stands for bytes that are not UTF-8.
     pub text: String,
     // Its fields; `None` if a quotation mark is not closed.
-    fields: Option<Vec<String>>,
+    pub(crate) fields: Option<Vec<String>>,
 }
 
 impl<'a> Line<'a> {
@@ -37,11 +37,6 @@ impl<'a> Line<'a> {
             text,
             fields,
         })
-    }
-
-    /// Whether it ends within quotation marks.
-    pub fn is_unfinished(&self) -> bool {
-        self.fields.is_none()
     }
 
     /// Returns its fields.

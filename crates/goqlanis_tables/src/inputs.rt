@@ -13,7 +13,7 @@ const MOST_IN_LINE: usize = 100_000;
 /// Replaces `line` with the next line, line ending included. Returns `false` at the end.
 ///
 /// Errors: `Refused` if it cannot be read, is too long or UTF-16; `OutOfMemory`.
-pub(crate) fn next_line<R: BufRead>(
+pub fn next_line<R: BufRead>(
     alloc: Global,
     name: &str,
     from: &mut R,
@@ -83,4 +83,9 @@ pub(crate) fn is_blank(line: &[u8], delimiter: &str) -> bool {
         Ok(text) => text.split(delimiter).all(|field| field.trim().is_empty()),
         Err(_) => false,
     }
+}
+
+/// Whether a word is one of these, in any case.
+pub(crate) fn is_one_of(word: &str, words: &[&str]) -> bool {
+    words.iter().any(|known| word.eq_ignore_ascii_case(known))
 }

@@ -5,7 +5,7 @@
 pub mod checks;
 pub mod columns;
 pub mod fields;
-mod inputs;
+pub mod inputs;
 pub mod names;
 pub mod pages;
 pub mod rows;

@@ -2,6 +2,7 @@
 
 use crate::columns::Columns;
 use crate::fields::Line;
+use crate::inputs::is_one_of;
 use goqlanis_files::failure::Failure;
 use goqlanis_files::files::is_stream;
 use goqlanis_files::streams::is_unseen;
@@ -9,7 +10,6 @@ use goqlanis_files::{refused, usage};
 use goqlanis_options::asked::{Asked, Target};
 use goqlanis_options::targets::reader_of;
 use std::alloc::{AllocError, Global};
-use std::collections::BTreeSet;
 use std::fs;
 use unicode_normalization::to_nfc;
 
@@ -212,18 +212,14 @@ fn check_name(alloc: Global, pattern: &str, path: &str) -> Result<(), Failure> {
 // Whether Windows reserves a name, with any file extension.
 fn is_reserved(name: &str) -> bool {
     let stem = name.split('.').next().unwrap_or("").trim_end();
-    let device = stem.trim_end_matches(|character: char| {
-        character.is_ascii_digit() || matches!(character, '\u{b9}' | '\u{b2}' | '\u{b3}')
+    let device = stem.trim_end_matches(|sign: char| {
+        sign.is_ascii_digit() || matches!(sign, '\u{b9}' | '\u{b2}' | '\u{b3}')
     });
-    let is_numbered = stem.chars().count() == device.chars().count().saturating_add(1);
-    if is_numbered {
-        return ["com", "lpt"]
-            .iter()
-            .any(|known| device.eq_ignore_ascii_case(known));
+    if stem.chars().count() == device.chars().count().saturating_add(1) {
+        is_one_of(device, &["com", "lpt"])
+    } else {
+        is_one_of(stem, &["con", "prn", "aux", "nul", "conin$", "conout$"])
     }
-    ["con", "prn", "aux", "nul", "conin$", "conout$"]
-        .iter()
-        .any(|known| stem.eq_ignore_ascii_case(known))
 }
 
 // Returns what follows the last slash.
@@ -231,45 +227,11 @@ fn file_name(path: &str) -> &str {
     path.rsplit('/').next().unwrap_or("")
 }
 
-/// The names of files that earlier lines have written.
-#[derive(Drop)]
-pub struct Names {
-    // In the form that all names have which some systems take for one.
-    known: BTreeSet<String>,
-}
-
-impl Names {
-    /// Returns no names.
-    pub fn new(alloc: Global) -> Names {
-        Names {
-            known: BTreeSet::new(alloc),
-        }
-    }
-
-    /// Checks that no line has written a file that some systems take for this one.
-    ///
-    /// Errors: `Refused`; `OutOfMemory`.
-    pub fn check(&self, alloc: Global, name: &str) -> Result<(), Failure> {
-        if !self.known.contains(common_form(alloc, name)?.as_str()) {
-            return Ok(());
-        }
-        refused!(alloc;
-            "{name} is the file of an earlier line; {{}} in --output numbers the codes"
-        )
-    }
-
-    /// Adds a name.
-    ///
-    /// Errors: only `OutOfMemory`.
-    pub fn add(&mut self, alloc: Global, name: &str) -> Result<(), Failure> {
-        self.known.insert(common_form(alloc, name)?)?;
-        Ok(())
-    }
-}
-
-// Returns a name in the form that all names have which differ from it only in case, or in how
-// accents are written.
-fn common_form(alloc: Global, name: &str) -> Result<String, AllocError> {
+/// Returns a name in the form that all names have which some systems take for it: those that differ
+/// only in case, or in how accents are written.
+///
+/// Errors: only `AllocError`.
+pub fn common_form(alloc: Global, name: &str) -> Result<String, AllocError> {
     to_nfc(alloc, name.to_lowercase(alloc)?.as_str())
 }
 

@@ -6,7 +6,7 @@ ghost use Rattle.goqlanis_tables.specs.Rows.{pair_of, text_named, texts_of};
 
 use crate::columns::Columns;
 use crate::fields::Line;
-use crate::inputs::utf8;
+use crate::inputs::{is_one_of, utf8};
 use goqlanis_files::failure::Failure;
 use goqlanis_files::refused;
 use goqlanis_options::fields::{DECISIVE, OPEN};
@@ -114,10 +114,9 @@ fn decided<'a>(
 
 // Returns true or false for yes or no, as tables say it too, and any other word as it is.
 fn truth(word: &str) -> &str {
-    let is_one_of = |words: &[&str]| words.iter().any(|known| word.eq_ignore_ascii_case(known));
-    if is_one_of(&["yes", "1"]) {
+    if is_one_of(word, &["yes", "1"]) {
         "true"
-    } else if is_one_of(&["no", "0"]) {
+    } else if is_one_of(word, &["no", "0"]) {
         "false"
     } else {
         word
@@ -126,12 +125,8 @@ fn truth(word: &str) -> &str {
 
 // Whether a line says that its network is open.
 fn is_open(alloc: Global, columns: &Columns, line: &Line<'_>) -> Result<bool, Failure> {
-    let Some(number) = columns.field("security") else {
-        return Ok(false);
-    };
-    let security = line.field(alloc, number)?;
-    Ok(
-        OPEN.iter()
-            .any(|word| security.trim().eq_ignore_ascii_case(word)),
-    )
+    match columns.field("security") {
+        Some(number) => Ok(is_one_of(line.field(alloc, number)?.trim(), OPEN)),
+        None => Ok(false),
+    }
 }

@@ -47,11 +47,11 @@ impl<'a> Table<'a> {
             field: None,
         };
         let mut line = Vec::new(alloc);
-        let has_line = lines.has_header && table.next(alloc, from, &mut line, 0)?;
+        let has_line = lines.has_header && next_line(alloc, table.name(), from, &mut line, 1)?;
         let first = has_line.then_some(text_of(&line, 1));
         table.columns = table.columns_of(alloc, first)?;
         table.check_delimiter(alloc, asked.target)?;
-        if let (Some(name), false) = (lines.field, table.is_payload()) {
+        if let Some(name) = lines.field {
             table.field = Some(table.field_number(alloc, name)?);
         }
         Ok(table)
@@ -112,19 +112,15 @@ impl<'a> Table<'a> {
         }
     }
 
-    /// Whether the lines have the fields of payloads.
-    pub fn is_payload(&self) -> bool {
-        matches!(self.purpose, Purpose::Content(_))
-    }
-
-    /// Whether the lines have element strings, or their values.
-    pub fn has_elements(&self) -> bool {
-        matches!(self.purpose, Purpose::Elements)
-    }
-
     /// Whether lines are encoded whole.
     pub fn is_whole(&self) -> bool {
-        !self.is_payload() && !self.has_elements() && self.lines.field.is_none()
+        let is_text = !matches!(self.purpose, Purpose::Content(_) | Purpose::Elements);
+        is_text && self.lines.field.is_none()
+    }
+
+    // Whether the lines have element strings, or their values.
+    fn has_elements(&self) -> bool {
+        matches!(self.purpose, Purpose::Elements)
     }
 
     // Whether fields of the lines count.
@@ -154,20 +150,6 @@ impl<'a> Table<'a> {
         }
     }
 
-    /// Replaces `line` with the next one, ending included, which has this number. Returns `false` at
-    /// the end.
-    ///
-    /// Errors: `Refused` if it cannot be read, is too long or UTF-16; `OutOfMemory`.
-    pub fn next<R: BufRead>(
-        &self,
-        alloc: Global,
-        from: &mut R,
-        line: &mut Vec<u8>,
-        number: usize,
-    ) -> Result<bool, Failure> {
-        next_line(alloc, self.name(), from, line, self.place(number).line)
-    }
-
     /// Returns a line that was read, or `None` if its fields count and all are empty.
     ///
     /// Errors: `Refused` if its fields count and it ends within quotation marks; `OutOfMemory`.
@@ -183,7 +165,7 @@ impl<'a> Table<'a> {
             return Ok(None);
         }
         let line = Line::of(alloc, number, bytes, self.lines.delimiter)?;
-        if self.has_fields() && line.is_unfinished() {
+        if self.has_fields() && line.fields.is_none() {
             let name = shown(self.name());
             return refused!(alloc;
                 "cannot read {name}: line {place} ends within quotation marks, and fields have no \
