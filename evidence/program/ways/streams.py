@@ -20,7 +20,7 @@ def colours_on_a_terminal_alone(program):
 
 
 def no_bytes_to_a_terminal(program):
-    """No binary format goes to a terminal, unless `--output -` asks for it."""
+    """No binary format goes to a terminal, unless `--output -` asks for it; texts do."""
     said = (b"goqlanis: this format is not for a terminal: add --output FILE, or --output - to "
             b"write it there anyway\n")
     heads = {"pgm": b"P5\n", "pbm": b"P4\n", "ppm": b"P6\n", "png": b"\x89PNG\r\n",
@@ -29,6 +29,9 @@ def no_bytes_to_a_terminal(program):
         asked, status = in_terminal(program, ["-f", kind, "-o", "-", "1"])
         refused = in_terminal(program, ["-f", kind, "1"])
         if refused != (said, 1) or status or not asked.startswith(head):
+            return False
+    for kind in ("svg", "eps", "pic", "zpl", "xbm"):
+        if in_terminal(program, ["-f", kind, "1"]) != (written(program, f"-f {kind} 1"), 0):
             return False
     for words in (["--lines"], ["split", "--count", "2"]):
         asked, status = in_terminal(program, [*words, "-f", "pdf", "-o", "-", "1"])
