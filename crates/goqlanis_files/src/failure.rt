@@ -76,7 +76,8 @@ pub fn status(rt: &HostRuntime, run: Result<ExitCode, Failure>) -> ExitCode {
     code
 }
 
-/// Warns, or fails like `doubted`, since the file `name` has more than its picture.
+/// Warns, or fails like `doubted`, since the file `name` has more than its picture, or
+/// faults beside it.
 pub fn warn_of_more(rt: &HostRuntime, is_error: bool, name: &str) -> Result<(), Failure> {
     let doubts = Doubts {
         is_error,
@@ -86,7 +87,7 @@ pub fn warn_of_more(rt: &HostRuntime, is_error: bool, name: &str) -> Result<(), 
         rt,
         doubts,
         format_args!(
-            "{} has data after its picture, which is ignored",
+            "{} has extra or faulty data beside its picture, which is ignored",
             shown(name)
         ),
     )

@@ -7,8 +7,8 @@ use goqlanis_options::logos::Logo;
 use qrcode_png::{Picture, Unread, read};
 use std::alloc::{AllocError, Global};
 
-/// Decodes a PNG logo to pixels; `path` names the file in messages, and `file` is its content. Data
-/// after the picture gets a warning, or is an error.
+/// Decodes a PNG logo to pixels; `path` names the file in messages, and `file` is its content.
+/// Extra or faulty data beside the picture gets a warning, or is an error.
 pub(crate) fn pixels_of(
     rt: &HostRuntime,
     is_error: bool,
@@ -51,7 +51,7 @@ fn picture_of(
     let alloc = rt.alloc();
     match read(alloc, file) {
         Ok(picture) => {
-            if picture.has_more() {
+            if picture.has_faults() {
                 warn_of_more(rt, is_error, path)?;
             }
             Ok(picture)

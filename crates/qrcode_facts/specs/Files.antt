@@ -17,7 +17,7 @@ symbol scale density = record {
   pixels = flat_map (λ row. flat_map (λ _. flat_map (λ c. replicate scale (grey_shade (if c == 35 then 0 else 1))) row)
       (range_with_len 0 scale)) drawn;
   density = density;
-  has_more = false;
+  has_faults = false;
 }
 
 abbrev pub zint_file : List ℕ  -- zint 2.11.1: a block of dynamic codes, and a palette of white and black

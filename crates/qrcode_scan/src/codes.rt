@@ -62,7 +62,7 @@ pub struct Codes {
     pub scans: Vec<Scan>,
     /// Squares that look like codes but do not decode.
     pub missed: Vec<Missed>,
-    /// Whether a PNG file has more than the picture, which is ignored.
+    /// Whether a PNG file has faults that are ignored (`Picture::has_faults`).
     pub has_more: bool,
 }
 

@@ -123,7 +123,7 @@ pub(crate) struct Seen {
     /// Its pixels. If its first row is dark, dark and light are exchanged.
     pub(crate) pixels: Pixels,
     pub(crate) is_inverted: bool,
-    /// Whether its file has more, which is ignored.
+    /// Whether its file has faults that are ignored.
     pub(crate) has_more: bool,
 }
 
@@ -150,7 +150,7 @@ pub(crate) fn seen_in(alloc: Global, bytes: &[u8]) -> Result<Seen, Unread>
     })
 }
 
-// Reads the pixels of a picture in any format; also says whether a PNG file has more.
+// Reads the pixels of a picture in any format; also says whether a PNG file has faults.
 #[tactic(auto, using(crate::proofs::Seen::png_picture, crate::proofs::Seen::other_picture))]
 fn pixels_in(alloc: Global, bytes: &[u8]) -> Result<(Pixels, bool), Unread>
     ensures value { IfOk result (λ found. IsPictureOf bytes.now found.0) }
@@ -185,7 +185,7 @@ fn png_pixels(alloc: Global, bytes: &[u8]) -> Result<(Pixels, bool), Unread>
     let (across, down) = picture.sides();
     let colours = picture.pixels(alloc)?;
     match pixels_of_colours(alloc, across as usize, down as usize, &colours) {
-        Ok(pixels) => Ok((pixels, picture.has_more())),
+        Ok(pixels) => Ok((pixels, picture.has_faults())),
         Err(cause) => Err(Unread::Unscanned(cause)),
     }
 }

@@ -104,5 +104,5 @@ pub record IsPaintedFile (t : Sheet) (file : List ℕ) : Type 0 where
     down = pixels_down t.at;
     pixels = pixel_shades t (pixels_down t.at * pixels_across t.at);
     density = option_map (λ n. (n, n)) (option_map per_metre t.dpi);
-    has_more = false;
+    has_faults = false;
   })

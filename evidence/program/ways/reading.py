@@ -131,7 +131,8 @@ def png_files_of_every_kind_are_read(program):
             return False
     whole = png.file_of(rows, 0, 1)
     large = png.chunk(b"IHDR", bytes([0, 1, 0, 0] * 2 + [1, 0, 0, 0, 0]))
-    flipped = whole.replace(b"a code", b"a mode")
+    at = whole.index(b"IDAT") + 20
+    flipped = whole[:at] + bytes([whole[at] ^ 1]) + whole[at + 1:]
     for given, said in ((whole[:-20], b"cut off or damaged"), (flipped, b"cut off or damaged"),
                         (png.file_of(rows, 0, 1, 1), b"interlaced"), (b"\xff\xd8\xff\xe0", b"JPEG"),
                         (whole[:8] + large + whole[33:], b"65536 by 65536 pixels")):
@@ -141,20 +142,29 @@ def png_files_of_every_kind_are_read(program):
     return True
 
 
-def png_files_with_more_than_a_picture_are_read(program):
+def png_files_with_faults_beside_the_picture_are_read(program):
     """Bytes behind the end of a file, behind its zlib stream and behind its last row are ignored,
-    with a warning; so is the place of pHYs, without one."""
+    with a warning; so are a wrong check sum of a chunk that readers need not know, several pHYs
+    and a zlib stream without its check sum, or a part of it, and the place of pHYs without one.
+    The picture itself is not touched: a wrong check sum of image data is an error."""
     rows = SYMBOLS["one.pbm"]
     whole, row = png.file_of(rows, 0, 8), bytes(1 + 3 * (len(rows) + 8))
+    density = bytes(3) + b"\1" + bytes(3) + b"\1\1"
+    dense = png.with_chunk(whole, b"pHYs", density)
     ways = ((whole + b"PK\5\6" + bytes(18), True),
             (png.with_stream(whole, lambda it: it + b"\0"), True),
             (png.with_stream(whole, lambda it: zlib.compress(zlib.decompress(it) + row)), True),
+            (whole.replace(b"a code", b"a mode"), True),
+            (png.with_chunk(dense, b"pHYs", density), True),
+            (png.with_stream(whole, lambda it: it[:-4]), True),
+            (png.with_stream(whole, lambda it: it[:-1]), True),
             (png.with_chunk(whole, b"pHYs", bytes(8) + b"\1", b"IDAT"), False))
-    warning = b"goqlanis: warning: standard input has data after its picture, which is ignored\n"
+    warning = (b"goqlanis: warning: standard input has extra or faulty data beside its picture, "
+               b"which is ignored\n")
     text = run(program, ["read"], "/", whole).stdout
     return text and all(
-        (ran.returncode, ran.stdout, ran.stderr) == (0, text, warning if is_more else b"")
-        for ran, is_more in ((run(program, ["read"], "/", it), more) for it, more in ways))
+        (ran.returncode, ran.stdout, ran.stderr) == (0, text, warning if has_faults else b"")
+        for ran, has_faults in ((run(program, ["read"], "/", it), has) for it, has in ways))
 
 
 def _with_empty_block(stream):
