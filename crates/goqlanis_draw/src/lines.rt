@@ -98,9 +98,9 @@ fn draw_each<R: BufRead>(
     let mut read = Vec::new(rt.alloc());
     for number in 1..usize::MAX {
         let place = table.place(number);
-        if !next_line(rt.alloc(), table.name(), from, &mut read, place.line)? {
+        if !next_line(rt.alloc(), table.name, from, &mut read, place.line)? {
             if number == 1 {
-                let name = shown(table.name());
+                let name = shown(table.name);
                 doubted!(rt, asked.doubts; "{name} has no lines: no code is made")?;
             }
             break;

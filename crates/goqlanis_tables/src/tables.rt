@@ -18,9 +18,11 @@ pub struct Table<'a> {
     pub purpose: Purpose,
     /// How they are divided.
     pub lines: Lines<'a>,
-    /// Where they come from.
-    pub source: Source<'a>,
-    /// The names of their columns.
+    /// What messages call the input.
+    pub name: &'a str,
+    // Its file, if it is one.
+    file: Option<&'a str>,
+    /// The names of its columns.
     pub columns: Columns,
     /// The number of the only field that is encoded, from 1, if there is one.
     pub field: Option<usize>,
@@ -39,83 +41,33 @@ impl<'a> Table<'a> {
         lines: Lines<'a>,
         from: &mut R,
     ) -> Result<Table<'a>, Failure> {
-        let mut table = Table {
-            purpose,
-            lines,
-            source: asked.input.source,
-            columns: Columns::none(alloc),
-            field: None,
+        let (name, file) = match asked.input.source {
+            Source::Text(_) => ("TEXT", None),
+            Source::File(path) => (path, Some(path)),
+            Source::StandardInput => ("standard input", None),
         };
         let mut line = Vec::new(alloc);
-        let has_line = lines.has_header && next_line(alloc, table.name(), from, &mut line, 1)?;
+        let has_line = lines.has_header && next_line(alloc, name, from, &mut line, 1)?;
         let first = has_line.then_some(text_of(&line, 1));
-        table.columns = table.columns_of(alloc, first)?;
-        table.check_delimiter(alloc, asked.target)?;
-        if let Some(name) = lines.field {
-            table.field = Some(table.field_number(alloc, name)?);
-        }
-        Ok(table)
-    }
-
-    // Returns the names of the columns, given the first line if it has names.
-    fn columns_of(&self, alloc: Global, first: Option<&[u8]>) -> Result<Columns, Failure> {
-        let delimiter = self.lines.delimiter;
-        match (self.lines.columns, first) {
-            (Some(names), _) if names.contains(delimiter) => {
-                Columns::read(alloc, self.purpose, names, delimiter)
-            }
-            (Some(names), _) => Columns::read(alloc, self.purpose, names, ","),
-            (None, Some(line)) => self.columns_in(alloc, line),
-            (None, None) => Ok(Columns::none(alloc)),
-        }
-    }
-
-    // Returns the names of the columns in the first line.
-    fn columns_in(&self, alloc: Global, line: &[u8]) -> Result<Columns, Failure> {
-        let text = String::from_utf8_lossy(alloc, line)?;
-        let place = self.place(0);
-        if text.starts_with("sep=") {
-            return refused!(alloc;
-                "{place}sep= is for spreadsheets: remove this line, and add --delimiter"
-            );
-        }
-        match Columns::read(alloc, self.purpose, text.as_str(), self.lines.delimiter) {
-            Err(Failure::Refused(why)) => refused!(alloc; "{place}{why}"),
-            read => read,
-        }
-    }
-
-    // Refuses the only name of a column if it has another delimiter inside, unless lines are
-    // encoded whole.
-    fn check_delimiter(&self, alloc: Global, target: Target<'_>) -> Result<(), Failure> {
-        let has_names = matches!(target, Target::File(path) if path.contains('{'));
-        match self.columns.other_delimiter() {
-            Some(sign) if has_names || !self.is_whole() => {
-                usage!(alloc; "the columns have another delimiter: add --delimiter \"{sign}\"")
-            }
-            _ => Ok(()),
-        }
-    }
-
-    // Returns the number of the field that `--field` selects.
-    fn field_number(&self, alloc: Global, name: &str) -> Result<usize, Failure> {
-        match (self.columns.number_of(name), name.parse::<u16>()) {
-            (Some(number), _) => Ok(number),
-            (None, Ok(number)) if number > 0 => Ok(number as usize),
-            _ if self.columns.is_empty() => usage!(alloc;
-                "--field {name}: use a whole number, 1 to 65,535, or name the columns with --header"
-            ),
-            _ => {
-                let list = self.columns.list(alloc)?;
-                usage!(alloc; "--field {name}: use a number, or one of the columns {list}")
-            }
-        }
+        let columns = columns_of(alloc, purpose, lines, Place { file, line: 1 }, first)?;
+        check_delimiter(alloc, asked.target, &columns, is_whole(purpose, lines))?;
+        let field = match lines.field {
+            Some(name) => Some(field_number(alloc, &columns, name)?),
+            None => None,
+        };
+        Ok(Table {
+            purpose,
+            lines,
+            name,
+            file,
+            columns,
+            field,
+        })
     }
 
     /// Whether lines are encoded whole.
     pub fn is_whole(&self) -> bool {
-        let is_text = !matches!(self.purpose, Purpose::Content(_) | Purpose::Elements);
-        is_text && self.lines.field.is_none()
+        is_whole(self.purpose, self.lines)
     }
 
     // Whether the lines have element strings, or their values.
@@ -128,24 +80,10 @@ impl<'a> Table<'a> {
         !self.columns.is_empty() || self.lines.field.is_some()
     }
 
-    /// Returns what messages call the input.
-    pub fn name(&self) -> &'a str {
-        match self.source {
-            Source::Text(_) => "TEXT",
-            Source::File(path) => path,
-            Source::StandardInput => "standard input",
-        }
-    }
-
-    /// Returns the place of a line, by its number among those that are encoded, from 1; 0 is that of
-    /// the names.
+    /// Returns the place of a line, by its number among those that are encoded, from 1.
     pub fn place(&self, number: usize) -> Place<'a> {
-        let file = match self.source {
-            Source::File(path) => Some(path),
-            _ => None,
-        };
         Place {
-            file,
+            file: self.file,
             line: number.saturating_add(usize::from(self.lines.has_header)),
         }
     }
@@ -166,7 +104,7 @@ impl<'a> Table<'a> {
         }
         let line = Line::of(alloc, number, bytes, self.lines.delimiter)?;
         if self.has_fields() && line.fields.is_none() {
-            let name = shown(self.name());
+            let name = shown(self.name);
             return refused!(alloc;
                 "cannot read {name}: line {place} ends within quotation marks, and fields have no \
                 line breaks; neither it nor the lines after it are encoded"
@@ -217,6 +155,72 @@ impl<'a> Table<'a> {
                 Ok(elements_in(alloc, &self.columns, line.fields(alloc)?)?)
             }
             None => Ok(String::from_str(alloc, text)?),
+        }
+    }
+}
+
+// Whether lines are encoded whole.
+fn is_whole(purpose: Purpose, lines: Lines<'_>) -> bool {
+    let is_text = !matches!(purpose, Purpose::Content(_) | Purpose::Elements);
+    is_text && lines.field.is_none()
+}
+
+// Returns the names of the columns, given the first line and its place if it has names.
+fn columns_of(
+    alloc: Global,
+    purpose: Purpose,
+    lines: Lines<'_>,
+    place: Place<'_>,
+    first: Option<&[u8]>,
+) -> Result<Columns, Failure> {
+    if let Some(names) = lines.columns {
+        let is_own = names.contains(lines.delimiter);
+        let delimiter = if is_own { lines.delimiter } else { "," };
+        return Columns::read(alloc, purpose, names, delimiter);
+    }
+    let Some(line) = first else {
+        return Ok(Columns::none(alloc));
+    };
+    let text = String::from_utf8_lossy(alloc, line)?;
+    if text.starts_with("sep=") {
+        return refused!(alloc;
+            "{place}sep= is for spreadsheets: remove this line, and add --delimiter"
+        );
+    }
+    match Columns::read(alloc, purpose, text.as_str(), lines.delimiter) {
+        Err(Failure::Refused(why)) => refused!(alloc; "{place}{why}"),
+        read => read,
+    }
+}
+
+// Refuses the only name of a column if it has another delimiter inside, unless lines are encoded
+// whole.
+fn check_delimiter(
+    alloc: Global,
+    target: Target<'_>,
+    columns: &Columns,
+    is_whole: bool,
+) -> Result<(), Failure> {
+    let has_names = matches!(target, Target::File(path) if path.contains('{'));
+    match columns.other_delimiter() {
+        Some(sign) if has_names || !is_whole => {
+            usage!(alloc; "the columns have another delimiter: add --delimiter \"{sign}\"")
+        }
+        _ => Ok(()),
+    }
+}
+
+// Returns the number of the field that `--field` selects.
+fn field_number(alloc: Global, columns: &Columns, name: &str) -> Result<usize, Failure> {
+    match (columns.number_of(name), name.parse::<u16>()) {
+        (Some(number), _) => Ok(number),
+        (None, Ok(number)) if number > 0 => Ok(number as usize),
+        _ if columns.is_empty() => usage!(alloc;
+            "--field {name}: use a whole number, 1 to 65,535, or name the columns with --header"
+        ),
+        _ => {
+            let list = columns.list(alloc)?;
+            usage!(alloc; "--field {name}: use a number, or one of the columns {list}")
         }
     }
 }
