@@ -44,7 +44,7 @@ CASES = {
 # What surrounds the code on pages that are scanned, by column and row of pixels.
 PAGES = {"scan-chess": lambda x, y: (x + y) % 2, "scan-wide-chess": lambda x, y: (x // 2 + y) % 2,
          "scan-finders": lambda x, y: max(abs(x % 8 - 3), abs(y % 8 - 3)) in (0, 1, 3)}
-READ = {"read-1": ("1", 14), "read-10": ("10", 213), "read-40": ("40", 2331)}
+READ = {"read-1": ("1", 14), "read-40": ("40", 2331)}
 
 
 def exit_if_not_there(*paths):
