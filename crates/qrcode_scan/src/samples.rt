@@ -6,7 +6,8 @@ ghost use Rattle.qrcode_scan.specs.Squares.{mark_at};
 
 use crate::grids::Grid;
 use crate::pixels::Pixels;
-use crate::squares::{color_of, mark_at};
+use crate::squares::mark_at;
+use qrcode_layout::figures::color_of;
 use qrcode_types::types::Color;
 use std::alloc::{AllocError, Global};
 

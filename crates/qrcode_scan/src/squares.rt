@@ -3,11 +3,11 @@
 ghost use Rattle.std.specs.Prelude.{◌≡◌, ◌+◌, ◌*◌, ◌<◌, ◌≤◌, ℕ, List, false, true, length, slice_index_or, IsTrue, IsFalse, IfOk, IfSome, IfNone};
 ghost use Rattle.qrcode_render.specs.Layout.{layout};
 ghost use Rattle.qrcode_render.specs.Picture.{picture, is_dark_pixel};
-ghost use Rattle.qrcode_types.specs.Colors.{color_of};
 ghost use Rattle.qrcode_types.specs.declared.types.Color.{Color};
 ghost use Rattle.qrcode_scan.specs.Squares.{IsFramedIn, IsRowOf, IsSquareIn, mark_at, sampled};
 
 use crate::pixels::Pixels;
+use qrcode_layout::figures::color_of;
 use qrcode_types::types::Color;
 use std::alloc::{AllocError, Global};
 
@@ -162,13 +162,6 @@ fn sampled(
         modules.push(color_of(mark_at(pixels, x, y)))?;
     }
     Ok(modules)
-}
-
-// Returns `Dark` if `is_dark`, else `Light`.
-pub(crate) fn color_of(is_dark: bool) -> Color
-    ensures { result ≡ color_of is_dark }
-{
-    if is_dark { Color::Dark } else { Color::Light }
 }
 
 // Whether the pixels are exactly the picture of a square.
