@@ -9,6 +9,7 @@ ghost use Rattle.qrcode_scan.specs.declared.codes.Found.TheVariants.{Nothing, Mi
 ghost use Rattle.qrcode_scan.specs.Scans.{has_more, HasNoWhole, IsNotClean, IsScanOf, IsUnreadPicture, IsUnreadIn};
 
 use crate::grids::Grid;
+use crate::lone::{has_all_dark, lone_grid};
 use crate::pixels::Pixels;
 use crate::samples::sampled_at;
 use crate::scanning::{self, Scan, read_clean, scan_of, seen_in};
@@ -48,11 +49,11 @@ enum Found {
 
 // The pixels that a square takes: from `left` to before `right`, and from `top` to before `bottom`.
 #[derive(Clone, Copy)]
-struct Place {
-    left: usize,
-    top: usize,
-    right: usize,
-    bottom: usize,
+pub(crate) struct Place {
+    pub(crate) left: usize,
+    pub(crate) top: usize,
+    pub(crate) right: usize,
+    pub(crate) bottom: usize,
 }
 
 /// The codes of a picture.
@@ -68,7 +69,7 @@ pub struct Codes {
 
 /// Decodes the codes of a picture: the square in a plain margin, or else the squares that are found
 /// by their finder patterns. Among the latter, Micro symbols with more wrong codewords than the
-/// standard allows are ignored.
+/// standard allows are ignored, unless the picture shows nothing else.
 ///
 /// Errors: why nothing decodes; so without an error there is at least one code.
 #[tactic(auto, using(crate::proofs::WhyUnread::unread_picture, crate::proofs::WhyUnread::unseen_picture, crate::proofs::Read::scans_of, crate::proofs::Read::missed_of))]
@@ -133,22 +134,35 @@ fn only(alloc: Global, scan: Scan) -> Result<Codes, AllocError>
     })
 }
 
-// Decodes the codes that are found by their finder patterns.
-#[tactic(auto, using(crate::proofs::Read::no_code))]
+// Decodes the code that has all dark pixels, and those that are found by their finder patterns.
 fn codes_found(alloc: Global, pixels: &Pixels, is_inverted: bool) -> Result<Codes, AllocError>
     requires { IsNotClean pixels.now }
     ensures codes { IfOk result (AreCodesIn pixels.now is_inverted) }
     ensures whole { IfOk result (λ codes. FindsWholes pixels.now codes.scans.items) }
+{
+    let mut codes = lone_code(alloc, pixels, is_inverted)?;
+    let grids = grids_of(alloc, pixels)?;
+    for grid in &grids {
+        add(&mut codes, alloc, pixels, grid, is_inverted)?;
+    }
+    Ok(codes)
+}
+
+// Decodes the code that has all dark pixels, if there is one.
+#[tactic(auto, using(crate::proofs::Read::no_code))]
+fn lone_code(alloc: Global, pixels: &Pixels, is_inverted: bool) -> Result<Codes, AllocError>
+    requires { IsNotClean pixels.now }
+    ensures { IfOk result (AreCodesIn pixels.now is_inverted) }
 {
     let mut codes = Codes {
         scans: Vec::new(alloc),
         missed: Vec::new(alloc),
         has_more: false,
     };
-    let grids = grids_of(alloc, pixels)?;
-    for grid in &grids {
-        add(&mut codes, alloc, pixels, grid, is_inverted)?;
-    }
+    let Some(grid) = lone_grid(alloc, pixels)? else {
+        return Ok(codes);
+    };
+    add(&mut codes, alloc, pixels, &grid, is_inverted)?;
     Ok(codes)
 }
 
@@ -203,7 +217,7 @@ fn found_at(
         Ok(any) => any,
         Err(cause) => return Ok(unread_at(grid, cause)?),
     };
-    if is_doubtful(grid.count, &any) {
+    if is_doubtful(grid.count, &any) && !has_all_dark(pixels, place_of(grid)) {
         return Ok(Found::Nothing);
     }
     let square = Square {

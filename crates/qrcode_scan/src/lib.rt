@@ -9,6 +9,7 @@ mod grids;
 mod halves;
 mod heads;
 pub mod laws;
+mod lone;
 mod micro;
 mod pixels;
 mod samples;

@@ -22,11 +22,10 @@ use std::fmt;
 /// A decoded code.
 #[derive(Drop)]
 pub struct Scan {
-    /// The square of modules. If it was found by its finder patterns, `zone` is 0, and `scale` is
-    /// rounded down to whole pixels.
+    /// The square of modules. If there is a `grid`, `zone` is 0, and `scale` is rounded down to whole
+    /// pixels.
     pub square: Square,
-    /// The position of the modules, if the code was found by its finder patterns rather than in a
-    /// plain margin.
+    /// The position of the modules, unless the code was found in a plain margin of whole modules.
     pub grid: Option<Grid>,
     /// Whether dark and light are exchanged in the whole picture.
     pub is_inverted: bool,
@@ -69,14 +68,9 @@ impl fmt::Display for Unread {
             Unread::Unscanned(cause) => f.write_str(cause_text(*cause)),
             Unread::Png(cause) => write!(f, "{cause}"),
             Unread::Jpeg => f.write_str("it is a JPEG file; convert it to PNG"),
-            Unread::NoSquare => write!(
-                f,
-                "no code found, neither in a plain margin nor by finder patterns; {FLAT}"
-            ),
-            Unread::NoSymbol(count, qrcode_reader::Unread::NoSuchSide) => write!(
-                f,
-                "no code found: {count} by {count} modules are the size of none; {FLAT}"
-            ),
+            Unread::NoSquare | Unread::NoSymbol(_, qrcode_reader::Unread::NoSuchSide) => {
+                f.write_str(NO_CODE)
+            }
             Unread::NoSymbol(count, error) => {
                 write!(f, "{count} by {count} modules do not decode: {error}")
             }
@@ -85,8 +79,8 @@ impl fmt::Display for Unread {
     }
 }
 
-// What helps if no code is found.
-const FLAT: &str = "codes must be flat and sharp; for photographs, try zbarimg or ZXingReader";
+const NO_CODE: &str = "no code found, neither in a plain margin nor by finder patterns; codes must \
+    be flat and sharp; for photographs, try zbarimg or ZXingReader";
 
 // Says why there are no pixels.
 fn cause_text(cause: Unscanned) -> &'static str {

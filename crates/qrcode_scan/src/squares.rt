@@ -35,6 +35,8 @@ pub struct Square {
 pub fn square_of(alloc: Global, pixels: &Pixels) -> Result<Option<Square>, AllocError>
     ensures value { IfOk result (λ found. IfSome found (λ square.
         IsSquareIn pixels.now square.count square.zone square.scale square.modules.items)) }
+    ensures at_most { IfOk result (λ found. IfSome found (λ square.
+        (square.count ≤ 177) × (square.scale ≤ 65535))) }
     ensures least { IfOk result (λ found. IfSome found (λ square.
         (count zone scale column : ℕ) (modules : List Color)
         → IsFramedIn pixels.now count zone scale column modules → square.count ≤ count)) }
@@ -106,6 +108,7 @@ fn square_with_count(
     ensures value { IfOk result (λ found. IfSome found (λ square.
         IsSquareIn pixels.now square.count square.zone square.scale square.modules.items)) }
     ensures count { IfOk result (λ found. IfSome found (λ square. square.count ≡ count)) }
+    ensures scale { IfOk result (λ found. IfSome found (λ square. square.scale ≤ 65535)) }
     ensures none { IfOk result (λ found. IfNone found ((zone scale : ℕ) (modules : List Color)
         → IsSquareIn pixels.now count zone scale modules → ¬ (zone * scale ≡ margin))) }
 {

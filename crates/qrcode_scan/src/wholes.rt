@@ -113,7 +113,7 @@ fn finder_at(pixels: &Pixels, x: usize, y: usize) -> Option<Finder>
 }
 
 // Returns the grid of `count` modules a side, of `scale` pixels each, from this pixel on.
-fn grid_at(x: usize, y: usize, scale: usize, count: usize) -> Grid
+pub(crate) fn grid_at(x: usize, y: usize, scale: usize, count: usize) -> Grid
     requires { (x ≤ 65535) × (y ≤ 65535) × (scale ≤ 65535) × (count ≤ 177) }
     ensures { IsGridAt x y scale count result }
 {

@@ -314,6 +314,24 @@ def no_micro_code_is_read_inside_an_unread_code(program):
     return (ran.returncode, ran.stdout) == (1, b"") and b"37 by 37 modules" in ran.stderr
 
 
+def damaged_micro_codes_alone_are_read_in_any_margin(program):
+    """Micro QR codes with as many wrong codewords as can be corrected, some more than a reader
+    corrects on a page. Their margins are no whole modules of 8 pixels, or differ."""
+    for version in ("M1", "M2", "M3", "M4"):
+        words = ["damage", "--seed", "1", "-f", "pbm", "-s", "1", "-q", "0", "-v", version, "12345"]
+        rows = modules_of(run(program, words, "/").stdout)
+        wide = [[it for it in row for _ in range(8)] for row in rows for _ in range(8)]
+        for left, top, right, bottom in ((19, 19, 19, 19), (1, 1, 1, 1), (3, 16, 5, 9)):
+            across = left + len(wide) + right
+            lines = [[0] * left + it + [0] * right for it in wide]
+            lines = [*[[0] * across] * top, *lines, *[[0] * across] * bottom]
+            ink = "\n".join("".join(map(str, it)) for it in lines)
+            picture = f"P1\n{across} {len(lines)}\n{ink}".encode()
+            if run(program, ["read"], "/", picture).stdout != b"12345":
+                return False
+    return True
+
+
 def wrong_codewords_of_micro_codes_on_a_page(program):
     """On a page one is corrected in M2 but none in M1, as the standard says; in a picture of a
     single code, one is corrected in M1 too, with a warning."""
