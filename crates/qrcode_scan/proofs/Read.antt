@@ -8,10 +8,11 @@ use Rattle.qrcode_scan.specs.Grids.{IsSampled}
 use Rattle.qrcode_reader.specs.Readings.{IsPartsCause}
 use Rattle.qrcode_scan.specs.declared.grids.Grid.{Grid}
 use Rattle.qrcode_reader.specs.declared.refusals.Unread as reading
+use Rattle.std.proofs.lemmas.List.Quantifiers.{all_pairs_push}
 use Rattle.std.proofs.lemmas.List.Edits.{get_or-insert_at, get_or-insert_below, get_or-insert_above, length-insert}
 use Rattle.std.proofs.lemmas.Bool.{cases_lt}
 use Rattle.std.proofs.lemmas.List.{get_or_read}
-use Rattle.qrcode_scan.specs.Codes.{AreTwo, AreCodesIn, FindsWholes, HasGrid, IsApartFrom, IsCodeIn, IsFoundAs, IsFoundBy, IsMissedIn, IsMissedOf, Overlaps}
+use Rattle.qrcode_scan.specs.Codes.{AreOther, AreTwo, AreCodesIn, FindsWholes, HasGrid, IsApartFrom, IsCodeIn, IsFoundAs, IsFoundBy, IsMissedIn, IsMissedOf, IsProbable, Overlaps}
 use Rattle.qrcode_scan.specs.Scans.{IsReadAs, HasNoWhole, IsScanOf, IsSeenAs, IsSquareOf}
 use Rattle.qrcode_scan.specs.Wholes.{HasMany, IsGridOf, ShowsCode, Whole}
 use Rattle.qrcode_scan.specs.declared.scanning.Scan.{Scan}
@@ -94,7 +95,12 @@ two_swapped x y two g is h other = elim (two h other g is) [
 -- no codes yet
 pub no_code : (b : Bitmap) (i : Bool) (codes : Codes) → codes.scans.items ≡ [] → codes.missed.items ≡ [] → AreCodesIn b i codes
 no_code b i codes none no_missed =
-    record { scans = subst (All (IsCodeIn b i)) (sym none) (All-nil (IsCodeIn b i)); missed = subst (All (IsMissedIn b)) (sym no_missed) (All-nil (IsMissedIn b)); once = subst (AllPairs AreTwo) (sym none) (λ i j d lt within. absurd (omega (arith, within))) }
+    record {
+      scans = subst (All (IsCodeIn b i)) (sym none) (All-nil (IsCodeIn b i));
+      missed = subst (All (IsMissedIn b)) (sym no_missed) (All-nil (IsMissedIn b));
+      once = subst (AllPairs AreTwo) (sym none) (λ i j d lt within. absurd (omega (arith, within)));
+      told_once = subst (AllPairs AreOther) (sym no_missed) (λ i j d lt within. absurd (omega (arith, within)));
+    }
 
 -- only the code in a plain margin
 pub only_code : (b : Bitmap) (i : Bool) (codes : Codes) (scan : Scan) → codes.scans.items ≡ scan ∷ [] → codes.missed.items ≡ [] → IsSquareOf scan b → scan.grid ≡ None
@@ -104,6 +110,7 @@ only_code b i codes scan same no_missed square clean inverted read = record {
       (All-cons (IsCodeIn b i) scan [] (record { inverted = inverted; square = record { found = inl (clean, square) }; read = read }) (All-nil (IsCodeIn b i)));
   missed = subst (All (IsMissedIn b)) (sym no_missed) (All-nil (IsMissedIn b));
   once = subst (AllPairs AreTwo) (sym same) (λ i j d lt within. absurd (omega (arith, lt, within)));
+  told_once = subst (AllPairs AreOther) (sym no_missed) (λ i j d lt within. absurd (omega (arith, within)));
 }
 
 -- one more code, decoded or not
@@ -121,34 +128,42 @@ code_added b i old new x g same as_before code is apart are =
           (All-append (IsCodeIn b i) (take n xs) (x ∷ drop n xs) (All-take (IsCodeIn b i) n xs are.scans)
           (All-cons (IsCodeIn b i) x (drop n xs) code (All-drop (IsCodeIn b i) n xs are.scans)));
       missed = subst (All (IsMissedIn b)) (sym as_before) are.missed;
+      told_once = subst (AllPairs AreOther) (sym as_before) are.told_once;
     } where
       some_same : {h other : Grid} → Some h ≡ Some other → h ≡ other
       some_same e = cc
 
-pub missed_added : (b : Bitmap) (i : Bool) (old new : Codes) (x : Missed) → (new.missed.items ≡ old.missed.items) ⊎ (new.missed.items ≡ old.missed.items ++ x ∷ [])
+pub missed_added : (b : Bitmap) (i : Bool) (old new : Codes) (x : Missed)
+    → (new.missed.items ≡ old.missed.items) ⊎ ((new.missed.items ≡ old.missed.items ++ x ∷ []) × All (λ m. AreOther m x) old.missed.items)
     → new.scans.items ≡ old.scans.items → IsMissedIn b x → AreCodesIn b i old → AreCodesIn b i new
 missed_added b i old new x same as_before missed are = record {
   once = subst (AllPairs AreTwo) (sym as_before) are.once;
   scans = subst (All (IsCodeIn b i)) (sym as_before) are.scans;
   missed = elim same [
     | inl e ↦ subst (All (IsMissedIn b)) (sym e) are.missed
-    | inr e ↦ subst (All (IsMissedIn b)) (sym e) (All-push (IsMissedIn b) old.missed.items x are.missed missed)
+    | inr e ↦ subst (All (IsMissedIn b)) (sym e.0) (All-push (IsMissedIn b) old.missed.items x are.missed missed)
+  ];
+  told_once = elim same [
+    | inl e ↦ subst (AllPairs AreOther) (sym e) are.told_once
+    | inr e ↦ subst (AllPairs AreOther) (sym e.0) (all_pairs_push AreOther old.missed.items x are.told_once e.1)
   ];
 }
 
 -- a square in a grid that does not decode
 pub missed_code : (b : Bitmap) (g : Grid) (modules : List Color) (e : reading.Unread) → IsSampled b g modules → ¬ (e ≡ reading.TheVariants.OutOfMemory)
-    → (e ≡ reading.TheVariants.OutOfMemory) ⊎ (IsPartsCause modules e × ((side : ℕ) → side * side ≡ length modules → HasNone side modules)) → IsMissedIn b (record { grid = g; cause = e })
-missed_code b g modules e sampled other why = elim why [
+    → (e ≡ reading.TheVariants.OutOfMemory) ⊎ (IsPartsCause modules e × ((side : ℕ) → side * side ≡ length modules → HasNone side modules))
+    → IsProbable e → IsMissedIn b (record { grid = g; cause = e })
+missed_code b g modules e sampled other why probable = elim why [
   | inl memory ↦ absurd (other memory)
-  | inr both ↦ record { modules = modules; sampled = sampled; cause = both.0; none = both.1 g.count (sampled_length b g modules sampled) }
+  | inr both ↦ record { modules = modules; sampled = sampled; cause = both.0; probable = probable; none = both.1 g.count (sampled_length b g modules sampled) }
 ]
 
 -- what is told of it
-pub missed_told : (b : Bitmap) (i : Bool) (g : Grid) (m : Missed) (found : Found) → IsMissedIn b m → (found ≡ Nothing) ⊎ (found ≡ MissedAt m) → IsFoundAs b i found × HasGrid g found
+pub missed_told : (b : Bitmap) (i : Bool) (g : Grid) (m : Missed) (found : Found) → (IsProbable m.cause → IsMissedIn b m)
+    → (found ≡ Nothing) ⊎ ((found ≡ MissedAt m) × IsProbable m.cause) → IsFoundAs b i found × HasGrid g found
 missed_told b i g m found is told = elim told [
   | inl e ↦ subst (λ f. IsFoundAs b i f × HasGrid g f) (sym e) (tt, tt)
-  | inr e ↦ subst (λ f. IsFoundAs b i f × HasGrid g f) (sym e) (is, tt)
+  | inr e ↦ subst (λ f. IsFoundAs b i f × HasGrid g f) (sym e.0) (is e.1, tt)
 ]
 
 -- the codes of a picture's pixels are those of the picture

@@ -6,6 +6,7 @@ use Rattle.qrcode_scan.specs.Grids.{IsSampled}
 use Rattle.qrcode_reader.specs.Positions.{seen}
 use Rattle.qrcode_reader.specs.Readings.{IsPartsCause, ReadsParts}
 use Rattle.qrcode_reader.specs.declared.spell.parts.Part.{Part}
+use Rattle.qrcode_reader.specs.declared.refusals.Unread as reading
 use Rattle.qrcode_reader.specs.declared.positions.Position.{Position}
 use Rattle.qrcode_scan.specs.Scans.{IsFoundIn, IsReadAs, IsSeenAs}
 use Rattle.qrcode_scan.specs.declared.scanning.Scan.{Scan}
@@ -23,11 +24,20 @@ pub record IsCodeIn (b : Bitmap) (is_inverted : Bool) (scan : Scan) : Type 0 whe
   pub square : IsFoundIn scan b
   pub read : IsReadAs scan
 
--- a square that was found by its finder patterns and decodes in no position; the cause is that of the square as it is
+-- why a square does not decode that has format information, so it is probably a code
+abbrev pub IsProbable : reading.Unread → Type 0
+IsProbable reading.TheVariants.OutOfMemory = ⊥
+IsProbable reading.TheVariants.NoSuchSide = ⊥
+IsProbable reading.TheVariants.NoFormat = ⊥
+IsProbable (reading.TheVariants.Damaged b) = Unit
+IsProbable reading.TheVariants.NotSpelled = Unit
+
+-- a square that was found by its finder patterns and decodes in no position, but has format information; the cause is that of the square as it is
 pub record IsMissedIn (b : Bitmap) (m : missed.Missed) : Type 0 where
   pub modules : List Color
   pub sampled : IsSampled b m.grid modules
   pub cause : IsPartsCause modules m.cause
+  pub probable : IsProbable m.cause
   pub none : (p : Position) (is_inverted : Bool) (bytes : List ℕ) (parts : List Part) → ¬ ReadsParts (seen m.grid.count p is_inverted modules) bytes parts
 
 -- such a square, in a picture
@@ -62,6 +72,10 @@ place_of g =
 -- two places have no pixel in common: one ends before the other begins, across or down
 abbrev pub AreApart : Place → Place → Type 0
 AreApart p q = (p.right ≤ q.left) ⊎ ((q.right ≤ p.left) ⊎ ((p.bottom ≤ q.top) ⊎ (q.bottom ≤ p.top)))
+
+-- the places of two squares that do not decode have no pixel in common; so none is told twice
+abbrev pub AreOther : missed.Missed → missed.Missed → Type 0
+AreOther one other = AreApart (place_of other.grid) (place_of one.grid)
 
 -- the code was not found by finder patterns, or its place has no pixel in common with that of this grid
 abbrev pub IsApartFrom : Grid → Scan → Type 0
@@ -101,6 +115,7 @@ pub record AreCodesIn (b : Bitmap) (is_inverted : Bool) (codes : Codes) : Type 0
   pub scans : All (IsCodeIn b is_inverted) codes.scans.items
   pub once : AllPairs AreTwo codes.scans.items
   pub missed : All (IsMissedIn b) codes.missed.items
+  pub told_once : AllPairs AreOther codes.missed.items
 
 abbrev pub IsFoundAs : Bitmap → Bool → Found → Type 0  -- what a grid turns out to be
 IsFoundAs b is_inverted Nothing = Unit

@@ -3,7 +3,7 @@
 ghost use Rattle.std.specs.Prelude.{◌^◌, ◌+◌, ◌-◌, ◌/◌, ◌≡◌, ◌≤◌, ◌<◌, ◌⊎◌, ◌++◌, ◌∷◌, [], ℕ, Some, All, AllPairs, Any, insert, length, IsTrue, IsFalse, IfOk, IfErr, OnOk};
 ghost use Rattle.qrcode_reader.specs.declared.refusals.Unread.TheVariants.{OutOfMemory};
 ghost use Rattle.qrcode_scan.specs.declared.scanning.Unread.TheVariants.{OutOfMemory as NoMemory};
-ghost use Rattle.qrcode_scan.specs.Codes.{inner_side, place_of, AreApart, AreCodesIn, AreTwo, FindsWholes, FindsWholesOf, HasGrid, IsApartFrom, IsCodeFound, IsFoundAs, IsFoundBy, IsMissedOf, Overlaps};
+ghost use Rattle.qrcode_scan.specs.Codes.{inner_side, place_of, AreApart, AreCodesIn, AreOther, AreTwo, FindsWholes, FindsWholesOf, HasGrid, IsApartFrom, IsCodeFound, IsFoundAs, IsFoundBy, IsMissedOf, IsProbable, Overlaps};
 ghost use Rattle.qrcode_scan.specs.Wholes.{IsGridOf, ShowsCode, Whole};
 ghost use Rattle.qrcode_scan.specs.declared.codes.Found.TheVariants.{Nothing, Missed as MissedAt};
 ghost use Rattle.qrcode_scan.specs.Scans.{has_more, HasNoWhole, IsNotClean, IsScanOf, IsUnreadPicture, IsUnreadIn};
@@ -61,7 +61,7 @@ pub(crate) struct Place {
 pub struct Codes {
     /// The decoded codes, from top to bottom, and from left to right where they are side by side.
     pub scans: Vec<Scan>,
-    /// Squares that look like codes but do not decode.
+    /// Squares that look like codes but do not decode, each once.
     pub missed: Vec<Missed>,
     /// Whether a PNG file has faults that are ignored (`Picture::has_faults`).
     pub has_more: bool,
@@ -79,6 +79,7 @@ pub fn read_codes(alloc: Global, bytes: &[u8]) -> Result<Codes, scanning::Unread
     ensures once { IfOk result (λ codes. AllPairs AreTwo codes.scans.items) }
     ensures whole { IfOk result (λ codes. FindsWholesOf bytes.now codes.scans.items) }
     ensures missed { IfOk result (λ codes. All (IsMissedOf bytes.now) codes.missed.items) }
+    ensures told_once { IfOk result (λ codes. AllPairs AreOther codes.missed.items) }
     ensures more { IfOk result (λ codes. codes.has_more ≡ has_more bytes.now) }
     ensures causes { IfErr result (IsUnreadPicture bytes.now) }
 {
@@ -246,7 +247,8 @@ fn is_doubtful(count: usize, any: &AnyPartsReading) -> bool
 fn unread_at(grid: &Grid, cause: Unread) -> Result<Found, AllocError>
     ensures memory { IfOk result (λ _. ¬ (cause ≡ OutOfMemory)) }
     ensures missed { IfOk result (λ found. (found ≡ Nothing)
-        ⊎ (found ≡ MissedAt (record { grid = grid.now; cause = cause }))) }
+        ⊎ ((found ≡ MissedAt (record { grid = grid.now; cause = cause }))
+        × IsProbable cause)) }
 {
     match cause {
         Unread::OutOfMemory => Err(AllocError),
@@ -274,7 +276,8 @@ fn insert_code(scans: &mut Vec<Scan>, scan: Scan, grid: &Grid) -> Result<(), All
 // Appends a square that does not decode, unless it overlaps another one.
 fn push_missed(all: &mut Vec<Missed>, missed: Missed) -> Result<(), AllocError>
     ensures { OnOk result ((all.new.items ≡ all.old.items)
-        ⊎ (all.new.items ≡ all.old.items ++ missed ∷ [])) }
+        ⊎ ((all.new.items ≡ all.old.items ++ missed ∷ [])
+        × All (λ one. AreOther one missed) all.old.items)) }
 {
     if !is_among(all, &missed.grid) {
         all.push(missed)?;
@@ -283,10 +286,17 @@ fn push_missed(all: &mut Vec<Missed>, missed: Missed) -> Result<(), AllocError>
 }
 
 // Whether one of these squares overlaps the grid.
-fn is_among(all: &[Missed], grid: &Grid) -> bool {
+fn is_among(all: &[Missed], grid: &Grid) -> bool
+    ensures { IsFalse result
+        → All (λ one. AreApart (place_of grid.now) (place_of one.grid)) all.now }
+{
     let place = place_of(grid);
-    all.iter()
-        .any(|other| overlap(place, place_of(&other.grid)))
+    for other in all {
+        if overlap(place, place_of(&other.grid)) {
+            return true;
+        }
+    }
+    false
 }
 
 impl Codes {
