@@ -114,7 +114,7 @@ def heap_from_then_on(command):
 
 def growth(folder):
     """Returns the instructions of a symbol of each Normal version, filled with bytes at level M."""
-    answers = (TOP / "lab" / "oracle" / "answers").read_text()
+    answers = (TOP / "evidence" / "answers").read_text()
     most = re.findall(r"(?m)^most normal (\d+) M: \d+ \d+ (\d+) \d+$", answers)
     return [instructions(command_of(folder, "symbol", WORDS[:int(count)], version, 1))
             for version, count in most]

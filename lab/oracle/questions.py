@@ -1,4 +1,4 @@
-"""The data and checksums of lab/oracle/answers: data that looks random, checksums of
+"""The data and checksums of evidence/answers: data that looks random, checksums of
 squares."""
 import zlib
 
