@@ -6,7 +6,7 @@ import { KINDS } from "./encoding.mjs";
 import { QrError, refusal, refuse } from "./errors.mjs";
 import { answer, nameOf, number, within } from "./memory.mjs";
 import { BLOCKS_MAX, BYTES_MAX, ECI, FNC1_FIRST, FNC1_SECOND, ONE_OF_SEVERAL, PARTS_MAX, POSITIONS,
-    SEVERAL_MAX, SHIFT_JIS } from "./numbers.mjs";
+    SEVERAL_MAX, SHIFT_JIS, UTF_8 } from "./numbers.mjs";
 import { LEVELS, shown, versionName } from "./checks.mjs";
 
 const PARTS = [...Object.keys(KINDS), "oneOfSeveral"];
@@ -94,7 +94,7 @@ function inPicture(picture, of, ask) {
 
 /** Returns the text of data, in UTF-8 or in the sets that ECI headers name, or null. */
 function textOf(parts, data) {
-    const sets = [[0, 0]];
+    const sets = [[UTF_8, 0]];
     let end = 0;
     for (const { kind, number, length = 0 } of parts) {
         if (kind === "kanji" && sets[sets.length - 1][0] !== SHIFT_JIS)
@@ -110,8 +110,15 @@ function textOf(parts, data) {
     return texts.includes(null) ? null : texts.join("");
 }
 
-/** Returns the text of bytes in the set of an ECI number, or in UTF-8 if it is 0. */
+/** Returns the text of bytes in the set of an ECI number. 0 and 2 are code page 437, 27 is ASCII
+    and 170 a part of it: only what they share with UTF-8 is taken. */
 function decoded(bytes, number) {
+    if ([0, 2, 27, 170].includes(number)) {
+        const lacked = number === 170 ? "#$@[\\]^`{|}~" : "";
+        if (bytes.some((it) => it > 127 || lacked.includes(String.fromCharCode(it))))
+            return null;
+        number = UTF_8;
+    }
     return within((buffers) => {
         const room = 3 * bytes.length, out = buffers.room(room), count = buffers.room(8);
         const said = answer("goq_decode", buffers.bytes(bytes), bytes.length, number, out, room,

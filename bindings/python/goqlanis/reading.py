@@ -133,7 +133,7 @@ class Code(NamedTuple):
         >>> read(latin.png())[0].text, read(latin.png())[0].data
         ('Â±', b'\xc2\xb1')
         """
-        sets, end = [(0, 0)], 0
+        sets, end = [(goq.UTF_8, 0)], 0
         for part in self.parts:
             if part.kind == "kanji" and sets[-1][0] != goq.SHIFT_JIS:
                 return None
@@ -148,7 +148,12 @@ class Code(NamedTuple):
 
 
 def _decoded(data: bytes, number: int) -> Optional[str]:
-    """Returns the text of bytes in the set of an ECI number, or in UTF-8 if it is 0."""
+    """Returns the text of bytes in the set of an ECI number. 0 and 2 are code page 437, 27 is ASCII
+    and 170 a part of it: only what they share with UTF-8 is taken."""
+    if number in (0, 2, 27, 170):
+        if not data.isascii() or number == 170 and set(data) & set(b"#$@[\\]^`{|}~"):
+            return None
+        number = goq.UTF_8
     out, count = ctypes.create_string_buffer(3 * len(data) + 1), ctypes.c_size_t()
     answer = library.goq_decode(data, len(data), number, out, len(out), ctypes.byref(count))
     if answer not in (goq.OK, goq.NO_SUCH_SET, goq.NOT_IN_SET):

@@ -201,7 +201,7 @@ impl Code {
     /// ```
     pub fn text(&self) -> Option<String> {
         let data = &self.reading.data;
-        let (mut text, mut set, mut start, mut end) = (String::new(), 0, 0, 0);
+        let (mut text, mut set, mut start, mut end) = (String::new(), sys::GOQ_UTF_8, 0, 0);
         for part in &self.parts {
             match *part {
                 Part::Kanji(_) if set != sys::GOQ_SHIFT_JIS => return None,
