@@ -12,9 +12,9 @@ use crate::contents::Elements;
 use crate::damaging::draw_damaged;
 use crate::segments::{characters_of, is_empty, segments_of};
 use goqlanis_core::{
-    Drawing, Request, Segment, application_refusal_text, drawing_of,
-    elements_refusal_text, manner_of, quiet_zone, refusal_text, scale, segments_refusal_text,
-    symbol_for_application, symbol_in, symbol_of, symbol_of_elements, unwritable,
+    Drawing, Request, Segment, application_refusal_text, drawing_of, elements_refusal_text,
+    manner_of, quiet_zone, refusal_text, scale, segments_refusal_text, symbol_for_application,
+    symbol_in, symbol_of, symbol_of_elements, unwritable,
 };
 use goqlanis_files::failure::Failure;
 use goqlanis_files::streams::{print, write_data, write_file};

@@ -2,8 +2,8 @@
 
 use super::Entry;
 use super::Takes::Text;
-use qrcode_sheets::Part;
 use qrcode::types::Color;
+use qrcode_sheets::Part;
 
 /// The option for the colour of the dark or the light modules of one part of a code.
 #[derive(Clone, Copy)]
