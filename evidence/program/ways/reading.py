@@ -273,9 +273,12 @@ def _stretched(pixels, modules, *codes):
 
 def codes_of_uneven_pixels_beside_another_are_read(program):
     """At two and a half pixels a module M1, version 40, version 20 with three finder patterns among
-    its data, and with wrong modules in a timing pattern; and at 1.2 pixels version 1."""
+    its data, and with wrong modules in a timing pattern; at 1.2 pixels version 1; at two pixels one
+    with a wrong module in the middle row of a finder pattern."""
     other = _square(program, "-v", "1", "hi")
     decoyed, spoilt = (_square(program, "-v", "20", "-l", "H", "decoys") for _ in range(2))
+    pierced = _square(program, "-v", "1", "pierced")
+    pierced[3][1] ^= 1
     for row, line in zip(decoyed, other[:8]):
         for left in (21, 39, 57):
             row[left:left + 9] = [0, *line[:7], 0]
@@ -284,10 +287,19 @@ def codes_of_uneven_pixels_beside_another_are_read(program):
     for code, pixels, modules, said in (
             (_square(program, "-v", "M1", "12"), 5, 2, "12"), (decoyed, 5, 2, "decoys"),
             (_square(program, "-v", "40", "large"), 5, 2, "large"), (spoilt, 5, 2, "decoys"),
-            (_square(program, "-v", "1", "small"), 6, 5, "small")):
+            (_square(program, "-v", "1", "small"), 6, 5, "small"), (pierced, 2, 1, "pierced")):
         if _lines_read(program, _stretched(pixels, modules, code, other)) != sorted([said, "hi"]):
             return False
     return True
+
+
+def light_codes_at_an_angle_are_read(program):
+    """Those of slanted.pbm with dark and light swapped, in a light frame."""
+    rows = [[1 - int(it) for it in line] for line in FILES["slanted.pbm"].decode().split("\n")[2:]]
+    rows = [[0] * 204, *([0, 0, *row, 0, 0] for row in rows), [0] * 204]
+    ink = "\n".join("".join(map(str, row)) for row in rows)
+    ran = run(program, ["read"], "/", f"P1\n204 {len(rows)}\n{ink}".encode())
+    return ran.stdout == b"half one\nhalf two\n"
 
 
 def codes_that_nearly_touch_are_read(program):
