@@ -2,7 +2,6 @@
 
 use clap::ArgMatches;
 use clap::error::{Error, ErrorKind};
-use goqlanis_draw::make;
 use goqlanis_files::failure::{Failure, status};
 use goqlanis_files::streams::{Escaped, print};
 use goqlanis_files::{refused, usage};
@@ -10,11 +9,12 @@ use goqlanis_help::advice::{advice, wrapped_help};
 use goqlanis_help::command::{command_of, end_of_help, usage_of};
 use goqlanis_help::conflicts::check_conflicts;
 use goqlanis_help::tasks::{DRAWING, Task, task_named};
-use goqlanis_look::{check, join_pictures, read};
+use goqlanis_make::make;
 use goqlanis_options::asked::asked_for;
 use goqlanis_options::options::Purpose;
 use goqlanis_options::pictures::pictures_of;
 use goqlanis_options::sizes::{UNIT_APART, has_unit_apart};
+use goqlanis_read::{check, join_pictures, read};
 use std::alloc::{AllocError, Global};
 use std::process::ExitCode;
 use std::{env, io};

@@ -6,7 +6,7 @@ use Rattle.qrcode_charsets.specs.Charsets.{Has, IsWritten}
 use Rattle.qrcode_charsets.specs.Shortest.{IsAt, NoneHas}
 use Rattle.qrcode_charsets.specs.declared.sets.Charset.{Charset}
 use Rattle.qrcode_charsets.proofs.Leasts.{match_some}
-use Rattle.goqlanis_core.specs.Charsets.{IsShortestOf}
+use Rattle.goqlanis_request.specs.Charsets.{IsShortestOf}
 use Rattle.goqlanis_buffers.specs.Charsets.{number_of, number_read, IsAskedOf, IsDecoded, IsLacked, IsNotWritten}
 use Rattle.goqlanis_buffers.specs.Symbols.{IsMaskingCause}
 use Rattle.goqlanis_buffers.specs.declared.answers.Refusal.{Refusal}

@@ -3,7 +3,7 @@ use Rattle.std.proofs.Common.{◌<◌, ℕ, List, length, refl, inr}
 use Rattle.std.specs.Prelude.{Option}
 use Rattle.qrcode_types.specs.declared.types.Color.{Color}
 use Rattle.qrcode.specs.Code.{Code}
-use Rattle.goqlanis_core.specs.Masks.{AreUnder}
+use Rattle.goqlanis_request.specs.Masks.{AreUnder}
 use Rattle.goqlanis_buffers.specs.Outputs.{module_bytes, IsDescribed, IsFilled, IsWrittenAs}
 use Rattle.goqlanis_buffers.specs.Symbols.{IsMasked, IsMaskingCause}
 use Rattle.goqlanis_buffers.specs.declared.answers.Refusal.TheVariants.{SmallBuffer}

@@ -5,7 +5,7 @@ use Rattle.qrcode_bits.specs.Manners.{is_text}
 use Rattle.qrcode_types.specs.declared.types.QrError.{QrError}
 use Rattle.qrcode_types.specs.declared.types.QrError.TheVariants.{DataTooLong, InvalidVersion, UnsupportedCharacterSet, InvalidEciDesignator, InvalidCharacter, OutOfMemory}
 use Rattle.qrcode.specs.Code.{Code}
-use Rattle.goqlanis_core.specs.Symbols.{IsRefusedFor}
+use Rattle.goqlanis_request.specs.Symbols.{IsRefusedFor}
 use Rattle.goqlanis_buffers.specs.Options.{HasNoSymbol, IsAsked, IsMadeAs, IsOptionsCause}
 use Rattle.goqlanis_buffers.specs.Segments.{refusal_in}
 use Rattle.goqlanis_buffers.specs.Symbols.{IsMaskingCause}

@@ -7,7 +7,7 @@ use Rattle.qrcode_charsets.specs.Charsets.{designator, Has, IsWritten}
 use Rattle.qrcode_charsets.specs.Shortest.{IsAt, NoneHas}
 use Rattle.qrcode_charsets.specs.declared.sets.Charset.{Charset}
 use Rattle.qrcode_charsets.specs.declared.sets.TheConstants.{CHARSETS}
-use Rattle.goqlanis_core.specs.Charsets.{IsShortestOf, IsShownOrRefused}
+use Rattle.goqlanis_request.specs.Charsets.{IsShortestOf, IsShownOrRefused}
 use Rattle.goqlanis_buffers.specs.Answers.{refusal_of}
 use Rattle.goqlanis_buffers.specs.Calls.{Writes}
 use Rattle.goqlanis_buffers.specs.Options.{IsAsked, IsOptionsCause}

@@ -3,7 +3,7 @@ use Rattle.std.specs.Prelude.{◌≡◌, ℕ, ◌==◌, nat_le, ◌&&◌, Bool, 
 use Rattle.qrcode_render.specs.Layout.{layout}
 use Rattle.qrcode_sheets.specs.Paths.{plain}
 use Rattle.goqlanis_buffers.specs.Shades.{colors_of}
-use Rattle.goqlanis_core.specs.Drawings.{sized}
+use Rattle.goqlanis_request.specs.Drawings.{sized}
 use Rattle.qrcode_sheets.specs.Formats.{IsDrawn as IsSheetIn}
 use Rattle.qrcode_sheets.specs.Sheets.{Sheet}
 use Rattle.qrcode_sheets.specs.declared.layers.PartInk.{PartInk}

@@ -7,10 +7,10 @@ use Rattle.qrcode_bits.specs.Manners.{is_text}
 use Rattle.qrcode_bits.specs.declared.bits.manner.Manner.{Manner}
 use Rattle.qrcode_bits.specs.declared.bits.manner.Manner.TheVariants.{Bytes, Text, MarkedText}
 use Rattle.qrcode.specs.Code.{Code}
-use Rattle.goqlanis_core.specs.Masks.{IsMaskless}
-use Rattle.goqlanis_core.specs.Symbols.{IsSymbolIn, IsRefusedFor}
-use Rattle.goqlanis_core.specs.declared.request.Choice.{Choice}
-use Rattle.goqlanis_core.specs.declared.request.Choice.TheVariants.{From, Boosted, At}
+use Rattle.goqlanis_request.specs.Masks.{IsMaskless}
+use Rattle.goqlanis_request.specs.Symbols.{IsSymbolIn, IsRefusedFor}
+use Rattle.goqlanis_request.specs.declared.request.Choice.{Choice}
+use Rattle.goqlanis_request.specs.declared.request.Choice.TheVariants.{From, Boosted, At}
 use Rattle.goqlanis_buffers.specs.Names.{level_named, version_named}
 use Rattle.goqlanis_buffers.specs.Segments.{refusal_in}
 use Rattle.goqlanis_buffers.specs.Symbols.{ExceedsRoom, IsMasked}

@@ -1,7 +1,7 @@
 -- The symbols that the calls for C make.
 use Rattle.std.specs.Prelude.{◌≡◌, ◌⊎◌, ◌<◌, ℕ, List, length, Option, Some}
 use Rattle.qrcode.specs.Code.{Code}
-use Rattle.goqlanis_core.specs.Masks.{AreUnder, LacksMask}
+use Rattle.goqlanis_request.specs.Masks.{AreUnder, LacksMask}
 use Rattle.goqlanis_buffers.specs.Names.{level_named, version_named}
 use Rattle.goqlanis_buffers.specs.Segments.{IsSymbolOfSegments}
 use Rattle.goqlanis_buffers.specs.declared.answers.Refusal.{Refusal}

@@ -3,7 +3,7 @@
 ghost use Rattle.std.specs.Prelude.{◌≡◌, ◌≢◌, ◌<◌, ℕ, chars, length, map, Some, IfErr, IfNone, IfOk, IfSome, OnErr};
 ghost use Rattle.qrcode_charsets.specs.Shortest.{NoneHas};
 ghost use Rattle.qrcode_charsets.specs.declared.sets.Charset.{Charset};
-ghost use Rattle.goqlanis_core.specs.Charsets.{IsShortestOf};
+ghost use Rattle.goqlanis_request.specs.Charsets.{IsShortestOf};
 ghost use Rattle.goqlanis_buffers.specs.Answers.{refusal_of};
 ghost use Rattle.goqlanis_buffers.specs.Charsets.{number_of, number_read, numbers_tried, place_reported, refusal_reported, IsCodedSymbol, IsFirstUnknown, IsLacked, IsUncoded, IsUncodedIn, WritesDecoded};
 ghost use Rattle.goqlanis_buffers.specs.Outputs.{IsWrittenAs};
@@ -11,7 +11,7 @@ ghost use Rattle.goqlanis_buffers.specs.Outputs.{IsWrittenAs};
 use crate::answers::Refusal;
 use crate::options::{Asked, Options, asked_by};
 use crate::symbols::{Symbol, fill, write_masked};
-use goqlanis_core::symbol_among;
+use goqlanis_request::symbol_among;
 use qrcode::QrCode;
 use qrcode::types::QrError;
 use qrcode_charsets::sets::{CHARSETS, Charset};

@@ -8,7 +8,7 @@ ghost use Rattle.goqlanis_buffers.specs.Options.{choice_named, manner_named, IsA
 use crate::answers::Refusal;
 use crate::names::{level_named, version_named};
 use crate::symbols::{Symbol, write_masked};
-use goqlanis_core::{Choice, symbol_in};
+use goqlanis_request::{Choice, symbol_in};
 use qrcode::bits::Manner;
 use qrcode::types::EcLevel;
 use std::alloc::Global;

@@ -5,7 +5,7 @@ ghost use Rattle.qrcode_types.specs.declared.types.QrError.TheVariants.{OutOfMem
 ghost use Rattle.qrcode_formats.specs.Formats.{row};
 ghost use Rattle.qrcode_sheets.specs.Paths.{frame_of, plain};
 ghost use Rattle.goqlanis_buffers.specs.Shades.{colors_of};
-ghost use Rattle.goqlanis_core.specs.Drawings.{sized};
+ghost use Rattle.goqlanis_request.specs.Drawings.{sized};
 ghost use Rattle.goqlanis_buffers.specs.Colours.{colour_name};
 ghost use Rattle.goqlanis_buffers.specs.Calls.{TellsLength, WritesPicture};
 ghost use Rattle.goqlanis_buffers.specs.Answers.{HasSize};

@@ -11,7 +11,7 @@ ghost use Rattle.goqlanis_buffers.specs.declared.answers.Refusal.TheVariants.{Ou
 use crate::answers::Refusal;
 use crate::names::{level_named, version_named};
 use crate::symbols::{Symbol, write_symbol};
-use goqlanis_core::push_data;
+use goqlanis_request::push_data;
 use qrcode::QrCode;
 use qrcode::bits::Bits;
 use qrcode::types::{EcLevel, Mode, QrResult, Version};

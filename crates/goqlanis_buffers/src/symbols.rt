@@ -9,7 +9,7 @@ ghost use Rattle.goqlanis_buffers.specs.declared.answers.Refusal.TheVariants.{Sm
 
 use crate::answers::Refusal;
 use crate::names::{level_number, version_number};
-use goqlanis_core::masking::modules_under;
+use goqlanis_request::masking::modules_under;
 use qrcode::QrCode;
 use qrcode::types::{Color, QrError, QrResult};
 use std::alloc::Global;

@@ -3,7 +3,7 @@
 use crate::failure::Failure;
 use crate::files::{Unwritten, write_whole};
 use crate::refused;
-use goqlanis_core::Grouped;
+use goqlanis_request::Grouped;
 use std::alloc::Global;
 use std::io::{ErrorKind, IsTerminal, Read, Write};
 use std::process::ExitCode;

@@ -3,9 +3,9 @@
 use crate::habits::advice_for;
 use crate::tasks::{Task, task_named, task_words, tasks};
 use clap::error::Error;
-use goqlanis_core::Grouped;
 use goqlanis_options::nearest::nearest;
 use goqlanis_options::options::{Entry, Purpose, Takes};
+use goqlanis_request::Grouped;
 use std::alloc::{AllocError, Global};
 
 /// Explains why `clap` rejected the command line and what to write instead, or returns `None` if

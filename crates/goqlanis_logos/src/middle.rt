@@ -5,17 +5,17 @@ ghost use Rattle.qrcode_sheets.specs.Places.{HasPixels};
 
 use crate::logos::{element_of, pixels_of};
 use crate::shrinking::shrunk;
-use goqlanis_core::areas::{LogoError, LogoSize, LogoWish, logo_area, roomier};
-use goqlanis_core::overlays::{
-    CROSS_UNITS, Inside, cross_pixels, cross_size, cross_width, with_logo,
-};
-use goqlanis_core::places::place_in;
-use goqlanis_core::{Request, VersionName};
 use goqlanis_files::failure::Failure;
 use goqlanis_files::streams::read_file;
 use goqlanis_files::{doubted, refused};
 use goqlanis_options::asked::Asked;
 use goqlanis_options::logos::{AskedLogo, Logo, Middle};
+use goqlanis_request::areas::{LogoError, LogoSize, LogoWish, logo_area, roomier};
+use goqlanis_request::overlays::{
+    CROSS_UNITS, Inside, cross_pixels, cross_size, cross_width, with_logo,
+};
+use goqlanis_request::places::place_in;
+use goqlanis_request::{Request, VersionName};
 use qrcode::QrCode;
 use qrcode::types::Version;
 use qrcode_area::areas::Rectangle;

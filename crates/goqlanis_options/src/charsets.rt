@@ -1,6 +1,6 @@
 //! Character sets and their names.
 
-use goqlanis_core::VersionName;
+use goqlanis_request::VersionName;
 use qrcode_charsets::sets::Charset;
 use std::fmt;
 

@@ -3,9 +3,9 @@
 use crate::nearest::nearest;
 use crate::options::part_colours;
 use clap::ArgMatches;
-use goqlanis_core::Request;
 use goqlanis_files::failure::Failure;
 use goqlanis_files::usage;
+use goqlanis_request::Request;
 use qrcode_formats::Colours;
 use qrcode_sheets::PartInk;
 use qrcode_sheets::colours::{Colour, NAMES, colour_named};

@@ -1,9 +1,9 @@
 //! The logo options.
 
 use clap::ArgMatches;
-use goqlanis_core::areas::LogoSize;
 use goqlanis_files::failure::Failure;
 use goqlanis_files::usage;
+use goqlanis_request::areas::LogoSize;
 use qrcode_area::rectangles::Kept;
 use std::alloc::Global;
 

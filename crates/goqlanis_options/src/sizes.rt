@@ -2,9 +2,9 @@
 
 use crate::options::Purpose;
 use clap::ArgMatches;
-use goqlanis_core::Length;
 use goqlanis_files::failure::Failure;
 use goqlanis_files::usage;
+use goqlanis_request::Length;
 use qrcode_formats::{Density, Format};
 use qrcode_payloads::kinds::Kind;
 use qrcode_payloads::numbers::decimal;

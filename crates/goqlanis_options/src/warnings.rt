@@ -1,10 +1,10 @@
 //! Warnings on standard error; the code is drawn anyway.
 
 use crate::asked::{Asked, Source, Target, ending_format};
-use goqlanis_core::{Choice, Grouped, Request};
 use goqlanis_files::doubted;
 use goqlanis_files::failure::{Doubts, Failure};
 use goqlanis_files::streams::shown;
+use goqlanis_request::{Choice, Grouped, Request};
 use qrcode::types::Color;
 use qrcode_contents::fields::errors::Field;
 use qrcode_formats::Format;

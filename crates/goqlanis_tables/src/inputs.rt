@@ -1,9 +1,9 @@
 //! Reads the lines of an input.
 
-use goqlanis_core::Grouped;
 use goqlanis_files::failure::Failure;
 use goqlanis_files::refused;
 use goqlanis_files::streams::unread;
+use goqlanis_request::Grouped;
 use std::alloc::Global;
 use std::io::{BufRead, Read};
 

@@ -6,7 +6,7 @@ use Rattle.qrcode_gs1.specs.declared.errors.Gs1Error.TheVariants.{Refused}
 use Rattle.qrcode_gs1.specs.declared.symbol.errors.SymbolError.TheVariants.{Symbol}
 use Rattle.qrcode_types.specs.declared.types.QrError.TheVariants.{DataTooLong}
 use Rattle.qrcode.specs.Code.{Code}
-use Rattle.goqlanis_core.specs.Elements.{IsElementsIn, IsElementsRefused}
+use Rattle.goqlanis_request.specs.Elements.{IsElementsIn, IsElementsRefused}
 use Rattle.goqlanis_buffers.specs.Options.{IsAsked, IsOptionsCause}
 use Rattle.goqlanis_buffers.specs.Symbols.{IsMasked, IsMaskingCause}
 use Rattle.goqlanis_buffers.specs.declared.answers.Refusal as of_symbols

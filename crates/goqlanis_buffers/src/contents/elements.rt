@@ -10,7 +10,7 @@ use crate::answers::Refusal as OfSymbols;
 use crate::contents::answers::Refusal;
 use crate::options::{Options, asked_by};
 use crate::symbols::{Symbol, fill, write_masked};
-use goqlanis_core::symbol_of_elements;
+use goqlanis_request::symbol_of_elements;
 use qrcode::types::QrError;
 use qrcode_gs1::elements::{Element, element_string};
 use qrcode_gs1::errors::Gs1Error;

@@ -1,0 +1,137 @@
+//! `--charset`: texts in a character set.
+
+use goqlanis_files::failure::Failure;
+use goqlanis_files::{refused, usage};
+use goqlanis_options::asked::{Asked, Report};
+use goqlanis_options::charsets::{CharsetName, Coded, charset_named};
+use goqlanis_request::{Choice, Request, VersionName, symbol_among, symbol_in};
+use qrcode::QrCode;
+use qrcode::bits::Manner;
+use qrcode::types::{EcLevel, QrError, Version};
+use qrcode_charsets::sets::{CHARSETS, Charset};
+use qrcode_types::tables;
+use std::alloc::Global;
+
+/// Makes a code of a text in the character set called `name`, or for `shortest` in the one that
+/// takes the fewest bits.
+pub(crate) fn text_code(
+    alloc: Global,
+    asked: &Asked<'_, '_>,
+    name: &str,
+    bytes: &[u8],
+) -> Result<(QrCode, Coded), Failure> {
+    let Ok(text) = str::from_utf8(bytes) else {
+        return refused!(alloc;
+            "the data is not UTF-8, from which --charset converts it: for Latin-1, use iconv \
+            -f cp1252 -t utf-8 first"
+        );
+    };
+    let request = &asked.request;
+    let made = match charset_named(name) {
+        Some(set) => {
+            check_characters(alloc, set, text)?;
+            made(alloc, request, &[set], text)?
+        }
+        None if name.eq_ignore_ascii_case("shortest") => made(alloc, request, &CHARSETS, text)?,
+        None => return usage!(alloc;
+            "--charset {name}: use shortest, utf-8, shift-jis, iso-8859-1 to iso-8859-16, \
+            without 12, or windows-1250, -1251, -1252 or -1256"
+        ),
+    };
+    let (code, set) = made;
+    let utf8 = if asked.is_dry || asked.report != Report::Nothing {
+        utf8_version(alloc, request, bytes)
+    } else {
+        None
+    };
+    Ok((code, Coded { set, utf8 }))
+}
+
+// Checks that the set has all characters of the text.
+fn check_characters(alloc: Global, set: Charset, text: &str) -> Result<(), Failure> {
+    let Some(place) = set.lacks(text) else {
+        return Ok(());
+    };
+    let name = CharsetName(set);
+    let number = place.saturating_add(1);
+    let character = text.chars().nth(place).unwrap_or(' ');
+    let code = u32::from(character);
+    let better = CHARSETS
+        .iter()
+        .skip(1)
+        .find(|other| other.lacks(text).is_none());
+    let better = CharsetName(better.copied().unwrap_or(Charset::Utf8));
+    refused!(alloc;
+        "character {number}, {character} (U+{code:04X}), is not in {name}; {better} has all, and \
+        --charset shortest finds the best"
+    )
+}
+
+// Makes a code of a text in one of `sets`, which have all of its characters.
+fn made(
+    alloc: Global,
+    request: &Request<'_>,
+    sets: &[Charset],
+    text: &str,
+) -> Result<(QrCode, Charset), Failure> {
+    match symbol_among(alloc, request.choice, sets, request.level, text) {
+        Ok(made) => Ok(made),
+        Err(QrError::OutOfMemory) => Err(Failure::OutOfMemory),
+        Err(_) => refuse(alloc, request, sets, text),
+    }
+}
+
+// Says why no allowed version holds the text, and what would.
+fn refuse(
+    alloc: Global,
+    request: &Request<'_>,
+    sets: &[Charset],
+    text: &str,
+) -> Result<(QrCode, Charset), Failure> {
+    let level = request.level;
+    let Choice::At(version) = request.choice else {
+        return refuse_all(alloc, level, sets, text);
+    };
+    let name = VersionName(version);
+    if tables::capacity(version, level).is_none() {
+        return refused!(alloc; "version {name} has no level {level:?}");
+    }
+    if version.is_micro() && sets.len() == 1 {
+        return refused!(alloc; "version {name} has no ECI; use a version of 1 to 40");
+    }
+    let least = symbol_among(alloc, Choice::From(version), sets, level, text);
+    let Some(least) = least.ok().map(|(code, _)| VersionName(code.version())) else {
+        return refuse_all(alloc, level, sets, text);
+    };
+    refused!(alloc;
+        "version {name} at level {level:?} does not hold the text; version {least} does"
+    )
+}
+
+// Says that no version holds the text at this level, and what would.
+fn refuse_all(
+    alloc: Global,
+    level: EcLevel,
+    sets: &[Charset],
+    text: &str,
+) -> Result<(QrCode, Charset), Failure> {
+    let any = Choice::From(Version::Normal(1));
+    for lower in [EcLevel::Q, EcLevel::M, EcLevel::L] {
+        if symbol_among(alloc, any, sets, lower, text).is_ok() {
+            return refused!(alloc;
+                "no version holds the text at level {level:?}; level {lower:?} holds it"
+            );
+        }
+    }
+    refused!(alloc;
+        "no version holds the text; without --charset, goqlanis split splits it over several codes"
+    )
+}
+
+// Returns the version that the text takes in UTF-8 without ECI, if there is one.
+fn utf8_version(alloc: Global, request: &Request<'_>, bytes: &[u8]) -> Option<VersionName> {
+    let (Choice::From(least) | Choice::Boosted(least) | Choice::At(least)) = request.choice;
+    let choice = Choice::From(least);
+    let code = symbol_in(alloc, choice, Manner::Text, request.level, bytes).ok()?;
+    Some(VersionName(code.version()))
+}

@@ -1,0 +1,279 @@
+//! Parses GS1 element strings as people write them, and explains errors in them.
+
+ghost use Rattle.std.specs.Prelude.{◌≡◌, ◌≢◌, [], ◌∷◌, ◌++◌, map, true, encode_utf8, string_bytes, IfOk};
+ghost use Rattle.qrcode_gs1.specs.Items.{item};
+ghost use Rattle.goqlanis_make.specs.Labels.{ends_with_backslash, items_of, label_text, read_text, value_text};
+
+use goqlanis_files::failure::{Failure, refused};
+use qrcode_gs1::checks::cause_of;
+use qrcode_gs1::elements::Element;
+use qrcode_gs1::errors::Cause;
+use qrcode_gs1::table::rule_of;
+use std::alloc::{AllocError, Global};
+
+/// A GS1 element string: the identifier and value of each element.
+#[derive(Drop)]
+pub(crate) struct Elements {
+    items: Vec<(String, String)>,
+}
+
+// An element, as far as it has been parsed.
+#[derive(Drop)]
+enum Part {
+    // Nothing yet.
+    Nothing,
+    // `(` and the start of the identifier.
+    Identifier(String),
+    // The identifier in brackets, and the start of the value.
+    Value(String, String),
+}
+
+impl Elements {
+    /// Parses `text`: each identifier in round brackets, then its value, in which `\(` means `(`.
+    /// Does not check whether such identifiers and values exist.
+    ///
+    /// Errors: `Refused` if there is no element, or something else than elements; `OutOfMemory`.
+    pub(crate) fn read(alloc: Global, text: &str) -> Result<Elements, Failure>
+        ensures written { IfOk result (λ elements.
+            label_text (items_of elements.items.items) ≡ text.now) }
+    {
+        let mut items = Vec::new(alloc);
+        let mut part = Part::Nothing;
+        for character in text.chars() {
+            part = next(alloc, &mut items, part, character)?;
+        }
+        match part {
+            Part::Nothing => refused(alloc, NO_BRACKET),
+            Part::Identifier(_) => refused(alloc, NOT_CLOSED),
+            Part::Value(identifier, value) => {
+                items.push((identifier, value))?;
+                Ok(Elements { items })
+            }
+        }
+    }
+
+    /// Returns the elements as the encoder takes them.
+    ///
+    /// Errors: only `AllocError`.
+    pub(crate) fn elements(&self, alloc: Global) -> Result<Vec<Element<'_>>, AllocError>
+        ensures value { IfOk result (λ elements. map item elements.items
+            ≡ items_of self.now.items.items) }
+    {
+        let mut elements = Vec::with_capacity(alloc, self.items.len())?;
+        for (identifier, value) in &self.items {
+            elements.push(Element {
+                identifier: identifier.as_str(),
+                value: value.as_str(),
+            })?;
+        }
+        Ok(elements)
+    }
+
+    /// Explains why the element at `index` is refused: which one, what is wrong, and what would
+    /// help. Empty if there is no such element.
+    ///
+    /// Errors: only `AllocError`.
+    pub(crate) fn refusal(
+        &self,
+        alloc: Global,
+        index: usize,
+        cause: Cause,
+    ) -> Result<String, AllocError> {
+        let Some((identifier, value)) = self.items.get(index) else {
+            return Ok(String::new(alloc));
+        };
+        let number = index.saturating_add(1);
+        let mut text = format!(in alloc; "element {number}, ({identifier}): ")?;
+        match (cause, rule_of(identifier.as_bytes())) {
+            (Cause::Length, Some(rule)) => {
+                push_length(&mut text, identifier.as_str(), value.len(), rule.1)?;
+            }
+            (Cause::Character, Some(rule)) => push_character(&mut text, rule.2, value.as_str())?,
+            (Cause::CheckDigit, Some(rule)) => {
+                push_digit(&mut text, identifier.as_str(), value.as_str(), rule.3)?;
+            }
+            (Cause::Range, _) => text.push_str("its value is no date, YYMMDD (DD may be 00)")?,
+            _ if identifier.bytes().any(|byte| !byte.is_ascii_digit()) => text.push_str(
+                "no such identifier is known; if ( belongs to the value before it, write \\(",
+            )?,
+            _ => text.push_str(
+                "no such identifier is known; \
+                identifiers have two to four digits, as 01, 414 and 3103",
+            )?,
+        }
+        Ok(text)
+    }
+}
+
+// Appends which length a value of `count` characters has to have.
+fn push_length(
+    text: &mut String,
+    identifier: &str,
+    count: usize,
+    range: (usize, usize),
+) -> Result<(), AllocError> {
+    let (least, most) = range;
+    write!(text, "its value has {count} characters; it needs {least}")?;
+    if least < most {
+        write!(text, " to {most}")?;
+    }
+    text.push_str(length_help(identifier, count))
+}
+
+// What would help with a value of this many characters, if its identifier allows no such length.
+fn length_help(identifier: &str, count: usize) -> &'static str {
+    match (identifier, count) {
+        ("01" | "02", 13) => "; put a 0 before a GTIN of 13 digits",
+        ("11" | "12" | "13" | "15" | "16" | "17", 8 | 10) => ": YYMMDD",
+        _ => "",
+    }
+}
+
+// Takes one more character of the text, which may complete an element and begin another.
+fn next(
+    alloc: Global,
+    items: &mut Vec<(String, String)>,
+    part: Part,
+    character: char,
+) -> Result<Part, Failure>
+    ensures appends { IfOk result (λ more. read_text items.new.items more
+        ≡ read_text items.old.items part ++ encode_utf8 character) }
+{
+    match part {
+        Part::Nothing if character == '(' => Ok(Part::Identifier(String::new(alloc))),
+        Part::Nothing => refused(alloc, NO_BRACKET),
+        Part::Identifier(_) if character == '(' => refused(alloc, NOT_CLOSED),
+        Part::Identifier(identifier) if character == ')' => {
+            Ok(Part::Value(identifier, String::new(alloc)))
+        }
+        Part::Identifier(mut identifier) => {
+            identifier.push(character)?;
+            Ok(Part::Identifier(identifier))
+        }
+        Part::Value(identifier, value) if character != '(' => {
+            Ok(Part::Value(identifier, with_character(value, character)?))
+        }
+        Part::Value(identifier, value) if ends_with_backslash(value.as_str()) => {
+            Ok(Part::Value(identifier, with_bracket(value)?))
+        }
+        Part::Value(identifier, value) => {
+            items.push((identifier, value))?;
+            Ok(Part::Identifier(String::new(alloc)))
+        }
+    }
+}
+
+fn ends_with_backslash(value: &str) -> bool
+    ensures { result ≡ ends_with_backslash value.now }
+{
+    value.ends_with('\\')
+}
+
+// Appends a character to a value.
+#[tactic(auto, using(crate::proofs::Labelling::value_more))]
+fn with_character(mut value: String, character: char) -> Result<String, Failure>
+    requires { character ≢ 40 }
+    ensures appends { IfOk result (λ more. value_text (string_bytes more)
+        ≡ value_text (string_bytes value) ++ encode_utf8 character) }
+{
+    value.push(character)?;
+    Ok(value)
+}
+
+// Replaces the backslash at the end of a value with `(`, since `\(` means `(`.
+fn with_bracket(mut value: String) -> Result<String, Failure>
+    requires { ends_with_backslash (string_bytes value) ≡ true }
+    ensures appends { IfOk result (λ more. value_text (string_bytes more)
+        ≡ value_text (string_bytes value) ++ 40 ∷ []) }
+{
+    value.pop();
+    value.push('(')?;
+    Ok(value)
+}
+
+/// Returns `text` with identifiers in round brackets: where it starts with a square bracket, all
+/// its identifiers stand in square ones, and `(` needs no backslash in a value.
+///
+/// Errors: only `AllocError`.
+pub(crate) fn with_round_brackets(alloc: Global, text: &str) -> Result<String, AllocError> {
+    if !text.starts_with('[') {
+        return String::from_str(alloc, text);
+    }
+    let mut round = String::new(alloc);
+    let mut is_open = false;
+    for character in text.chars() {
+        match character {
+            '[' => round.push('(')?,
+            ']' if is_open => round.push(')')?,
+            '(' => round.push_str("\\(")?,
+            '\\' => round.push_str("\\\\")?,
+            character => round.push(character)?,
+        }
+        is_open = character == '[' || (is_open && character != ']');
+    }
+    Ok(round)
+}
+
+// Messages for a text that does not start with a bracket, and for a bracket that is never closed.
+const NO_BRACKET: &str =
+    "ELEMENTS: start with an identifier in round brackets, e.g. (01)09521234543213";
+
+const NOT_CLOSED: &str = "ELEMENTS: an opening bracket is never closed; write ( in a value as \\(";
+
+// Appends which character of a value is not allowed; the first `digits` have to be digits.
+fn push_character(text: &mut String, digits: usize, value: &str) -> Result<(), AllocError> {
+    for (index, character) in value.chars().enumerate() {
+        let place = index.saturating_add(1);
+        if index < digits && !character.is_ascii_digit() {
+            return write!(text, "{character} at place {place} is no digit");
+        }
+        if character == '\\' {
+            return write!(
+                text,
+                "\\ at place {place}: only ( is written with a backslash"
+            );
+        }
+        // GS1's character set 82.
+        if !matches!(character, '!' | '"' | '%'..='?' | 'A'..='Z' | '_' | 'a'..='z') {
+            return write!(
+                text,
+                "{character} at place {place} is not one of the digits, letters and \
+                !\"%&'()*+,-./:;<=>?_"
+            );
+        }
+    }
+    Ok(())
+}
+
+// Appends which check digit would be right at `place`, counted from 1.
+fn push_digit(
+    text: &mut String,
+    identifier: &str,
+    value: &str,
+    place: usize,
+) -> Result<(), AllocError> {
+    let digit = right_digit(*text.allocator(), identifier, value, place)?;
+    write!(
+        text,
+        "its check digit, at place {place}, would be {digit}; look for a mistyped or swapped digit"
+    )
+}
+
+// Returns the digit that would be right at `place`, counted from 1.
+fn right_digit(
+    alloc: Global,
+    identifier: &str,
+    value: &str,
+    place: usize,
+) -> Result<char, AllocError> {
+    let mut bytes = Vec::from_slice(alloc, value.as_bytes())?;
+    for digit in b'0'..b'9' + 1 {
+        if let Some(byte) = bytes.get_mut(place.saturating_sub(1)) {
+            *byte = digit;
+        }
+        if cause_of(identifier.as_bytes(), &bytes).is_none() {
+            return Ok(char::from(digit));
+        }
+    }
+    Ok('0')
+}

@@ -1,0 +1,96 @@
+//! `goqlanis damage`: codes with wrong codewords, bits and modules.
+
+ghost use Rattle.std.specs.Prelude.{◌≡◌, length, IfOk};
+
+use goqlanis_files::failure::Failure;
+use goqlanis_files::{doubted, refused, usage};
+use goqlanis_options::asked::Asked;
+use goqlanis_options::damage::{AskedDamage, Wrong};
+use goqlanis_request::masking::modules_under;
+use goqlanis_request::{Request, drawn, refusal_text};
+use qrcode::QrCode;
+use qrcode::types::Color;
+use qrcode_damage::damage::{Damage, TooMuch, damaged, most_codewords};
+use qrcode_damage::laid::laid;
+use qrcode_reader::Position;
+use std::alloc::Global;
+
+// Returns the damage that is asked for, in this code.
+fn damage_in(code: &QrCode, asked: AskedDamage) -> Damage {
+    let most = most_codewords(code.version(), code.error_correction_level());
+    Damage {
+        codewords: match asked.codewords {
+            Wrong::Count(count) => count,
+            Wrong::Most => most,
+            Wrong::Beyond => most.saturating_add(1),
+        },
+        format_bits: asked.format_bits,
+        version_bits: asked.version_bits,
+        pattern_modules: asked.pattern_modules,
+        seed: asked.seed,
+    }
+}
+
+/// Draws a damaged code. Warns if so much damage need not be read.
+///
+/// Errors: `Usage` with a logo; `Refused` if the code has too few codewords, bits or modules, or
+/// warnings are errors; `OutOfMemory`.
+pub(crate) fn draw_damaged(
+    rt: &HostRuntime,
+    asked: &Asked<'_, '_>,
+    wanted: AskedDamage,
+    code: &QrCode,
+) -> Result<Vec<u8>, Failure> {
+    let alloc = rt.alloc();
+    if asked.logo.is_some() {
+        return usage!(alloc; "--logo, --logo-area: a damaged code has no room for them");
+    }
+    let damage = damage_in(code, wanted);
+    if !damage.is_promised(code.version(), code.error_correction_level()) {
+        doubted!(rt, asked.doubts;
+            "beyond what can be corrected: readers read nothing or, in small codes, perhaps other \
+            data"
+        )?;
+    }
+    let request = &asked.request;
+    let modules = damaged_modules(alloc, request, wanted.position, code, damage)?;
+    match drawn(alloc, request, code, &modules, &[], None) {
+        Ok(drawing) => Ok(drawing),
+        Err(_) => Err(Failure::OutOfMemory),
+    }
+}
+
+// Returns the modules of a code, under the requested mask, with this damage and in this position.
+fn damaged_modules(
+    alloc: Global,
+    request: &Request<'_>,
+    position: Position,
+    code: &QrCode,
+    damage: Damage,
+) -> Result<Vec<Color>, Failure>
+    ensures { IfOk result (λ modules. length modules.items ≡ length code.now.modules) }
+{
+    // Its contract says that the modules are a square.
+    let _width = code.width();
+    let modules = masked_modules(alloc, request, code)?;
+    let (version, level) = (code.version(), code.error_correction_level());
+    match damaged(alloc, version, level, &modules, damage) {
+        Ok(modules) => Ok(laid(alloc, version, position, &modules)?),
+        Err(TooMuch::OutOfMemory) => Err(Failure::OutOfMemory),
+        Err(error) => refused!(alloc; "{error}"),
+    }
+}
+
+// Returns the modules of a code under the requested mask.
+fn masked_modules(
+    alloc: Global,
+    request: &Request<'_>,
+    code: &QrCode,
+) -> Result<Vec<Color>, Failure>
+    ensures { IfOk result (λ modules. length modules.items ≡ length code.now.modules) }
+{
+    match modules_under(alloc, code, request.mask) {
+        Ok(modules) => Ok(modules),
+        Err(error) => Err(Failure::Refused(refusal_text(alloc, request, &[], error)?)),
+    }
+}

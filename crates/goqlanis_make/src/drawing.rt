@@ -1,0 +1,326 @@
+//! Draws codes and writes drawings.
+
+ghost use Rattle.std.specs.Prelude.{◌≡◌, ℕ, List, None, Some, IfOk};
+ghost use Rattle.qrcode_gs1.specs.Elements.{Item};
+ghost use Rattle.qrcode_gs1.specs.symbol.Indicators.{indicator_of};
+ghost use Rattle.goqlanis_request.specs.Drawings.{IsShownIn};
+ghost use Rattle.goqlanis_request.specs.Elements.{IsApplicationIn, IsElementsIn};
+ghost use Rattle.goqlanis_make.specs.Labels.{label_text};
+
+use crate::charsets::text_code;
+use crate::contents::Elements;
+use crate::damaging::draw_damaged;
+use crate::segments::{characters_of, is_empty, segments_of};
+use goqlanis_files::failure::Failure;
+use goqlanis_files::streams::{print, write_data, write_file};
+use goqlanis_files::{refused, usage};
+use goqlanis_logos::middle::{draw_with_middle, has_pixels, middle_of, warn_of_logo};
+use goqlanis_options::asked::{Asked, Target};
+use goqlanis_options::report::show_report;
+use goqlanis_request::{
+    Drawing, Request, Segment, application_refusal_text, drawing_of, elements_refusal_text,
+    manner_of, quiet_zone, refusal_text, scale, segments_refusal_text, symbol_for_application,
+    symbol_in, symbol_of, symbol_of_elements, unwritable,
+};
+use goqlanis_tables::pages::Pages;
+use qrcode::QrCode;
+use qrcode::bits::Manner;
+use qrcode::types::QrError;
+use qrcode_area::areas::Rectangle;
+use qrcode_formats::{Format, Middle};
+use qrcode_gs1::errors::Gs1Error;
+use qrcode_gs1::symbol::errors::SymbolError;
+use qrcode_gs1::symbol::indicator_of;
+use qrcode_sheets::GREATEST_PAINTED;
+use std::alloc::Global;
+use std::io::IsTerminal;
+use std::process::ExitCode;
+
+/// Encodes `bytes`, and draws and reports the code as `draw_reported` does.
+pub(crate) fn draw_one(
+    rt: &HostRuntime,
+    asked: &Asked<'_, '_>,
+    bytes: &[u8],
+) -> Result<Option<Vec<u8>>, Failure> {
+    let alloc = rt.alloc();
+    check_empty(alloc, asked, bytes)?;
+    if let Some(name) = asked.input.charset {
+        let (code, coded) = text_code(alloc, asked, name, bytes)?;
+        let coded = Some(coded);
+        return draw_reported(rt, &Asked { coded, ..*asked }, code);
+    }
+    let request = Request {
+        manner: manner(alloc, asked, bytes)?,
+        ..asked.request
+    };
+    match symbol_in(alloc, request.choice, request.manner, request.level, bytes) {
+        Ok(code) => draw_reported(rt, &Asked { request, ..*asked }, code),
+        Err(error) => Err(Failure::Refused(refusal_text(alloc, &request, bytes, error)?)),
+    }
+}
+
+// A drawing, and the area in its middle if it has one.
+#[derive(Drop)]
+struct Picture {
+    drawing: Drawing,
+    area: Option<Rectangle>,
+}
+
+// Draws `code` as the command line asks, with the logo, cross or area in its middle.
+//
+// Errors: `Refused` if the code has no such area; `OutOfMemory`.
+fn draw_code(alloc: Global, asked: &Asked<'_, '_>, code: QrCode) -> Result<Picture, Failure>
+    ensures symbol { IfOk result (λ picture. picture.drawing.code ≡ code) }
+    ensures shown { asked.now.logo ≡ None
+        → IfOk result (λ picture. IsShownIn asked.now.request picture.drawing) }
+{
+    if let Some(logo) = &asked.logo {
+        let (area, bytes) = draw_with_middle(alloc, &asked.request, logo, &code)?;
+        let drawing = Drawing { code, bytes };
+        return Ok(Picture {
+            drawing,
+            area: Some(area),
+        });
+    }
+    match drawing_of(alloc, &asked.request, code) {
+        Ok(drawing) => Ok(Picture {
+            drawing,
+            area: None,
+        }),
+        Err(error) => {
+            let why = refusal_text(alloc, &asked.request, &[], error)?;
+            Err(Failure::Refused(why))
+        }
+    }
+}
+
+// The maximum side, in pixels, of uncompressed formats, which are drawn in memory: 0.8 GB for PPM.
+const GREATEST_WHOLE: u32 = 16_384;
+
+/// Checks that a side has no more pixels than the format allows, and at least one per module.
+pub(crate) fn check_side(
+    alloc: Global,
+    asked: &Asked<'_, '_>,
+    code: &QrCode,
+) -> Result<(), Failure> {
+    let request = &asked.request;
+    let modules = code.width() as u32 + 2 * quiet_zone(request, code);
+    let scale = scale(request, code);
+    let side = modules.saturating_mul(scale);
+    let row = request.format.row();
+    let most = if row.is_whole {
+        GREATEST_WHOLE
+    } else if row.middle == Middle::Pixels && (!request.parts.is_empty() || has_pixels(asked)) {
+        GREATEST_PAINTED
+    } else {
+        row.most
+    };
+    let (option, limit) = match request.size {
+        Some(size) if scale == 0 => return refused!(alloc;
+            "a side of {size} pixels is too small: the code and its quiet zone have {modules} \
+            modules a side; use --size {modules} or more, or a smaller --quiet-zone"
+        ),
+        _ if side <= most => return Ok(()),
+        Some(_) => ("size", most),
+        None => ("scale", most / modules.max(1)),
+    };
+    refused!(alloc;
+        "a side of {side} pixels is too large: this format has at most {most}; use --{option} \
+        {limit} or less"
+    )
+}
+
+/// Checks that data is not empty, unless `--allow-empty` is given.
+pub(crate) fn check_empty(
+    alloc: Global,
+    asked: &Asked<'_, '_>,
+    bytes: &[u8],
+) -> Result<(), Failure> {
+    if !bytes.is_empty() || asked.input.allows_empty {
+        Ok(())
+    } else if asked.input.lines.is_some() {
+        refused!(alloc; "it is empty; --allow-empty accepts it")
+    } else {
+        refused!(alloc;
+            "the input is empty, e.g. from a variable that is not set; --allow-empty accepts it"
+        )
+    }
+}
+
+/// Makes a code of chosen segments, given as words MODE:DATA or eci:NUMBER.
+pub(crate) fn segments_code(
+    alloc: Global,
+    asked: &Asked<'_, '_>,
+    words: &[&str],
+) -> Result<QrCode, Failure> {
+    let segments = segments_of(alloc, words)?;
+    let has_none = segments.iter().all(|segment| is_empty(segment));
+    if has_none && !asked.input.allows_empty {
+        return refused!(alloc;
+            "--segment gives no data, and standard input is not read; add --segment byte:TEXT, or \
+            --allow-empty"
+        );
+    }
+    if let Some(place) = unwritable(&segments) {
+        let why = match segments.get(place) {
+            Some(Segment::Data(mode, _)) => characters_of(*mode),
+            _ => "",
+        };
+        let number = place.saturating_add(1);
+        return refused!(alloc; "segment {number}: {why}");
+    }
+    let request = &asked.request;
+    match symbol_of(alloc, request.choice, request.level, &segments) {
+        Ok(code) => Ok(code),
+        Err(error) => {
+            let why = segments_refusal_text(alloc, request, &segments, error)?;
+            Err(Failure::Refused(why))
+        }
+    }
+}
+
+/// Makes a code of the GS1 element string in `text`, with identifiers in round brackets.
+pub(crate) fn elements_code(
+    alloc: Global,
+    request: &Request<'_>,
+    text: &str,
+) -> Result<QrCode, Failure>
+    ensures symbol { IfOk result (λ code. (items : List Item) × ((label_text items ≡ text.now)
+        × IsElementsIn request.now.choice request.now.level items code)) }
+{
+    let read = Elements::read(alloc, text)?;
+    let elements = read.elements(alloc)?;
+    match symbol_of_elements(alloc, request.choice, request.level, &elements) {
+        Ok(code) => Ok(code),
+        Err(SymbolError::Elements(Gs1Error::Refused(index, cause))) => {
+            Err(Failure::Refused(read.refusal(alloc, index, cause)?))
+        }
+        Err(SymbolError::Symbol(QrError::DataTooLong)) => {
+            let why = elements_refusal_text(alloc, request, &elements)?;
+            Err(Failure::Refused(why))
+        }
+        Err(SymbolError::Elements(_) | SymbolError::Symbol(_)) => Err(Failure::OutOfMemory),
+    }
+}
+
+/// Makes a code of `text` in an industry's own format, which `indicator` names.
+pub(crate) fn application_code(
+    alloc: Global,
+    request: &Request<'_>,
+    indicator: &str,
+    text: &str,
+) -> Result<QrCode, Failure>
+    ensures symbol { IfOk result (λ code. (application : ℕ)
+        × ((indicator_of indicator.now ≡ Some application)
+        × IsApplicationIn request.now.choice application request.now.level text.now code)) }
+{
+    let Some(application) = indicator_of(indicator.as_bytes()) else {
+        return usage!(alloc;
+            "--application {indicator}: an indicator is two digits or one letter, as 37 or a"
+        );
+    };
+    if text.is_empty() {
+        return refused!(alloc;
+            "ELEMENTS: after --application, give its data, e.g. \"AA1234BBB112text\""
+        );
+    }
+    let bytes = text.as_bytes();
+    match symbol_for_application(alloc, request.choice, request.level, application, bytes) {
+        Ok(code) => Ok(code),
+        Err(QrError::OutOfMemory) => Err(Failure::OutOfMemory),
+        Err(_) => {
+            let why = application_refusal_text(alloc, request, application, bytes)?;
+            Err(Failure::Refused(why))
+        }
+    }
+}
+
+/// Draws a code and reports it; with `--dry-run` only reports it, and returns `None`.
+pub(crate) fn draw_reported(
+    rt: &HostRuntime,
+    asked: &Asked<'_, '_>,
+    code: QrCode,
+) -> Result<Option<Vec<u8>>, Failure> {
+    check_side(rt.alloc(), asked, &code)?;
+    if asked.is_dry {
+        let area = middle_of(rt.alloc(), asked, &code)?;
+        show_report(rt, asked, &code, area)?;
+        return Ok(None);
+    }
+    if let Some(damage) = asked.damage {
+        let drawing = draw_damaged(rt, asked, damage, &code)?;
+        show_report(rt, asked, &code, None)?;
+        return Ok(Some(drawing));
+    }
+    let picture = draw_code(rt.alloc(), asked, code)?;
+    warn_of_logo(rt, asked, &picture.drawing.code, picture.area)?;
+    show_report(rt, asked, &picture.drawing.code, picture.area)?;
+    Ok(Some(picture.drawing.bytes))
+}
+
+/// Refuses a binary format that would go to a terminal.
+pub(crate) fn check_terminal(rt: &HostRuntime, asked: &Asked<'_, '_>) -> Result<(), Failure> {
+    let is_drawn = !asked.is_dry && matches!(asked.target, Target::Terminal);
+    if is_drawn && !asked.request.format.row().is_text && rt.stdout().is_terminal() {
+        return refused!(rt.alloc();
+            "this format is not for a terminal: add --output FILE, or --output - to write it there \
+            anyway"
+        );
+    }
+    Ok(())
+}
+
+/// Writes a drawing to its target, if there is one.
+///
+/// Errors: those of `print` and `write_file`.
+pub(crate) fn write_drawing(
+    rt: &HostRuntime,
+    asked: &Asked<'_, '_>,
+    drawing: Option<Vec<u8>>,
+) -> Result<ExitCode, Failure> {
+    let Some(bytes) = drawing else {
+        return Ok(ExitCode::SUCCESS);
+    };
+    match asked.target {
+        Target::File(path) => write_file(rt, path, &bytes),
+        // Its title may have characters that hide or reorder others on a terminal.
+        Target::Terminal if asked.request.format == Format::SvgPath => write_data(rt, None, &bytes),
+        Target::Terminal | Target::StandardOutput => print(rt, &bytes),
+    }
+}
+
+/// Writes a drawing to its target: PDF for standard output as the next page of a document, others as
+/// they are.
+///
+/// Errors: those of `Pages::add` and `write_drawing`.
+pub(crate) fn write_page(
+    rt: &HostRuntime,
+    asked: &Asked<'_, '_>,
+    pages: &mut Pages,
+    drawing: Option<Vec<u8>>,
+) -> Result<ExitCode, Failure> {
+    match (drawing, asked.request.format, asked.target) {
+        (Some(file), Format::Pdf, Target::Terminal | Target::StandardOutput) => {
+            pages.add(rt, &file)?;
+            Ok(ExitCode::SUCCESS)
+        }
+        (drawing, _, _) => write_drawing(rt, asked, drawing),
+    }
+}
+
+/// Chooses how data is encoded: as bytes, text, or text marked as UTF-8.
+pub(crate) fn manner(
+    alloc: Global,
+    asked: &Asked<'_, '_>,
+    bytes: &[u8],
+) -> Result<Manner, Failure> {
+    match manner_of(bytes) {
+        _ if asked.input.is_bytes => Ok(Manner::Bytes),
+        manner if !asked.input.is_eci => Ok(manner),
+        Manner::Bytes => refused!(alloc;
+            "the data is not UTF-8: leave out --eci, or for Latin-1 use iconv -f cp1252 -t utf-8 \
+            first"
+        ),
+        _ => Ok(Manner::MarkedText),
+    }
+}

@@ -1,0 +1,136 @@
+//! `goqlanis join`: joins the data of the codes that `split` made.
+
+use crate::reading::push_scans;
+use goqlanis_files::failure::Failure;
+use goqlanis_files::refused;
+use goqlanis_files::streams::write_data;
+use goqlanis_options::pictures::{Pictures, STANDARD_INPUT};
+use goqlanis_request::Grouped;
+use qrcode_append::errors::JoinError;
+use qrcode_append::{Part, join};
+use qrcode_reader::spell::{self, Header};
+use qrcode_scan::Scan;
+use std::alloc::{AllocError, Global};
+use std::process::ExitCode;
+
+// The maximum number of codes in a split.
+const MOST_SYMBOLS: usize = 16;
+
+/// Decodes the codes of a split and writes their joined data. A single code may lack the structured
+/// append header, as `split` makes it.
+pub fn join_pictures(rt: &HostRuntime, pictures: &Pictures<'_, '_>) -> Result<ExitCode, Failure> {
+    let names = pictures.names.unwrap_or(STANDARD_INPUT);
+    let output = pictures.output;
+    if names.len() > MOST_SYMBOLS {
+        let count = Grouped(names.len());
+        return refused!(rt.alloc();
+            "{count} pictures: a split has at most {MOST_SYMBOLS} codes; name those of one"
+        );
+    }
+    let (mut sources, mut scans) = (Vec::new(rt.alloc()), Vec::new(rt.alloc()));
+    for name in names {
+        if !push_scans(rt, name, &mut scans)? {
+            return Ok(ExitCode::FAILURE);
+        }
+        for _ in sources.len()..scans.len() {
+            sources.push(*name)?;
+        }
+    }
+    match scans.as_slice() {
+        [only] if part_of(only).is_none() => write_data(rt, output, &only.any.reading.data),
+        scans => write_data(rt, output, &join_scans(rt.alloc(), &sources, scans)?),
+    }
+}
+
+// Joins the data of codes, found in pictures of these names, in the order of their headers.
+fn join_scans(alloc: Global, names: &[&str], scans: &[Scan]) -> Result<Vec<u8>, Failure> {
+    let mut parts = Vec::with_capacity(alloc, scans.len())?;
+    for (name, scan) in names.iter().zip(scans) {
+        let Some(part) = part_of(scan) else {
+            return refused!(alloc; "{name}: it is not part of a split; goqlanis read decodes it");
+        };
+        parts.push(part)?;
+    }
+    match join(alloc, &parts) {
+        Ok(data) => Ok(data),
+        Err(error) => not_joined(alloc, names, &parts, error),
+    }
+}
+
+// Returns the part of a split that a code holds, if it has that header.
+fn part_of(scan: &Scan) -> Option<Part<'_>> {
+    scan.parts.iter().find_map(|part| match *part {
+        spell::Part::Front(
+            Header::StructuredAppend {
+                place,
+                last,
+                parity,
+            },
+        ) => Some(Part {
+            place,
+            last,
+            parity,
+            bytes: &scan.any.reading.data,
+        }),
+        _ => None,
+    })
+}
+
+// Fails: parts, found in pictures of these names, cannot be joined.
+fn not_joined(
+    alloc: Global,
+    names: &[&str],
+    parts: &[Part<'_>],
+    error: JoinError,
+) -> Result<Vec<u8>, Failure> {
+    match error {
+        JoinError::OutOfMemory => Err(Failure::OutOfMemory),
+        JoinError::Stranger(index) => {
+            let first = names.first().unwrap_or(&"");
+            let name = names.get(index).unwrap_or(&"");
+            refused!(alloc; "{name}: it belongs to other data than {first}")
+        }
+        JoinError::Missing(_) => {
+            let missing = missing_places(alloc, parts)?;
+            refused!(alloc; "missing parts: {missing}; name the pictures of all parts")
+        }
+        JoinError::Twice(place) => {
+            let number = place.saturating_add(1);
+            let both = names_at(alloc, names, parts, place)?;
+            refused!(alloc; "part {number} is there twice:{both}; leave one out")
+        }
+        JoinError::Parity => refused!(alloc;
+            "the pictures do not belong to the same data: their parity differs"
+        ),
+    }
+}
+
+// Lists the pictures that show the part at `place`, each after a space.
+fn names_at(
+    alloc: Global,
+    names: &[&str],
+    parts: &[Part<'_>],
+    place: usize,
+) -> Result<String, AllocError> {
+    let mut text = String::new(alloc);
+    for (name, part) in names.iter().zip(parts) {
+        if part.place as usize == place {
+            write!(text, " {name}")?;
+        }
+    }
+    Ok(text)
+}
+
+// Lists the numbers of missing parts.
+fn missing_places(alloc: Global, parts: &[Part<'_>]) -> Result<String, AllocError> {
+    let mut text = String::new(alloc);
+    let last = parts.first().map_or(0, |part| part.last);
+    for place in 0..last as usize + 1 {
+        if !parts.iter().any(|part| part.place as usize == place) {
+            let sign = if text.is_empty() { "" } else { ", " };
+            let number = place.saturating_add(1);
+            write!(text, "{sign}{number}")?;
+        }
+    }
+    Ok(text)
+}

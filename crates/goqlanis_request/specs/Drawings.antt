@@ -1,0 +1,62 @@
+-- How a request draws a symbol.
+use Rattle.std.specs.Prelude.{ℕ, ◌+◌, ◌*◌, ◌/◌, List, [], Option, None, Some, true, max, unwrap_or, if◌then◌else◌}
+use Rattle.std.specs.Option.{option_map}
+use Rattle.qrcode_types.specs.Versions.{side}
+use Rattle.qrcode_types.specs.declared.types.Color.{Color}
+use Rattle.qrcode_types.specs.declared.types.Version.{Version}
+use Rattle.qrcode_render.specs.Layout.{layout}
+use Rattle.qrcode_sheets.specs.Paths.{Frame, frame_of}
+use Rattle.qrcode_sheets.specs.declared.svg_path.Size.TheVariants.{Dots}
+use Rattle.qrcode.specs.Pictures.{quiet_zone}
+use Rattle.qrcode_sheets.specs.Formats.{IsDrawn}
+use Rattle.qrcode_sheets.specs.Layers.{units}
+use Rattle.goqlanis_request.specs.Masks.{AreUnder}
+use Rattle.qrcode_sheets.specs.Sheets.{Sheet, shade_of}
+use Rattle.goqlanis_request.specs.declared.drawing.Drawing.{Drawing}
+use Rattle.qrcode_sheets.specs.declared.pasting.Inset.{Inset}
+use Rattle.qrcode_sheets.specs.declared.pasting.Window.{Window}
+use Rattle.goqlanis_request.specs.declared.request.Request.{Request}
+
+abbrev pub zone_for : Request → Version → ℕ  -- the width of the quiet zone in modules: the requested one, or the standard's
+zone_for r v = unwrap_or r.zone (quiet_zone v)
+
+-- the pixels of a module: those requested, or as many as fit in the requested side
+abbrev pub scale_for : Request → Version → ℕ
+scale_for r v = unwrap_or (option_map (λ size. size / (side v + 2 * zone_for r v)) r.size) r.scale
+
+-- the size of a module, in the units that overlays are placed in
+abbrev pub unit_for : Request → Version → ℕ
+unit_for r v = units r.format (max (scale_for r v) 1)
+
+-- the pixels per inch, if the request sets a length: its dots per inch, times the modules of the whole side if the length is that of the side
+abbrev pub dots_for : Request → Version → Option ℕ
+dots_for r v = option_map (λ l. if l.is_side then l.dots * (side v + 2 * zone_for r v) else l.dots) r.length
+
+-- a frame with its size set by the pixels per inch, if they are given
+abbrev pub sized : Option ℕ → Frame → Frame
+sized None f = f
+sized (Some dots) f = record f { size = Dots dots }
+
+-- the sheet for these modules of a symbol, inside the quiet zone, with `over` or a picture over them. A module has at least one pixel a side; text ends
+-- with a newline
+abbrev pub sheet_for : Request → Version → List Color → List ℕ → Option (Window × Inset) → Sheet
+sheet_for r v s over inset = record {
+  modules = s;
+  at = layout (side v) (zone_for r v) (max (scale_for r v) 1) (max (scale_for r v) 1);
+  dark = shade_of r.dark;
+  light = shade_of r.light;
+  is_inverted = r.is_inverted;
+  dpi = r.dpi;
+  ends_lines = true;
+  dots = dots_for r v;
+  place = r.place;
+  frame = sized (dots_for r v) (frame_of r.frame);
+  version = v;
+  parts = r.parts.now;
+  over = over;
+  inset = inset;
+}
+
+-- the bytes draw the symbol as requested, under the requested mask
+abbrev pub IsShownIn : Request → Drawing → Type 0
+IsShownIn r d = (s : List Color) × (AreUnder r.mask d.code s × IsDrawn r.format (sheet_for r d.code.version s [] None) d.bytes.items)

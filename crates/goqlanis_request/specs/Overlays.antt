@@ -1,0 +1,100 @@
+-- The area in the middle of a drawing, and what is in it.
+use Rattle.std.specs.Prelude.{◌≡◌, ℕ, ◌+◌, ◌*◌, ◌/◌, ◌%◌, ◌<◌, ◌≤◌, ◌&&◌, not, nat_le, nat_lt, Bool, List, [], ◌++◌, Option, None, Some, codes, decimal, if◌then◌else◌}
+use Rattle.qrcode_types.specs.Versions.{side}
+use Rattle.qrcode_types.specs.declared.types.Color.{Color}
+use Rattle.qrcode_types.specs.declared.types.Version.{Version}
+use Rattle.qrcode.specs.Code.{Code}
+use Rattle.qrcode_area.specs.Areas.{AgreesOutside}
+use Rattle.qrcode_area.specs.Covered.{IsLightInside}
+use Rattle.qrcode_area.specs.Rectangles.{only}
+use Rattle.qrcode_area.specs.declared.areas.Rectangle.{Rectangle}
+use Rattle.qrcode_png.specs.Image.{Shade, grey_shade}
+use Rattle.goqlanis_request.specs.Drawings.{sheet_for, unit_for, zone_for}
+use Rattle.qrcode_sheets.specs.Formats.{IsDrawn}
+use Rattle.goqlanis_request.specs.Masks.{AreUnder}
+use Rattle.qrcode_formats.specs.declared.Format.{Format}
+use Rattle.qrcode_formats.specs.declared.Format.TheVariants.{Eps, Pdf}
+use Rattle.goqlanis_request.specs.declared.overlays.Inside.{Inside}
+use Rattle.goqlanis_request.specs.declared.overlays.Inside.TheVariants.{Nothing, Cross, Element, Pixels}
+use Rattle.qrcode_sheets.specs.declared.pasting.Inset.{Inset}
+use Rattle.qrcode_sheets.specs.declared.pasting.Window.{Window}
+use Rattle.goqlanis_request.specs.Places.{place_in, HasRoom}
+use Rattle.qrcode_sheets.specs.declared.places.Place.{Place}
+use Rattle.goqlanis_request.specs.declared.request.Request.{Request}
+
+-- light are the modules of the symbol under the requested mask, with those of the area light
+abbrev pub AreBeside : Request → Code → Rectangle → List Color → Type 0
+AreBeside r code area light =
+    (s : List Color) × (AreUnder r.mask code s × (AgreesOutside code.version (only area) s light × IsLightInside code.version (only area) light))
+
+-- the Swiss cross of a bill covers an area with `size` modules along its side: the smallest odd number that is at least 7/46 of the symbol's side
+pub record IsCrossSize (side size : ℕ) : Type 0 where
+  pub odd : size % 2 ≡ 1
+  pub at_least : 7 * side ≤ 46 * size
+  pub least : (n : ℕ) → n % 2 ≡ 1 → 7 * side ≤ 46 * n → size ≤ n
+
+-- the cross has `width` pixels along its side: 7/46 of the symbol's side in pixels, rounded to the nearest, halves up
+pub record IsCrossWidth (side width : ℕ) : Type 0 where
+  pub at_most : 46 * width ≤ 7 * side + 23
+  pub at_least : 7 * side < 46 * width + 23
+
+-- an `svg` element at a place; `rest` is everything after its position and size
+abbrev pub svg_element : Place → List ℕ → List ℕ
+svg_element p rest =
+    codes "<svg x=\"" ++ (decimal p.left ++ (codes "\" y=\"" ++ (decimal p.top ++ (codes "\" width=\"" ++ (decimal p.width ++ (codes "\" height=\"" ++ (decimal p.height ++ (codes "\"" ++ rest))))))))
+
+-- the cross in a format. `unit` is the size of a module, `side` the modules along the symbol's side, and `left` where the cross begins, in 1656ths of
+-- a module. Its side is 252 * side of these.
+abbrev pub cross_text : Format → ℕ → ℕ → ℕ → List ℕ
+cross_text Eps unit side left =
+    codes "gsave " ++ (decimal unit ++ (codes " 1656 div dup scale " ++ (decimal left ++ (codes " dup translate " ++ (decimal side
+    ++ codes " dup scale\n1 setgray 0 0 252 252 rectfill 0 setgray 18 18 216 216 rectfill\n1 setgray 105 56 42 140 rectfill 56 105 140 42 rectfill grestore\n")))))
+cross_text Pdf unit side left =
+    codes "q .000603864734 0 0 .000603864734 0 0 cm " ++ (decimal side ++ (codes " 0 0 " ++ (decimal side ++ (codes " " ++ (decimal left ++ (codes " " ++ (decimal left
+    ++ codes " cm\n1 g 0 0 252 252 re f 0 g 18 18 216 216 re f\n1 g 105 56 42 140 re 56 105 140 42 re f Q")))))))
+cross_text f unit side left =
+    codes "<g transform=\"scale(" ++ (decimal unit ++ (codes ") scale(.000603864734) translate(" ++ (decimal left ++ (codes " " ++ (decimal left ++ (codes ") scale(" ++ (decimal side
+    ++ codes ")\" shape-rendering=\"auto\"><path fill=\"#fff\" d=\"M0 0h252v252H0z\"/><path d=\"M18 18h216v216H18z\"/><path fill=\"#fff\" d=\"M105 56h42v49h49v42h-49v49h-42v-49H56v-42h49z\"/></g>")))))))
+
+-- the cross in the middle of a drawing: 252 of 1656 parts is 7 of 46, which leaves 702 on either side
+abbrev pub cross_for : Request → Version → List ℕ
+cross_for r v = cross_text r.format (unit_for r v) (side v) (1656 * zone_for r v + 702 * side v)
+
+-- the text to draw on top for what is in the area
+abbrev pub element_for : Request → Version → Rectangle → Inside → List ℕ
+element_for r v area Nothing = []
+element_for r v area Cross = cross_for r v
+element_for r v area (Element margin rest) = svg_element (place_in r v area margin) rest.now
+element_for r v area (Pixels n) = []
+
+abbrev pub window_of : Rectangle → Window  -- the area as a window of a picture
+window_of area = record { left = area.left; top = area.top; width = area.width; height = area.height }
+
+abbrev pub inset_for : Rectangle → Inside → Option (Window × Inset)  -- the picture to draw over the area, if there is one
+inset_for area (Pixels n) = Some (window_of area, n)
+inset_for area inside = None
+
+abbrev pub LacksRoom : Version → Rectangle → Inside → Type 0  -- an element that has no room in the area
+LacksRoom v area Nothing = ⊥
+LacksRoom v area Cross = ⊥
+LacksRoom v area (Element margin rest) = ¬ HasRoom v area margin
+LacksRoom v area (Pixels n) = ⊥
+
+-- bytes draw the symbol as requested, with the modules of the area light and what is in it on top of everything
+abbrev pub IsShownWith : Request → Code → Rectangle → Inside → List ℕ → Type 0
+IsShownWith r code area inside bytes =
+    (light : List Color) × (AreBeside r code area light
+    × IsDrawn r.format (sheet_for r code.version light (element_for r code.version area inside) (inset_for area inside)) bytes)
+
+abbrev pub lies_between : ℕ → ℕ → ℕ → Bool  -- n is at least `from` and below `to`
+lies_between from to n = nat_le from n && nat_lt n to
+
+abbrev pub is_in_bar : ℕ → ℕ → Bool  -- the cell is in the upright bar of the white cross; with x and y exchanged, in the other bar
+is_in_bar x y = lies_between 105 147 x && lies_between 56 196 y
+
+-- the cell of the Swiss cross of a bill, on a grid of 252 by 252, is black: inside the white frame, and in neither bar of the white cross
+abbrev pub is_black_unit : ℕ → ℕ → Bool
+is_black_unit x y = lies_between 18 234 x && lies_between 18 234 y && not (is_in_bar x y) && not (is_in_bar y x)
+
+abbrev pub cross_shade : ℕ → Shade  -- the colour of a cell, by its index in row order
+cross_shade i = grey_shade (if is_black_unit (i % 252) (i / 252) then 0 else 1)
