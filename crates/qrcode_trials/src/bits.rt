@@ -18,15 +18,21 @@ pub enum Note {
     Kept,
 }
 
-/// Makes all pushes on a list of the version that is asked for, each once more if memory runs out.
+/// Returns the digest of the list of all pushes, and what a failed push did.
 pub fn run(alloc: Global, asked: &Asked<'_>) -> QrResult<(Digest, Note)> {
+    let (bits, note) = list_of(alloc, asked)?;
+    Ok((digest_of(bits), note))
+}
+
+/// Makes all pushes on a list of the version that is asked for, each once more if memory runs out.
+pub fn list_of(alloc: Global, asked: &Asked<'_>) -> QrResult<(Bits, Note)> {
     let version = asked.version();
     if !version.is_valid() {
         return Err(QrError::InvalidVersion);
     }
     let mut bits = Bits::new(alloc, version);
     let note = push_all(&mut bits, asked.given, asked.level())?;
-    Ok((digest_of(bits), note))
+    Ok((bits, note))
 }
 
 // Makes the pushes in order, and stops after one that was kept in part.

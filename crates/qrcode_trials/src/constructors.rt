@@ -1,8 +1,10 @@
 //! Calls the constructors that the C library does not call directly, and joins parts.
 
+use crate::bits::{digest_of, list_of};
 use crate::digest::Digest;
 use crate::words::Asked;
 use qrcode::QrCode;
+use qrcode::bits::encode_auto;
 use qrcode::types::{QrError, QrResult};
 use qrcode_append::errors::JoinError;
 use qrcode_append::{Part, encode_several, encode_text_several, join};
@@ -12,7 +14,7 @@ use qrcode_gs1::symbol::errors::SymbolError;
 use qrcode_gs1::symbol::{for_application, gs1};
 use std::alloc::Global;
 
-/// Returns the digest of the symbol, symbols or joined data that `asked.kind` names.
+/// Returns the digest of the symbol, symbols, bits or joined data that `asked.kind` names.
 pub fn run(alloc: Global, asked: &Asked<'_>) -> QrResult<Digest> {
     let (version, level) = (asked.version(), asked.level());
     match asked.kind {
@@ -20,6 +22,7 @@ pub fn run(alloc: Global, asked: &Asked<'_>) -> QrResult<Digest> {
         "text-several" => {
             Ok(of_codes(&encode_text_several(alloc, asked.text(), version, level)?))
         }
+        "auto" => Ok(digest_of(encode_auto(alloc, asked.data(), level)?)),
         "join" => joined(alloc, asked.data(), (asked.number(1) % 256) as u8),
         _ => Ok(Digest::of(constructed(alloc, asked)?.colors())),
     }
@@ -35,9 +38,24 @@ fn constructed(alloc: Global, asked: &Asked<'_>) -> QrResult<QrCode> {
         "text-in" => QrCode::of_text_in(alloc, text, version, level),
         "marked-text-in" => QrCode::of_marked_text_in(alloc, text, version, level),
         "in" => QrCode::with_version(alloc, data, version, level),
+        "level" => QrCode::with_error_correction_level(alloc, data, level),
+        "with-bits" => with_bits(alloc, asked),
         "application" => for_application(alloc, 37, data, level),
         "gs1" => of_elements(alloc, asked),
         _ => QrCode::new(alloc, data),
+    }
+}
+
+// Makes the symbol of all pushes, unless they leave room.
+fn with_bits(alloc: Global, asked: &Asked<'_>) -> QrResult<QrCode> {
+    let (bits, _) = list_of(alloc, asked)?;
+    let level = asked.level();
+    if !bits.version().has_level(level) {
+        return QrCode::with_bits(alloc, bits, level);
+    }
+    match bits.max_len(level) {
+        Ok(room) if room <= bits.len() => QrCode::with_bits(alloc, bits, level),
+        _ => Err(QrError::InvalidCharacter),
     }
 }
 
