@@ -13,7 +13,7 @@ use goqlanis_tables::fields::Line;
 use goqlanis_tables::inputs::next_line;
 use goqlanis_tables::names::{Pattern, check_made, common_form};
 use goqlanis_tables::pages::Pages;
-use goqlanis_tables::rows::Row;
+use goqlanis_tables::rows::{Row, loose};
 use goqlanis_tables::tables::Table;
 use qrcode_payloads::kinds::Kind;
 use std::collections::BTreeSet;
@@ -188,8 +188,8 @@ fn draw_row(
 ) -> Result<Option<Vec<u8>>, Failure> {
     let columns = &table.columns;
     let row = Row::of(rt.alloc(), kind, columns, line, &asked.fields)?;
-    if let Some(name) = row.loose(columns) {
-        let label = columns.label(rt.alloc(), name)?;
+    if let Some(field) = loose(rt.alloc(), columns, line)? {
+        let label = columns.label(rt.alloc(), field)?;
         doubted!(rt, asked.doubts;
             "{label}: the space or quotation mark at its start or end is encoded"
         )?;

@@ -79,7 +79,7 @@ fn check_options(
         if text.is_empty() || *field == Field::Hidden {
             continue;
         }
-        if columns.field(name).is_some() {
+        if columns.field(*field).is_some() {
             doubted!(rt, asked.doubts; "--{name} has no effect: a column gives it")?;
         } else if text.contains('{') && text.contains('}') {
             doubted!(rt, asked.doubts; "--{name}: {{}} stands for itself there")?;
@@ -96,7 +96,7 @@ fn check_password(
     columns: &Columns,
 ) -> Result<(), Failure> {
     let is_said = [Field::Password, Field::Security].iter().any(|field| {
-        columns.field(option_of(*field).long).is_some() || !asked.fields.text(*field).is_empty()
+        columns.field(*field).is_some() || !asked.fields.text(*field).is_empty()
     });
     if kind == Kind::Wifi && !is_said && !columns.is_empty() {
         return usage!(alloc;
@@ -130,7 +130,7 @@ fn check_spelling(
         .collect::<Vec<&'static str>>(alloc)?;
     for (place, name) in columns.names().iter().enumerate() {
         let name = name.as_str().trim();
-        let is_known = columns.option(place.saturating_add(1)).is_some();
+        let is_known = columns.meant(place.saturating_add(1)).is_some();
         if is_known || is_in_path(alloc, target, name)? {
             continue;
         }
@@ -146,7 +146,7 @@ fn left_out(table: &Table<'_>, number: usize, is_named: bool) -> Option<&'static
     let columns = &table.columns;
     let name = columns.names().get(number.saturating_sub(1))?.as_str();
     match (table.purpose, table.lines.field) {
-        (Purpose::Content(_), _) => match columns.option(number) {
+        (Purpose::Content(_), _) => match columns.meant(number) {
             None if !is_named => Some("is no option of this command, so it"),
             Some(field) if columns.field(field) != Some(number) => Some("stands twice; this one"),
             _ => None,

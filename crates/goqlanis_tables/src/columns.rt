@@ -4,6 +4,7 @@ use crate::fields::{fields_of, not_closed};
 use goqlanis_files::failure::Failure;
 use goqlanis_options::options::fields::option_of;
 use goqlanis_options::options::{OTHER_NAMES, Purpose, counts};
+use qrcode_contents::fields::errors::Field;
 use qrcode_payloads::kinds::{Kind, fields_of as fields_in};
 use std::alloc::{AllocError, Global};
 
@@ -11,10 +12,10 @@ use std::alloc::{AllocError, Global};
 #[derive(Drop)]
 pub struct Columns {
     names: Vec<String>,
-    // The option of a payload that each column is called by, if there is one.
-    options: Vec<Option<&'static str>>,
-    // The options that columns give, each with the number of its column, from 1.
-    fields: Vec<(&'static str, usize)>,
+    // The field of a payload that each is the name of, if it is one.
+    meant: Vec<Option<Field>>,
+    // The fields that columns give, in order, each with the number of its column, from 1.
+    fields: Vec<(Field, usize)>,
 }
 
 impl Columns {
@@ -22,7 +23,7 @@ impl Columns {
     pub fn none(alloc: Global) -> Columns {
         Columns {
             names: Vec::new(alloc),
-            options: Vec::new(alloc),
+            meant: Vec::new(alloc),
             fields: Vec::new(alloc),
         }
     }
@@ -41,31 +42,28 @@ impl Columns {
         };
         let mut columns = Columns {
             names,
-            options: Vec::new(alloc),
+            meant: Vec::new(alloc),
             fields: Vec::new(alloc),
         };
         if let Purpose::Content(kind) = purpose {
-            columns.find_options(kind)?;
+            columns.find_fields(kind)?;
         }
         Ok(columns)
     }
 
-    // Finds the options of a payload that columns give: each by the column that is called so, or
-    // else by the first that is called by another name of it.
-    fn find_options(&mut self, kind: Kind) -> Result<(), AllocError> {
+    // Finds the fields of a payload that columns give: each by the column that is called as its
+    // option, or else by the first that is called by another name of it.
+    fn find_fields(&mut self, kind: Kind) -> Result<(), AllocError> {
         for name in &self.names {
-            self.options
-                .push(option_called(kind, name.as_str().trim()))?;
+            self.meant.push(field_called(kind, name.as_str().trim()))?;
         }
         for field in fields_in(kind) {
-            let long = option_of(*field).long;
-            let mut options = self.options.iter();
-            let other = options.position(|option| *option == Some(long));
-            let number = self
-                .number_of(long)
-                .or(other.map(|place| place.saturating_add(1)));
+            let mut meant = self.meant.iter();
+            let other = meant.position(|meant| *meant == Some(*field));
+            let number = self.number_of(option_of(*field).long);
+            let number = number.or(other.map(|place| place.saturating_add(1)));
             if let Some(number) = number {
-                self.fields.push((long, number))?;
+                self.fields.push((*field, number))?;
             }
         }
         Ok(())
@@ -88,16 +86,22 @@ impl Columns {
         Some(place.saturating_add(1))
     }
 
-    /// Returns the number of the column that gives the option `name` of a payload, from 1.
-    pub fn field(&self, name: &str) -> Option<usize> {
+    /// Returns the fields of a payload that columns give, in order, each with the number of its
+    /// column, from 1.
+    pub fn fields(&self) -> &[(Field, usize)] {
+        &self.fields
+    }
+
+    /// Returns the number of the column that gives a field of a payload, from 1.
+    pub fn field(&self, field: Field) -> Option<usize> {
         let mut fields = self.fields.iter();
-        let (_, number) = fields.find(|(option, _)| *option == name)?;
+        let (_, number) = fields.find(|(known, _)| *known == field)?;
         Some(*number)
     }
 
-    /// Returns the option of a payload that column `number` is called by.
-    pub fn option(&self, number: usize) -> Option<&'static str> {
-        *self.options.get(number.saturating_sub(1))?
+    /// Returns the field of a payload that column `number` is called by.
+    pub fn meant(&self, number: usize) -> Option<Field> {
+        *self.meant.get(number.saturating_sub(1))?
     }
 
     /// Whether each of these fields is the name of a column.
@@ -127,27 +131,29 @@ impl Columns {
         Some(*shown)
     }
 
-    /// Returns what messages call the option `name`: its column, if it has one.
+    /// Returns what messages call a field: its column, if it has one, or else its option.
     ///
     /// Errors: only `AllocError`.
-    pub fn label(&self, alloc: Global, name: &str) -> Result<String, AllocError> {
-        match self.field(name) {
+    pub fn label(&self, alloc: Global, field: Field) -> Result<String, AllocError> {
+        let name = option_of(field).long;
+        match self.field(field) {
             Some(number) => format!(in alloc; "column {number}, {name}"),
             None => format!(in alloc; "--{name}"),
         }
     }
 }
 
-// Returns the option of payloads of `kind` that has this name, or else has it as another name.
-fn option_called(kind: Kind, name: &str) -> Option<&'static str> {
+// Returns the field of payloads of `kind` whose option has this name, or else has it as another
+// name.
+fn field_called(kind: Kind, name: &str) -> Option<Field> {
     let mut found = None;
     for field in fields_in(kind) {
         let long = option_of(*field).long;
         if long.eq_ignore_ascii_case(name) {
-            return Some(long);
+            return Some(*field);
         }
         if has_other_name(kind, long, name) {
-            found = Some(long);
+            found = Some(*field);
         }
     }
     found

@@ -58,7 +58,7 @@ impl Row {
         let is_open = is_open(alloc, columns, line)?;
         for field in fields_of(kind) {
             let name = option_of(*field).long;
-            let text = match columns.field(name) {
+            let text = match columns.field(*field) {
                 Some(number) => {
                     let text = line.field(alloc, number)?;
                     let text = decided(alloc, name, number, text, is_open)?;
@@ -78,17 +78,20 @@ impl Row {
         }
         Ok(Row { pairs })
     }
+}
 
-    /// Returns the option of the first column whose text has a space or a quotation mark at its
-    /// start or end.
-    pub fn loose(&self, columns: &Columns) -> Option<&str> {
+/// Returns the first field whose text in a line has a space or a quotation mark at its start or end.
+///
+/// Errors: `Refused` if the line has fewer fields than columns; `OutOfMemory`.
+pub fn loose(alloc: Global, columns: &Columns, line: &Line<'_>) -> Result<Option<Field>, Failure> {
+    for (field, number) in columns.fields() {
+        let text = line.field(alloc, *number)?;
         let is_mark = |sign: char| sign == '"' || sign.is_whitespace();
-        let mut loose = self.pairs.iter().filter(|(_, text)| {
-            text.as_str().starts_with(is_mark) || text.as_str().ends_with(is_mark)
-        });
-        let found = loose.find(|(name, _)| columns.field(name.as_str()).is_some());
-        found.map(|(name, _)| name.as_str())
+        if text.starts_with(is_mark) || text.ends_with(is_mark) {
+            return Ok(Some(*field));
+        }
     }
+    Ok(None)
 }
 
 // Returns the text of a column; refuses an empty one if that changes what the payload means. (An
@@ -125,7 +128,7 @@ fn truth(word: &str) -> &str {
 
 // Whether a line says that its network is open.
 fn is_open(alloc: Global, columns: &Columns, line: &Line<'_>) -> Result<bool, Failure> {
-    match columns.field("security") {
+    match columns.field(Field::Security) {
         Some(number) => Ok(is_one_of(line.field(alloc, number)?.trim(), OPEN)),
         None => Ok(false),
     }

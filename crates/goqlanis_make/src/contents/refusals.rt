@@ -25,7 +25,7 @@ pub(crate) fn not_made(
     };
     let what = what_is_wrong(kind, field, cause);
     let entry = entry_of(kind, field);
-    let (name, help) = (columns.label(alloc, entry.long)?, entry.help);
+    let (name, help) = (columns.label(alloc, field)?, entry.help);
     if entry.long.is_empty() {
         refused!(alloc; "the whole text: {what}")
     } else if matches!(cause, Cause::ControlCharacter | Cause::CheckDigits) {
