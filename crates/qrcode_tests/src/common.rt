@@ -40,12 +40,8 @@ pub fn range(mode: Mode, begin: usize, end: usize) -> Segment
 #[derive(Clone, Copy)]
 pub enum Push<'a> {
     Designator(u32),
-    Numeric(&'a [u8]),
     Alphanumeric(&'a [u8]),
     Byte(&'a [u8]),
-    Kanji(&'a [u8]),
-    Text(&'a str),
-    MarkedText(&'a str),
     FirstPosition,
     SecondPosition(u8),
     Terminator(EcLevel),
@@ -55,12 +51,8 @@ pub enum Push<'a> {
 pub fn make_push(bits: &mut Bits, push: Push<'_>) -> QrResult<()> {
     match push {
         Push::Designator(number) => bits.push_eci_designator(number),
-        Push::Numeric(digits) => bits.push_numeric_data(digits),
         Push::Alphanumeric(text) => bits.push_alphanumeric_data(text),
         Push::Byte(bytes) => bits.push_byte_data(bytes),
-        Push::Kanji(pairs) => bits.push_kanji_data(pairs),
-        Push::Text(text) => bits.push_text(text),
-        Push::MarkedText(text) => bits.push_marked_text(text),
         Push::FirstPosition => bits.push_fnc1_first_position(),
         Push::SecondPosition(application) => bits.push_fnc1_second_position(application),
         Push::Terminator(ec_level) => bits.push_terminator(ec_level),

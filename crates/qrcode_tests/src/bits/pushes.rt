@@ -1,53 +1,18 @@
-//! Tests of pushes that fail, of pushes of segments, and of the largest list.
-//! `evidence/memory/cases` asks what the other pushes write.
+//! Tests of pushes of segments, and of the largest list. `evidence/memory/cases` asks what the other
+//! pushes write, and which are refused.
 
 ghost use Rattle.std.specs.Prelude.{length, IsTrue};
 ghost use Rattle.qrcode_types.specs.Versions.{is_valid};
 ghost use Rattle.qrcode_bits.specs.Segments.{AreInside};
 
-use crate::common::Push::{Byte, FirstPosition, Kanji, MarkedText, Numeric, Terminator, Text};
-use crate::common::{Push, Row, check, list, make_push, range};
+use crate::common::Push::{Byte, FirstPosition};
+use crate::common::{Push, make_push, range};
 use qrcode_bits::bits::Bits;
 use qrcode_bits::optimize::Segment;
-use qrcode_types::types::QrError::{self, DataTooLong, InvalidVersion, UnsupportedCharacterSet};
+use qrcode_types::types::QrError::{DataTooLong, UnsupportedCharacterSet};
 use qrcode_types::types::Version::{self, Micro, Normal};
-use qrcode_types::types::{EcLevel, Mode, QrResult};
+use qrcode_types::types::{Mode, QrResult};
 use std::alloc::Global;
-
-const END: Push<'static> = Terminator(EcLevel::L);
-
-// More letters than the character count of Normal 1 can hold.
-const LONG: &str =
-    "aaaaaaaaaaaaaaaaaaaaaaaaaaaaaaaaaaaaaaaaaaaaaaaaaaaaaaaaaaaaaaaaaaaaaaaaaaaaaaaaaaaaaaaaaa\
-    aaaaaaaaaaaaaaaaaaaaaaaaaaaaaaaaaaaaaaaaaaaaaaaaaaaaaaaaaaaaaaaaaaaaaaaaaaaaaaaaaaaaaaaaaa\
-    aaaaaaaaaaaaaaaaaaaaaaaaaaaaaaaaaaaaaaaaaaaaaaaaaaaaaaaaaaaaaaaaaaaaaaaaaaaa";
-
-// A version, the pushes to a new list, then a push that fails and its error, and the bytes and
-// number of bits of the list, which stay.
-struct Refused(
-    Version,
-    &'static [Push<'static>],
-    Push<'static>,
-    QrError,
-    &'static [u8],
-    usize,
-);
-
-#[rattlefmt::skip]
-static REFUSED: [Refused; 9] = [
-    Refused(Micro(2), &[], Kanji(b"?"), UnsupportedCharacterSet, &[], 0),
-    Refused(Micro(1), &[], Terminator(EcLevel::M), InvalidVersion, &[], 0),
-    Refused(Normal(1), &[], Text(LONG), DataTooLong, &[], 0),
-    Refused(Micro(2), &[], Text("a"), UnsupportedCharacterSet, &[], 0),
-    Refused(Micro(4), &[], MarkedText("1"), UnsupportedCharacterSet, &[], 0),
-    Refused(Micro(2), &[], MarkedText("1"), UnsupportedCharacterSet, &[], 0),
-    Refused(Micro(2), &[], Text("0123456789012345"), DataTooLong, &[], 0),
-    Refused(Micro(1), &[Numeric(b"9999999")], END, DataTooLong, &[0xff, 0x3f, 0xcf, 0x20], 27),
-    Refused(
-        Normal(1), &[Byte(b">>>>>>>>")], Terminator(EcLevel::H), DataTooLong,
-        b"\x40\x83\xe3\xe3\xe3\xe3\xe3\xe3\xe3\xe0", 76,
-    ),
-];
 
 // Whether a list has this version, these bytes and this number of bits.
 fn is_list(bits: Bits, version: Version, bytes: &[u8], length: usize) -> bool {
@@ -55,24 +20,6 @@ fn is_list(bits: Bits, version: Version, bytes: &[u8], length: usize) -> bool {
         && bits.len() == length
         && bits.is_empty() == (length == 0)
         && bits.into_bytes().as_slice() == bytes
-}
-
-impl Row for Refused {
-    fn holds(&self, alloc: Global) -> bool {
-        let Refused(version, pushes, push, error, bytes, length) = self;
-        match list(alloc, *version, pushes) {
-            Ok(mut bits) => {
-                let answer = make_push(&mut bits, *push);
-                is_list(bits, *version, bytes, *length) && answer == Err(*error)
-            }
-            Err(_) => false,
-        }
-    }
-}
-
-#[test]
-fn pushes_are_refused(rt: HostRuntime) {
-    check(&rt, rt.alloc(), &REFUSED);
 }
 
 // Pushes the segments of `bytes`.
