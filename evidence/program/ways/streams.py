@@ -30,7 +30,7 @@ def no_bytes_to_a_terminal(program):
         refused = in_terminal(program, ["-f", kind, "1"])
         if refused != (said, 1) or status or not asked.startswith(head):
             return False
-    for kind in ("svg", "eps", "pic", "zpl", "xbm"):
+    for kind in ("eps", "pic", "zpl", "xbm"):
         if in_terminal(program, ["-f", kind, "1"]) != (written(program, f"-f {kind} 1"), 0):
             return False
     for words in (["--lines"], ["split", "--count", "2"]):
