@@ -44,12 +44,6 @@ shr_words w h m l j k e p =
     let P : ℕ → Type 0 = λ n. l < 2 ^ n → ((h * 2 ^ n + m) * 2 ^ n + l) / 2 ^ j ≡ (h * 2 ^ n + m) / 2 ^ j * 2 ^ n + bit_or (m * 2 ^ k % 2 ^ n) (l / 2 ^ j) in
     subst P e (λ q. word_parts h m l j k q) p
 
-pub shr_top : (w m l j k : ℕ) → k + j ≡ w → l < 2 ^ w → (m * 2 ^ w + l) / 2 ^ j ≡ m / 2 ^ j * 2 ^ w + bit_or (m * 2 ^ k % 2 ^ w) (l / 2 ^ j)
-shr_top w m l j k e p =
-    let none : 0 * 2 ^ w + m ≡ m = omega arith in
-    let P : ℕ → Type 0 = λ n. (n * 2 ^ w + l) / 2 ^ j ≡ n / 2 ^ j * 2 ^ w + bit_or (m * 2 ^ k % 2 ^ w) (l / 2 ^ j) in
-    subst P none (shr_words w 0 m l j k e p)
-
 -- a word shifted to the left: the bits that leave it, and those that stay
 pub word_shl : (l j k : ℕ) → (l / 2 ^ k) * 2 ^ (j + k) + l * 2 ^ j % 2 ^ (j + k) ≡ l * 2 ^ j
 word_shl l j k =
@@ -61,20 +55,6 @@ or_plus m l j k h =
     let turn : k + j ≡ j + k = omega arith in
     let cut : m * 2 ^ j % 2 ^ (j + k) ≡ (m % 2 ^ k) * 2 ^ j = ap (λ n. m * 2 ^ j % 2 ^ n) (sym turn) ∙ shl-mod m k j in
     ap (λ n. bit_or n (l / 2 ^ k)) cut ∙ omega (arith, cut, or_shifted (m % 2 ^ k) j (l / 2 ^ k) (shr_below l j k h))
-
-pub shl_three : (h m l j k : ℕ) → j + k ≡ 64 → m < 2 ^ 64 → l < 2 ^ 64 → ((h * 2 ^ 64 + m) * 2 ^ 64 + l) * 2 ^ j < 2 ^ 192 →
-    (bit_or (h * 2 ^ j % 2 ^ 64) (m / 2 ^ k) * 2 ^ 64 + bit_or (m * 2 ^ j % 2 ^ 64) (l / 2 ^ k)) * 2 ^ 64 + l * 2 ^ j % 2 ^ 64 ≡ ((h * 2 ^ 64 + m) * 2 ^ 64 + l) * 2 ^ j
-shl_three h m l j k e p q room =
-    let P : ℕ → ℕ → Type 0 = λ x y. (x / 2 ^ k) * 2 ^ y + x * 2 ^ j % 2 ^ y ≡ x * 2 ^ j in
-    let Q : ℕ → ℕ → ℕ → Type 0 = λ x y z. y < 2 ^ z → bit_or (x * 2 ^ j % 2 ^ z) (y / 2 ^ k) ≡ x * 2 ^ j % 2 ^ z + y / 2 ^ k in
-    let a : (h / 2 ^ k) * 2 ^ 64 + h * 2 ^ j % 2 ^ 64 ≡ h * 2 ^ j = subst (P h) e (word_shl h j k) in
-    let b : (m / 2 ^ k) * 2 ^ 64 + m * 2 ^ j % 2 ^ 64 ≡ m * 2 ^ j = subst (P m) e (word_shl m j k) in
-    let d : (l / 2 ^ k) * 2 ^ 64 + l * 2 ^ j % 2 ^ 64 ≡ l * 2 ^ j = subst (P l) e (word_shl l j k) in
-    let f : bit_or (h * 2 ^ j % 2 ^ 64) (m / 2 ^ k) ≡ h * 2 ^ j % 2 ^ 64 + m / 2 ^ k = subst (Q h m) e (λ r. or_plus h m j k r) p in
-    let g : bit_or (m * 2 ^ j % 2 ^ 64) (l / 2 ^ k) ≡ m * 2 ^ j % 2 ^ 64 + l / 2 ^ k = subst (Q m l) e (λ r. or_plus m l j k r) q in
-    let whole : ((h * 2 ^ 64 + m) * 2 ^ 64 + l) * 2 ^ j ≡ (h * 2 ^ j * 2 ^ 64 + m * 2 ^ j) * 2 ^ 64 + l * 2 ^ j =
-    add-mul ((h * 2 ^ 64 + m) * 2 ^ 64) l (2 ^ j) ∙ ap (λ n. n + l * 2 ^ j) (omega (arith, add-mul (h * 2 ^ 64) m (2 ^ j), mul_assoc (h * 2 ^ 64 + m) (2 ^ 64) (2 ^ j), mul_comm (2 ^ 64) (2 ^ j), mul_assoc h (2 ^ 64) (2 ^ j))) in
-    omega (arith, a, b, d, f, g, whole, room)
 
 pub pow_split : (n k : ℕ) → k ≤ n → 2 ^ n ≡ 2 ^ (n - k) * 2 ^ k
 pow_split n k h = let e : n ≡ n - k + k = omega arith in ap (λ m. 2 ^ m) e ∙ pow-add 2 (n - k) k

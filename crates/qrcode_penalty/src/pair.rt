@@ -33,11 +33,15 @@ pub trait RowPair: Copy {
         ensures lower { lower result ≡ bit_xor (lower self) (lower other) };
 
     /// Returns the bits of `self` that are not set in `other`.
+    #[inline(always)]
     fn without(self, other: Self) -> Self
         ensures upper { upper result
             ≡ bit_xor (upper self) (bit_and (upper self) (upper other)) }
         ensures lower { lower result
-            ≡ bit_xor (lower self) (bit_and (lower self) (lower other)) };
+            ≡ bit_xor (lower self) (bit_and (lower self) (lower other)) }
+    {
+        self.xor(self.and(other))
+    }
 
     /// Moves each bit down by `count`, 1 to 63. Bits that would go below bit 0 are dropped.
     fn down(self, count: u32) -> Self
@@ -59,13 +63,17 @@ pub trait RowPair: Copy {
             ≡ lower self * 2 ^ count + below.lower / 2 ^ (64 - count) };
 
     /// Moves each bit up by `count`, 1 to 63. No bit may leave the room.
+    #[inline(always)]
     fn up(self, count: u32) -> Self
         requires at_least { 0 < count }
         requires at_most { count < 64 }
         requires upper_fits { upper self * 2 ^ count < 2 ^ room }
         requires lower_fits { lower self * 2 ^ count < 2 ^ room }
         ensures upper { upper result ≡ upper self * 2 ^ count }
-        ensures lower { lower result ≡ lower self * 2 ^ count };
+        ensures lower { lower result ≡ lower self * 2 ^ count }
+    {
+        self.up_over(WordPair { upper: 0, lower: 0 }, count)
+    }
 
     /// Returns how many bits are set in the two rows together.
     fn count_ones(self) -> u32
@@ -152,11 +160,6 @@ impl RowPair for WordPair {
     }
 
     #[inline(always)]
-    fn without(self, other: WordPair) -> WordPair {
-        self.xor(self.and(other))
-    }
-
-    #[inline(always)]
     fn down(self, count: u32) -> WordPair {
         let words = (lanes(self) >> u64x2::splat(u64::from(count))).to_array();
         WordPair {
@@ -168,11 +171,6 @@ impl RowPair for WordPair {
     #[inline(always)]
     fn up_over(self, below: WordPair, count: u32) -> WordPair {
         words_up(self, count).or(below.down(64 - count))
-    }
-
-    #[inline(always)]
-    fn up(self, count: u32) -> WordPair {
-        words_up(self, count)
     }
 
     #[inline(always)]
@@ -230,11 +228,6 @@ impl<P: ShortPair> RowPair for Longer<P> {
     }
 
     #[inline(always)]
-    fn without(self, other: Longer<P>) -> Longer<P> {
-        self.xor(self.and(other))
-    }
-
-    #[inline(always)]
     fn down(self, count: u32) -> Longer<P> {
         let over = words_up(self.high.first_words(), 64 - count);
         Longer {
@@ -247,14 +240,6 @@ impl<P: ShortPair> RowPair for Longer<P> {
     fn up_over(self, below: WordPair, count: u32) -> Longer<P> {
         Longer {
             low: words_up(self.low, count).or(below.down(64 - count)),
-            high: self.high.up_over(self.low, count),
-        }
-    }
-
-    #[inline(always)]
-    fn up(self, count: u32) -> Longer<P> {
-        Longer {
-            low: words_up(self.low, count),
             high: self.high.up_over(self.low, count),
         }
     }

@@ -1,9 +1,9 @@
 //! Rows of modules, packed into words.
 
 ghost use Rattle.std.specs.Prelude.{◌≡◌, ℕ, ◌+◌, ◌-◌, ◌*◌, ◌/◌, ◌%◌, ◌<◌, ◌≤◌, ◌^◌, ◌==◌, bit_and, bit_or, bit_xor, count_ones, refl};
-ghost use Rattle.std.proofs.Common.{lit≤};
+ghost use Rattle.std.proofs.Common.{lit≤, arith, ap};
 
-use crate::pair::{Longer, RowPair, WordPair};
+use crate::pair::{Longer, RowPair, ShortPair, WordPair};
 
 /// A row of modules packed into words, with a bit for each column. A set bit can mean a dark
 /// module, or any other property.
@@ -13,9 +13,6 @@ pub trait PackedRow: Copy {
 
     // The row as a number.
     ghost bits: { Self → ℕ };
-
-    // No type has room for more than 192 bits.
-    ghost room_at_most: { room ≤ 192 };
 
     /// Two such rows next to each other.
     type Pair: RowPair;
@@ -43,8 +40,12 @@ pub trait PackedRow: Copy {
         ensures { bits result ≡ bit_xor (bits self) (bits other) };
 
     /// Returns the bits of this row that are not set in `other`.
+    #[inline(always)]
     fn without(self, other: Self) -> Self
-        ensures { bits result ≡ bit_xor (bits self) (bit_and (bits self) (bits other)) };
+        ensures { bits result ≡ bit_xor (bits self) (bit_and (bits self) (bits other)) }
+    {
+        self.xor(self.and(other))
+    }
 
     /// Moves each bit down by `count`, 1 to 63. Bits that would go below bit 0 are dropped.
     fn down(self, count: u32) -> Self
@@ -52,17 +53,29 @@ pub trait PackedRow: Copy {
         requires at_most { count < 64 }
         ensures { bits result ≡ bits self / 2 ^ count };
 
+    /// Moves each bit up by `count`, 1 to 63, and fills the lowest bits with the highest `count`
+    /// bits of `below`. No bit may leave the room.
+    fn up_over(self, below: u64, count: u32) -> Self
+        requires at_least { 0 < count }
+        requires at_most { count < 64 }
+        requires fits { bits self * 2 ^ count < 2 ^ room }
+        ensures { bits result ≡ bits self * 2 ^ count + below / 2 ^ (64 - count) };
+
     /// Moves each bit up by `count`, 1 to 63. No bit may leave the room.
+    #[inline(always)]
     fn up(self, count: u32) -> Self
         requires at_least { 0 < count }
         requires at_most { count < 64 }
         requires fits { bits self * 2 ^ count < 2 ^ room }
-        ensures { bits result ≡ bits self * 2 ^ count };
+        ensures { bits result ≡ bits self * 2 ^ count }
+    {
+        self.up_over(0, count)
+    }
 
     /// Returns how many bits are set.
     fn count_ones(self) -> u32
         ensures value { result ≡ count_ones (bits self) }
-        ensures at_most { result ≤ 192 };
+        ensures at_most { result ≤ room };
 
     /// Returns whether no bit is set.
     fn is_zero(self) -> bool
@@ -76,6 +89,11 @@ pub trait PackedRow: Copy {
     fn first_word(self) -> u64
         ensures { result ≡ bits self % 2 ^ 64 };
 
+    // Each type has room for a bit, and none for more than 192.
+    ghost room_at_least: { 1 ≤ room };
+
+    ghost room_at_most: { room ≤ 192 };
+
     // A pair has the same room for each of its rows.
     ghost pair_room: { Self.Pair.room ≡ room };
 }
@@ -84,6 +102,8 @@ impl PackedRow for u64 {
     ghost room = { 64 };
 
     ghost bits = { λ row. row };
+
+    ghost room_at_least = { lit≤ tt };
 
     ghost room_at_most = { lit≤ tt };
 
@@ -117,18 +137,13 @@ impl PackedRow for u64 {
     }
 
     #[inline(always)]
-    fn without(self, other: u64) -> u64 {
-        self ^ (self & other)
-    }
-
-    #[inline(always)]
     fn down(self, count: u32) -> u64 {
         self >> count
     }
 
     #[inline(always)]
-    fn up(self, count: u32) -> u64 {
-        self << count
+    fn up_over(self, below: u64, count: u32) -> u64 {
+        (self << count) | (below >> (64 - count))
     }
 
     #[inline(always)]
@@ -152,226 +167,107 @@ impl PackedRow for u64 {
     }
 }
 
-/// A row of up to 128 bits in two words. They are stored as a pair, the first 64 bits as its upper
-/// row, so that bit operations apply to both words at once.
+/// A row with 64 more bits, which come before those of `R`.
 #[derive(Copy, Clone)]
-pub struct Row128 {
-    words: WordPair,
-}
-
-// Makes a row of two words.
-#[inline(always)]
-fn two_words(low: u64, high: u64) -> Row128
-    ensures low { result.words.upper ≡ low }
-    ensures high { result.words.lower ≡ high }
-{
-    Row128 {
-        words: low.beside(high),
-    }
-}
-
-impl PackedRow for Row128 {
-    ghost room = { 128 };
-
-    ghost bits = { λ row. row.words.lower * 2 ^ 64 + row.words.upper };
-
-    ghost room_at_most = { lit≤ tt };
-
-    type Pair = Longer<WordPair>;
-
-    ghost pair_room = { refl };
-
-    #[inline(always)]
-    fn beside(self, lower: Row128) -> Longer<WordPair> {
-        Longer {
-            low: self.words.upper.beside(lower.words.upper),
-            high: self.words.lower.beside(lower.words.lower),
-        }
-    }
-
-    #[inline(always)]
-    fn first(count: u32) -> Row128 {
-        if count < 64 {
-            return two_words((1 << count) - 1, 0);
-        }
-        two_words(u64::MAX, (1 << (count - 64)) - 1)
-    }
-
-    #[inline(always)]
-    fn and(self, other: Row128) -> Row128 {
-        Row128 {
-            words: self.words.and(other.words),
-        }
-    }
-
-    #[inline(always)]
-    fn or(self, other: Row128) -> Row128 {
-        Row128 {
-            words: self.words.or(other.words),
-        }
-    }
-
-    #[inline(always)]
-    fn xor(self, other: Row128) -> Row128 {
-        Row128 {
-            words: self.words.xor(other.words),
-        }
-    }
-
-    #[inline(always)]
-    fn without(self, other: Row128) -> Row128 {
-        self.xor(self.and(other))
-    }
-
-    #[inline(always)]
-    fn down(self, count: u32) -> Row128 {
-        let WordPair { upper, lower } = self.words;
-        two_words((lower << (64 - count)) | (upper >> count), lower >> count)
-    }
-
-    #[inline(always)]
-    fn up(self, count: u32) -> Row128 {
-        let WordPair { upper, lower } = self.words;
-        two_words(upper << count, (lower << count) | (upper >> (64 - count)))
-    }
-
-    #[inline(always)]
-    fn count_ones(self) -> u32 {
-        self.words.count_ones()
-    }
-
-    #[inline(always)]
-    fn is_zero(self) -> bool {
-        self.words.is_zero()
-    }
-
-    #[inline(always)]
-    fn of_words(low: u64, middle: u64, _high: u64) -> Row128 {
-        two_words(low, middle)
-    }
-
-    #[inline(always)]
-    fn first_word(self) -> u64 {
-        self.words.upper
-    }
-}
-
-/// A row of up to 192 bits in three words.
-#[derive(Copy, Clone)]
-pub struct Row192 {
+pub struct LongerRow<R: PackedRow> {
     low: u64,
-    middle: u64,
-    high: u64,
+    high: R,
 }
 
-impl PackedRow for Row192 {
-    ghost room = { 192 };
+impl<R: PackedRow> PackedRow for LongerRow<R>
+where
+    R::Pair: ShortPair,
+{
+    ghost room = { R.room + 64 };
 
-    ghost bits = { λ row. (row.high * 2 ^ 64 + row.middle) * 2 ^ 64 + row.low };
+    ghost bits = { λ row. R.bits row.high * 2 ^ 64 + row.low };
 
-    ghost room_at_most = { lit≤ tt };
+    ghost room_at_least = { omega arith };
 
-    type Pair = Longer<Longer<WordPair>>;
+    ghost room_at_most = { omega (arith, R.pair_room, R.Pair.short) };
 
-    ghost pair_room = { refl };
+    type Pair = Longer<R::Pair>;
+
+    ghost pair_room = { ap (λ n. n + 64) R.pair_room };
 
     #[inline(always)]
-    fn beside(self, lower: Row192) -> Longer<Longer<WordPair>> {
+    fn beside(self, lower: LongerRow<R>) -> Longer<R::Pair> {
         Longer {
             low: self.low.beside(lower.low),
-            high: Longer {
-                low: self.middle.beside(lower.middle),
-                high: self.high.beside(lower.high),
-            },
+            high: self.high.beside(lower.high),
         }
     }
 
     #[inline(always)]
-    fn first(count: u32) -> Row192 {
+    fn first(count: u32) -> LongerRow<R> {
         if count < 64 {
-            return Row192 {
+            return LongerRow {
                 low: (1 << count) - 1,
-                middle: 0,
-                high: 0,
+                high: R::first(0),
             };
         }
-        if count < 128 {
-            return Row192 {
-                low: u64::MAX,
-                middle: (1 << (count - 64)) - 1,
-                high: 0,
-            };
-        }
-        Row192 {
+        LongerRow {
             low: u64::MAX,
-            middle: u64::MAX,
-            high: (1 << (count - 128)) - 1,
+            high: R::first(count - 64),
         }
     }
 
     #[inline(always)]
-    fn and(self, other: Row192) -> Row192 {
-        Row192 {
+    fn and(self, other: LongerRow<R>) -> LongerRow<R> {
+        LongerRow {
             low: self.low & other.low,
-            middle: self.middle & other.middle,
-            high: self.high & other.high,
+            high: self.high.and(other.high),
         }
     }
 
     #[inline(always)]
-    fn or(self, other: Row192) -> Row192 {
-        Row192 {
+    fn or(self, other: LongerRow<R>) -> LongerRow<R> {
+        LongerRow {
             low: self.low | other.low,
-            middle: self.middle | other.middle,
-            high: self.high | other.high,
+            high: self.high.or(other.high),
         }
     }
 
     #[inline(always)]
-    fn xor(self, other: Row192) -> Row192 {
-        Row192 {
+    fn xor(self, other: LongerRow<R>) -> LongerRow<R> {
+        LongerRow {
             low: self.low ^ other.low,
-            middle: self.middle ^ other.middle,
-            high: self.high ^ other.high,
+            high: self.high.xor(other.high),
         }
     }
 
     #[inline(always)]
-    fn without(self, other: Row192) -> Row192 {
-        self.xor(self.and(other))
-    }
-
-    #[inline(always)]
-    fn down(self, count: u32) -> Row192 {
-        Row192 {
-            low: (self.middle << (64 - count)) | (self.low >> count),
-            middle: (self.high << (64 - count)) | (self.middle >> count),
-            high: self.high >> count,
+    fn down(self, count: u32) -> LongerRow<R> {
+        LongerRow {
+            low: (self.high.first_word() << (64 - count)) | (self.low >> count),
+            high: self.high.down(count),
         }
     }
 
     #[inline(always)]
-    fn up(self, count: u32) -> Row192 {
-        Row192 {
-            low: self.low << count,
-            middle: (self.middle << count) | (self.low >> (64 - count)),
-            high: (self.high << count) | (self.middle >> (64 - count)),
+    fn up_over(self, below: u64, count: u32) -> LongerRow<R> {
+        LongerRow {
+            low: (self.low << count) | (below >> (64 - count)),
+            high: self.high.up_over(self.low, count),
         }
     }
 
     #[inline(always)]
     fn count_ones(self) -> u32 {
-        self.high.count_ones() + self.middle.count_ones() + self.low.count_ones()
+        self.high.count_ones() + self.low.count_ones()
     }
 
     #[inline(always)]
     fn is_zero(self) -> bool {
-        self.low == 0 && self.middle == 0 && self.high == 0
+        self.low == 0 && self.high.is_zero()
     }
 
     #[inline(always)]
-    fn of_words(low: u64, middle: u64, high: u64) -> Row192 {
-        Row192 { low, middle, high }
+    fn of_words(low: u64, middle: u64, high: u64) -> LongerRow<R> {
+        LongerRow {
+            low,
+            high: R::of_words(middle, high, 0),
+        }
     }
 
     #[inline(always)]
@@ -379,3 +275,9 @@ impl PackedRow for Row192 {
         self.low
     }
 }
+
+/// A row of up to 128 bits.
+pub type Row128 = LongerRow<u64>;
+
+/// A row of up to 192 bits.
+pub type Row192 = LongerRow<Row128>;

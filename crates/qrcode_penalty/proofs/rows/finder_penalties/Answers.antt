@@ -50,7 +50,7 @@ returns-then-is_zero-clause-value g c =
     omega (arith, none_upper, none_lower, finders_of upper c.args.width c.requires.upper_fits, finders_of lower c.args.width c.requires.lower_fits)
 
 pub overflow_mul-result : goal.overflow_mul-result
-overflow_mul-result g c = omega (arith, c.count_ones.ensures.at_most, g.met.R.PackedRow.pair_room, g.R.PackedRow.room_at_most)
+overflow_mul-result g c = omega (arith, c.count_ones.ensures.at_most, g.met.R.PackedRow.pair_room, g.met.R.PackedRow.room_at_most)
 
 pub returns-clause-value : goal.returns-clause-value
 returns-clause-value g c =
@@ -63,4 +63,4 @@ returns-clause-value g c =
     omega (arith, c.count_ones.ensures.value, ap count_ones word_upper, ap count_ones word_lower, finders_of upper c.args.width c.requires.upper_fits, finders_of lower c.args.width c.requires.lower_fits)
 
 pub returns-clause-at_most : goal.returns-clause-at_most
-returns-clause-at_most g c = omega (arith, c.count_ones.ensures.at_most, g.met.R.PackedRow.pair_room, g.R.PackedRow.room_at_most)
+returns-clause-at_most g c = omega (arith, c.count_ones.ensures.at_most, g.met.R.PackedRow.pair_room, g.met.R.PackedRow.room_at_most)

@@ -42,4 +42,4 @@ returns-clause-value g c =
     ∙ ap₂ (λ (a b : ℕ). a + b) (ap count_ones one ∙ runs_of upper c.args.width c.requires.at_least) (ap count_ones two ∙ runs_of lower c.args.width c.requires.at_least)
 
 pub returns-clause-at_most : goal.returns-clause-at_most
-returns-clause-at_most g c = omega (arith, c.count_ones.ensures.at_most, g.met.R.PackedRow.pair_room, g.R.PackedRow.room_at_most)
+returns-clause-at_most g c = omega (arith, c.count_ones.ensures.at_most, g.met.R.PackedRow.pair_room, g.met.R.PackedRow.room_at_most)

@@ -6,7 +6,7 @@ use Rattle.qrcode_penalty.proofs.Lines.{without, mixed, blocks_of}
 use Rattle.qrcode_penalty.proofs.rows.two_block_penalties.Goals as goal
 
 pub overflow_mul-result : goal.overflow_mul-result
-overflow_mul-result g c = omega (arith, c.count_ones.ensures.at_most, g.met.R.PackedRow.pair_room, g.R.PackedRow.room_at_most)
+overflow_mul-result g c = omega (arith, c.count_ones.ensures.at_most, g.met.R.PackedRow.pair_room, g.met.R.PackedRow.room_at_most)
 
 pub returns-clause-value : goal.returns-clause-value
 returns-clause-value g c =
@@ -30,4 +30,4 @@ returns-clause-value g c =
     omega (arith, c.count_ones.ensures.value, one, two)
 
 pub returns-clause-at_most : goal.returns-clause-at_most
-returns-clause-at_most g c = omega (arith, c.count_ones.ensures.at_most, g.met.R.PackedRow.pair_room, g.R.PackedRow.room_at_most)
+returns-clause-at_most g c = omega (arith, c.count_ones.ensures.at_most, g.met.R.PackedRow.pair_room, g.met.R.PackedRow.room_at_most)

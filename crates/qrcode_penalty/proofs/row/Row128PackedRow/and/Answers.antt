@@ -1,9 +1,0 @@
-use Rattle.std.proofs.Common.{ℕ, ◌+◌, ◌*◌, ◌^◌, ap₂, sym, ◌∙◌, arith}
-use Rattle.std.proofs.lemmas.Nat.{and_block}
-use Rattle.qrcode_penalty.proofs.row.Row128PackedRow.and.Goals as goal
-
-pub returns : goal.returns
-returns c =
-    let a = c.args.self.words in
-    let b = c.args.other.words in
-    ap₂ (λ (h l : ℕ). h * 2 ^ 64 + l) c.and.ensures.lower c.and.ensures.upper ∙ sym (and_block 64 a.lower b.lower a.upper b.upper (omega arith) (omega arith))
