@@ -1,8 +1,8 @@
 """Shared by scripts: the crates, the compiler's command, and what a green gate proved.
 
-A green gate leaves crates/NAME/out/sum: a checksum of the sources that it proved, and the times of
-the files that it built next to it. By these a script knows whether a library or program in out/ is
-that of the sources as they are.
+A green gate leaves crates/NAME/out/sum: checksums of the sources that it proved, and of the files
+that it built next to it. By these a script knows whether a library or program in out/ is that of
+the sources as they are, also in a copy of the repository.
 """
 import functools
 import hashlib
@@ -83,10 +83,12 @@ def stamp(name):
 
 
 def made(name):
-    """Returns the times of the library and the program of a crate; a rebuild changes them."""
+    """Returns the checksums of the library, whose `format` holds that of its files, and of the
+    program of a crate."""
     files = {"library": f"rlib/{name}.rlib/format", "program": name}
     paths = {kind: CRATES / name / "out" / file for kind, file in files.items()}
-    return {kind: path.stat().st_mtime_ns for kind, path in paths.items() if path.exists()}
+    return {kind: hashlib.sha256(path.read_bytes()).hexdigest()
+            for kind, path in paths.items() if path.exists()}
 
 
 def leave(name, proved):
