@@ -7,7 +7,9 @@ the sources as they are, also in a copy of the repository.
 import functools
 import hashlib
 import json
+import shutil
 import subprocess
+import sys
 from pathlib import Path
 
 TOP = Path(__file__).resolve().parent.parent
@@ -108,6 +110,25 @@ def is_left(name, kind):
 def are_libraries_left(name):
     """Whether a green gate left all libraries that a crate depends on."""
     return all(is_left(each, "library") for each in all_below(name))
+
+
+def drop_libraries():
+    """Removes all libraries that checks built: at its end `rt ci` would put them in the place of
+    its own, although they may be of other sources."""
+    for path in CRATES.glob("*/out/rlib"):
+        shutil.rmtree(path)
+
+
+def prove(who):
+    """Has `rt ci` prove all crates, and leaves their checksums; exits if it fails."""
+    print(f"{who}: no green gate left what these sources make: `rt ci` proves them, in minutes if it",
+          "did so before on this machine, otherwise in an hour", file=sys.stderr, flush=True)
+    drop_libraries()
+    proved = {name: sources(name) for name in crates()}
+    if subprocess.run(["rt", "ci"], cwd=TOP, stdout=subprocess.DEVNULL).returncode:
+        sys.exit(f"{who}: `rt ci` at the top says what is not proved")
+    for each in proved.items():
+        leave(*each)
 
 
 def program(name):
