@@ -3,6 +3,7 @@ zxing and zbar read, by g++ and Debian 12's packages libzxing-dev and zxing-cpp-
 zbar-tools (0.23.92). It finds the modules of evidence/program, evidence/judge and lab/oracle.
 """
 import os
+import re
 import subprocess
 import sys
 from pathlib import Path
@@ -20,7 +21,6 @@ def run(*words, data=None, may_fail=False):
 
 
 def drawn(*words):
-    """Returns what goqlanis draws."""
     return subprocess.run([PROGRAM, *words], capture_output=True, check=True).stdout
 
 
@@ -31,8 +31,7 @@ def pixels(picture, kind):
 
 
 def line_of(rows):
-    """Returns rows of modules as a line: the side, and hexadecimal digits, where 1 is a dark
-    module."""
+    """Returns rows of modules as a line: the side, and hexadecimal digits, where 1 is dark."""
     bits = "".join("01"[bool(module)] for row in rows for module in row)
     bits += "0" * (-len(bits) % 4)
     return f"{len(rows)} {int(bits, 2):0{len(bits) // 4}x}"
@@ -68,9 +67,21 @@ def zbar(path):
     return ran.stdout.removesuffix(b"\n") if ran.returncode == 0 else None
 
 
+def by_zxing(path, *words):
+    """Returns the texts that ZXingReader prints of a picture."""
+    said = run("ZXingReader", *words, path, may_fail=True).decode(errors="replace")
+    return re.findall(r'(?m)^Text: +"(.*)"$', said)
+
+
+def table(head, rows):
+    """Returns a Markdown table, each row a name and numbers, with the sums of these at its end."""
+    rows = [*rows, ("all", *map(sum, [*zip(*rows)][1:]))]
+    lines = [f"| {name} | {' | '.join(f'{it:,}' for it in counts)} |" for name, *counts in rows]
+    return "\n".join([head, "|" + "---|" * len(rows[0]), *lines, ""])
+
+
 def keep(text, found, words):
-    """Prints what was found and writes it to a file, or with the word `check` says whether it
-    stands there; returns the exit status."""
+    """Prints what was found and stores it, or with `check` compares it; returns the status."""
     print(text, end="")
     if words == ["check"]:
         is_same = text == found.read_text()
