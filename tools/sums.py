@@ -76,8 +76,7 @@ def kit_sum():
 
 
 def stamp(name):
-    """Returns the checksum of all that a check of a crate reads: the kit, what crates.txt says, the
-    sources, and the libraries below it as they were built."""
+    """Returns the checksum of all that a check of a crate reads, libraries below it as built."""
     below = [CRATES / it / f"out/rlib/{it}.rlib/format" for it in sorted(all_below(name))]
     sums = [hashlib.sha256(it.read_bytes()).hexdigest() for it in below if it.exists()]
     read = (kit_sum(), name, crates()[name], sources(name), sums)
@@ -85,8 +84,7 @@ def stamp(name):
 
 
 def made(name):
-    """Returns the checksums of the library, whose `format` holds that of its files, and of the
-    program of a crate."""
+    """Returns the checksums of a crate's program and library (its `format` has its files')."""
     files = {"library": f"rlib/{name}.rlib/format", "program": name}
     paths = {kind: CRATES / name / "out" / file for kind, file in files.items()}
     return {kind: hashlib.sha256(path.read_bytes()).hexdigest()
@@ -138,5 +136,4 @@ def program(name):
 
 
 def gate():
-    """Returns the last lines of the green gate, or an empty text."""
     return GATE.read_text() if GATE.exists() else ""
