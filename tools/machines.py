@@ -19,7 +19,6 @@ class Machine(NamedTuple):
     target: str = ""
 
     def has_compiler(self):
-        """Whether the C compiler is installed."""
         return bool(shutil.which(self.gcc))
 
     def compile(self, crate, root, made, *more):
@@ -41,8 +40,7 @@ class Machine(NamedTuple):
                 subprocess.run(["ar", "x", kit() / "c" / f"lib{name}_c.a"], cwd=folder, check=True)
 
     def libraries_to_ask(self, folder):
-        """Links the archive in `folder` with inline.c, for bindings/c/ask: with pool.c, and with
-        fence.c; yields the path of each library."""
+        """Links the archive in `folder` with inline.c and pool.c or fence.c, for bindings/c/ask."""
         own = TOP / "bindings" / "c"
         words = [self.gcc, "-std=c11", "-O2", "-Wall", "-Wextra", "-Werror", "-shared", "-fPIC"]
         words += ["-DPOOL_BYTES=300000000", f"-I{own}", own / "inline.c", folder / "goqlanis_c.o"]

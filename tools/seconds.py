@@ -8,8 +8,7 @@ INTERVAL, TICKS = 2, os.sysconf("SC_CLK_TCK")
 
 
 def processes():
-    """Returns each process with its parent, when it began, and its ticks: its own, and with those
-    of children that have ended."""
+    """Returns each process: parent, start, and the ticks of it and its ended children."""
     found = {}
     for name in filter(str.isdigit, os.listdir("/proc")):
         try:
@@ -67,7 +66,6 @@ class Watch:
         self.working = working
 
     def table(self):
-        """Returns a line for each crate, those with the most seconds first."""
         sums = {}
         for key, ticks in self.ticks.items():
             sums[self.crates[key]] = sums.get(self.crates[key], 0) + ticks

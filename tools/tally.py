@@ -3,7 +3,6 @@ import subprocess
 
 
 def run(*words, **how):
-    """Runs a command, and waits for its end."""
     words = list(map(str, words))
     try:
         return subprocess.run(words, capture_output=True, text=True, errors="replace", **how)

@@ -27,14 +27,12 @@ def corner(square, shape, left, top, count):
 
 
 def finder(square, shape):
-    """Returns the number of wrong modules of all finder patterns."""
     far = shape.width - 7
     places = [(0, 0)] if shape.is_micro else [(0, 0), (far, 0), (0, far)]
     return sum(corner(square, shape, left, top, 7) for left, top in places)
 
 
 def alignment(square, shape):
-    """Returns the number of wrong modules of the alignment patterns."""
     if shape.is_micro:
         return 0
     return sum(square[(i + y) * shape.width + j + x] != (max(abs(x), abs(y)) != 1)
@@ -42,7 +40,6 @@ def alignment(square, shape):
 
 
 def timing(square, shape):
-    """Returns the number of wrong modules of the timing patterns."""
     width = shape.width
     line, last = (0, width) if shape.is_micro else (6, width - 8)
     return sum((square[line * width + k] != (k % 2 == 0)) + (square[k * width + line] != (k % 2 == 0))
@@ -71,8 +68,7 @@ def version_bits(square, shape):
 
 
 def corrections(square, shape, level, mask):
-    """Returns the wrong codewords of each block, the data bits, and the number of dark remainder
-    bits."""
+    """Returns each block's wrong codewords, the data bits, and how many remainder bits are dark."""
     parts, stream = blocks(shape.version, level), shape.stream(square, mask)
     words = reading.words_of(stream, len(shape.places), parts)
     data, wrong = b"", []
@@ -85,8 +81,7 @@ def corrections(square, shape, level, mask):
 
 
 def parts_of(shape, bits):
-    """Returns headers and segments, each with its length in bits and its bytes, and where they
-    end."""
+    """Returns headers and segments, each with its bits and bytes, and where they end."""
     front, parts = Front(bits), []
     while not front.is_end(shape.number * 2 + 1 if shape.is_micro else 4):
         at, indicator = front.at, front.number(shape.number - 1 if shape.is_micro else 4)
@@ -119,8 +114,7 @@ def may_be(mode, data, at):
 
 
 def fewest(shape, modes, data):
-    """Returns the fewest bits of segments of the data in these modes, or None. It goes byte by
-    byte, and counts in sixths of a bit."""
+    """Returns the fewest bits of data in these modes, or None; it counts in sixths of a bit."""
     none = float("inf")
     ended, going = [0] + [none] * len(data), {mode: [none] * (len(data) + 1) for mode in modes}
     for at in range(len(data)):
@@ -135,8 +129,7 @@ def fewest(shape, modes, data):
 
 
 def taken(shape, parts):
-    """Returns the bits of the segments and the fewest possible, if all headers precede the segments
-    and are ECI or structured append."""
+    """Returns the bits taken and the fewest possible, if only ECI or append come before."""
     kinds = [part[0] for part in parts]
     modes = [it for it in kinds if isinstance(it, str)]
     if kinds[len(kinds) - len(modes):] != modes or {FNC1_FIRST, FNC1_SECOND} & set(kinds):
@@ -147,8 +140,7 @@ def taken(shape, parts):
 
 
 def ending(shape, bits, used):
-    """Returns the wrong bits of the terminator and the zeros up to a whole byte, and of the
-    padding."""
+    """Returns the wrong bits of the terminator, up to a whole byte, and of the padding."""
     behind = min(used + (2 * shape.number + 1 if shape.is_micro else 4), len(bits))
     behind = min((behind + 7) // 8 * 8, len(bits))
     count = (len(bits) - behind) // 8
@@ -158,7 +150,6 @@ def ending(shape, bits, used):
 
 
 def is_utf8(data):
-    """Whether bytes are UTF-8."""
     try:
         return bool(data.decode()) or True
     except UnicodeDecodeError:
@@ -166,15 +157,13 @@ def is_utf8(data):
 
 
 def guesses(parts):
-    """Returns how many Byte segments before the first ECI have bytes above 127, and whether these
-    are UTF-8."""
+    """Returns how many Byte segments before an ECI have bytes above 127, and if these are UTF-8."""
     until = next((k for k, part in enumerate(parts) if part[0] == ECI), len(parts))
     found = [part[2] for part in parts[:until] if part[0] == "byte" and max(part[2], default=0) > 127]
     return {"guessed_segments": len(found), "guessed_utf8": all(map(is_utf8, found))}
 
 
 def content(shape, bits):
-    """Returns the findings on data bits."""
     try:
         parts, used = parts_of(shape, bits)
     except Unspelled:
@@ -183,8 +172,7 @@ def content(shape, bits):
 
 
 def rank(numbers, at):
-    """Returns how many numbers are lower than the one at index `at`, and how many before it equal
-    it."""
+    """Returns how many numbers are lower than that at `at`, and how many before it equal it."""
     return {"lower": sum(it < numbers[at] for it in numbers), "same_before": numbers[:at].count(numbers[at])}
 
 

@@ -22,7 +22,6 @@ class Page:
         self.rows = [0] * down
 
     def put(self, left, top, rows, wide):
-        """Lays rows of `wide` pixels over a place."""
         shift = self.across - left - wide
         for y, row in enumerate(rows, top):
             self.rows[y] |= row << shift
@@ -37,7 +36,6 @@ class Page:
         self.put(left, top, [it for it in lines for _ in range(scale)], wide)
 
     def letters(self, chance, scale):
-        """Fills the page with lines of glyphs."""
         for top in range(scale, self.down - 8 * scale, 11 * scale):
             for left in range(scale, self.across - 6 * scale, 6 * scale):
                 if chance.random() < 0.8:
@@ -73,7 +71,6 @@ class Page:
 
 
 def square(program, text, *words):
-    """Returns the rows of modules of a code."""
     made = subprocess.run([program, "-f", "pbm", "-s", "1", "-q", "0", *words, "--", text],
                           capture_output=True, check=True).stdout
     return modules_of(made)

@@ -4,8 +4,7 @@ import re
 
 
 def objects_of(file):
-    """Returns the trailer, and the texts of objects by number. An entry of the table has 20 bytes.
-    Objects begin where it says, and together fill the file between its head and the table."""
+    """Returns the trailer, and the texts of objects by number, which together fill the file."""
     at = int(re.fullmatch(rb".*\nstartxref\n(\d+)\n%%EOF\n", file, re.DOTALL)[1])
     size = int(re.match(rb"xref\n0 (\d+)\n0000000000 65535 f \n", file[at:])[1])
     table = file.index(b"0000000000", at) + 20
@@ -25,9 +24,7 @@ def reference(name, text):
 
 
 def leaves_of(texts, node, parent, used):
-    """Returns the numbers of the pages under a node of the tree, in order, each with that of the
-    node above it. Nodes count their pages, and name the node above them; none has more than 8,191
-    below, the most that a list may have."""
+    """Returns the numbers of the pages under a node, in order, each with the node above it."""
     kids, count = re.fullmatch(rb"<</Type/Pages%s/Kids\[([^]]*)\]/Count (\d+)>>" % parent,
                                texts[node]).groups()
     numbers, leaves = [int(it) for it in re.findall(rb"(\d+) 0 R\s*", kids)], []
@@ -42,8 +39,7 @@ def leaves_of(texts, node, parent, used):
 
 
 def pages_of(file):
-    """Returns the information of a document, and of each page, in order, what it says besides the
-    numbers of objects, and its contents. No object is left over."""
+    """Returns a document's information, and each page's dictionary and contents; that is all."""
     trailer, texts = objects_of(file)
     assert trailer.startswith(b"trailer\n<<")
     root, about = reference(b"Root", trailer), reference(b"Info", trailer)

@@ -5,8 +5,7 @@ import re
 
 
 def rows_of(bits, across, count):
-    """Splits bits into `count` rows of `across` bytes; returns the dots of each, highest bit
-    first."""
+    """Splits bits into `count` rows of `across` bytes; the highest bit is the first dot."""
     assert len(bits) == across * count
     return [[byte >> (7 - i) & 1 for byte in bits[y * across:(y + 1) * across] for i in range(8)]
             for y in range(count)]

@@ -74,8 +74,7 @@ class Task(NamedTuple):
 
 
 def _items(text, pattern):
-    """Yields the heading, the groups of `pattern` and the help of each item of a help text, whose
-    first line matches `pattern`; the other lines are further right."""
+    """Yields the heading, groups of `pattern` and help of each item, with its indented lines."""
     heading, found = "", None
     for line in [*text.splitlines(), ""]:
         item = re.fullmatch(pattern + r"  +(\S.*)", line)
@@ -129,7 +128,6 @@ def _roff(plain):
 
 
 def _described(option):
-    """Returns an option in the manual."""
     is_few = 0 < len(option.words) <= FEW
     value = "|".join(option.words) if is_few else option.value
     letter, more = option.letter and f"{option.letter}, ", value and f" {value}"
@@ -138,13 +136,11 @@ def _described(option):
 
 
 def _command(task):
-    """Returns a command in the manual."""
     operand = task.operand and _roff("{}: {}.\n".format(*task.operand)) or ""
     return f".SS goqlanis {task.word}\n{task.about}.\n{operand}{''.join(map(_described, task.own))}"
 
 
 def _manual(plain, tasks):
-    """Returns the manual page."""
     return MANUAL.format(about=plain.about, options="".join(map(_described, plain.options)),
                          commands="".join(map(_command, tasks)), examples=_roff(plain.end))
 
@@ -157,12 +153,10 @@ def _value(option, file, words):
 
 
 def _listed(tasks):
-    """Returns the names of the commands."""
     return " ".join(it.word for it in tasks)
 
 
 def _bash(plain, tasks):
-    """Returns the completions of bash."""
     text = ""
     for task in [*tasks, plain]:
         text += f"    {task.word or '*'})\n"
@@ -180,7 +174,6 @@ def _quoted(plain, marks=""):
 
 
 def _zsh(plain, tasks):
-    """Returns the completions of zsh."""
     text = f"#compdef goqlanis\nlocal tasks=({_listed(tasks)})\ncase $words[2] in\n"
     for task in [*tasks, plain]:
         files = "" if task.draws else " '*:picture:_files'"
@@ -195,7 +188,6 @@ def _zsh(plain, tasks):
 
 
 def _fish(plain, tasks):
-    """Returns the completions of fish."""
     start, words = "complete -c goqlanis", _listed(tasks)
     pictures = " ".join(it.word for it in tasks if not it.draws)
     text = f"{start} -f\n{start} -n '__fish_seen_subcommand_from {pictures}' -F\n" \
@@ -209,8 +201,7 @@ def _fish(plain, tasks):
 
 
 def pages(ask):
-    """Returns the manual page and the completions of each shell, by the names of the files that
-    store them; `ask` returns what goqlanis prints for these words, e.g. "wifi --help"."""
+    """Returns the manual and completions by their files; `ask` returns what goqlanis prints."""
     tasks = _tasks(ask)
     return {"manual": _manual(*tasks), "bash": _bash(*tasks), "zsh": _zsh(*tasks),
             "fish": _fish(*tasks)}

@@ -112,8 +112,7 @@ def eps_cells(text, side, scale):
 
 
 def pdf_cells(file, side):
-    """Returns the colours of the modules of a PDF file, whose unit is a module and whose rows are
-    counted from the top."""
+    """Returns the colours of the modules of a PDF file, whose unit is a module, from the top."""
     cells = [[None] * side for _ in range(side)]
     color, boxes = None, []
     for word in file.split(b"stream\n")[1].decode().split("\n"):
@@ -140,8 +139,7 @@ def wanted(rows, letters, zone, is_inverted):
 
 
 def are_drawn(run, path):
-    """Whether each module has the colour of its part in PNG, SVG, EPS and PDF; `run` returns the
-    output of a command line."""
+    """Whether each module has the colour of its part; `run` runs a command line."""
     for version, letters in parts_of(path).items():
         plain = ["-v", version, "-l", "L", "12"]
         bits = run([*plain, "-f", "pbm", "-s", "8", "-q", "0"]).split(b"\n", 2)[2]

@@ -49,9 +49,7 @@ def modules_of(file):
 
 
 def page(*codes):
-    """Returns a plain PBM file (P1) of a page with symbols, each a name, column, row and scale,
-    below a line that looks like text. If a name ends in !, the lower right quarter of it is
-    dark."""
+    """Returns a page with a line like text, and symbols, with ! a quarter dark, as a PBM file."""
     ink = [[int(4 <= y < 12 and 9 * x * x % 7 < y % 5) for x in range(200)] for y in range(180)]
     for name, left, top, scale in codes:
         rows = SYMBOLS[name.strip("!")]
@@ -63,8 +61,7 @@ def page(*codes):
 
 
 def slanted(*codes):
-    """Returns a plain PBM file (P1) of a page with symbols, each a name, the column and row of its
-    middle, the degrees by which it is turned and its scale."""
+    """Returns a plain PBM file of symbols: name, column and row of the middle, degrees, scale."""
     ink = [[0] * 200 for _ in range(180)]
     for name, middle, height, degrees, scale in codes:
         rows, turn = SYMBOLS[name], math.radians(degrees)
@@ -85,7 +82,6 @@ COLOURS = [[(60 * x, 90 * y, 255 - 60 * x, 255 - 85 * (x + y) % 256) for x in ra
 
 
 def table(name):
-    """Returns the rows of a table, each a name and a text."""
     text = re.sub(r"\n  +", " ", (HERE / name).read_text(encoding="utf-8"))
     return [it.split(": ", 1) for it in text.splitlines() if it and it[0] != "#"]
 
@@ -104,8 +100,7 @@ FILES = {**{name: file_of(rows, 0, 1) for name, rows in SYMBOLS.items() if name.
 
 
 class Case(NamedTuple):
-    """A command line or shell script, its standard input (or the command line that writes it), and
-    the checks: marks with their texts."""
+    """A command line or script, its standard input (or the command line of it), and the checks."""
 
     words: str
     is_script: bool
@@ -115,7 +110,6 @@ class Case(NamedTuple):
 
 
 def cases():
-    """Returns the cases of the table."""
     found = []
     for line in (HERE / "cases").read_text(encoding="utf-8").splitlines():
         mark, rest = line[:1], line[2:] if line[1:2] == " " else line[1:]
@@ -141,12 +135,10 @@ def squares():
 
 
 def empty(place=None):
-    """Makes an empty temporary folder."""
     return tempfile.TemporaryDirectory(prefix="program-", dir=place)
 
 
 def put(folder, name, data):
-    """Writes a file."""
     Path(folder, name).write_bytes(data)
 
 
@@ -163,7 +155,6 @@ def room():
 
 
 def piped(words, given=b"", **more):
-    """Runs a command, and waits for its end."""
     return subprocess.run(words, input=given, capture_output=True, timeout=60, check=False, **more)
 
 
@@ -188,8 +179,7 @@ def written(program, words):
 
 
 def figures(program, given):
-    """Returns the symbol of data as a plain PBM file (P1), one pixel a module, without a quiet
-    zone."""
+    """Returns the symbol of data as a plain PBM file, one pixel a module, without a quiet zone."""
     words = ["-l", "L", "-f", "pbm", "-s", "1", "-q", "0", "--micro"]
     rows = modules_of(run(program, words, "/", given).stdout)
     return f"P1 {len(rows)} {len(rows)}\n{''.join(map(str, sum(rows, [])))}".encode()
@@ -202,8 +192,7 @@ def held(folder, name):
 
 
 def in_terminal(program, words, given=b"", **env):
-    """Runs the program in a terminal and types `given`; returns what it shows, and its exit
-    status."""
+    """Runs the program in a terminal and types `given`; returns what it shows, and its status."""
     shown = bytearray()
     child, terminal = pty.fork()
     if child == 0:

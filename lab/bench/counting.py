@@ -61,8 +61,7 @@ def command_of(folder, kind, data, *numbers):
 
 
 def case(folder, name, pixels=None):
-    """Returns the command of a case: a symbol, or a picture as `png-40` or `png-40-at-3`. A module
-    has 8 by 8 pixels, 1 in half blocks, unless `pixels` or the name says otherwise."""
+    """Returns the command of a symbol, or a picture as `png-40` or `png-40-at-3` (pixels)."""
     if name in CASES:
         return command_of(folder, *CASES[name])
     form, symbol, at = re.fullmatch(r"(\D+)-(\d+)(?:-at-(\d+))?", name).groups()
@@ -113,7 +112,6 @@ def heap_from_then_on(command):
 
 
 def growth(folder):
-    """Returns the instructions of a symbol of each Normal version, filled with bytes at level M."""
     answers = (TOP / "evidence" / "answers").read_text()
     most = re.findall(r"(?m)^most normal (\d+) M: \d+ \d+ (\d+) \d+$", answers)
     return [instructions(command_of(folder, "symbol", WORDS[:int(count)], version, 1))
@@ -128,7 +126,6 @@ def greatest_step(spent):
 
 @functools.cache
 def build_calls(folder):
-    """Builds the program of lab/bench/calls.c with the C library in out/."""
     exit_if_not_there(*(CRATES / it / "out" / "rlib" for it in all_below("goqlanis_c")))
     subprocess.run([TOP / "bindings" / "c" / "build", "--proved", folder], check=True)
     words = ["gcc", "-std=c11", "-O2", f"-I{folder}", "-o", folder / "calls", HERE / "calls.c"]
@@ -155,7 +152,6 @@ def squares(folder):
 
 @functools.cache
 def png_file(folder):
-    """Returns a PNG file of Normal 40, with 8 by 8 pixels a module."""
     build_calls(folder)
     os.environ["GOQLANIS_LIB"] = str(folder / "libgoqlanis.so.1")
     import goqlanis

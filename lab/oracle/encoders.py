@@ -19,7 +19,6 @@ SEGNO_MODES = dict(zip(MODES, (consts.MODE_NUMERIC, consts.MODE_ALPHANUMERIC, co
 
 
 def gen_segment(mode, value):
-    """Returns a part as a segment of qrcodegen."""
     if mode == "eci":
         return Segment.make_eci(value)
     if mode == "numeric":

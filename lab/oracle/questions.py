@@ -7,7 +7,6 @@ ALPHABET = b"0123456789ABCDEFGHIJKLMNOPQRSTUVWXYZ $%*+-./:"
 
 
 def pair(number):
-    """Returns the Kanji pair of a number."""
     first, second = number % 43, number // 43
     first = 0x81 + first if first < 31 else 0xE0 + first - 31
     second %= 127 if first == 0xEB else 188

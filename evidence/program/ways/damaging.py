@@ -16,13 +16,11 @@ def _drawn(program, *words):
 
 
 def _square(program, *words):
-    """Returns the same as bytes."""
     return bytes(sum(_drawn(program, *words), []))
 
 
 def as_much_is_wrong_as_asked(program):
-    """In all versions and levels, whole codes hold the data; with `most` and `beyond`, and wrong
-    bits, as many codewords and bits are wrong, and nothing else."""
+    """In all versions and levels, as many codewords and bits are wrong as asked, nothing else."""
     for at, (version, level) in enumerate(PAIRS):
         words = ["-v", version, "-l", level, "--seed", str(at)]
         whole = _square(program, *words, "--wrong-codewords", "0")
@@ -64,8 +62,7 @@ def damaged_codes_are_turned(program):
 
 
 def patterns_are_wrong(program):
-    """As many modules of patterns are wrong as asked for, beside wrong codewords and bits. These
-    versions have no bits after the codewords."""
+    """As many modules of patterns are wrong as asked; these versions have no remainder bits."""
     for words, count in (("-v 1 -l L", 203), ("-v 7 -l H", 20), ("-v 40 -l M", 1000), ("-v M1 -l L", 70),
                          ("-v M4 -l Q", 1)):
         squares = [_square(program, *f"{words} --wrong-codewords {more}".split())

@@ -19,8 +19,7 @@ def parts_have_their_colours(program):
 
 
 def labels_show_the_dots(program):
-    """ZPL and TSPL, carried out as a printer would, put the dots of the PBM file at the right
-    place."""
+    """ZPL and TSPL, as a printer carries them out, put the PBM file's dots at the right place."""
     for words in ("01234567", "-l H -s 3 https://example.org", "-v 40 -s 5 A", "-q 1 -s 5 A",
                   "-s 88 A", "-s 1 -q 0 --invert A"):
         dots = written(program, f"-f pbm {words}")
@@ -48,8 +47,7 @@ def labels_are_those_of_zint(program):
 
 
 def covered_squares_are_those_that_others_read(program):
-    """The squares that zxing and zbar were shown (lab/others/areas) are covered, nothing else
-    changes, and larger ones are rejected."""
+    """Those of lab/others/areas are covered, nothing else changes, and larger ones are rejected."""
     found = (TOP / "lab" / "others" / "areas" / "found").read_text()
     lines = [line.split() for line in found.splitlines()]
     for version, level, size, _, _ in lines:
@@ -81,8 +79,7 @@ _NEAREST = [[COLOURS[(2 * y + 1) * 3 // 80][(2 * x + 1) * 4 // 106] for x in ran
 
 
 def _put_logo(rows, left, top, logo=_NEAREST):
-    """Draws a logo of 53 by 40 pixels over opaque ones, in the middle of an area of 9 by 5 modules
-    of 8 pixels that begins there."""
+    """Draws a logo of 53 by 40 pixels in the middle of an area of 9 by 5 modules of 8 pixels."""
     for y, row in enumerate(logo):
         for x, (*levels, opacity) in enumerate(row, left + 9):
             shade = [int(0.5 + (it * opacity + below * (255 - opacity)) / 255)
@@ -126,8 +123,7 @@ def a_logo_with_more_pixels_than_its_place_is_averaged(program):
 
 
 def a_logo_in_png_is_drawn_in_its_area_alone(program):
-    """The logo is drawn over white, with a quiet zone of 4 modules; outside of its area, in the
-    middle of 37 modules, pixels are as before."""
+    """The logo is drawn over white; outside of its area in the middle nothing changes."""
     words = ["-v", "5", "-l", "H", "--logo-size", "9", "GOQLANIS"]
     rows = _greys(run(program, [*words[:4], words[-1], "-f", "pgm"], "/").stdout)
     for row in rows[160:200]:
@@ -146,8 +142,7 @@ def a_logo_in_png_is_drawn_in_its_area_alone(program):
 
 
 def a_logo_in_png_is_drawn_over_colours_of_parts(program):
-    """Each module has the colour of the part that segno names, and those in the area, in the middle
-    of 45 modules, the light one; the logo is drawn over these."""
+    """Modules have the colours of segno's parts, in the area the light one, below the logo."""
     words = ["-v", "7", "-l", "H", "GOQLANIS"]
     letters = parts.parts_of(f"{TOP}/lab/others/parts/types")["7"]
     plain = _greys(run(program, [*words, "-f", "pgm", "-s", "1", "-q", "0"], "/").stdout)
@@ -210,8 +205,7 @@ CROSSES = {
 
 
 def _is_in_the_middle(ran, pattern, side):
-    """Whether the cross is 7 mm of a code of 46 mm, in the middle, with a quiet zone of 4
-    modules."""
+    """Whether the cross is 7 mm of a code of 46 mm, in the middle, in a quiet zone of 4 modules."""
     found = re.search(pattern, ran.stdout)
     if not found or b"cross" in ran.stderr:
         return False
@@ -245,8 +239,7 @@ DOCUMENTS = [
 
 
 def a_document_has_the_pages_of_its_lines(program):
-    """On standard output, a PDF document has a page for each line that is not refused: that of the
-    PDF file of the same data, with the same contents and title. So has one of split data."""
+    """A document has a page for each line or part that is not refused: that of its PDF file."""
     for words, lines, each in DOCUMENTS:
         ran = run(program, [*shlex.split(words), "-f", "pdf"], "/", lines.encode())
         files = [documents.pages_of(written(program, f"{it} -f pdf")) for it in each]
@@ -260,8 +253,7 @@ def a_document_has_the_pages_of_its_lines(program):
 
 
 def a_long_document_has_its_pages_in_order(program):
-    """The pages of a PDF document of 8,193 lines, which need nodes in the tree of pages, are those
-    of documents of 500 lines, in order."""
+    """A document of 8,193 lines, which needs nodes, has the pages of documents of 500 lines."""
     lines = [str(it) for it in range(8193)]
     pages = [documents.pages_of(run(program, ["--lines", "-f", "pdf"], "/", "\n".join(it).encode()).stdout)[1]
              for it in (lines, *(lines[at:at + 500] for at in range(0, len(lines), 500)))]

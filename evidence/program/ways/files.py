@@ -10,8 +10,7 @@ NOBODY = 65534
 
 
 def _access_list(entries):
-    """Returns an access control list (ACL) as Linux stores it; an entry is a kind, rights and a
-    user."""
+    """Returns an access control list (ACL) as Linux stores it, of kinds, rights and users."""
     rows = [struct.pack("<HHI", kind, rights, user) for kind, rights, user in entries]
     return struct.pack("<I", 2) + b"".join(rows)
 

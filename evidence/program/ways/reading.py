@@ -26,8 +26,7 @@ POSITIONS = (
 
 
 def checks_are_those_of_the_judge(program):
-    """Checks every fifth symbol of other encoders, whole and with modules inverted at two and at
-    eight random places, if it can still be read."""
+    """Every fifth symbol of other encoders is checked, whole and with 2 and 8 wrong modules."""
     chance = random.Random(1)
     for number, (rows, _) in enumerate(squares()):
         if number % 5 == 0:
@@ -70,8 +69,7 @@ def _headers_said(headers):
 
 
 def _read(program, picture):
-    """Returns the data of a picture in hexadecimal digits, and the lines about it except segments
-    and warnings."""
+    """Returns the data of a picture in hexadecimal digits, and the headers that are said."""
     ran = run(program, ["read", "--verbose"], "/", picture)
     lines = ran.stderr.decode().splitlines()
     return ran.stdout.hex(), [it for it in lines if not it.startswith(NOT_HEADERS)]
@@ -92,8 +90,7 @@ def symbols_of_other_encoders_are_read(program):
 
 
 def large_pictures_are_read(program):
-    """Symbols of the most digits are read as a PGM file of 32 MB, a PBM file of the same size in
-    pixels, half blocks, and a plain PBM file."""
+    """The most digits are read as a PGM file of 32 MB, as PBM files, and as half blocks."""
     digits, words = FILES["digits"], ["-l", "L", "-q", "80", "-f"]
     forms = (["pgm", "-s", "17"], ["pbm", "-s", "17"], ["half-blocks"])
     pictures = [run(program, [*words, *form], "/", digits).stdout for form in forms]
@@ -103,8 +100,7 @@ def large_pictures_are_read(program):
 
 
 def headers_are_read_in_all_positions(program):
-    """Symbols of other encoders with headers, in eight positions, each as it is, with the modules
-    inverted, and with the whole picture inverted."""
+    """Symbols with headers are read in eight positions, with modules or the picture inverted."""
     with_headers = [it for it in squares() if it[1].split(": ")[0].count(",") > 1]
     for rows, words in with_headers[::3]:
         (_, _, *headers), data = words.split(": ")[0].split(", "), words.split(": ")[1]
@@ -123,8 +119,7 @@ def headers_are_read_in_all_positions(program):
 
 
 def png_files_of_every_kind_are_read(program):
-    """A symbol of zint is read in PNG files of every colour type, depth and filter; damaged files
-    are rejected."""
+    """Every colour type, depth and filter is read; damaged files are rejected."""
     (name, rows), *_ = ((it.split(" "), rows) for it, rows in SYMBOLS.items() if it[0].isdigit())
     for color, depth in png.KINDS:
         if run(program, ["read"], "/", png.file_of(rows, color, depth)).stdout != name[2].encode():
@@ -168,8 +163,7 @@ def png_files_with_faults_beside_the_picture_are_read(program):
 
 
 def _with_empty_block(stream):
-    """Returns a zlib stream that begins with an empty block. Of its own codes only the end has one,
-    of one bit, as zlib reads it (RFC 1951, 3.2.7)."""
+    """Returns a zlib stream with an empty block first, of which only the end has a code."""
     lengths = "".join({2: "100", 3: "010", 17: "010"}.get(at, "000") for at in range(18))
     zeros = "0" + "1111111" + "0" + "1101011"
     bits = "001" + "00000" + "00000" + "0111" + lengths + zeros + "11" + "10" + "0" + "000"
@@ -213,7 +207,6 @@ def a_percent_sign_is_a_separator_behind_fnc1_alone(program):
 
 
 def _square(program, *words):
-    """Returns the rows of modules of a symbol."""
     words = ["-f", "pbm", "-s", "1", "-q", "0", *words]
     return modules_of(run(program, words, "/").stdout)
 
@@ -229,8 +222,7 @@ def _tiled(rows, count, pitch):
 
 
 def crowded_pages_are_read(program):
-    """All of 121 codes are read, and nothing in 1,024 finder patterns without codes, or in
-    noise."""
+    """All of 121 codes are read, and nothing in 1,024 finder patterns alone, or in noise."""
     code = _square(program, "-v", "1", "hi")
     finder = [it[:7] for it in code[:7]]
     noise = b"P4\n400 400\n" + random.Random(1).randbytes(20000)

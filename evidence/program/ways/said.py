@@ -35,13 +35,11 @@ def examples_of_the_help_run(program):
 
 
 def _tasks(program):
-    """Returns the commands that the help lists."""
     return commands(written(program, "--help").decode())
 
 
 def every_option_has_a_case(program):
-    """The table has a case for each option of each command, by its help; an option for drawing
-    needs only one case without a command."""
+    """Each option of each command has a case; one for drawing needs only one without a command."""
     tasks = ["", *_tasks(program)]
     given = {task: set() for task in tasks}
     lines = [it.piped if it.is_script else f"{it.words}\n{it.piped}" for it in cases()]
@@ -64,8 +62,7 @@ def help_has_lines_of_80_characters(program):
 
 
 def _pages(program):
-    """Returns all help, and the manual page and the completions of each shell that are made from it,
-    by the name of the file that stores them."""
+    """Returns all help, the manual page and the completions, by the file that stores them."""
     asked = ["--help", *(f"{it} --help" for it in _tasks(program))]
     shown = {it: written(program, it).decode() for it in asked}
     help = "\n".join(f"$ goqlanis {it}\n{text}" for it, text in shown.items())
@@ -85,8 +82,7 @@ def _store_pages(program):
 
 
 def shells_complete(program):
-    """bash completes options and values, and nothing after an option that takes a number or has no
-    value; zsh and fish, if they are installed, read their completions."""
+    """bash completes options and values; zsh and fish, if installed, read their completions."""
     asked = """. /dev/stdin; for words in '--lev' '--format p' '-l' '--scale 1' 'wi' 'wifi --s' \
         'read --v' 'read -v' 'bill --currency E' 'epc --le'; do
         COMP_WORDS=(goqlanis $words); COMP_CWORD=$((${#COMP_WORDS[@]} - 1))
@@ -103,8 +99,7 @@ def shells_complete(program):
 
 
 def _are_quoted(program):
-    """Whether each line with the help of an option closes its quotes in the completions of zsh and
-    fish; this needs no shell."""
+    """Whether each line with the help of an option closes its quotes in zsh and fish."""
     found = 0
     for shell, ends in (("zsh", "\\;"), ("fish", "")):
         for line in _pages(program)[shell].decode().splitlines():

@@ -77,8 +77,7 @@ def lines_are_drawn_as_they_come(program):
 
 
 def pages_are_written_as_their_lines_come(program):
-    """The first page of a document is written before the second line, and its end after the
-    input."""
+    """A document's first page comes before the second line, and its end after the input."""
     pipes = {"stdin": subprocess.PIPE, "stdout": subprocess.PIPE}
     with subprocess.Popen([program, "--lines", "-f", "pdf"], **pipes) as ran:
         for line in (b"one\n", b"two\n"):
@@ -94,8 +93,7 @@ def pages_are_written_as_their_lines_come(program):
 
 
 def a_line_says_how_many_lines_are_done(program):
-    """The count shows if the drawings do not go to the terminal and the terminal takes control
-    sequences; the message of a line that fails replaces it."""
+    """The count shows on a terminal without drawings; the message of a failing line replaces it."""
     with room() as folder:
         words = ["--lines", "-i", f"{folder}/lines", "-o", f"{folder}/a.svg"]
         refusal = (b"goqlanis: %s/lines: line 2: 3,000 bytes at level M: at most 2,331 fit, more of "
@@ -125,8 +123,7 @@ def _unseen():
 
 
 def strangers_turn_nothing_round_on_a_terminal(program):
-    """`read`, `join`, drawings and messages escape all characters that hide or move others; pipes
-    and files get them as they are."""
+    """Characters that hide or move others are escaped on a terminal; pipes and files get them."""
     text = "".join(_unseen()).replace("\0", "")
     with empty() as folder:
         put(folder, "data", text.encode())
@@ -183,8 +180,7 @@ def qrencode_draws_the_longest_text(program):
 
 
 def qrencode_reports_a_refused_write(program):
-    """qrencode fails to write to a full device, and into a file of at most 100 bytes, all of which
-    are written. Three thousand digits fit a symbol, so only the write fails."""
+    """qrencode fails to write to a full device, and into a file of at most 100 bytes."""
 
     with open("/dev/full", "wb") as full, tempfile.TemporaryFile() as short:
         ran = [_qrencode(program, it, stdout=full) for it in ("1", "7" * 3000)]
@@ -213,8 +209,7 @@ def _with_a_request_refused(program, library, words, at, given=b"01234567\n"):
 
 
 def refused_memory_is_reported_in_a_line(program):
-    """In some runs each request for memory fails in turn: the run reports it and writes nothing,
-    or with --json an empty list, or answers as with ample memory."""
+    """Each request for memory fails in turn: the run reports it and writes nothing, or succeeds."""
     with room() as folder:
         kept = sorted(os.listdir(folder)), FILES["old.svg"]
         nothing = (1, b"", *kept), (1, b"[\n]\n", *kept)
