@@ -5,7 +5,7 @@ import subprocess
 import tempfile
 
 import qrcodegen
-from questions import MODES
+from questions import MODES, zint_rows  # noqa: F401 (for those who import this)
 from segno import consts
 from segno import encoder as segno_encoder
 
@@ -38,13 +38,6 @@ def with_file(data, command):
         file.write(data)
         file.flush()
         return subprocess.run(command(file.name), capture_output=True, check=True).stdout.decode()
-
-
-def zint_rows(text):
-    """Returns the rows of # and . of a dump of zint."""
-    lines = [line.replace(" ", "") for line in text.split("\n") if line]
-    return [f"{int(line, 16):0{4 * len(line)}b}"[:len(lines)].replace("1", "#").replace("0", ".")
-            for line in lines]
 
 
 def qrencode_rows(command, data):

@@ -33,6 +33,13 @@ def rows_of(matrix):
     return ["".join("#" if module else "." for module in row) for row in matrix]
 
 
+def zint_rows(text):
+    """Returns the rows of # and . of a dump of zint."""
+    lines = [line.replace(" ", "") for line in text.split("\n") if line]
+    return [f"{int(line, 16):0{4 * len(line)}b}"[:len(lines)].replace("1", "#").replace("0", ".")
+            for line in lines]
+
+
 def checksum(rows):
     """Returns the CRC-32 of such rows, as lines."""
     return f"{zlib.crc32(chr(10).join(rows).encode()):08x}"
