@@ -10,6 +10,7 @@ const count = Number(process.argv[3] ?? 100_000);
 const bytes = readFileSync(new URL("goqlanis.wasm", folder));
 const goqlanis = await import(new URL("index.mjs", folder));
 const { number } = await import(new URL("memory.mjs", folder));
+const { CALLS } = await import(new URL("numbers.mjs", folder));
 const counts = [0, 0];
 
 function note(name, holds, said = "") {
@@ -73,8 +74,9 @@ await goqlanis.load();
 const wanted = Object.fromEntries(Object.entries(TRIALS)
     .map(([name, call]) => [name, `${call(goqlanis)}`]));
 
-/* What is refused: the call, the name of the error, and a part of what it says. */
-const one = goqlanis.encode("1");
+/* The rows of calls.txt: what is made of a call, or how it is refused. */
+const heard = [], known = { ...goqlanis, one: goqlanis.encode("1"), outside, heard };
+console.warn = (it) => heard.push(it);
 
 /** Returns a view of bytes that its buffer no longer has. */
 function outside() {
@@ -83,83 +85,20 @@ function outside() {
     return view;
 }
 
-const REFUSED = [
-    [(it) => it.encode(42), "TypeError", "take '42'"],
-    [(it) => it.encode([1, 2]), "TypeError", "encodeSegments"],
-    [(it) => it.encode("\ud800"), "TypeError", "surrogate"],
-    [(it) => it.encode("1", "H"), "TypeError", "{level: 'H'}"],
-    [(it) => it.encode("1", { errorCorrectionLevel: "H" }), "TypeError", "take level: 'H'"],
-    [(it) => it.encode("1", { level: "X" }), "NoSuchLevel", "take L, M, Q or H"],
-    [(it) => it.encode("1", { version: 41 }), "NoSuchVersion", "M1 to M4"],
-    [(it) => it.encode("1", { version: 1.5 }), "TypeError", "not 1.5"],
-    [(it) => it.encode("1", { version: 7, micro: true }), "RangeError", "give one of them"],
-    [(it) => it.encode("1", { mask: "3" }), "TypeError", "take 3"],
-    [(it) => it.encode("1", { mask: 8 }), "NoSuchMask", "not 8"],
-    [(it) => it.encode("1", { boost: 1 }), "TypeError", "true or false"],
-    [(it) => it.encode("1", { eci: 7 }), "RangeError", "is for bytes"],
-    [(it) => it.encode("1", { charset: "latin9" }), "NoSuchSet", "take 'shortest'"],
-    [(it) => it.encode("złoty", { charset: "iso-8859-1" }), "NotInSet", "2, 'ł' (U+0142)"],
-    [(it) => it.encode("1", { charset: "utf-8", marked: true }), "RangeError", "one of them"],
-    [(it) => it.encode(new Uint8Array(1), { charset: "utf-8" }), "TypeError", "eci: 7"],
-    [(it) => it.encode("ж", { charset: "utf-8", version: "M3" }), "NoMode", "out charset"],
-    [(it) => it.encodeSegments([["numeric", "12a"]]), "NotInMode", "segment 1: numeric"],
-    [(it) => it.encodeSegments([["byte"], ["eci", "26"]]), "TypeError", "segment 1"],
-    [(it) => it.encode(outside()), "TypeError", "was resized"],
-    [() => one.svg({ margin: 4 }), "TypeError", "quietZone: 4"],
-    [() => one.svg({ quietZone: 4001 }), "NoSuchSize", "from 0 to 4,000, not 4,001$"],
-    [() => one.png({ scale: 99999 }), "NoSuchSize", "65,535"],
-    [() => one.png({ scale: "-1" }), "TypeError", "not '-1'$"],
-    [() => one.png({ scale: "1e9" }), "TypeError", "not '1e9'$"],
-    [() => one.pbm({ dark: "navy" }), "NotInFormat", "black on white"],
-    [() => one.svg({ dark: "nvy" }), "RangeError", "not a colour"],
-    [() => one.svg({ finderDark: "nvy" }), "RangeError", "finderDark"],
-    [() => one.pbm({ finderDark: "navy" }), "NotInFormat", "PBM has no finderDark"],
-    [() => one.svg({ dataLight: null }), "NotInFormat", "take PNG"],
-    [() => one.png({ scale: 283, dataLight: null }), "NoSuchSize", "8,192"],
-    [() => one.png({ size: "30mm" }), "RangeError", "how many pixels"],
-    [() => one.svg({ size: "0mm" }), "TypeError", "size in pixels"],
-    [() => one.svg({ size: "30 mm" }), "TypeError", "take '30mm'$"],
-    [() => one.withArea({ left: 0, top: 0, width: 21, height: 21 }), "AreaTooLarge", "smaller"],
-    [() => one.withArea({ left: 20, top: 0, width: 2, height: 2 }), "NoSuchArea", "inside"],
-    [() => one.reserve(Array(31330).fill({ left: 0, top: 0, width: 1, height: 1 })), "NoSuchArea",
-        "or up to 31,329"],
-    [(it) => it.wifi({ ssid: "a", pasword: "b" }), "TypeError", "it takes ssid, password"],
-    [(it) => it.gs1([["(01)", "1"]]), "UnknownIdentifier", "without brackets"],
-    [(it) => it.gs1([["20", "123"]]), "WrongLength", "it needs 2$"],
-    [(it) => it.gs1([["91", "1".repeat(91)]]), "WrongLength", "it needs 1 to 90$"],
-    [(it) => it.read("text"), "NotPicture", "convert it to PNG"],
-    [(it) => it.read(7), "TypeError", "ImageData"],
-    [(it) => it.read(one.png({ scale: 300 })), "BrokenPicture", "or 67,108,864 in all; save it"],
-    [(it) => it.read("P1 1 1 0\nP1 1 1 0"), "NoSquare", "picture 1: "],
-    [(it) => it.readSquare([[1, 0], [1]]), "NoSuchSide", "not all of them"],
-    [(it) => it.join([one]), "NotJoined", "square 1 has no structured append header"],
-];
-for (const [call, name, part] of REFUSED) {
-    let said = "nothing is refused";
+for (const row of `${readFileSync(new URL("calls.txt", import.meta.url))}`.split("\n")) {
+    const [call, name, part] = row.split(" | ");
+    if (name === undefined || call.startsWith("#"))
+        continue;
+    let said = "";
     try {
-        call(goqlanis);
+        said = `${new Function(...Object.keys(known), `return ${call}`)(...Object.values(known))}`;
     } catch (error) {
         said = `${error.name}: ${error.message}$`;
     }
-    if (!said.startsWith(`${name}: `) || !said.includes(part) || said.length > 250)
-        note(`${call}`, false, said);
+    const holds = part === undefined ? said === name
+        : said.startsWith(`${name}: `) && said.includes(part) && said.length <= 250;
+    note(call, holds, said);
 }
-note(`${REFUSED.length} wrong calls say what would help`, counts[1] === 0);
-const long = one.svg({ size: "2.5cm" });
-note("SVG has exactly the length that is asked for",
-    long.includes(' width="2.5cm" height="2.5cm" viewBox="0 0 29 29"'), long.slice(0, 200));
-
-const inches = ["1in", "72pt", "2.54cm", "25.4mm"].map((size) => one.eps({ size }));
-note("an inch has 72 points and 25.4 mm", inches.every((it) => it === inches[0]));
-const wide = goqlanis.encode("1", { version: 40 }).pbm({ quietZone: 4000, scale: 1 });
-note("the widest quiet zone is drawn", new TextDecoder().decode(wide.subarray(0, 12))
-    === "P4\n8177 8177", wide.subarray(0, 12));
-const heard = [], { warn } = console;
-console.warn = (it) => heard.push(it);
-const events = [0, 250].map((it) => goqlanis.event({ begin: new Date(it), end: new Date(5000) }));
-console.warn = warn;
-note("milliseconds are left out, with a warning", events[0] === events[1]
-    && heard.join() === "begin: calendars have whole seconds: .250 is left out", heard);
 
 /* With too little memory a call says so, or makes what it always makes. */
 const found = { right: 0, OutOfMemory: 0 };
@@ -184,8 +123,16 @@ note(`out of memory is an answer: ${found.OutOfMemory} times, and ${found.right}
     wrong.length === 0 && found.right > 100 && found.OutOfMemory > 20,
     wrong.slice(0, 3).join(", "));
 
+/* Nothing is exported but the calls, memory and its two calls. */
+const built = new WebAssembly.Module(bytes);
+const exported = WebAssembly.Module.exports(built).map((it) => it.name);
+const wished = [...Object.keys(CALLS), "memory", "__heap_base", "host_alloc", "host_free"];
+note("the module exports the calls alone, and imports nothing",
+    exported.sort().join() === wished.sort().join()
+    && WebAssembly.Module.imports(built).length === 0, exported);
+
 /* After a trap no export runs, and the package begins with a new memory. */
-const { exports: raw } = new WebAssembly.Instance(new WebAssembly.Module(bytes));
+const { exports: raw } = new WebAssembly.Instance(built);
 const traps = (call) => {
     try {
         call();
