@@ -5,23 +5,41 @@ import { PAYLOADS, QrError, encode, encodeGs1, payload } from "./goqlanis/index.
 const LONG = ["text", "body", "note", "description"];
 const SHORT = ["ssid", "iban", "bic", "url", "uid"];
 /* Hints in place of those of the library, which speak of its texts. */
-const OWN = { bic: "8 or 11 letters and digits; may be empty",
-    begin: "as 2026-11-28T14:00+01:00, or a day: 2026-11-28" };
+const OWN = { bic: "8 or 11 letters and digits; may be empty", birthday: "",
+    mobile: "mobile phone number", stamp: "when this was written; may be empty",
+    uid: "an identifier that no other event has; may be empty" };
 /* Words of the library for programs, and those of the page. */
 const SPOKEN = [[/; no level holds them.*$/, ""], [/ marked and eci/, ' "Mark text as UTF-8"'],
-    [/take scale: /, "take pixels per module: "], [/quietZone/g, "quiet zone"]];
+    [/take scale: /, "take pixels per module: "], [/quietZone/g, "quiet zone"],
+    [/; write it with its zone, .*$/, ""],
+    [/^end: it is outside what the format allows/, "end: it is not after the beginning"]];
 const MODES = { phone: "tel", number: "tel", mobile: "tel", workPhone: "tel", homePhone: "tel",
     email: "email", address: "email", url: "url", link: "url", amount: "decimal" };
 
+/* The minutes by which time zones differ from UTC. */
+const OFFSETS = [...Array.from({ length: 27 }, (_, at) => 60 * at - 720), -570, -210, 210, 270, 330,
+    345, 390, 525, 570, 630, 765].sort((one, other) => one - other);
+
+/* Events at times and on whole days: the library takes the day after the last. */
+const EVENTS = {
+    event: eventOf("Calendar event", "datetime-local", { begin: "", end: "", zone: "" },
+        ({ begin, end, stamp, zone, ...more }) => ({ ...more, begin: timeOf(begin, zone),
+            end: timeOf(end, zone), stamp: timeOf(stamp, zone) })),
+    days: eventOf("Calendar event, whole days", "date", { begin: "the first day",
+        end: "the last day" }, ({ end, stamp, ...more }) => ({ ...more, stamp: timeOf(stamp, ""),
+        end: end && new Date(Date.parse(end) + 864e5).toISOString().slice(0, 10) })),
+};
+
 /** Each kind: its name, what it is, the fields with their hints, and what makes a code of them; for
-    some, the level and the largest version that the format wants. If `isFixed`, the format leaves
-    no choice of Micro QR, of a higher level or of a mark for UTF-8. */
+    some, the level and the largest version that the format wants, and the types of controls. If
+    `isFixed`, the format leaves no choice of Micro QR, of a higher level or of a mark for UTF-8. */
 export const FORMS = {
     text: { name: "Text", about: "", fields: { text: "" }, isFixed: false,
         make: ({ text }, options) => encode(filled("text", text), options) },
     link: { name: "Link", about: "", fields: { link: "as https://example.org" }, isFixed: false,
         make: ({ link }, options) => encode(linked(link), options) },
-    ...Object.fromEntries(Object.entries(PAYLOADS).map(([kind, row]) => [kind, formOf(kind, row)])),
+    ...Object.fromEntries(Object.entries(PAYLOADS).flatMap(([kind, row]) =>
+        (kind === "event" ? Object.entries(EVENTS) : [[kind, formOf(kind, row)]]))),
     gs1: { name: "GS1 elements", about: "", isFixed: true,
         fields: { elements: "as (01)09521234543213(17)291231(10)ABC123" },
         make: ({ elements }, options) => encodeGs1(pairs(elements), gs1Options(options)) },
@@ -37,6 +55,25 @@ function formOf(kind, { about, more, fields }) {
         about: [said && `${said[0].toUpperCase()}${said.slice(1)}.`, more].join(" ").trim(),
         fields, level, most: Number(most), isFixed: level !== undefined,
         make: (values, options) => encode(payload(kind, values), options) };
+}
+
+/** Returns the form of an event; `timesOf` makes the library's fields of what is chosen. */
+function eventOf(name, type, times, timesOf) {
+    const { fields, isFixed } = formOf("event", PAYLOADS.event);
+    return { name, about: "", isFixed, fields: { ...times, ...fields, ...times },
+        types: { begin: type, end: type, stamp: "datetime-local" },
+        make: (values, options) => encode(payload("event", timesOf(values)), options) };
+}
+
+/** Returns a time in a zone, an offset from UTC or empty for that of the browser. */
+function timeOf(time, zone) {
+    return time === "" ? "" : zone === "" ? new Date(time) : time + zone;
+}
+
+function offsetOf(minutes) {
+    const [hours, rest] = [Math.trunc(Math.abs(minutes) / 60), Math.abs(minutes) % 60]
+        .map((it) => `${it}`.padStart(2, "0"));
+    return minutes === 0 ? "Z" : `${minutes < 0 ? "-" : "+"}${hours}:${rest}`;
 }
 
 function filled(name, text) {
@@ -80,13 +117,13 @@ export function saidOf({ name, field, message }) {
 }
 
 /** Returns the element of a field, with its label, hint and place for an error. */
-export function fieldOf(name, given) {
+export function fieldOf(name, given, type) {
     const hint = OWN[name] ?? given;
     const box = document.createElement("div");
     const label = document.createElement("label");
     const below = document.createElement("p");
     const wrong = document.createElement("p");
-    const input = inputOf(name, hint);
+    const input = inputOf(name, hint, type);
     input.id = `field-${name}`;
     input.name = name;
     [label.htmlFor, below.id, wrong.id] = [input.id, `hint-${name}`, `error-${name}`];
@@ -107,19 +144,24 @@ export function fieldOf(name, given) {
     return box;
 }
 
-function inputOf(name, hint) {
-    const choices = /^("[^"]+"(?:,| or) )+"[^"]+"; empty/.test(hint)
-        ? ["", ...hint.split(";")[0].match(/"[^"]+"/g).map((it) => it.slice(1, -1))] : [];
+function inputOf(name, hint, type) {
+    const zone = new Intl.DateTimeFormat().resolvedOptions().timeZone;
+    const choices = name === "zone" ? [["", `${zone}, as here`],
+        ...OFFSETS.map(offsetOf).map((it) => [it, it === "Z" ? "UTC" : `UTC ${it}`])]
+        : /^("[^"]+"(?:,| or) )+"[^"]+"; empty/.test(hint)
+        ? [["", "default"], ...hint.split(";")[0].match(/"[^"]+"/g)
+            .map((it) => [it.slice(1, -1), it.slice(1, -1)])] : [];
     if (choices.length > 0) {
         const select = document.createElement("select");
-        select.append(...choices.map((it) => new Option(it || "default", it)));
+        select.append(...choices.map(([value, text]) => new Option(text, value)));
         return select;
     }
     const input = document.createElement(LONG.includes(name) ? "textarea" : "input");
     if (LONG.includes(name))
         input.rows = name === "text" ? 5 : 3;
     else
-        input.type = hint.startsWith('"true" if') ? "checkbox" : "text";
+        input.type = hint.startsWith('"true" if') ? "checkbox"
+            : type ?? (name === "birthday" ? "date" : "text");
     input.spellcheck = false;
     if (MODES[name])
         input.inputMode = MODES[name];

@@ -59,7 +59,8 @@ function showForm(state = {}) {
     const form = FORMS[at("kind").value];
     touched.clear();
     at("about").textContent = form.about;
-    at("fields").replaceChildren(...Object.entries(form.fields).map((it) => fieldOf(...it)));
+    at("fields").replaceChildren(...Object.entries(form.fields)
+        .map(([name, hint]) => fieldOf(name, hint, form.types?.[name])));
     for (const id of [...OPTIONS, ...Object.keys(form.fields).map((it) => `field-${it}`)])
         if (id in state)
             put(at(id), state[id]);

@@ -5,6 +5,7 @@ import contextlib
 import functools
 import http.server
 import json
+import os
 import shutil
 import socket
 import subprocess
@@ -13,6 +14,9 @@ import time
 import urllib.request
 from pathlib import Path
 
+# How a browser is started: in a zone that is no whole hour from UTC.
+HOW = {"stdout": subprocess.DEVNULL, "stderr": subprocess.DEVNULL,
+       "env": {**os.environ, "TZ": "Asia/Kathmandu"}}
 ELEMENT = "element-6066-11e4-a52e-4f735466cecf"
 
 
@@ -85,8 +89,7 @@ class Chromium(Browser):
     name = "Chromium"
 
     def __init__(self, folder):
-        self.driver = subprocess.Popen(["chromedriver", "--port=9516"], stdout=subprocess.DEVNULL,
-                                       stderr=subprocess.DEVNULL)
+        self.driver = subprocess.Popen(["chromedriver", "--port=9516"], **HOW)
         self.root = "http://127.0.0.1:9516/session"
         options = {"args": ["--headless=new", "--no-sandbox", "--disable-gpu", "--lang=en"],
                    "prefs": {"profile.default_content_setting_values.clipboard": 1,
@@ -158,7 +161,7 @@ class Firefox(Browser):
         (self.profile / "user.js").write_text("".join(lines))
         words = ["firefox-esr", "--headless", "--marionette", "--profile", str(self.profile),
                  "--no-remote", "--new-instance", "-remote-allow-system-access"]
-        self.driver = subprocess.Popen(words, stdout=subprocess.DEVNULL, stderr=subprocess.DEVNULL)
+        self.driver = subprocess.Popen(words, **HOW)
         for _ in range(300):
             try:
                 self.socket = socket.create_connection(("127.0.0.1", 2829))
