@@ -13,8 +13,8 @@ from . import _checks
 from . import _numbers as goq
 from ._checks import PARTS, shown
 from ._colours import are_close, colour
-from ._formats import FORMATS, SIDES
 from ._library import Drawing, library
+from ._numbers import FORMATS, SIDES
 from .errors import NoSuchColour, NoSuchKind, NoSuchSize, NotInFormat, OutOfMemory, refuse
 
 

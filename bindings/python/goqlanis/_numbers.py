@@ -1,4 +1,5 @@
-"""The numbers and structs of bindings/c/goqlanis.h, written by bindings/same."""
+"""The numbers, structs and calls of bindings/c/goqlanis.h, and the formats; written by
+bindings/same. A field is a number (uint32_t) unless it has another type."""
 VERSION = 10000
 (OK, NO_SUCH_LEVEL, NO_SUCH_VERSION, LEVEL_NOT_IN_VERSION, TOO_LONG, NO_MODE, NO_ROOM, SMALL_BUFFER,
     OUT_OF_MEMORY, NO_SUCH_FORMAT, NOT_SQUARE, NO_SUCH_SIZE, NOT_TEXT, NO_SUCH_KIND, NOT_IN_MODE,
@@ -15,32 +16,6 @@ VERSION = 10000
 (NUMERIC, ALPHANUMERIC, BYTES, KANJI, ECI, FNC1_FIRST, FNC1_SECOND, ONE_OF_SEVERAL) = range(0, 8)
 (WIFI, MECARD, VCARD, PAYMENT, BILL, MAIL, GEO, TEL, SMS, OTP, EVENT, UPI, PIX,
     PROMPTPAY) = range(0, 14)
-(WIFI_SSID, WIFI_PASSWORD, WIFI_SECURITY, WIFI_HIDDEN, WIFI_FIELDS) = range(0, 5)
-(MECARD_FAMILY, MECARD_GIVEN, MECARD_PHONE, MECARD_EMAIL, MECARD_URL, MECARD_BIRTHDAY, MECARD_NOTE,
-    MECARD_STREET, MECARD_CITY, MECARD_REGION, MECARD_CODE, MECARD_COUNTRY,
-    MECARD_FIELDS) = range(0, 13)
-(VCARD_NAME, VCARD_FAMILY, VCARD_GIVEN, VCARD_ORGANISATION, VCARD_PHONE, VCARD_EMAIL, VCARD_URL,
-    VCARD_STREET, VCARD_CITY, VCARD_REGION, VCARD_CODE, VCARD_COUNTRY, VCARD_NOTE, VCARD_TITLE,
-    VCARD_BIRTHDAY, VCARD_MOBILE, VCARD_WORK_PHONE, VCARD_HOME_PHONE, VCARD_NICKNAME, VCARD_FAX,
-    VCARD_FIELDS) = range(0, 21)
-(PAYMENT_NAME, PAYMENT_IBAN, PAYMENT_AMOUNT, PAYMENT_BIC, PAYMENT_PURPOSE, PAYMENT_REFERENCE,
-    PAYMENT_MESSAGE, PAYMENT_INFORMATION, PAYMENT_FIELDS) = range(0, 9)
-(BILL_IBAN, BILL_NAME, BILL_STREET, BILL_NUMBER, BILL_CODE, BILL_CITY, BILL_COUNTRY, BILL_AMOUNT,
-    BILL_CURRENCY, BILL_REFERENCE, BILL_MESSAGE, BILL_DEBTOR_NAME, BILL_DEBTOR_STREET,
-    BILL_DEBTOR_NUMBER, BILL_DEBTOR_CODE, BILL_DEBTOR_CITY, BILL_DEBTOR_COUNTRY,
-    BILL_FIELDS) = range(0, 18)
-(MAIL_ADDRESS, MAIL_SUBJECT, MAIL_BODY, MAIL_CC, MAIL_BCC, MAIL_FIELDS) = range(0, 6)
-(GEO_LATITUDE, GEO_LONGITUDE, GEO_FIELDS) = range(0, 3)
-(TEL_NUMBER, TEL_FIELDS) = range(0, 2)
-(SMS_NUMBER, SMS_BODY, SMS_FIELDS) = range(0, 3)
-(OTP_ACCOUNT, OTP_SECRET, OTP_ISSUER, OTP_ALGORITHM, OTP_DIGITS, OTP_PERIOD, OTP_COUNTER,
-    OTP_FIELDS) = range(0, 8)
-(EVENT_BEGIN, EVENT_END, EVENT_SUMMARY, EVENT_LOCATION, EVENT_DESCRIPTION, EVENT_UID, EVENT_STAMP,
-    EVENT_FIELDS) = range(0, 8)
-(UPI_PAYEE, UPI_NAME, UPI_AMOUNT, UPI_NOTE, UPI_REFERENCE, UPI_CATEGORY, UPI_FIELDS) = range(0, 7)
-(PIX_PAYEE, PIX_NAME, PIX_CITY, PIX_AMOUNT, PIX_REFERENCE, PIX_DESCRIPTION,
-    PIX_FIELDS) = range(0, 7)
-(PROMPTPAY_PAYEE, PROMPTPAY_AMOUNT, PROMPTPAY_FIELDS) = range(0, 3)
 (AS_BYTES, AS_TEXT, AS_MARKED_TEXT) = range(0, 3)
 UNMARKED = 0
 (ISO_8859_1, ISO_8859_2, ISO_8859_3, ISO_8859_4, ISO_8859_5, ISO_8859_6, ISO_8859_7, ISO_8859_8,
@@ -59,11 +34,8 @@ BLOCKS_MAX = 81
 STRUCTS = {
     "goq_options": "size level manner version min_version boost mask",
     "goq_several": "size level manner min_version max_version count",
-    "goq_drawing": "size format zone scale dark light dpi finder_dark finder_light "
-        "alignment_dark alignment_light timing_dark timing_light format_dark format_light "
-        "version_dark version_light data_dark data_light",
-    "goq_symbol": "version level width",
-    "goq_segment": "kind number bytes:data length:size",
+    "goq_drawing": "size format zone scale dark light dpi finder_dark finder_light alignment_dark alignment_light timing_dark timing_light format_dark format_light version_dark version_light data_dark data_light",
+    "goq_symbol": "version level width", "goq_segment": "kind number bytes:data length:size",
     "goq_field": "bytes:data length:size",
     "goq_element": "identifier:data identifier_length:size value:data value_length:size",
     "goq_reading": "version level mask wrong:size length:size",
@@ -72,25 +44,70 @@ STRUCTS = {
     "goq_code": "reading:goq_reading position parts:size",
     "goq_scan": "size codes:size parts:size length:size",
     "goq_missed_code": "width:size left:size top:size why",
-    "goq_wrong_modules": "finder:size alignment:size timing:size format:size version:size "
-        "remainder:size",
-    "goq_data_bits": "segments compared bits:size fewest:size terminator:size padding:size "
-        "guessed:size are_utf8",
+    "goq_wrong_modules": "finder:size alignment:size timing:size format:size version:size remainder:size",
+    "goq_data_bits": "segments compared bits:size fewest:size terminator:size padding:size guessed:size are_utf8",
     "goq_rank": "lower:size equal:size",
-    "goq_checked": "version level mask standard grade blocks:size allowed:size unused:size "
-        "wrong:goq_wrong_modules data:goq_data_bits masks:goq_rank masks_here:goq_rank",
-    "goq_checks": "size codes:size blocks:size",
-    "goq_square": "modules:data length:size",
+    "goq_checked": "version level mask standard grade blocks:size allowed:size unused:size wrong:goq_wrong_modules data:goq_data_bits masks:goq_rank masks_here:goq_rank",
+    "goq_checks": "size codes:size blocks:size", "goq_square": "modules:data length:size",
     "goq_rectangle": "left:size top:size width:size height:size",
-    "goq_taken": "blocks:size allowed:size worst:size first:size last:size least:size "
-        "may_show_anything",
+    "goq_taken": "blocks:size allowed:size worst:size first:size last:size least:size may_show_anything",
     "goq_wish": "size across down reserve keep_alignment",
-    "goq_wrong": "size codewords:size format_bits:size version_bits:size pattern_modules:size "
-        "seed:size",
+    "goq_wrong": "size codewords:size format_bits:size version_bits:size pattern_modules:size seed:size",
     "goq_promised": "codewords:size is_promised",
+}
+CALLS = {
+    "goq_version": "", "goq_encode_with": "data size goq_options data size goq_symbol",
+    "goq_encode_charset": "data size numbers size goq_options data size goq_symbol numbers sizes",
+    "goq_encode_several": "data size goq_several data size goq_symbol sizes",
+    "goq_encode_segments": "goq_segment size number number data size goq_symbol",
+    "goq_smallest_version_of_segments": "goq_segment size number numbers", "goq_width": "number",
+    "goq_is_functional": "number number number",
+    "goq_draw_with": "data size number goq_drawing data size sizes",
+    "goq_draw_with_length": "data size number goq_drawing sizes",
+    "goq_read": "data size data size goq_reading",
+    "goq_read_any": "data size data size goq_any_reading",
+    "goq_read_text": "data size data size goq_reading",
+    "goq_decode": "data size number data size sizes", "goq_mask": "data size numbers",
+    "goq_picture_length": "data size",
+    "goq_read_picture": "data size goq_code size goq_part size data size goq_scan",
+    "goq_missed": "data size goq_missed_code size sizes",
+    "goq_check": "data size goq_checked size sizes size goq_checks",
+    "goq_check_square": "data size sizes size goq_checked",
+    "goq_join": "goq_square size data size sizes sizes",
+    "goq_content": "number goq_field size data size sizes sizes",
+    "goq_gs1": "goq_element size data size sizes sizes",
+    "goq_encode_gs1": "goq_element size goq_options data size goq_symbol sizes",
+    "goq_reserve": "number number goq_rectangle size sizes size goq_taken",
+    "goq_largest_area": "number number goq_wish goq_rectangle",
+    "goq_cover": "data size goq_rectangle size sizes",
+    "goq_damage": "data size goq_wrong goq_promised",
+}
+PAYLOADS = {
+    "wifi": "ssid password security hidden",
+    "mecard": "family given phone email url birthday note street city region code country",
+    "vcard": "name family given organisation phone email url street city region code country note title birthday mobile work_phone home_phone nickname fax",
+    "payment": "name iban amount bic purpose reference message information",
+    "bill": "iban name street number code city country amount currency reference message debtor_name debtor_street debtor_number debtor_code debtor_city debtor_country",
+    "mail": "address subject body cc bcc", "geo": "latitude longitude", "tel": "number",
+    "sms": "number body", "otp": "account secret issuer algorithm digits period counter",
+    "event": "begin end summary location description uid stamp",
+    "upi": "payee name amount note reference category",
+    "pix": "payee name city amount reference description", "promptpay": "payee amount",
 }
 CHARSETS = {"iso-8859-1": 3, "iso-8859-2": 4, "iso-8859-3": 5, "iso-8859-4": 6, "iso-8859-5": 7,
     "iso-8859-6": 8, "iso-8859-7": 9, "iso-8859-8": 10, "iso-8859-9": 11, "iso-8859-10": 12,
     "iso-8859-11": 13, "iso-8859-13": 15, "iso-8859-14": 16, "iso-8859-15": 17, "iso-8859-16": 18,
     "shift-jis": 20, "windows-1250": 21, "windows-1251": 22, "windows-1252": 23, "windows-1256": 24,
     "utf-8": 26}
+# By file extension: the number, whether it is text, the default pixels of a module,
+# and whether it has colours.
+FORMATS = {
+    "txt": (0, True, 1, False), "png": (5, False, 8, True), "svg": (8, True, 8, True),
+    "eps": (6, True, 8, True), "pic": (3, True, 1, False), "pbm": (7, False, 8, False),
+    "pgm": (9, False, 8, False), "pdf": (10, False, 8, True), "zpl": (11, True, 8, False),
+    "tspl": (12, False, 8, False), "escpos": (13, False, 8, False), "xbm": (14, True, 8, False),
+    "ppm": (15, False, 8, True),
+}
+# The maximum pixels per side, by these numbers, if there is a limit.
+SIDES = {0: 4096, 1: 4096, 4: 16384, 5: 65535, 7: 16384, 9: 16384, 12: 16384, 13: 16384, 14: 16384,
+    15: 16384, 16: 4096}

@@ -10,7 +10,7 @@ from . import _checks
 from . import _numbers as goq
 from ._checks import shown
 from ._library import Element, Field, library
-from ._numbers import BYTES_MAX
+from ._numbers import BYTES_MAX, PAYLOADS
 from .errors import NoRoom, TooLong, WrongField, refuse
 
 Number = Union[int, float, str, decimal.Decimal]
@@ -90,15 +90,15 @@ for _each in (WrongField, *_CAUSES.values()):
         _each.__module__ = "goqlanis.contents"
 
 
-def text_of(kind: int, given: Dict[str, Any]) -> str:
-    """Returns the text of a kind of payload, whose fields are the arguments of a call, in the
-    library's order."""
-    fields: List[Tuple[str, Any]] = []
-    for name, value in given.items():
-        fields += _fields_of(name, value)
+def text_of(kind: str, given: Dict[str, Any]) -> str:
+    """Returns the text of a kind of payload, whose fields are the arguments of a call."""
+    told = {name.replace("creditor.", "").replace(".", "_"): (name, text)
+            for it, value in given.items() for name, text in _fields_of(it, value)}
+    fields = [told.pop(it) for it in PAYLOADS[kind].split()]
+    assert not told
     rows = (Field * len(fields))(*(_field(*it) for it in fields))
     out, count, place = _room(), ctypes.c_size_t(), ctypes.c_size_t()
-    answer = library.goq_content(kind, rows, len(rows), out, BYTES_MAX, ctypes.byref(count),
+    answer = library.goq_content(getattr(goq, kind.upper()), rows, len(rows), out, BYTES_MAX, ctypes.byref(count),
                                  ctypes.byref(place))
     _refuse(answer, fields[place.value][0] if place.value < len(fields) else "text")
     return bytes(out[:count.value]).decode()
@@ -108,7 +108,7 @@ def _fields_of(name: str, value: Any) -> List[Tuple[str, Any]]:
     """Returns the fields of an argument: itself, or those of a party."""
     if name in PARTIES:
         if value is None and name == "debtor":
-            return []
+            return [(f"{name}.{part}", "") for part in PARTY]
         if getattr(value, "_fields", ()) != PARTY:
             raise TypeError(f"{name} is a contents.Party(name, street, ..), not {shown(value)}")
         return [(f"{name}.{part}", text) for part, text in zip(PARTY, value)]

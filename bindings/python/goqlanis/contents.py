@@ -23,7 +23,6 @@ swapped digit
 """
 from typing import Iterable, NamedTuple, Optional, Tuple, Union
 
-from . import _numbers as goq
 from ._payloads import (ControlCharacter, EmptyField, Number, OutOfRange, Time, TooLong,
                       TooManyDecimals, TooShort, UnknownIdentifier, UnknownWord, Unused,
                       WrongCharacter, WrongCheckDigits, WrongField, WrongLength, elements_of,
@@ -46,7 +45,7 @@ def wifi(ssid: str, password: str = "", security: str = "", hidden: bool = False
     >>> wifi('"foo;bar\\\\baz"', hidden=True)
     'WIFI:T:nopass;S:\\\\"foo\\\\;bar\\\\\\\\baz\\\\";H:true;;'
     """
-    return text_of(goq.WIFI, locals())
+    return text_of("wifi", locals())
 
 
 def mecard(family: str, given: str = "", phone: str = "", email: str = "", url: str = "",
@@ -60,7 +59,7 @@ def mecard(family: str, given: str = "", phone: str = "", email: str = "", url: 
     >>> mecard("Owen", "Sean", email="srowen@example.com")
     'MECARD:N:Owen,Sean;EMAIL:srowen@example.com;;'
     """
-    return text_of(goq.MECARD, locals())
+    return text_of("mecard", locals())
 
 
 def vcard(name: str, family: str, given: str = "", organisation: str = "", phone: str = "",
@@ -76,7 +75,7 @@ def vcard(name: str, family: str, given: str = "", organisation: str = "", phone
     >>> vcard("Frank Dawson", "Dawson", "Frank", email="fdawson@earthlink.net").splitlines()[2:5]
     ['N:Dawson;Frank;;;', 'FN:Frank Dawson', 'EMAIL:fdawson@earthlink.net']
     """
-    return text_of(goq.VCARD, locals())
+    return text_of("vcard", locals())
 
 
 def payment(name: str, iban: str, amount: Number, bic: str = "", purpose: str = "",
@@ -93,7 +92,7 @@ def payment(name: str, iban: str, amount: Number, bic: str = "", purpose: str = 
     ['BPOTBEB1', 'Red Cross of Belgium', 'BE72000000001616', 'EUR1.00']
     """
     amount = number("amount", amount)
-    return text_of(goq.PAYMENT, locals())
+    return text_of("payment", locals())
 
 
 class Party(NamedTuple):
@@ -120,7 +119,7 @@ def bill(iban: str, creditor: Party, amount: Optional[Number] = None, currency: 
     ...      reference="RF18539007547034").splitlines()[27:]
     ['SCOR', 'RF18539007547034', '', 'EPD']
     """
-    return text_of(goq.BILL, locals())
+    return text_of("bill", locals())
 
 
 def mail(address: str, subject: str = "", body: str = "", cc: str = "", bcc: str = "") -> str:
@@ -129,7 +128,7 @@ def mail(address: str, subject: str = "", body: str = "", cc: str = "", bcc: str
     >>> mail("infobot@example.com", body="send current-issue\\nsend index")
     'mailto:infobot@example.com?body=send%20current-issue%0D%0Asend%20index'
     """
-    return text_of(goq.MAIL, locals())
+    return text_of("mail", locals())
 
 
 def geo(latitude: Number, longitude: Number) -> str:
@@ -141,7 +140,7 @@ def geo(latitude: Number, longitude: Number) -> str:
     >>> geo(90, -22.43)
     'geo:90,-22.43'
     """
-    return text_of(goq.GEO, locals())
+    return text_of("geo", locals())
 
 
 def tel(number: str) -> str:
@@ -150,7 +149,7 @@ def tel(number: str) -> str:
     >>> tel("+1-201-555-0123")
     'tel:+1-201-555-0123'
     """
-    return text_of(goq.TEL, locals())
+    return text_of("tel", locals())
 
 
 def sms(number: str, body: str = "") -> str:
@@ -159,7 +158,7 @@ def sms(number: str, body: str = "") -> str:
     >>> sms("+15105550101", "hello there")
     'sms:+15105550101?body=hello%20there'
     """
-    return text_of(goq.SMS, locals())
+    return text_of("sms", locals())
 
 
 def totp(account: str, secret: str, issuer: str = "", algorithm: str = "SHA1", digits: int = 6,
@@ -185,7 +184,7 @@ def hotp(account: str, secret: str, issuer: str = "", algorithm: str = "SHA1", d
 
 def _otp(account: str, secret: str, issuer: str, algorithm: str, digits: int,
          period: Union[int, str], counter: Union[int, str]) -> str:
-    return text_of(goq.OTP, locals())
+    return text_of("otp", locals())
 
 
 def event(begin: Time, end: Time, summary: str = "", location: str = "", description: str = "",
@@ -201,7 +200,7 @@ def event(begin: Time, end: Time, summary: str = "", location: str = "", descrip
     >>> event(begin, "1997-07-15T04:00Z", "Bastille Day Party").splitlines()[4:7]
     ['DTSTART:19970714T170000Z', 'DTEND:19970715T040000Z', 'SUMMARY:Bastille Day Party']
     """
-    return text_of(goq.EVENT, locals())
+    return text_of("event", locals())
 
 
 def upi(payee: str, name: str = "", amount: Optional[Number] = None, note: str = "",
@@ -214,7 +213,7 @@ def upi(payee: str, name: str = "", amount: Optional[Number] = None, note: str =
     >>> upi("nadeem@npci", "nadeem chinna", 10, "Pay", category="0000")
     'upi://pay?pa=nadeem@npci&pn=nadeem%20chinna&mc=0000&tn=Pay&am=10.00&cu=INR'
     """
-    return text_of(goq.UPI, locals())
+    return text_of("upi", locals())
 
 
 def pix(payee: str, name: str, city: str, amount: Optional[Number] = None, reference: str = "",
@@ -227,7 +226,7 @@ def pix(payee: str, name: str, city: str, amount: Optional[Number] = None, refer
     >>> pix("123e4567-e12b-12d1-a456-426655440000", "Fulano de Tal", "BRASILIA")[-46:]
     '13Fulano de Tal6008BRASILIA62070503***63041D3D'
     """
-    return text_of(goq.PIX, locals())
+    return text_of("pix", locals())
 
 
 def promptpay(payee: str, amount: Optional[Number] = None) -> str:
@@ -238,7 +237,7 @@ def promptpay(payee: str, amount: Optional[Number] = None) -> str:
     >>> promptpay("000-000-0000", "4.22")
     '00020101021229370016A000000677010111011300660000000005802TH530376454044.226304E469'
     """
-    return text_of(goq.PROMPTPAY, locals())
+    return text_of("promptpay", locals())
 
 
 def gs1(elements: Iterable[Tuple[str, str]]) -> bytes:
