@@ -1,7 +1,7 @@
 """Requests for symbols in the library's numbers, and its answers."""
 import ctypes
-from dataclasses import replace
-from typing import Any, List, NamedTuple, Sequence, Tuple
+from dataclasses import dataclass, replace
+from typing import Any, List, Sequence, Tuple
 
 from ._checks import LEVELS, version_name
 from ._library import Known, Options, Segment, Several, library
@@ -29,110 +29,90 @@ def _made(call: Any, *given: Any, behind: Sequence[Any] = (), most: int = 1) -> 
     return 0, [Symbol(part, name, level) for part in parts]
 
 
-class Data(NamedTuple):
-    """A symbol of data. A version of 0 is the smallest; a mask of 0 is the one with the lowest
-    penalty, and others are their number plus 1."""
-    data: bytes
+@dataclass(frozen=True)
+class Asked:
+    """A symbol of what is `given`. A version of 0 is the smallest; a mask of 0 is the one with the
+    lowest penalty, and others are their number plus 1."""
+    given: Any
     level: int
-    manner: int
-    version: int
-    min_version: int
-    boost: int
-    mask: int
+    version: int = 0
+    min_version: int = 1
+    boost: int = 0
+    mask: int = 0
+    manner: int = AS_BYTES
 
-    def options(self) -> Options:
-        return Options(ctypes.sizeof(Options), *self[1:])
+    def options(self) -> Any:
+        return ctypes.byref(Options(ctypes.sizeof(Options), self.level, self.manner, self.version,
+                                    self.min_version, self.boost, self.mask))
 
     def answer(self) -> Answer:
-        options = ctypes.byref(self.options())
-        return _made(library.goq_encode_with, self.data, len(self.data), options)
+        raise NotImplementedError
 
-    def of_any_version(self) -> "Data":
-        least = MICRO_1 if self.version > 40 else 1
-        return self._replace(version=0, min_version=least, boost=0, mask=0)
+    def of_any_version(self) -> "Asked":
+        is_micro = self.version >= MICRO_1 and isinstance(self, (Data, Text))
+        return replace(self, version=0, min_version=MICRO_1 if is_micro else 1, boost=0, mask=0)
 
 
-class Text(NamedTuple):
+class Data(Asked):
+    """A symbol of data."""
+
+    def answer(self) -> Answer:
+        return _made(library.goq_encode_with, self.given, len(self.given), self.options())
+
+
+@dataclass(frozen=True)
+class Text(Asked):
     """A symbol of text in the set with one of these numbers, or without numbers in that in which it
     takes the fewest bits."""
-    data: bytes
-    level: int
-    version: int
-    min_version: int
-    boost: int
-    mask: int
-    sets: Sequence[int]
+    sets: Sequence[int] = ()
 
     def told(self) -> Tuple[int, List[Symbol], int]:
         """Returns the answer, and the place of a character that the set lacks."""
-        options = Data(b"", self.level, AS_BYTES, *self[2:6]).options()
         numbers = (ctypes.c_uint32 * len(self.sets))(*self.sets)
         chosen, place = ctypes.c_uint32(), ctypes.c_size_t()
-        answer, symbols = _made(library.goq_encode_charset, self.data, len(self.data), numbers,
-                                len(numbers), ctypes.byref(options), behind=[chosen, place])
+        answer, symbols = _made(library.goq_encode_charset, self.given, len(self.given), numbers,
+                                len(numbers), self.options(), behind=[chosen, place])
         return answer, [replace(it, charset=SETS[chosen.value]) for it in symbols], place.value
 
     def answer(self) -> Answer:
         return self.told()[:2]
 
-    def of_any_version(self) -> "Text":
-        least = MICRO_1 if self.version > 40 else 1
-        return self._replace(version=0, min_version=least, boost=0, mask=0)
 
-
-class Parts(NamedTuple):
-    """Several symbols over which data is split."""
-    data: bytes
-    level: int
-    manner: int
-    min_version: int
-    max_version: int
-    wanted: int
+@dataclass(frozen=True)
+class Parts(Asked):
+    """Several symbols over which data is split; 0 are as few as possible."""
+    max_version: int = 40
+    wanted: int = 0
 
     def answer(self) -> Answer:
-        options = ctypes.byref(Several(ctypes.sizeof(Several), *self[1:]))
-        given, count = (self.data, len(self.data), options), ctypes.c_size_t()
-        return _made(library.goq_encode_several, *given, behind=[count], most=SEVERAL_MAX)
+        options = Several(ctypes.sizeof(Several), self.level, self.manner, self.min_version,
+                          self.max_version, self.wanted)
+        return _made(library.goq_encode_several, self.given, len(self.given), ctypes.byref(options),
+                     behind=[ctypes.c_size_t()], most=SEVERAL_MAX)
 
 
-class Segments(NamedTuple):
-    """A symbol of segments. A version of 0 is the smallest of Normal QR."""
-    rows: Sequence[Segment]
-    level: int
-    version: int
+class Segments(Asked):
+    """A symbol of segments; the smallest is one of Normal QR."""
 
-    def given(self) -> Tuple[Any, int]:
-        return (Segment * len(self.rows))(*self.rows), len(self.rows)
+    def rows(self) -> Tuple[Any, int]:
+        return (Segment * len(self.given))(*self.given), len(self.given)
 
     def least(self) -> Tuple[int, int]:
         """Returns the library's answer about the smallest version, and its number."""
         found = ctypes.c_uint32()
         call = library.goq_smallest_version_of_segments
-        return call(*self.given(), self.level, ctypes.byref(found)), found.value
+        return call(*self.rows(), self.level, ctypes.byref(found)), found.value
 
     def answer(self) -> Answer:
         answer, version = (0, self.version) if self.version else self.least()
         if answer:
             return answer, []
-        return _made(library.goq_encode_segments, *self.given(), version, self.level)
-
-    def of_any_version(self) -> "Segments":
-        return self._replace(version=0)
+        return _made(library.goq_encode_segments, *self.rows(), version, self.level)
 
 
-class Elements(NamedTuple):
-    """A symbol of correct GS1 elements. A version of 0 is the smallest."""
-    elements: Any
-    level: int
-    version: int
-    min_version: int
-    mask: int
+class Elements(Asked):
+    """A symbol of correct GS1 elements."""
 
     def answer(self) -> Answer:
-        _, level, version, least, mask = self
-        options = Data(b"", level, AS_BYTES, version, least, 0, mask).options()
-        given = self.elements, len(self.elements), ctypes.byref(options)
-        return _made(library.goq_encode_gs1, *given, behind=[ctypes.c_size_t()])
-
-    def of_any_version(self) -> "Elements":
-        return self._replace(version=0, min_version=1, mask=0)
+        return _made(library.goq_encode_gs1, self.given, len(self.given), self.options(),
+                     behind=[ctypes.c_size_t()])

@@ -25,57 +25,46 @@ MOST_DIGITS = 40
 
 
 class EmptyField(WrongField):
-    """The field may not be empty."""
     why = "it may not be empty"
 
 
 class TooShort(WrongField):
-    """The field is shorter than the format allows."""
     why = "it is shorter than the format allows"
 
 
 class ControlCharacter(WrongField):
-    """The field has a line break or another control character."""
     why = "it has a line break or another control character"
 
 
 class WrongCharacter(WrongField):
-    """The field has a character that the format does not allow there."""
     why = "it has a character that the format does not allow there"
 
 
 class WrongCheckDigits(WrongField):
-    """The check digits do not match."""
     why = "the check digits do not match: look for a mistyped or swapped digit"
 
 
 class OutOfRange(WrongField):
-    """The number or time is outside what the format allows."""
     why = "it is outside what the format allows"
 
 
 class Unused(WrongField):
-    """The field cannot be given together with the others."""
     why = "it cannot be given together with the other fields"
 
 
 class TooManyDecimals(WrongField):
-    """The number has more digits after its point than the format allows."""
     why = "it has too many digits after the point"
 
 
 class UnknownWord(WrongField):
-    """The field is not one of the words that it may be."""
     why = "it is not one of the values that it may have"
 
 
 class UnknownIdentifier(WrongField):
-    """The application identifier is not in the table."""
     why = "its application identifier is not in the table"
 
 
 class WrongLength(WrongField):
-    """The value of an element has too few or too many characters."""
     why = "its value has too few or too many characters"
 
 

@@ -1,4 +1,5 @@
 """Error messages for data that is rejected: what is wrong, why, and what would help."""
+from dataclasses import replace
 from typing import Any
 
 from ._asked import SETS, Data, Parts, Segments, Text
@@ -18,7 +19,7 @@ def of(asked: Any, answer: int, said: str) -> Error:
     texts = {LEVEL_NOT_IN_VERSION: _no_level, NO_MODE: _no_mode, NOT_IN_MODE: _not_in_mode,
              NO_SUCH_MASK: _no_mask, NOT_IN_SET: _not_in_set}
     is_refused = answer in (LEVEL_NOT_IN_VERSION, NO_MODE, NO_ROOM)
-    if is_refused and isinstance(asked, (Data, Text)) and asked.version and len(asked.data) > LIMIT:
+    if is_refused and isinstance(asked, (Data, Text)) and asked.version and len(asked.given) > LIMIT:
         return refusal(TOO_LONG)
     if answer == NO_ROOM:
         return refusal(answer, _no_room(asked, said))
@@ -33,7 +34,7 @@ def _no_level(asked: Any) -> str:
 
 def _no_mode(asked: Any) -> str:
     name = version_name(asked.version)
-    if isinstance(asked, Segments) and any(row.kind >= len(MODES) for row in asked.rows):
+    if isinstance(asked, Segments) and any(row.kind >= len(MODES) for row in asked.given):
         return f"version {name} has no headers, like all of Micro QR; take 1 to 40"
     if isinstance(asked, Segments):
         return f"version {name} lacks a mode of the segments; M3, M4 and 1 to 40 have all"
@@ -47,8 +48,8 @@ def _no_mode(asked: Any) -> str:
 
 def _not_in_mode(asked: Segments) -> str:
     """Names the first segment that is rejected on its own."""
-    for at, row in enumerate(asked.rows):
-        if asked._replace(rows=[row], version=0).answer()[0] == NOT_IN_MODE:
+    for at, row in enumerate(asked.given):
+        if replace(asked, given=[row], version=0).answer()[0] == NOT_IN_MODE:
             return f"segment {at + 1}: {MODES[row.kind]}"
     return ""
 
@@ -56,13 +57,13 @@ def _not_in_mode(asked: Segments) -> str:
 def _not_in_set(asked: Text) -> str:
     """Names the first character that the set lacks."""
     place = asked.told()[2]
-    character = asked.data.decode()[place]
+    character = asked.given.decode()[place]
     return (f"character {place + 1:,}, {character!r} (U+{ord(character):04X}), is not in "
             f"{SETS[asked.sets[0]]}; charset='shortest' finds a set that has all")
 
 
 def _no_mask(asked: Any) -> str:
-    _, symbols = asked._replace(mask=0).answer()
+    _, symbols = replace(asked, mask=0).answer()
     name = symbols[0].version if symbols else version_name(asked.version)
     return f"version {name} has no mask {asked.mask - 1}: take one of 0 to 3"
 
@@ -87,7 +88,7 @@ def _no_room(asked: Any, said: str) -> str:
 
 def _are_held(asked: Data) -> bool:
     """Returns whether several symbols together hold the data."""
-    return Parts(asked.data, 0, asked.manner, 1, 40, 0).answer()[0] == 0
+    return Parts(asked.given, 0, manner=asked.manner).answer()[0] == 0
 
 
 def _helps(asked: Any) -> str:
@@ -96,7 +97,7 @@ def _helps(asked: Any) -> str:
     if asked.version:
         _, symbols = asked.of_any_version().answer()
         found += [f"version {symbol.version}" for symbol in symbols]
-    below = (asked._replace(level=level) for level in range(asked.level - 1, -1, -1))
+    below = (replace(asked, level=level) for level in range(asked.level - 1, -1, -1))
     held = next((it.level for it in below if it.answer()[0] == 0), None)
     found += [] if held is None else [f"level {LEVELS[held]}"]
     return " or ".join(found)
@@ -104,11 +105,11 @@ def _helps(asked: Any) -> str:
 
 def _most(asked: Data) -> int:
     """Returns the most bytes, of any kind, that the version holds, or without one version 40."""
-    at = asked._replace(version=asked.version or 40, boost=0, mask=0)
+    at = replace(asked, version=asked.version or 40, boost=0, mask=0)
     most, beyond = 0, 2954
     while beyond - most > 1:
         middle = (most + beyond) // 2
-        is_held = at._replace(data=bytes(middle)).answer()[0] == 0
+        is_held = replace(at, given=bytes(middle)).answer()[0] == 0
         most, beyond = (middle, beyond) if is_held else (most, middle)
     return most
 
@@ -117,7 +118,7 @@ def of_parts(asked: Parts, answer: int) -> Error:
     """Returns the error for several symbols."""
     level, last = LEVELS[asked.level], version_name(asked.max_version)
     if answer == NO_ROOM:
-        return refusal(answer, f"{len(asked.data):,} bytes: {asked.wanted or 16} codes up to "
+        return refusal(answer, f"{len(asked.given):,} bytes: {asked.wanted or 16} codes up to "
                        f"version {last} at level {level} do not hold them; take a larger version "
                        "or a lower level" + (", or more codes" if asked.wanted % 16 else ""))
     if answer == NO_SUCH_VERSION:

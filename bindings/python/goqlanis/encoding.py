@@ -86,13 +86,12 @@ M holds them
     if _checks.flag("boost", boost) and version is not None:
         raise ValueError("version and boost: use min_version instead of version")
     number = _mask(mask)
+    asked = octets, _checks.level(level), *versions, boost, number, manner
     if charset is not None:
         sets = _sets(is_text, marked, eci, charset)
-        return _one(_asked.Text(octets, _checks.level(level), *versions, boost, number, sets),
-                    "the characters")
+        return _one(_asked.Text(*asked, sets), "the characters")
     if eci is None or is_text:
-        return _one(_asked.Data(octets, _checks.level(level), manner, *versions, boost, number),
-                    f"{len(octets):,} bytes")
+        return _one(_asked.Data(*asked), f"{len(octets):,} bytes")
     if min_version is not None or micro or boost or number:
         raise ValueError("bytes with eci: only level and version may be given too")
     return encode_segments([("eci", eci), ("byte", octets)], level, version)
@@ -169,8 +168,8 @@ def encode_sequence(data: Data, level: str = "M", version: Optional[Version] = N
                    40 if max_version is None else max_version)
     first, last = (_checks.version(it if version is None else version) for it in (least, most))
     wanted = 0 if count is None else _checks.whole("count", count, 1, SEVERAL_MAX)
-    asked = _asked.Parts(octets, _checks.level(level), AS_TEXT if is_text else AS_BYTES, first,
-                         last, wanted)
+    asked = _asked.Parts(octets, _checks.level(level), min_version=first, max_version=last,
+                         wanted=wanted, manner=AS_TEXT if is_text else AS_BYTES)
     answer, symbols = asked.answer()
     if answer:
         raise _refusals.of_parts(asked, answer)
@@ -252,7 +251,7 @@ def encode_gs1(elements: Elements, level: str = "M", version: Optional[Version] 
     """
     given, versions = elements_of(elements), _versions(version, min_version, False)
     string_of(given)
-    return _one(_asked.Elements(given, _checks.level(level), *versions, _mask(mask)),
+    return _one(_asked.Elements(given, _checks.level(level), *versions, mask=_mask(mask)),
                 "the elements")
 
 

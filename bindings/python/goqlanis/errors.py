@@ -20,6 +20,9 @@ class WrongField(Error, ValueError):
 
     why = "the format cannot say it"
 
+    def __init_subclass__(cls) -> None:
+        cls.__doc__ = cls.__doc__ or f"A field of a payload or an element is wrong: {cls.why}."
+
     def __init__(self, field: str, said: str = ""):
         super().__init__(field, said)
         self.field, self.said = field, said
