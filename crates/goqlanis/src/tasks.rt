@@ -108,7 +108,7 @@ fn perform(rt: &HostRuntime, task: &Task, given: &ArgMatches<'_>) -> Result<Exit
         Purpose::Draw if given.get_flag("version") => print(rt, VERSION.as_bytes()),
         purpose => {
             check_conflicts(rt.alloc(), given)?;
-            make(rt, purpose, &asked_for(rt, purpose, given)?)
+            make(rt, &asked_for(rt, purpose, given)?)
         }
     }
 }

@@ -20,30 +20,15 @@ use qrcode::QrCode;
 use qrcode::types::Version;
 use qrcode_area::areas::Rectangle;
 use qrcode_area::excess::Excess;
-use qrcode_area::rectangles::Kept;
-use qrcode_formats::Format;
 use qrcode_sheets::{Inset, Place};
 use std::alloc::{AllocError, Global};
 
 // The maximum size of a logo file: 1 MiB.
 const MOST_LOGO: usize = 1_048_576;
 
-/// The Swiss cross in the middle of a bill.
-pub const SWISS_CROSS: AskedLogo<'static> = AskedLogo {
-    middle: Middle::Cross,
-    size: LogoSize::Largest,
-    kept: Kept::ButAlignment,
-    margin: 0,
-};
-
-/// Whether the format supports the Swiss cross.
-pub fn has_cross(format: Format) -> bool {
-    format.row().middle != qrcode_formats::Middle::Light
-}
-
 /// Reads the logo file, once for all codes; returns `None` without `--logo`.
 pub fn read_logo(rt: &HostRuntime, asked: &Asked<'_, '_>) -> Result<Option<Logo>, Failure> {
-    let Some(path) = asked.logo_file else {
+    let Some(path) = asked.logo.and_then(|logo| logo.file) else {
         return Ok(None);
     };
     let file = read_file(rt, path, MOST_LOGO)?;
@@ -119,7 +104,8 @@ pub fn warn_of_logo(
     code: &QrCode,
     area: Option<Rectangle>,
 ) -> Result<(), Failure> {
-    let (Some(area), Some(logo)) = (area.filter(|_| asked.logo_file.is_some()), &asked.logo) else {
+    let logo = asked.logo.as_ref().filter(|logo| logo.file.is_some());
+    let (Some(area), Some(logo)) = (area, logo) else {
         return Ok(());
     };
     let wish = wish_of(logo, code);

@@ -3,7 +3,7 @@
 ghost use Rattle.std.specs.Prelude.{◌≡◌, length, IfOk};
 
 use goqlanis_files::failure::Failure;
-use goqlanis_files::{doubted, refused, usage};
+use goqlanis_files::{doubted, refused};
 use goqlanis_options::asked::Asked;
 use goqlanis_options::damage::{AskedDamage, Wrong};
 use goqlanis_request::masking::modules_under;
@@ -33,8 +33,8 @@ fn damage_in(code: &QrCode, asked: AskedDamage) -> Damage {
 
 /// Draws a damaged code. Warns if so much damage need not be read.
 ///
-/// Errors: `Usage` with a logo; `Refused` if the code has too few codewords, bits or modules, or
-/// warnings are errors; `OutOfMemory`.
+/// Errors: `Refused` if the code has too few codewords, bits or modules, or warnings are errors;
+/// `OutOfMemory`.
 pub(crate) fn draw_damaged(
     rt: &HostRuntime,
     asked: &Asked<'_, '_>,
@@ -42,9 +42,6 @@ pub(crate) fn draw_damaged(
     code: &QrCode,
 ) -> Result<Vec<u8>, Failure> {
     let alloc = rt.alloc();
-    if asked.logo.is_some() {
-        return usage!(alloc; "--logo, --logo-area: a damaged code has no room for them");
-    }
     let damage = damage_in(code, wanted);
     if !damage.is_promised(code.version(), code.error_correction_level()) {
         doubted!(rt, asked.doubts;
@@ -91,6 +88,6 @@ fn masked_modules(
 {
     match modules_under(alloc, code, request.mask) {
         Ok(modules) => Ok(modules),
-        Err(error) => Err(Failure::Refused(refusal_text(alloc, request, &[], error)?)),
+        Err(error) => Err(Failure::Refused(refusal_text(alloc, request, error)?)),
     }
 }

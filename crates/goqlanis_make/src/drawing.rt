@@ -15,12 +15,13 @@ use goqlanis_files::failure::Failure;
 use goqlanis_files::streams::{print, write_data, write_file};
 use goqlanis_files::{refused, usage};
 use goqlanis_logos::middle::{draw_with_middle, has_pixels, middle_of, warn_of_logo};
-use goqlanis_options::asked::{Asked, Target};
+use goqlanis_options::asked::{Asked, Target, Work};
+use goqlanis_options::charsets::Coded;
 use goqlanis_options::report::show_report;
 use goqlanis_request::{
-    Drawing, Request, Segment, application_refusal_text, drawing_of, elements_refusal_text,
-    manner_of, quiet_zone, refusal_text, scale, segments_refusal_text, symbol_for_application,
-    symbol_in, symbol_of, symbol_of_elements, unwritable,
+    Drawing, Extent, Request, Segment, application_refusal_text, data_refusal_text, drawing_of,
+    elements_refusal_text, manner_of, quiet_zone, refusal_text, scale, segments_refusal_text,
+    symbol_for_application, symbol_in, symbol_of, symbol_of_elements, unwritable,
 };
 use goqlanis_tables::pages::Pages;
 use qrcode::QrCode;
@@ -46,16 +47,15 @@ pub(crate) fn draw_one(
     check_empty(alloc, asked, bytes)?;
     if let Some(name) = asked.input.charset {
         let (code, coded) = text_code(alloc, asked, name, bytes)?;
-        let coded = Some(coded);
-        return draw_reported(rt, &Asked { coded, ..*asked }, code);
+        return draw_reported(rt, asked, code, Some(coded));
     }
-    let request = Request {
-        manner: manner(alloc, asked, bytes)?,
-        ..asked.request
-    };
-    match symbol_in(alloc, request.choice, request.manner, request.level, bytes) {
-        Ok(code) => draw_reported(rt, &Asked { request, ..*asked }, code),
-        Err(error) => Err(Failure::Refused(refusal_text(alloc, &request, bytes, error)?)),
+    let (request, manner) = (&asked.request, manner(alloc, asked, bytes)?);
+    match symbol_in(alloc, request.choice, manner, request.level, bytes) {
+        Ok(code) => draw_reported(rt, asked, code, None),
+        Err(error) => {
+            let why = data_refusal_text(alloc, request, manner, bytes, error)?;
+            Err(Failure::Refused(why))
+        }
     }
 }
 
@@ -88,7 +88,7 @@ fn draw_code(alloc: Global, asked: &Asked<'_, '_>, code: QrCode) -> Result<Pictu
             area: None,
         }),
         Err(error) => {
-            let why = refusal_text(alloc, &asked.request, &[], error)?;
+            let why = refusal_text(alloc, &asked.request, error)?;
             Err(Failure::Refused(why))
         }
     }
@@ -115,14 +115,14 @@ pub(crate) fn check_side(
     } else {
         row.most
     };
-    let (option, limit) = match request.size {
-        Some(size) if scale == 0 => return refused!(alloc;
+    let (option, limit) = match request.extent {
+        Extent::Side(size, _) if scale == 0 => return refused!(alloc;
             "a side of {size} pixels is too small: the code and its quiet zone have {modules} \
             modules a side; use --size {modules} or more, or a smaller --quiet-zone"
         ),
         _ if side <= most => return Ok(()),
-        Some(_) => ("size", most),
-        None => ("scale", most / modules.max(1)),
+        Extent::Side(..) => ("size", most),
+        _ => ("scale", most / modules.max(1)),
     };
     refused!(alloc;
         "a side of {side} pixels is too large: this format has at most {most}; use --{option} \
@@ -235,26 +235,28 @@ pub(crate) fn application_code(
     }
 }
 
-/// Draws a code and reports it; with `--dry-run` only reports it, and returns `None`.
+/// Draws a code and reports it, with its character set if one was asked for; with `--dry-run` only
+/// reports it, and returns `None`.
 pub(crate) fn draw_reported(
     rt: &HostRuntime,
     asked: &Asked<'_, '_>,
     code: QrCode,
+    coded: Option<Coded>,
 ) -> Result<Option<Vec<u8>>, Failure> {
     check_side(rt.alloc(), asked, &code)?;
     if asked.is_dry {
         let area = middle_of(rt.alloc(), asked, &code)?;
-        show_report(rt, asked, &code, area)?;
+        show_report(rt, asked, &code, area, coded)?;
         return Ok(None);
     }
-    if let Some(damage) = asked.damage {
+    if let Work::Damaged(damage) = asked.work {
         let drawing = draw_damaged(rt, asked, damage, &code)?;
-        show_report(rt, asked, &code, None)?;
+        show_report(rt, asked, &code, None, coded)?;
         return Ok(Some(drawing));
     }
     let picture = draw_code(rt.alloc(), asked, code)?;
     warn_of_logo(rt, asked, &picture.drawing.code, picture.area)?;
-    show_report(rt, asked, &picture.drawing.code, picture.area)?;
+    show_report(rt, asked, &picture.drawing.code, picture.area, coded)?;
     Ok(Some(picture.drawing.bytes))
 }
 

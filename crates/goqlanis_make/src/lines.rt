@@ -6,8 +6,8 @@ use goqlanis_files::failure::{Doubts, Failure};
 use goqlanis_files::progress::Progress;
 use goqlanis_files::streams::{ask, shown, unread};
 use goqlanis_files::{doubted, refused};
-use goqlanis_options::asked::{Asked, Lines, Report, Source, Target};
-use goqlanis_options::options::Purpose;
+use goqlanis_options::asked::{Asked, Lines, Report, Source, Target, Work};
+use goqlanis_options::fields::Fields;
 use goqlanis_tables::checks::check_columns;
 use goqlanis_tables::fields::Line;
 use goqlanis_tables::inputs::next_line;
@@ -15,7 +15,6 @@ use goqlanis_tables::names::{Pattern, check_made, common_form};
 use goqlanis_tables::pages::Pages;
 use goqlanis_tables::rows::{Row, loose};
 use goqlanis_tables::tables::Table;
-use qrcode_payloads::kinds::Kind;
 use std::collections::BTreeSet;
 use std::fs;
 use std::io::{BufRead, BufReader, IsTerminal, Read};
@@ -38,18 +37,17 @@ struct Output<'a> {
 pub(crate) fn draw_lines(
     rt: &HostRuntime,
     asked: &Asked<'_, '_>,
-    purpose: Purpose,
     lines: Lines<'_>,
 ) -> Result<ExitCode, Failure> {
     match asked.input.source {
-        Source::Text(text) => draw_from(rt, asked, purpose, lines, text.as_bytes()),
+        Source::Text(text) => draw_from(rt, asked, lines, text.as_bytes()),
         Source::File(path) => match fs::open(rt, path) {
-            Ok(file) => draw_from(rt, asked, purpose, lines, file),
+            Ok(file) => draw_from(rt, asked, lines, file),
             Err(error) => unread(rt.alloc(), path, &error),
         },
         Source::StandardInput => {
             ask(rt, "the lines");
-            draw_from(rt, asked, purpose, lines, rt.stdin())
+            draw_from(rt, asked, lines, rt.stdin())
         }
     }
 }
@@ -58,12 +56,11 @@ pub(crate) fn draw_lines(
 fn draw_from<R: Read + Drop>(
     rt: &HostRuntime,
     asked: &Asked<'_, '_>,
-    purpose: Purpose,
     lines: Lines<'_>,
     from: R,
 ) -> Result<ExitCode, Failure> {
     let mut from = BufReader::new(rt.alloc(), from).map_err(|_| Failure::OutOfMemory)?;
-    let table = Table::read(rt.alloc(), asked, purpose, lines, &mut from)?;
+    let table = Table::read(rt.alloc(), asked, lines, &mut from)?;
     let mut output = Output {
         pattern: Pattern::read(rt, asked, &table.columns)?,
         names: BTreeSet::new(rt.alloc()),
@@ -135,7 +132,7 @@ fn draw_line(
         ..asked.doubts
     };
     let asked = Asked { doubts, ..*asked };
-    table.check_line(rt, &asked, line)?;
+    table.check_line(rt, doubts, line)?;
     let Some(pattern) = &output.pattern else {
         let drawing = draw_data(rt, &asked, table, line)?;
         return write_page(rt, &asked, &mut output.pages, drawing);
@@ -164,13 +161,13 @@ fn draw_data(
     table: &Table<'_>,
     line: &Line<'_>,
 ) -> Result<Option<Vec<u8>>, Failure> {
-    match table.purpose {
-        Purpose::Content(kind) => draw_row(rt, kind, asked, table, line),
-        Purpose::Elements => {
+    match asked.work {
+        Work::Payload(fields) => draw_row(rt, asked, fields, table, line),
+        Work::Elements(_) => {
             let data = table.data(rt.alloc(), line)?;
             draw_elements(rt, asked, data.as_str())
         }
-        _ if table.is_whole() => draw_one(rt, asked, line.bytes),
+        _ if table.is_whole => draw_one(rt, asked, line.bytes),
         _ => {
             let data = table.data(rt.alloc(), line)?;
             draw_one(rt, asked, data.as_str().as_bytes())
@@ -181,18 +178,18 @@ fn draw_data(
 // Draws a payload whose fields a line gives.
 fn draw_row(
     rt: &HostRuntime,
-    kind: Kind,
     asked: &Asked<'_, '_>,
+    fields: Fields<'_, '_>,
     table: &Table<'_>,
     line: &Line<'_>,
 ) -> Result<Option<Vec<u8>>, Failure> {
     let columns = &table.columns;
-    let row = Row::of(rt.alloc(), kind, columns, line, &asked.fields)?;
+    let row = Row::of(rt.alloc(), fields.kind, columns, line, &fields)?;
     if let Some(field) = loose(rt.alloc(), columns, line)? {
         let label = columns.label(rt.alloc(), field)?;
         doubted!(rt, asked.doubts;
             "{label}: the space or quotation mark at its start or end is encoded"
         )?;
     }
-    draw_payload(rt, kind, asked, &row, columns)
+    draw_payload(rt, fields.kind, asked, &row, columns)
 }

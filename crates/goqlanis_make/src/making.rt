@@ -10,11 +10,13 @@ use crate::splitting::{MOST_IN_SEVERAL, draw_several};
 use goqlanis_files::failure::Failure;
 use goqlanis_files::streams::{MOST_DATA, read_file, read_standard_input, shown};
 use goqlanis_files::{doubted, refused, usage};
-use goqlanis_logos::middle::{SWISS_CROSS, has_cross, read_logo};
-use goqlanis_options::asked::{Asked, Source, Target};
+use goqlanis_logos::middle::read_logo;
+use goqlanis_options::asked::{Asked, Source, Target, Work};
+use goqlanis_options::fields::Fields;
 use goqlanis_options::logos::{AskedLogo, Middle};
-use goqlanis_options::options::Purpose;
+use goqlanis_options::sizes::pixels_per_inch;
 use goqlanis_options::warnings::warn_of_password;
+use goqlanis_request::{Extent, Request};
 use goqlanis_tables::columns::Columns;
 use qrcode::QrCode;
 use qrcode::types::QrError;
@@ -26,32 +28,31 @@ use std::alloc::Global;
 use std::process::ExitCode;
 
 /// Makes codes, after reading the logo file if there is one.
-pub fn make(
-    rt: &HostRuntime,
-    purpose: Purpose,
-    asked: &Asked<'_, '_>,
-) -> Result<ExitCode, Failure> {
+pub fn make(rt: &HostRuntime, asked: &Asked<'_, '_>) -> Result<ExitCode, Failure> {
     let file = read_logo(rt, asked)?;
-    let middle = file.as_ref().map_or(Middle::Light, Middle::Logo);
-    let logo = asked.logo.map(|logo| AskedLogo { middle, ..logo });
-    draw(rt, purpose, &Asked { logo, ..*asked })
+    let logo = asked.logo.map(|logo| AskedLogo {
+        middle: file.as_ref().map_or(logo.middle, Middle::Logo),
+        ..logo
+    });
+    draw(rt, &Asked { logo, ..*asked })
 }
 
 // Makes codes.
-fn draw(rt: &HostRuntime, purpose: Purpose, asked: &Asked<'_, '_>) -> Result<ExitCode, Failure> {
+fn draw(rt: &HostRuntime, asked: &Asked<'_, '_>) -> Result<ExitCode, Failure> {
     check_terminal(rt, asked)?;
-    if let Purpose::Several = purpose {
-        return draw_several(rt, asked, &data(rt, asked, MOST_IN_SEVERAL)?);
+    if let Work::Split(split) = asked.work {
+        return draw_several(rt, asked, split, &data(rt, asked, MOST_IN_SEVERAL)?);
     }
-    asked.fields.check(rt.alloc())?;
     warn_of_places(rt, asked)?;
     if let Some(lines) = asked.input.lines {
-        return draw_lines(rt, asked, purpose, lines);
+        return draw_lines(rt, asked, lines);
     }
-    let drawing = match (purpose, asked.input.segments) {
-        (Purpose::Content(kind), _) => draw_content(rt, kind, asked)?,
-        (Purpose::Elements, _) => draw_gs1(rt, asked)?,
-        (_, Some(words)) => draw_reported(rt, asked, segments_code(rt.alloc(), asked, words)?)?,
+    let drawing = match (asked.work, asked.input.segments) {
+        (Work::Payload(fields), _) => draw_fields(rt, asked, fields)?,
+        (Work::Elements(indicator), _) => draw_gs1(rt, asked, indicator)?,
+        (_, Some(words)) => {
+            draw_reported(rt, asked, segments_code(rt.alloc(), asked, words)?, None)?
+        }
         (_, None) => draw_one(rt, asked, &data(rt, asked, MOST_DATA)?)?,
     };
     write_drawing(rt, asked, drawing)
@@ -72,10 +73,10 @@ fn warn_of_places(rt: &HostRuntime, asked: &Asked<'_, '_>) -> Result<(), Failure
 }
 
 // Draws a payload whose fields the options give.
-fn draw_content(
+fn draw_fields(
     rt: &HostRuntime,
-    kind: Kind,
     asked: &Asked<'_, '_>,
+    fields: Fields<'_, '_>,
 ) -> Result<Option<Vec<u8>>, Failure> {
     if matches!(asked.input.source, Source::File(_)) {
         return usage!(rt.alloc();
@@ -83,7 +84,7 @@ fn draw_content(
             give them"
         );
     }
-    draw_payload(rt, kind, asked, &asked.fields, &Columns::none(rt.alloc()))
+    draw_payload(rt, fields.kind, asked, &fields, &Columns::none(rt.alloc()))
 }
 
 /// Draws a payload with these fields; messages name those of `columns` by column.
@@ -110,24 +111,20 @@ pub(crate) fn draw_payload<G: Given>(
     draw_one(rt, asked, text.as_bytes())
 }
 
-// Draws a Swiss QR-bill, with the Swiss cross if the format supports it.
+// Draws a Swiss QR-bill.
 fn draw_bill(
     rt: &HostRuntime,
     asked: &Asked<'_, '_>,
     text: &str,
 ) -> Result<Option<Vec<u8>>, Failure> {
     check_bill(rt.alloc(), text)?;
-    if asked.logo.is_some() {
-        return usage!(rt.alloc(); "--logo, --logo-area: a bill has the Swiss cross in its middle");
-    }
-    let logo = has_cross(asked.request.format).then_some(SWISS_CROSS);
-    if logo.is_none() {
+    if asked.logo.is_none() {
         doubted!(rt, asked.doubts;
             "this format lacks the Swiss cross of a bill; png, svg, eps and pdf have it"
         )?;
     }
     warn_of_bill(rt, asked)?;
-    draw_one(rt, &Asked { logo, ..*asked }, text.as_bytes())
+    draw_one(rt, asked, text.as_bytes())
 }
 
 // Warns of what the standard for Swiss QR-bills does not allow.
@@ -145,7 +142,7 @@ fn warn_of_bill(rt: &HostRuntime, asked: &Asked<'_, '_>) -> Result<(), Failure> 
             --quiet-zone"
         )?;
     }
-    if !is_bill_size(asked) {
+    if !is_bill_size(request) {
         doubted!(rt, asked.doubts;
             "the code of a bill is 46 mm wide: leave out --size, --module and --scale"
         )?;
@@ -161,10 +158,13 @@ fn is_grey(ink: Ink<'_>, value: u8) -> bool {
 }
 
 // Whether the code is 46 mm wide, or of a size that is not known.
-fn is_bill_size(asked: &Asked<'_, '_>) -> bool {
-    match asked.request.length {
-        Some(length) => { length.is_side && length.dots == 25_400 && asked.request.scale == 46_000 }
-        None => asked.dots.is_none() || asked.hundredths == Some(4_600),
+fn is_bill_size(request: &Request<'_>) -> bool {
+    match request.extent {
+        Extent::Exact(length) => {
+            length.is_side && length.dots == 25_400 && length.count == 46_000
+        }
+        Extent::Side(_, Some(4_600)) => true,
+        _ => pixels_per_inch(request.format, request.dpi).is_none(),
     }
 }
 
@@ -190,17 +190,21 @@ fn check_bill(alloc: Global, text: &str) -> Result<(), Failure> {
 }
 
 // Draws a GS1 element string, or data in an industry's own format.
-fn draw_gs1(rt: &HostRuntime, asked: &Asked<'_, '_>) -> Result<Option<Vec<u8>>, Failure> {
+fn draw_gs1(
+    rt: &HostRuntime,
+    asked: &Asked<'_, '_>,
+    indicator: Option<&str>,
+) -> Result<Option<Vec<u8>>, Failure> {
     let bytes = data(rt, asked, MOST_DATA)?;
     let Ok(text) = str::from_utf8(&bytes) else {
         return refused!(rt.alloc(); "ELEMENTS: they are not UTF-8");
     };
     let text = text.trim_end_matches('\n');
-    let Some(indicator) = asked.input.application else {
+    let Some(indicator) = indicator else {
         return draw_elements(rt, asked, text);
     };
     let code = application_code(rt.alloc(), &asked.request, indicator, text)?;
-    draw_reported(rt, asked, code)
+    draw_reported(rt, asked, code, None)
 }
 
 /// Draws a GS1 element string.
@@ -216,7 +220,7 @@ pub(crate) fn draw_elements(
     }
     let text = with_round_brackets(rt.alloc(), text)?;
     let code = elements_code(rt.alloc(), &asked.request, text.as_str())?;
-    draw_reported(rt, asked, code)
+    draw_reported(rt, asked, code, None)
 }
 
 // Returns the data to encode; at most `most` bytes are read.

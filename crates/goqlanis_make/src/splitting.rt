@@ -4,7 +4,7 @@ use crate::drawing::{check_empty, draw_reported, manner, write_drawing, write_pa
 use goqlanis_files::failure::Failure;
 use goqlanis_files::refused;
 use goqlanis_files::streams::{MOST_DATA, shown};
-use goqlanis_options::asked::{Asked, Target, check_one_behind_another, versions_of};
+use goqlanis_options::asked::{Asked, Split, Target};
 use goqlanis_tables::columns::Columns;
 use goqlanis_tables::fields::Line;
 use goqlanis_tables::names::{Pattern, check_made};
@@ -26,18 +26,15 @@ pub(crate) const MOST_IN_SEVERAL: usize = MOST_SYMBOLS * MOST_DATA;
 pub(crate) fn draw_several(
     rt: &HostRuntime,
     asked: &Asked<'_, '_>,
+    split: Split,
     bytes: &[u8],
 ) -> Result<ExitCode, Failure> {
     let alloc = rt.alloc();
-    if !asked.is_dry {
-        check_one_behind_another(alloc, asked)?;
-    }
     let pattern = Pattern::read(rt, asked, &Columns::none(alloc))?;
     check_empty(alloc, asked, bytes)?;
-    let versions = versions_of(alloc, asked)?;
-    let level = asked.request.level;
+    let (versions, level) = (split.versions, asked.request.level);
     let manner = manner(alloc, asked, bytes)?;
-    let made = match asked.split.count {
+    let made = match split.count {
         None => encode_among(alloc, bytes, manner, versions, level),
         Some(count) => encode_counted(alloc, bytes, manner, versions, level, count as usize),
     };
@@ -66,9 +63,9 @@ fn draw_each(
             check_made(rt, asked, name.as_str())?;
             let target = Target::File(name.as_str());
             let asked = Asked { target, ..*asked };
-            write_drawing(rt, &asked, draw_reported(rt, &asked, code)?)?;
+            write_drawing(rt, &asked, draw_reported(rt, &asked, code, None)?)?;
         } else {
-            write_page(rt, asked, &mut pages, draw_reported(rt, asked, code)?)?;
+            write_page(rt, asked, &mut pages, draw_reported(rt, asked, code, None)?)?;
         }
     }
     pages.end(rt)?;

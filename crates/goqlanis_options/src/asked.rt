@@ -1,13 +1,12 @@
 //! Turns the command line into a request.
 
-use crate::charsets::Coded;
 use crate::colours::{check_colours, ink_of, part_colour, part_inks};
 use crate::damage::{AskedDamage, damage_of};
 use crate::fields::Fields;
 use crate::frames::{frame_of, place_of};
 use crate::logos::{AskedLogo, logo_of};
 use crate::options::Purpose;
-use crate::sizes::{Sizes, sizes_of};
+use crate::sizes::extent_of;
 use crate::targets::{check_streams, check_target};
 use crate::warnings::warn;
 use clap::ArgMatches;
@@ -16,10 +15,10 @@ use goqlanis_files::failure::{Doubts, Failure};
 use goqlanis_files::streams::has_colours;
 use goqlanis_files::usage;
 use goqlanis_request::{Choice, Request};
-use qrcode::bits::Manner;
 use qrcode::types::{EcLevel, Version};
 use qrcode_append::Versions;
 use qrcode_formats::{Colours, Density, FORMATS, Format, Middle, format_named, format_of_ending};
+use qrcode_payloads::kinds::Kind;
 use std::alloc::Global;
 use std::fs;
 
@@ -70,8 +69,31 @@ pub struct Input<'a, 'w> {
     pub is_eci: bool,
     /// The name of its character set, or `shortest`.
     pub charset: Option<&'a str>,
-    /// The indicator of an industry's own format instead of GS1.
-    pub application: Option<&'a str>,
+}
+
+/// What is made of the data.
+#[derive(Clone, Copy)]
+pub enum Work<'a, 'w> {
+    /// A code.
+    Plain,
+    /// A code with this damage.
+    Damaged(AskedDamage),
+    /// Several codes, with parts of the data.
+    Split(Split),
+    /// A code of a payload, whose fields are given instead of data.
+    Payload(Fields<'a, 'w>),
+    /// A code of a GS1 element string; or in an industry's own format, with this indicator.
+    Elements(Option<&'a str>),
+}
+
+impl Work<'_, '_> {
+    /// Returns the kind of payload, if it is one.
+    pub fn kind(&self) -> Option<Kind> {
+        match self {
+            Work::Payload(fields) => Some(fields.kind),
+            _ => None,
+        }
+    }
 }
 
 /// What is reported of a code.
@@ -90,32 +112,19 @@ pub enum Report {
 pub struct Split {
     /// The number of codes, if given.
     pub count: Option<u8>,
-    /// The largest version.
-    pub most: Version,
+    /// The versions that they may have.
+    pub versions: Versions,
 }
 
 /// What the command line asks for.
 #[derive(Clone, Copy)]
 pub struct Asked<'a, 'w> {
-    /// The request; its `manner` is a placeholder until the data is known.
     pub request: Request<'a>,
     pub input: Input<'a, 'w>,
-    /// The character set of the code, with `--charset`.
-    pub coded: Option<Coded>,
-    /// The options that give the fields of a payload.
-    pub fields: Fields<'a, 'w>,
-    pub split: Split,
-    /// What is wrong in the code, if it is to be damaged.
-    pub damage: Option<AskedDamage>,
+    pub work: Work<'a, 'w>,
     pub target: Target<'a>,
-    /// The side of the picture in hundredths of a millimetre, if `--size` is a length in pixels.
-    pub hundredths: Option<u64>,
-    /// Pixels per printed inch, if known.
-    pub dots: Option<u16>,
-    /// The logo or empty area in the middle of the code, if any.
+    /// What is in the middle of a code, if anything.
     pub logo: Option<AskedLogo<'a>>,
-    /// The file of the logo.
-    pub logo_file: Option<&'a str>,
     pub report: Report,
     /// Whether the code is only reported, and not drawn.
     pub is_dry: bool,
@@ -136,27 +145,16 @@ pub fn asked_for<'a, 'w>(
     let is_dry = given.get_flag("dry-run");
     let format = format(rt, given.get_str("format"), target, is_dry)?;
     check_format(alloc, given, format)?;
-    let sizes = sizes_of(alloc, purpose, given, format)?;
-    let request = request_of(alloc, purpose, given, format, &sizes)?;
+    let request = request_of(alloc, purpose, given, format)?;
     let input = input_of(alloc, given)?;
-    let most = version_of(alloc, given, "max-version")?.unwrap_or(Version::Normal(40));
-    let damage = damage_of(alloc, purpose, given)?;
-    let logo = logo_of(alloc, given)?;
+    let work = work_of(alloc, purpose, given, request.choice)?;
+    let logo = logo_of(alloc, purpose, given, format)?;
     let asked = Asked {
         request,
         input,
-        coded: None,
-        fields: Fields::of(given),
-        split: Split {
-            count: given.get_one::<u8>("count"),
-            most,
-        },
-        damage,
+        work,
         target,
-        hundredths: sizes.hundredths,
-        dots: sizes.dots,
         logo,
-        logo_file: given.get_str("logo"),
         report: report_of(given),
         is_dry,
         doubts: Doubts {
@@ -164,23 +162,38 @@ pub fn asked_for<'a, 'w>(
             place: None,
         },
     };
-    check_files(rt, purpose, &asked)?;
+    check_files(rt, &asked)?;
     warn(rt, &asked)?;
     Ok(asked)
 }
 
 // Checks that what is drawn can go where it is to go.
-fn check_files(rt: &HostRuntime, purpose: Purpose, asked: &Asked<'_, '_>) -> Result<(), Failure> {
-    if asked.input.lines.is_none() {
-        return match purpose {
-            Purpose::Several => Ok(()),
-            _ => check_target(rt, asked),
-        };
-    }
-    if !asked.is_dry {
+fn check_files(rt: &HostRuntime, asked: &Asked<'_, '_>) -> Result<(), Failure> {
+    let is_split = matches!(asked.work, Work::Split(_));
+    if !asked.is_dry && (is_split || asked.input.lines.is_some()) {
         check_one_behind_another(rt.alloc(), asked)?;
     }
-    check_streams(rt, asked)
+    match asked.input.lines {
+        Some(_) => check_streams(rt, asked),
+        None if is_split => Ok(()),
+        None => check_target(rt, asked),
+    }
+}
+
+// Returns what is made of the data.
+fn work_of<'a, 'w>(
+    alloc: Global,
+    purpose: Purpose,
+    given: &'a ArgMatches<'w>,
+    choice: Choice,
+) -> Result<Work<'a, 'w>, Failure> {
+    Ok(match purpose {
+        Purpose::Content(kind) => Work::Payload(Fields::of(alloc, kind, given)?),
+        Purpose::Elements => Work::Elements(given.get_str("application")),
+        Purpose::Damage => Work::Damaged(damage_of(alloc, given)?),
+        Purpose::Several => Work::Split(split_of(alloc, given, choice)?),
+        _ => Work::Plain,
+    })
 }
 
 /// Whether the command line gives an option or the positional argument. (An absent flag still has a
@@ -211,7 +224,6 @@ fn input_of<'a, 'w>(alloc: Global, given: &'a ArgMatches<'w>) -> Result<Input<'a
         is_bytes: given.get_flag("bytes"),
         is_eci: given.get_flag("eci"),
         charset: given.get_str("charset"),
-        application: given.get_str("application"),
     })
 }
 
@@ -243,9 +255,9 @@ fn lines_of<'a>(alloc: Global, given: &ArgMatches<'a>) -> Result<Option<Lines<'a
     Ok(Some(lines))
 }
 
-/// Checks that several drawings go to files, can be printed one after another, or are pages of one
-/// PDF document.
-pub fn check_one_behind_another(alloc: Global, asked: &Asked<'_, '_>) -> Result<(), Failure> {
+// Checks that several drawings go to files, can be printed one after another, or are pages of one
+// PDF document.
+fn check_one_behind_another(alloc: Global, asked: &Asked<'_, '_>) -> Result<(), Failure> {
     let format = asked.request.format;
     let is_pdf = format == Format::Pdf;
     if matches!(asked.target, Target::File(_)) || format.row().is_series || is_pdf {
@@ -294,18 +306,20 @@ fn choice_of(alloc: Global, given: &ArgMatches<'_>) -> Result<Choice, Failure> {
     }
 }
 
-/// Returns the range of versions for structured append.
-///
-/// Errors: `Usage` if there is none; `OutOfMemory`.
-pub fn versions_of(alloc: Global, asked: &Asked<'_, '_>) -> Result<Versions, Failure> {
-    let (least, greatest) = match asked.request.choice {
+// Returns how data is split.
+fn split_of(alloc: Global, given: &ArgMatches<'_>, choice: Choice) -> Result<Split, Failure> {
+    let most = version_of(alloc, given, "max-version")?.unwrap_or(Version::Normal(40));
+    let (least, greatest) = match choice {
         Choice::At(version) => (version, version),
-        Choice::From(version) | Choice::Boosted(version) => (version, asked.split.most),
+        Choice::From(version) | Choice::Boosted(version) => (version, most),
     };
     match (least, greatest) {
-        (Version::Normal(least), Version::Normal(greatest)) if least <= greatest => Ok(Versions {
-            least: least.unsigned_abs() as usize,
-            greatest: greatest.unsigned_abs() as usize,
+        (Version::Normal(least), Version::Normal(greatest)) if least <= greatest => Ok(Split {
+            count: given.get_one::<u8>("count"),
+            versions: Versions {
+                least: least.unsigned_abs() as usize,
+                greatest: greatest.unsigned_abs() as usize,
+            },
         }),
         _ => usage!(alloc;
             "split uses versions 1 to 40, and --max-version cannot be below --min-version"
@@ -333,8 +347,8 @@ fn request_of<'a>(
     purpose: Purpose,
     given: &ArgMatches<'a>,
     format: Format,
-    sizes: &Sizes,
 ) -> Result<Request<'a>, Failure> {
+    let extent = extent_of(alloc, purpose, given, format)?;
     let choice = choice_of(alloc, given)?;
     let place = place_of(alloc, given)?;
     let frame = frame_of(alloc, given)?;
@@ -342,7 +356,6 @@ fn request_of<'a>(
     let light = ink_of(alloc, "light", given.get_str("light").unwrap_or("#fff"))?;
     let parts = part_inks(alloc, given)?;
     let request = Request {
-        manner: Manner::Text,
         choice,
         level: level_of(purpose, given, choice),
         mask: given.get_one::<u8>("mask").map(usize::from),
@@ -350,10 +363,8 @@ fn request_of<'a>(
         zone: given
             .get_one::<u8>("quiet-zone")
             .or(purpose.is_bill().then_some(0)),
-        scale: sizes.scale,
-        size: sizes.side,
+        extent,
         dpi: given.get_one::<u16>("dpi"),
-        length: sizes.length,
         place,
         frame,
         dark,

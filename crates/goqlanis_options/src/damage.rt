@@ -1,7 +1,6 @@
 //! The options of damaged codes.
 
 use crate::colours::part_colour;
-use crate::options::Purpose;
 use clap::ArgMatches;
 use goqlanis_files::failure::Failure;
 use goqlanis_files::usage;
@@ -33,28 +32,21 @@ pub struct AskedDamage {
     pub position: Position,
 }
 
-/// Returns the damage that the command line asks for, if a code is to be damaged.
+/// Returns the damage that the command line asks for.
 ///
 /// Errors: `Usage` for a number of codewords that is not one, and with a colour of a part unless
 /// the code lies upright; `OutOfMemory`.
-pub(crate) fn damage_of(
-    alloc: Global,
-    purpose: Purpose,
-    given: &ArgMatches<'_>,
-) -> Result<Option<AskedDamage>, Failure> {
-    if !matches!(purpose, Purpose::Damage) {
-        return Ok(None);
-    }
+pub(crate) fn damage_of(alloc: Global, given: &ArgMatches<'_>) -> Result<AskedDamage, Failure> {
     let codewords = wrong_of(alloc, given.get_str("wrong-codewords").unwrap_or("most"))?;
     let position = position_of(alloc, given)?;
-    Ok(Some(AskedDamage {
+    Ok(AskedDamage {
         codewords,
         format_bits: given.get_one::<u8>("wrong-format").unwrap_or(0) as usize,
         version_bits: given.get_one::<u8>("wrong-version").unwrap_or(0) as usize,
         pattern_modules: given.get_one::<u16>("wrong-patterns").unwrap_or(0) as usize,
         seed: given.get_one::<u64>("seed").unwrap_or(0),
         position,
-    }))
+    })
 }
 
 fn wrong_of(alloc: Global, word: &str) -> Result<Wrong, Failure> {

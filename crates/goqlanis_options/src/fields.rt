@@ -1,6 +1,6 @@
 //! The fields of a payload, as the options give them.
 
-ghost use Rattle.std.specs.Prelude.{◌≡◌};
+ghost use Rattle.std.specs.Prelude.{◌≡◌, IfOk};
 ghost use Rattle.goqlanis_options.specs.Texts.{texts_in};
 
 use crate::options::fields::option_of;
@@ -9,11 +9,14 @@ use goqlanis_files::failure::Failure;
 use goqlanis_files::refused;
 use qrcode_contents::fields::errors::Field;
 use qrcode_payloads::given::Given;
+use qrcode_payloads::kinds::Kind;
 use std::alloc::Global;
 
 /// The parsed options, as the source of a payload's fields. An absent option is an empty field.
 #[derive(Clone, Copy)]
 pub struct Fields<'m, 'a> {
+    /// The kind of payload.
+    pub kind: Kind,
     given: &'m ArgMatches<'a>,
 }
 
@@ -36,25 +39,25 @@ pub const DECISIVE: &[&str] = &["password", "amount", "counter", "period"];
 pub const OPEN: &[&str] = &["open", "nopass", "none"];
 
 impl<'m, 'a> Fields<'m, 'a> {
-    /// Returns the fields that the options give.
-    pub(crate) fn of(given: &'m ArgMatches<'a>) -> Fields<'m, 'a>
-        ensures { result.given.now ≡ given.entry.now }
-    {
-        Fields { given }
-    }
-
-    /// Checks that no option is given and empty whose absence changes what the payload means.
+    /// Returns the fields that the options give. No option may be empty whose absence changes what
+    /// the payload means.
     ///
-    /// Errors: `Refused`; `OutOfMemory`.
-    pub fn check(&self, alloc: Global) -> Result<(), Failure> {
+    /// Errors: `Refused` if one is; `OutOfMemory`.
+    pub(crate) fn of(
+        alloc: Global,
+        kind: Kind,
+        given: &'m ArgMatches<'a>,
+    ) -> Result<Fields<'m, 'a>, Failure>
+        ensures { IfOk result (λ fields. fields.given.now ≡ given.entry.now) }
+    {
         for name in DECISIVE {
-            if self.given.get_str(name) == Some("") {
+            if given.get_str(name) == Some("") {
                 return refused!(alloc;
                     "--{name}: it is empty, e.g. from a variable that is not set; leave it out \
                     for none"
                 );
             }
         }
-        Ok(())
+        Ok(Fields { kind, given })
     }
 }

@@ -1,10 +1,12 @@
 //! The logo options.
 
+use crate::options::Purpose;
 use clap::ArgMatches;
 use goqlanis_files::failure::Failure;
 use goqlanis_files::usage;
 use goqlanis_request::areas::LogoSize;
 use qrcode_area::rectangles::Kept;
+use qrcode_formats::Format;
 use std::alloc::Global;
 
 /// A logo, ready to draw: pixels for PNG, or an element for SVG.
@@ -30,6 +32,8 @@ pub enum Middle<'a> {
 /// The logo or empty area that the command line asks for.
 #[derive(Clone, Copy)]
 pub struct AskedLogo<'a> {
+    /// The file of the logo.
+    pub file: Option<&'a str>,
     /// What to draw there; `Light` until the logo file is read.
     pub middle: Middle<'a>,
     pub size: LogoSize,
@@ -39,17 +43,36 @@ pub struct AskedLogo<'a> {
     pub margin: u8,
 }
 
-/// Returns the logo or empty area that the command line asks for, if any; the file is read later.
+// The Swiss cross in the middle of a bill.
+const SWISS_CROSS: AskedLogo<'static> = AskedLogo {
+    file: None,
+    middle: Middle::Cross,
+    size: LogoSize::Largest,
+    kept: Kept::ButAlignment,
+    margin: 0,
+};
+
+/// Returns the logo or empty area that the command line asks for, if any; the file is read later. A
+/// bill has the Swiss cross, in formats that support it.
 ///
-/// Errors: `Usage` for a size that is not one, or options that need `--logo` or `--logo-area`;
-/// `OutOfMemory`.
-pub fn logo_of(
+/// Errors: `Usage` for a size that is not one, or options that need `--logo` or `--logo-area`, or
+/// if the code has no room for them; `OutOfMemory`.
+pub fn logo_of<'a>(
     alloc: Global,
-    given: &ArgMatches<'_>,
-) -> Result<Option<AskedLogo<'static>>, Failure> {
+    purpose: Purpose,
+    given: &ArgMatches<'a>,
+    format: Format,
+) -> Result<Option<AskedLogo<'a>>, Failure> {
     let keeps_alignment = given.get_flag("keep-alignment");
     if given.contains_id("logo") || given.get_flag("logo-area") {
+        if purpose.is_bill() {
+            return usage!(alloc; "--logo, --logo-area: a bill has the Swiss cross in its middle");
+        }
+        if matches!(purpose, Purpose::Damage) {
+            return usage!(alloc; "--logo, --logo-area: a damaged code has no room for them");
+        }
         return Ok(Some(AskedLogo {
+            file: given.get_str("logo"),
             middle: Middle::Light,
             size: size_of(alloc, given.get_str("logo-size"))?,
             kept: if keeps_alignment {
@@ -65,7 +88,8 @@ pub fn logo_of(
             "--logo-size, --logo-margin and --keep-alignment go with --logo FILE or --logo-area"
         );
     }
-    Ok(None)
+    let has_cross = purpose.is_bill() && format.row().middle != qrcode_formats::Middle::Light;
+    Ok(has_cross.then_some(SWISS_CROSS))
 }
 
 // Parses the size of the area: modules, or percent of the side.

@@ -3,10 +3,11 @@
 use crate::asked::{Asked, Report as Wanted, Target};
 use crate::charsets::{CharsetName, Coded};
 use crate::json::push_file;
+use crate::sizes::pixels_per_inch;
 use crate::warnings::{Decimal, hundredths_of, warn_of_sizes};
 use goqlanis_files::failure::Failure;
 use goqlanis_files::streams::print;
-use goqlanis_request::{VersionName, dots, quiet_zone, scale};
+use goqlanis_request::{Extent, VersionName, dots, quiet_zone, scale};
 use qrcode::QrCode;
 use qrcode::types::EcLevel;
 use qrcode_area::areas::Rectangle;
@@ -53,7 +54,7 @@ struct Report<'a> {
     file: Option<&'a str>,
 }
 
-/// Reports on a code, with the area in its middle, if `--verbose`, `--json` or `--dry-run` asks for
+/// Reports on a code, with the area in its middle and the character set of `--charset`, if `--verbose`, `--json` or `--dry-run` asks for
 /// it; and warns of sizes in any case. Reports go to standard error; with `--dry-run` to standard
 /// output, and with `--json` too if the drawing goes to a file.
 ///
@@ -63,8 +64,13 @@ pub fn show_report(
     asked: &Asked<'_, '_>,
     code: &QrCode,
     area: Option<Rectangle>,
+    coded: Option<Coded>,
 ) -> Result<(), Failure> {
-    let report = report_of(asked, code, area);
+    let report = Report {
+        area,
+        coded,
+        ..report_of(asked, code)
+    };
     warn_of_sizes(rt, asked, report.all, report.scale, report.dots)?;
     if asked.report == Wanted::Nothing && !asked.is_dry {
         return Ok(());
@@ -80,8 +86,10 @@ pub fn show_report(
 }
 
 // Returns the facts about a code.
-fn report_of<'a>(asked: &Asked<'a, '_>, code: &QrCode, area: Option<Rectangle>) -> Report<'a> {
+fn report_of<'a>(asked: &Asked<'a, '_>, code: &QrCode) -> Report<'a> {
     let request = &asked.request;
+    let per_inch = pixels_per_inch(request.format, request.dpi).map(u32::from);
+    let is_length = matches!(request.extent, Extent::Exact(_));
     let zone = quiet_zone(request, code);
     let all = (code.width() as u32).saturating_add(zone.saturating_mul(2));
     let scale = scale(request, code).max(1);
@@ -94,14 +102,13 @@ fn report_of<'a>(asked: &Asked<'a, '_>, code: &QrCode, area: Option<Rectangle>) 
         all,
         scale,
         side: all.saturating_mul(scale),
-        dots: dots(request, code).or(asked.dots.map(u32::from)),
-        least: asked
-            .dots
-            .filter(|_| asked.is_dry)
-            .map(|dots| least_scale(dots as u32)),
-        is_length: request.length.is_some(),
-        coded: asked.coded,
-        area,
+        dots: dots(request, code).or(per_inch),
+        least: per_inch
+            .filter(|_| asked.is_dry && !is_length)
+            .map(least_scale),
+        is_length,
+        coded: None,
+        area: None,
         line: asked.doubts.place.map(|place| place.line),
         file: match asked.target {
             Target::File(path) => Some(path),

@@ -4,116 +4,85 @@ use crate::options::Purpose;
 use clap::ArgMatches;
 use goqlanis_files::failure::Failure;
 use goqlanis_files::usage;
-use goqlanis_request::Length;
+use goqlanis_request::{Extent, Length};
 use qrcode_formats::{Density, Format};
 use qrcode_payloads::kinds::Kind;
 use qrcode_payloads::numbers::decimal;
 use std::alloc::Global;
 
-/// The size of a drawing.
-#[derive(Clone, Copy)]
-pub struct Sizes {
-    /// Pixels per module, or its length in the unit that `length` gives.
-    pub scale: u16,
-    /// The maximum side in pixels, if given.
-    pub side: Option<u16>,
-    /// The maximum side in hundredths of a millimetre, if given as a length in whole pixels.
-    pub hundredths: Option<u64>,
-    /// Pixels per printed inch, if known.
-    pub dots: Option<u16>,
-    /// The exact length of the side or of a module, if given; `scale` counts its units.
-    pub length: Option<Length>,
+/// Returns the pixels per printed inch, if known: those of `--dpi`, or else of the format.
+pub fn pixels_per_inch(format: Format, dpi: Option<u16>) -> Option<u16> {
+    match format.row().density {
+        Density::Unit => dpi.or(Some(72)),
+        _ => dpi,
+    }
 }
 
 /// Parses the size options. SVG, EPS and PDF take exact lengths unless `--dpi` is given.
 ///
 /// Errors: `Usage` for a size that is malformed, out of range, or that needs `--dpi`;
 /// `OutOfMemory`.
-pub fn sizes_of(
+pub fn extent_of(
     alloc: Global,
     purpose: Purpose,
     given: &ArgMatches<'_>,
     format: Format,
-) -> Result<Sizes, Failure> {
+) -> Result<Extent, Failure> {
     let dpi = given.get_one::<u16>("dpi");
-    let row = format.row();
-    let is_exact = dpi.is_none() && row.is_exact;
-    let mut sizes = Sizes {
-        scale: row.pixels,
-        side: None,
-        hundredths: None,
-        dots: if row.density == Density::Unit {
-            Some(dpi.unwrap_or(72))
-        } else {
-            dpi
-        },
-        length: None,
-    };
-    if let Some(text) = given.get_str("scale") {
-        if let Err(why) = take_scale(&mut sizes, text, format, is_exact) {
-            let tip = scale_tip(purpose, text);
-            return usage!(alloc; "--scale {text}: {why}{tip}");
-        }
-    }
-    take_lengths(alloc, purpose, given, &mut sizes, is_exact)?;
-    Ok(sizes)
-}
-
-// Parses the lengths of a side and of a module, if they are given.
-fn take_lengths(
-    alloc: Global,
-    purpose: Purpose,
-    given: &ArgMatches<'_>,
-    sizes: &mut Sizes,
-    is_exact: bool,
-) -> Result<(), Failure> {
+    let is_exact = dpi.is_none() && format.row().is_exact;
+    let dots = pixels_per_inch(format, dpi);
     // The size of a bill stands where no option says otherwise.
-    let has_own = purpose.is_bill()
-        && (is_exact || given.contains_id("dpi"))
-        && !given.get_flag("no-size")
-        && !given.contains_id("scale")
-        && !given.contains_id("module");
-    for (option, is_side) in [("size", true), ("module", false)] {
-        let own = (is_side && has_own).then_some("46mm");
-        let Some(text) = given.get_str(option).or(own) else {
-            continue;
-        };
-        if let Err(why) = take_size(sizes, text, is_exact, is_side) {
-            return usage!(alloc; "--{option} {text}: {why}");
-        }
+    let has_own = purpose.is_bill() && (is_exact || dpi.is_some()) && !given.get_flag("no-size");
+    let own = has_own.then_some("46mm");
+    if let Some(text) = given.get_str("scale") {
+        let tip = scale_tip(purpose, text);
+        return or_refused(alloc, "scale", text, scale_of(text, format, is_exact), tip);
     }
-    Ok(())
+    if let Some(text) = given.get_str("module") {
+        return or_refused(alloc, "module", text, module_of(text, dots, is_exact), "");
+    }
+    match given.get_str("size").or(own) {
+        Some(text) => or_refused(alloc, "size", text, side_of(text, dots, is_exact), ""),
+        None => Ok(Extent::Module(format.row().pixels)),
+    }
 }
 
-// Parses the pixels of a module into `sizes`, or explains what to write instead. A number with a
-// decimal makes an exact length: an inch has 96 pixels in SVG, and 72 in EPS and PDF.
-fn take_scale(
-    sizes: &mut Sizes,
+// Explains why `text`, the value of `--option`, gives no size.
+fn or_refused(
+    alloc: Global,
+    option: &str,
     text: &str,
-    format: Format,
-    is_exact: bool,
-) -> Result<(), &'static str> {
+    extent: Result<Extent, &'static str>,
+    tip: &str,
+) -> Result<Extent, Failure> {
+    match extent {
+        Ok(extent) => Ok(extent),
+        Err(why) => usage!(alloc; "--{option} {text}: {why}{tip}"),
+    }
+}
+
+// Parses the pixels of a module, or explains what to write instead. A number with a decimal makes an
+// exact length: an inch has 96 pixels in SVG, and 72 in EPS and PDF.
+fn scale_of(text: &str, format: Format, is_exact: bool) -> Result<Extent, &'static str> {
     let dots = if format == Format::SvgPath { 960 } else { 720 };
     match (decimal(text, 0), decimal(text, 1)) {
-        (Some(whole), _) if 1 <= whole && whole <= 1_000 => sizes.scale = whole as u16,
+        (Some(whole), _) if 1 <= whole && whole <= 1_000 => Ok(Extent::Module(whole as u16)),
         (None, Some(tenths)) if is_exact && 10 <= tenths && tenths <= 10_000 => {
-            sizes.scale = tenths as u16;
-            sizes.dots = None;
-            sizes.length = Some(Length {
+            Ok(Extent::Exact(Length {
+                count: tenths as u16,
                 dots,
                 is_side: false,
-            });
+            }))
         }
-        _ if is_exact => return Err("use a number, 1 to 1,000, with at most one decimal"),
+        _ if is_exact => Err("use a number, 1 to 1,000, with at most one decimal"),
         (None, Some(_)) if format.row().is_exact => {
-            return Err("use a whole number, 1 to 1,000, or leave out --dpi");
+            Err("use a whole number, 1 to 1,000, or leave out --dpi")
         }
-        (None, Some(_)) => return Err(
+        (None, Some(_)) => Err(
             "pixels are whole; use a whole number, 1 to 1,000, or --format svg, eps or pdf",
         ),
-        _ => return Err("use a whole number, 1 to 1,000"),
+        _ => Err("use a whole number, 1 to 1,000"),
     }
-    Ok(())
 }
 
 // What else to say about a scale that is wrong: -s is no name of a network.
@@ -126,61 +95,48 @@ fn scale_tip(purpose: Purpose, text: &str) -> &'static str {
     }
 }
 
-// Parses the size of a side or a module into `sizes`, or explains what to write instead.
-fn take_size(
-    sizes: &mut Sizes,
-    text: &str,
-    is_exact: bool,
-    is_side: bool,
-) -> Result<(), &'static str> {
-    let text = if is_side {
-        text.strip_suffix("px").unwrap_or(text)
-    } else {
-        text
-    };
-    let length = parts_of(text);
-    let pixels = match (length, sizes.dots) {
-        (Some(parts), _) if is_exact => return take_length(sizes, parts, is_side),
-        (Some(parts), Some(dots)) => pixels_of(parts, dots, is_side)?,
-        (Some(_), None) => return Err(
-            "lengths need --dpi, e.g. 300 for PNG or 203 for labels, or --format svg, eps or pdf",
-        ),
-        (None, _) => match text.trim().parse::<u16>() {
-            Ok(pixels) if is_side && pixels > 0 => pixels,
-            _ if text.contains(',') => return Err("write a point, e.g. 3.5cm"),
-            _ => return Err(size_help(is_exact, is_side)),
-        },
-    };
-    if is_side {
-        sizes.side = Some(pixels);
-        sizes.hundredths = length.map(|parts| parts / 18_000);
-    } else {
-        sizes.scale = pixels;
+// Parses the size of a side, or explains what to write instead.
+fn side_of(text: &str, dots: Option<u16>, is_exact: bool) -> Result<Extent, &'static str> {
+    let text = text.strip_suffix("px").unwrap_or(text);
+    match (parts_of(text), text.trim().parse::<u16>()) {
+        (Some(parts), _) if is_exact => length_of(parts, true),
+        (Some(parts), _) => {
+            let pixels = pixels_of(parts, dots, 0)?;
+            Ok(Extent::Side(pixels, Some(parts / 18_000)))
+        }
+        (None, Ok(pixels)) if pixels > 0 => Ok(Extent::Side(pixels, None)),
+        _ => Err(size_help(text, is_exact, true)),
     }
-    Ok(())
+}
+
+// Parses the length of a module, or explains what to write instead.
+fn module_of(text: &str, dots: Option<u16>, is_exact: bool) -> Result<Extent, &'static str> {
+    match parts_of(text) {
+        Some(parts) if is_exact => length_of(parts, false),
+        Some(parts) => Ok(Extent::Module(pixels_of(parts, dots, INCH / 2)?)),
+        None => Err(size_help(text, is_exact, false)),
+    }
 }
 
 // The units of exact lengths, as numbers in an inch: micrometres and tens and hundreds of them;
 // points, with up to two decimals; and parts of an inch, with up to four.
 static EXACT: &[u16] = &[25_400, 2_540, 254, 72, 720, 7_200, 100, 1_000, 10_000];
 
-// Takes an exact length of the side or of a module, in the first unit of which it is a multiple.
-fn take_length(sizes: &mut Sizes, parts: u64, is_side: bool) -> Result<(), &'static str> {
+// Returns an exact length of the side or of a module, in the first unit of which it is a multiple.
+fn length_of(parts: u64, is_side: bool) -> Result<Extent, &'static str> {
     for dots in EXACT {
-        if let Some(scale) = multiple_of(parts, *dots) {
-            sizes.scale = scale;
-            sizes.dots = None;
-            sizes.length = Some(Length {
+        if let Some(count) = multiple_of(parts, *dots) {
+            return Ok(Extent::Exact(Length {
+                count,
                 dots: *dots,
                 is_side,
-            });
-            return Ok(());
+            }));
         }
     }
     if parts > INCH && parts <= MOST_EXACT {
         return Err("this long it takes fewer decimals; leave out the last");
     }
-    Err(size_help(true, is_side))
+    Err(size_help("", true, is_side))
 }
 
 // The longest exact length: 65,535 tenths of a millimetre.
@@ -196,9 +152,10 @@ fn multiple_of(parts: u64, dots: u16) -> Option<u16> {
     }
 }
 
-// Explains which sizes are valid.
-fn size_help(is_exact: bool, is_side: bool) -> &'static str {
+// Explains which sizes are valid, unless only the point is wrong.
+fn size_help(text: &str, is_exact: bool, is_side: bool) -> &'static str {
     match (is_exact, is_side) {
+        _ if text.contains(',') => "write a point, e.g. 3.5cm",
         (true, true) => "use pixels, 1 to 65,535, or a length, 0.001mm to 6553.5mm, e.g. 30mm",
         (true, false) => "use a length, 0.001mm to 6553.5mm, e.g. 0.5mm",
         (false, true) => "use pixels, 1 to 65,535, or a length with --dpi, e.g. 30mm",
@@ -262,10 +219,12 @@ fn parts_of(text: &str) -> Option<u64> {
     None
 }
 
-// Converts a length to pixels: rounded down for a side, to the nearest for a module.
-fn pixels_of(parts: u64, dots: u16, is_side: bool) -> Result<u16, &'static str> {
+// Converts a length to pixels, after adding `more` parts: rounded down without them.
+fn pixels_of(parts: u64, dots: Option<u16>, more: u64) -> Result<u16, &'static str> {
+    let dots = dots.ok_or(
+        "lengths need --dpi, e.g. 300 for PNG or 203 for labels, or --format svg, eps or pdf",
+    )?;
     let parts = parts.saturating_mul(dots as u64);
-    let more = if is_side { 0 } else { INCH / 2 };
     match u16::try_from(parts.saturating_add(more) / INCH) {
         Ok(pixels) if parts >= INCH => Ok(pixels),
         Ok(_) => Err("less than a dot; use a longer one, or a higher --dpi"),

@@ -29,7 +29,7 @@ pub fn reader_of(rt: &HostRuntime, asked: &Asked<'_, '_>, path: &str) -> Option<
     if is_same_file(rt, path, input) {
         return Some(what);
     }
-    let logo = asked.logo_file.unwrap_or("");
+    let logo = asked.logo.and_then(|logo| logo.file).unwrap_or("");
     is_same_file(rt, path, logo).then_some("--logo")
 }
 

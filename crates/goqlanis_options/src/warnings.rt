@@ -4,7 +4,7 @@ use crate::asked::{Asked, Source, Target, ending_format};
 use goqlanis_files::doubted;
 use goqlanis_files::failure::{Doubts, Failure};
 use goqlanis_files::streams::shown;
-use goqlanis_request::{Choice, Grouped, Request};
+use goqlanis_request::{Choice, Extent, Grouped, Request};
 use qrcode::types::Color;
 use qrcode_contents::fields::errors::Field;
 use qrcode_formats::Format;
@@ -175,7 +175,11 @@ pub fn warn_of_sizes(
     let doubts = asked.doubts;
     let side = modules.saturating_mul(scale);
     if let Some(dots) = dots {
-        let (wanted, made) = (asked.hundredths.unwrap_or(0), hundredths_of(side, dots));
+        let made = hundredths_of(side, dots);
+        let wanted = match asked.request.extent {
+            Extent::Side(_, Some(wanted)) => wanted,
+            _ => 0,
+        };
         if made.saturating_add(10) <= wanted {
             let (wanted, made) = (Decimal(wanted), Decimal(made));
             doubted!(rt, doubts;

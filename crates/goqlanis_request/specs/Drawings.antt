@@ -1,6 +1,5 @@
 -- How a request draws a symbol.
 use Rattle.std.specs.Prelude.{ℕ, ◌+◌, ◌*◌, ◌/◌, List, [], Option, None, Some, true, max, unwrap_or, if◌then◌else◌}
-use Rattle.std.specs.Option.{option_map}
 use Rattle.qrcode_types.specs.Versions.{side}
 use Rattle.qrcode_types.specs.declared.types.Color.{Color}
 use Rattle.qrcode_types.specs.declared.types.Version.{Version}
@@ -15,22 +14,34 @@ use Rattle.qrcode_sheets.specs.Sheets.{Sheet, shade_of}
 use Rattle.goqlanis_request.specs.declared.drawing.Drawing.{Drawing}
 use Rattle.qrcode_sheets.specs.declared.pasting.Inset.{Inset}
 use Rattle.qrcode_sheets.specs.declared.pasting.Window.{Window}
+use Rattle.goqlanis_request.specs.declared.request.Extent.{Extent}
+use Rattle.goqlanis_request.specs.declared.request.Extent.TheVariants.{Module, Side, Exact}
 use Rattle.goqlanis_request.specs.declared.request.Request.{Request}
 
 abbrev pub zone_for : Request → Version → ℕ  -- the width of the quiet zone in modules: the requested one, or the standard's
 zone_for r v = unwrap_or r.zone (quiet_zone v)
 
--- the pixels of a module: those requested, or as many as fit in the requested side
+-- the pixels of a module: those requested, or as many as fit in the requested side, which has this many modules; of an exact size, its count
+abbrev pub scale_of : Extent → ℕ → ℕ
+scale_of (Module pixels) modules = pixels
+scale_of (Side pixels length) modules = pixels / modules
+scale_of (Exact length) modules = length.count
+
 abbrev pub scale_for : Request → Version → ℕ
-scale_for r v = unwrap_or (option_map (λ size. size / (side v + 2 * zone_for r v)) r.size) r.scale
+scale_for r v = scale_of r.extent (side v + 2 * zone_for r v)
 
 -- the size of a module, in the units that overlays are placed in
 abbrev pub unit_for : Request → Version → ℕ
 unit_for r v = units r.format (max (scale_for r v) 1)
 
--- the pixels per inch, if the request sets a length: its dots per inch, times the modules of the whole side if the length is that of the side
+-- the pixels per inch, of an exact size: its dots per inch, times the modules of the whole side if it is that of the side
+abbrev pub dots_of : Extent → ℕ → Option ℕ
+dots_of (Module pixels) modules = None
+dots_of (Side pixels length) modules = None
+dots_of (Exact length) modules = Some (if length.is_side then length.dots * modules else length.dots)
+
 abbrev pub dots_for : Request → Version → Option ℕ
-dots_for r v = option_map (λ l. if l.is_side then l.dots * (side v + 2 * zone_for r v) else l.dots) r.length
+dots_for r v = dots_of r.extent (side v + 2 * zone_for r v)
 
 -- a frame with its size set by the pixels per inch, if they are given
 abbrev pub sized : Option ℕ → Frame → Frame

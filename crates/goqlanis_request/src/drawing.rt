@@ -10,7 +10,7 @@ ghost use Rattle.qrcode_sheets.specs.Sheets.{sheet_of};
 ghost use Rattle.goqlanis_request.specs.Symbols.{IsSymbolIn, IsRefusedFor};
 
 use crate::masking::modules_under;
-use crate::request::{Choice, Request};
+use crate::request::{Choice, Extent, Request};
 use qrcode::QrCode;
 use qrcode::bits::Manner;
 use qrcode::types::{Color, EcLevel, QrResult};
@@ -124,17 +124,17 @@ fn sheet<'a>(
     }
 }
 
-/// Returns the pixels per inch that the request's `length` sets, if it sets one.
+/// Returns the pixels per inch that an exact size sets.
 pub fn dots(request: &Request<'_>, code: &QrCode) -> Option<u32>
     ensures { result ≡ dots_for request.now code.now.version }
 {
-    match request.length {
-        None => None,
-        Some(length) if length.is_side => {
+    match request.extent {
+        Extent::Exact(length) if length.is_side => {
             let side = code.width() as u32 + 2 * quiet_zone(request, code);
             Some(length.dots as u32 * side)
         }
-        Some(length) => Some(length.dots as u32),
+        Extent::Exact(length) => Some(length.dots as u32),
+        Extent::Module(_) | Extent::Side(..) => None,
     }
 }
 
@@ -159,17 +159,18 @@ pub(crate) fn unit(request: &Request<'_>, code: &QrCode) -> u32
     units(request.format, scale(request, code).max(1))
 }
 
-/// Returns the pixels of a module: those requested, or as many as fit in the requested side. 0 if a
-/// module does not fit.
+/// Returns the pixels of a module: those requested, or as many as fit in the requested side; of an
+/// exact size, its count. 0 if a module does not fit.
 pub fn scale(request: &Request<'_>, code: &QrCode) -> u32
     ensures value { result ≡ scale_for request.now code.now.version }
     ensures at_most { result ≤ 65535 }
 {
-    match request.size {
-        None => request.scale as u32,
-        Some(size) => {
+    match request.extent {
+        Extent::Module(pixels) => pixels as u32,
+        Extent::Side(pixels, _) => {
             let side = code.width() as u32 + 2 * quiet_zone(request, code);
-            size as u32 / side
+            pixels as u32 / side
         }
+        Extent::Exact(length) => length.count as u32,
     }
 }

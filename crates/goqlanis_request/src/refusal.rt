@@ -12,20 +12,34 @@ use qrcode_types::tables;
 use std::alloc::{AllocError, Global};
 use std::fmt;
 
-/// Says why `bytes` have no symbol, and what would hold them.
+/// Says why `bytes`, written in this manner, have no symbol, and what would hold them.
+///
+/// Errors: only `AllocError`, if memory runs out or `error` is `OutOfMemory`.
+pub fn data_refusal_text(
+    alloc: Global,
+    request: &Request<'_>,
+    manner: Manner,
+    bytes: &[u8],
+    error: QrError,
+) -> Result<String, AllocError> {
+    match (error, request.choice) {
+        (QrError::DataTooLong, _) => too_long_text(alloc, request, manner, bytes),
+        (QrError::UnsupportedCharacterSet, Choice::At(version)) => {
+            no_mode_text(alloc, manner, version)
+        }
+        (error, _) => refusal_text(alloc, request, error),
+    }
+}
+
+/// Says why there is no such symbol or picture, whatever the data.
 ///
 /// Errors: only `AllocError`, if memory runs out or `error` is `OutOfMemory`.
 pub fn refusal_text(
     alloc: Global,
     request: &Request<'_>,
-    bytes: &[u8],
     error: QrError,
 ) -> Result<String, AllocError> {
     match (error, request.choice) {
-        (QrError::DataTooLong, _) => too_long_text(alloc, request, bytes),
-        (QrError::UnsupportedCharacterSet, Choice::At(version)) => {
-            no_mode_text(alloc, request.manner, version)
-        }
         (QrError::InvalidVersion, Choice::At(version))
             if tables::capacity(version, request.level).is_none() => {
             no_level_text(alloc, version, request.level)
@@ -58,7 +72,7 @@ pub fn segments_refusal_text(
         (QrError::UnsupportedCharacterSet, Choice::At(version)) => {
             no_segment_text(alloc, version, segments)
         }
-        (error, _) => refusal_text(alloc, request, &[], error),
+        (error, _) => refusal_text(alloc, request, error),
     }
 }
 
@@ -151,7 +165,12 @@ fn room_refusal_text(
 }
 
 // Says that no allowed version holds the bytes.
-fn too_long_text(alloc: Global, request: &Request<'_>, bytes: &[u8]) -> Result<String, AllocError> {
+fn too_long_text(
+    alloc: Global,
+    request: &Request<'_>,
+    manner: Manner,
+    bytes: &[u8],
+) -> Result<String, AllocError> {
     let (level, count) = (request.level, Grouped(bytes.len()));
     let mut text = format!(in alloc; "{count} bytes at ")?;
     let version = match request.choice {
@@ -162,7 +181,7 @@ fn too_long_text(alloc: Global, request: &Request<'_>, bytes: &[u8]) -> Result<S
         }
         _ => Version::Normal(40),
     };
-    match byte_room(request.manner, version, level) {
+    match byte_room(manner, version, level) {
         0 => write!(text, "level {level:?}: too many")?,
         most => {
             let most = Grouped(most);
@@ -172,13 +191,18 @@ fn too_long_text(alloc: Global, request: &Request<'_>, bytes: &[u8]) -> Result<S
             )?;
         }
     }
-    push_help(&mut text, request, bytes)?;
+    push_help(&mut text, request, manner, bytes)?;
     Ok(text)
 }
 
 // Appends what would hold the bytes: a larger version, a lower level, or several symbols.
-fn push_help(text: &mut String, request: &Request<'_>, bytes: &[u8]) -> Result<(), AllocError> {
-    let (alloc, manner) = (*text.allocator(), request.manner);
+fn push_help(
+    text: &mut String,
+    request: &Request<'_>,
+    manner: Manner,
+    bytes: &[u8],
+) -> Result<(), AllocError> {
+    let alloc = *text.allocator();
     let from = Choice::From(first_of(request.choice));
     if let Some(version) = version_of(symbol_in(alloc, from, manner, request.level, bytes)) {
         let name = VersionName(version);

@@ -22,21 +22,30 @@ pub enum Choice {
     At(Version),
 }
 
-/// A physical size: the `scale` of the request is then a number of dots, of one module or of the
-/// whole side.
+/// A length: `count` parts of an inch, which has `dots` of them.
 #[derive(Clone, Copy)]
 pub struct Length {
-    /// The dots per inch.
+    pub count: u16,
     pub dots: u16,
-    /// Whether `scale` is the length of the side with its quiet zone; if not, of a module.
+    /// Whether it is that of the side with its quiet zone; if not, of a module.
     pub is_side: bool,
+}
+
+/// How large a drawing is.
+#[derive(Clone, Copy)]
+pub enum Extent {
+    /// The pixels of a module, across and down; 0 means 1.
+    Module(u16),
+    /// The maximum pixels along a side, in which modules are as large as fits; and the length that
+    /// they stand for, in hundredths of a millimetre, if one was asked for.
+    Side(u16, Option<u64>),
+    /// The size in print, in `SvgPath`, EPS and PDF.
+    Exact(Length),
 }
 
 /// A request for a symbol and its picture.
 #[derive(Clone, Copy)]
 pub struct Request<'a> {
-    /// How the data is written: as bytes, as text, or as text marked as UTF-8.
-    pub manner: Manner,
     pub choice: Choice,
     pub level: EcLevel,
     /// The mask: 0 to 7, in Micro QR 0 to 3. Without it, the first with the lowest penalty.
@@ -44,18 +53,13 @@ pub struct Request<'a> {
     pub format: Format,
     /// The width of the quiet zone in modules. Without it, what the standard requires.
     pub zone: Option<u8>,
-    /// The pixels of a module, across and down; 0 means 1.
-    pub scale: u16,
-    /// The maximum pixels along a side. If set, modules are as large as fits, instead of `scale`.
-    pub size: Option<u16>,
+    pub extent: Extent,
     /// The dots per inch: recorded in a PNG file; in EPS and PDF, pixels per inch.
     pub dpi: Option<u16>,
-    /// Sets the size in inches, in `SvgPath`, EPS and PDF; see `Length`.
-    pub length: Option<Length>,
     /// The position on a label in ZPL and TSPL, in dots from the left and from the top.
     pub place: (u32, u32),
-    /// The title, ID and the like of an `SvgPath`, and its size unless `length` sets that; the
-    /// title also of a PDF file.
+    /// The title, ID and the like of an `SvgPath`, and its size unless it is exact; the title also
+    /// of a PDF file.
     pub frame: Frame<'a>,
     /// The colours, in formats that have them.
     pub dark: Ink<'a>,

@@ -5,9 +5,9 @@ use crate::tables::Table;
 use goqlanis_files::failure::Failure;
 use goqlanis_files::streams::shown;
 use goqlanis_files::{doubted, usage};
-use goqlanis_options::asked::{Asked, Target};
+use goqlanis_options::asked::{Asked, Target, Work};
+use goqlanis_options::fields::Fields;
 use goqlanis_options::nearest::nearest;
-use goqlanis_options::options::Purpose;
 use goqlanis_options::options::fields::option_of;
 use qrcode_contents::fields::errors::Field;
 use qrcode_payloads::given::Given;
@@ -24,19 +24,19 @@ pub fn check_columns(
     table: &Table<'_>,
 ) -> Result<(), Failure> {
     let columns = &table.columns;
-    match table.purpose {
-        Purpose::Content(kind) => check_payload(rt, kind, asked, table)?,
-        Purpose::Elements if table.field.is_none() => check_identifiers(rt.alloc(), columns)?,
+    match asked.work {
+        Work::Payload(fields) => check_payload(rt, fields, asked, table)?,
+        Work::Elements(_) if table.field.is_none() => check_identifiers(rt.alloc(), columns)?,
         _ => {}
     }
-    if table.is_whole() && columns.names().len() > 1 && table.lines.has_header {
+    if table.is_whole && columns.names().len() > 1 && table.lines.has_header {
         doubted!(rt, asked.doubts;
             "lines are encoded whole, with all columns; for one of them, add --field"
         )?;
     }
     for (place, name) in columns.names().iter().enumerate() {
         let is_named = is_in_path(rt.alloc(), asked.target, name.as_str())?;
-        if let Some(why) = left_out(table, place.saturating_add(1), is_named) {
+        if let Some(why) = left_out(&asked.work, table, place.saturating_add(1), is_named) {
             let name = shown(name.as_str());
             doubted!(rt, asked.doubts; "column {name} {why} is not encoded")?;
         }
@@ -47,7 +47,7 @@ pub fn check_columns(
 // Checks the columns of a table of payloads.
 fn check_payload(
     rt: &HostRuntime,
-    kind: Kind,
+    fields: Fields<'_, '_>,
     asked: &Asked<'_, '_>,
     table: &Table<'_>,
 ) -> Result<(), Failure> {
@@ -58,23 +58,23 @@ fn check_payload(
             --columns, e.g. --columns ssid,password"
         );
     }
-    check_spelling(rt.alloc(), kind, asked.target, columns)?;
-    check_password(rt.alloc(), kind, asked, columns)?;
+    check_spelling(rt.alloc(), fields.kind, asked.target, columns)?;
+    check_password(rt.alloc(), fields, columns)?;
     if table.lines.field.is_some() {
         return usage!(rt.alloc(); "--field: a payload takes all its columns; leave it out");
     }
-    check_options(rt, kind, asked, columns)
+    check_options(rt, fields, asked, columns)
 }
 
 // Warns of options of a payload that a column makes void, or that have placeholders.
 fn check_options(
     rt: &HostRuntime,
-    kind: Kind,
+    fields: Fields<'_, '_>,
     asked: &Asked<'_, '_>,
     columns: &Columns,
 ) -> Result<(), Failure> {
-    for field in fields_of(kind) {
-        let (name, text) = (option_of(*field).long, asked.fields.text(*field));
+    for field in fields_of(fields.kind) {
+        let (name, text) = (option_of(*field).long, fields.text(*field));
         // (A flag has a text in any case.)
         if text.is_empty() || *field == Field::Hidden {
             continue;
@@ -89,16 +89,11 @@ fn check_options(
 }
 
 // Refuses a table of networks that does not say how they are protected.
-fn check_password(
-    alloc: Global,
-    kind: Kind,
-    asked: &Asked<'_, '_>,
-    columns: &Columns,
-) -> Result<(), Failure> {
+fn check_password(alloc: Global, fields: Fields<'_, '_>, columns: &Columns) -> Result<(), Failure> {
     let is_said = [Field::Password, Field::Security].iter().any(|field| {
-        columns.field(*field).is_some() || !asked.fields.text(*field).is_empty()
+        columns.field(*field).is_some() || !fields.text(*field).is_empty()
     });
-    if kind == Kind::Wifi && !is_said && !columns.is_empty() {
+    if fields.kind == Kind::Wifi && !is_said && !columns.is_empty() {
         return usage!(alloc;
             "no column is called password; for open networks, add --security open"
         );
@@ -142,20 +137,25 @@ fn check_spelling(
 }
 
 // Says why column `number` is not encoded, if it is not and is no part of a file name either.
-fn left_out(table: &Table<'_>, number: usize, is_named: bool) -> Option<&'static str> {
+fn left_out(
+    work: &Work<'_, '_>,
+    table: &Table<'_>,
+    number: usize,
+    is_named: bool,
+) -> Option<&'static str> {
     let columns = &table.columns;
     let name = columns.names().get(number.saturating_sub(1))?.as_str();
-    match (table.purpose, table.lines.field) {
-        (Purpose::Content(_), _) => match columns.meant(number) {
+    match (work, table.lines.field) {
+        (Work::Payload(_), _) => match columns.meant(number) {
             None if !is_named => Some("is no option of this command, so it"),
             Some(field) if columns.field(field) != Some(number) => Some("stands twice; this one"),
             _ => None,
         },
-        (Purpose::Elements, None) => {
+        (Work::Elements(_), None) => {
             let is_left_out = !is_named && !is_identifier(identifier_in(name));
             is_left_out.then_some("is no application identifier, so it")
         }
-        (Purpose::Elements, Some(_)) | (_, None) => None,
+        (Work::Elements(_), Some(_)) | (_, None) => None,
         (_, Some(field)) => {
             let is_selected = name.trim().eq_ignore_ascii_case(field);
             (is_selected && table.field != Some(number)).then_some("stands twice; this one")

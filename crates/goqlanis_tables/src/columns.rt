@@ -28,12 +28,12 @@ impl Columns {
         }
     }
 
-    /// Reads the names in a line, for codes of this purpose.
+    /// Reads the names in a line, for codes of text or of this kind of payload.
     ///
     /// Errors: `Refused` if a quotation mark is not closed; `OutOfMemory`.
     pub fn read(
         alloc: Global,
-        purpose: Purpose,
+        kind: Option<Kind>,
         line: &str,
         delimiter: &str,
     ) -> Result<Columns, Failure> {
@@ -45,7 +45,7 @@ impl Columns {
             meant: Vec::new(alloc),
             fields: Vec::new(alloc),
         };
-        if let Purpose::Content(kind) = purpose {
+        if let Some(kind) = kind {
             columns.find_fields(kind)?;
         }
         Ok(columns)

@@ -3,21 +3,23 @@
 use crate::columns::{Columns, identifier_in, is_identifier};
 use crate::fields::Line;
 use crate::inputs::{is_blank, next_line, text_of, utf8};
-use goqlanis_files::failure::{Failure, Place};
+use goqlanis_files::failure::{Doubts, Failure, Place};
 use goqlanis_files::streams::shown;
 use goqlanis_files::{doubted, refused, usage};
-use goqlanis_options::asked::{Asked, Lines, Source, Target};
-use goqlanis_options::options::Purpose;
+use goqlanis_options::asked::{Asked, Lines, Source, Target, Work};
+use qrcode_payloads::kinds::Kind;
 use std::alloc::{AllocError, Global};
 use std::io::BufRead;
 
 /// An input with a code in each line.
 #[derive(Drop)]
 pub struct Table<'a> {
-    /// What is made of the lines.
-    pub purpose: Purpose,
-    /// How they are divided.
+    /// How the lines are divided.
     pub lines: Lines<'a>,
+    /// Whether they are encoded whole.
+    pub is_whole: bool,
+    // Whether they have element strings, or their values.
+    has_elements: bool,
     /// What messages call the input.
     pub name: &'a str,
     // Its file, if it is one.
@@ -37,7 +39,6 @@ impl<'a> Table<'a> {
     pub fn read<R: BufRead>(
         alloc: Global,
         asked: &Asked<'a, '_>,
-        purpose: Purpose,
         lines: Lines<'a>,
         from: &mut R,
     ) -> Result<Table<'a>, Failure> {
@@ -49,30 +50,30 @@ impl<'a> Table<'a> {
         let mut line = Vec::new(alloc);
         let has_line = lines.has_header && next_line(alloc, name, from, &mut line, 1)?;
         let first = has_line.then_some(text_of(&line, 1));
-        let columns = columns_of(alloc, purpose, lines, Place { file, line: 1 }, first)?;
-        check_delimiter(alloc, asked.target, &columns, is_whole(purpose, lines))?;
+        let columns = columns_of(
+            alloc,
+            asked.work.kind(),
+            lines,
+            Place { file, line: 1 },
+            first,
+        )?;
+        let has_elements = matches!(asked.work, Work::Elements(_));
+        let is_text = !has_elements && asked.work.kind().is_none();
+        let is_whole = is_text && lines.field.is_none();
+        check_delimiter(alloc, asked.target, &columns, is_whole)?;
         let field = match lines.field {
             Some(name) => Some(field_number(alloc, &columns, name)?),
             None => None,
         };
         Ok(Table {
-            purpose,
             lines,
+            is_whole,
+            has_elements,
             name,
             file,
             columns,
             field,
         })
-    }
-
-    /// Whether lines are encoded whole.
-    pub fn is_whole(&self) -> bool {
-        is_whole(self.purpose, self.lines)
-    }
-
-    // Whether the lines have element strings, or their values.
-    fn has_elements(&self) -> bool {
-        matches!(self.purpose, Purpose::Elements)
     }
 
     // Whether fields of the lines count.
@@ -121,7 +122,7 @@ impl<'a> Table<'a> {
     pub fn check_line(
         &self,
         rt: &HostRuntime,
-        asked: &Asked<'_, '_>,
+        doubts: Doubts<'_>,
         line: &Line<'_>,
     ) -> Result<(), Failure> {
         if self.columns.is_empty() {
@@ -129,14 +130,14 @@ impl<'a> Table<'a> {
         }
         let fields = line.fields(rt.alloc())?;
         let (count, known) = (fields.len(), self.columns.names().len());
-        if count > known && !self.is_whole() || count < known && self.has_elements() {
+        if count > known && !self.is_whole || count < known && self.has_elements {
             return refused!(rt.alloc();
                 "fields: {count}, columns: {known}; put quotation marks around a field that contains \
                 the delimiter"
             );
         }
         if line.number == 1 && !self.lines.has_header && self.columns.are_names(fields) {
-            doubted!(rt, asked.doubts;
+            doubted!(rt, doubts;
                 "these are the names of the columns; add --header to leave them out"
             )?;
         }
@@ -151,7 +152,7 @@ impl<'a> Table<'a> {
         let text = utf8(alloc, line.bytes)?;
         match self.field {
             Some(number) => Ok(String::from_str(alloc, line.field(alloc, number)?)?),
-            None if self.has_elements() && !self.columns.is_empty() => {
+            None if self.has_elements && !self.columns.is_empty() => {
                 Ok(elements_in(alloc, &self.columns, line.fields(alloc)?)?)
             }
             None => Ok(String::from_str(alloc, text)?),
@@ -159,16 +160,10 @@ impl<'a> Table<'a> {
     }
 }
 
-// Whether lines are encoded whole.
-fn is_whole(purpose: Purpose, lines: Lines<'_>) -> bool {
-    let is_text = !matches!(purpose, Purpose::Content(_) | Purpose::Elements);
-    is_text && lines.field.is_none()
-}
-
 // Returns the names of the columns, given the first line and its place if it has names.
 fn columns_of(
     alloc: Global,
-    purpose: Purpose,
+    kind: Option<Kind>,
     lines: Lines<'_>,
     place: Place<'_>,
     first: Option<&[u8]>,
@@ -176,7 +171,7 @@ fn columns_of(
     if let Some(names) = lines.columns {
         let is_own = names.contains(lines.delimiter);
         let delimiter = if is_own { lines.delimiter } else { "," };
-        return Columns::read(alloc, purpose, names, delimiter);
+        return Columns::read(alloc, kind, names, delimiter);
     }
     let Some(line) = first else {
         return Ok(Columns::none(alloc));
@@ -187,7 +182,7 @@ fn columns_of(
             "{place}sep= is for spreadsheets: remove this line, and add --delimiter"
         );
     }
-    match Columns::read(alloc, purpose, text.as_str(), lines.delimiter) {
+    match Columns::read(alloc, kind, text.as_str(), lines.delimiter) {
         Err(Failure::Refused(why)) => refused!(alloc; "{place}{why}"),
         read => read,
     }
