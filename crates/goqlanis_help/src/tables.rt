@@ -1,86 +1,71 @@
-//! The tables of options: one a line, as `-i --input FILE: help`. What an option takes is a text or,
-//! with a sign behind its name, one of some words (`|`), several texts (`..`), or a whole number
-//! (`=0..20`).
+//! The tables of options: a heading and then one a line, as `-i --input FILE: help`. What an option
+//! takes is a text or, with a sign behind its name, one of some words (`|`), several texts (`..`), or
+//! a whole number (`=0..20`).
 
 use goqlanis_options::options::{Entry, Takes};
+use std::alloc::{AllocError, Global};
 
 // Input of a code of data.
-const DATA: &str = "\
+pub(crate) const DATA: &str = "Input
 -i --input FILE: Encode the contents of a file
 --trim: Drop one trailing newline (LF or CR LF)
 --allow-empty: Accept empty input
 --bytes: Encode raw bytes in the fewest bits; readers may show UTF-8 text wrongly";
 
 // Input of GS1 element strings.
-const FILES: &str = "\
+pub(crate) const FILES: &str = "Input
 -i --input FILE: Read the data of one code, or with --lines of many, from a file";
 
 // Input of payloads, whose fields options give.
-const TABLES: &str = "\
+pub(crate) const TABLES: &str = "Input
 -i --input FILE: With --lines: read the lines from a file";
 
 // Segments of one's choice.
-const SEGMENTS: &str = "\
---segment MODE:DATA..: Choose the segments: numeric:DIGITS, alphanumeric:TEXT, byte:TEXT (UTF-8), \
-    kanji:HEX (Shift JIS) or eci:NUMBER; repeat as needed";
+pub(crate) const SEGMENTS: &str = "Input
+--segment MODE:DATA..: Choose the segments: numeric:DIGITS, alphanumeric:TEXT, byte:TEXT (UTF-8), kanji:HEX (Shift JIS) or eci:NUMBER; repeat as needed";
 
 // A code for each line.
-const LINES: &str = "\
---lines: Make one code per input line. In --output, {} stands for the line number, {:04} for it \
-    in four digits, {text} for the line, {1} for its first field; without them a number is added. \
-    With -f pdf and no --output, each code is a page of one document
---header: With --lines: the first line names the columns, e.g. ssid,password for wifi or 01,10 \
-    for gs1, and has no number; {ssid} in --output is that field
---columns NAMES: With --lines: names of the columns, if the first line has none; with --header, \
-    instead of its names
+pub(crate) const LINES: &str = "Input
+--lines: Make one code per input line. In --output, {} stands for the line number, {:04} for it in four digits, {text} for the line, {1} for its first field; without them a number is added. With -f pdf and no --output, each code is a page of one document
+--header: With --lines: the first line names the columns, e.g. ssid,password for wifi or 01,10 for gs1, and has no number; {ssid} in --output is that field
+--columns NAMES: With --lines: names of the columns, if the first line has none; with --header, instead of its names
 --field FIELD: With --lines: encode only this field of each line, by number or name
 --delimiter TEXT: Separator of the fields in a line, e.g. ; or tab [default: ,]";
 
 // Level and version.
-const LEVELS: &str = "\
+pub(crate) const LEVELS: &str = "Code
 -l --level LEVEL|: Error correction level [default: M; H with a logo; L with -v M1]
--v --symbol-version VERSION: Version, 1 to 40 or M1 to M4 [default: the smallest of 1 to 40 that \
-    fits]
+-v --symbol-version VERSION: Version, 1 to 40 or M1 to M4 [default: the smallest of 1 to 40 that fits]
 --min-version VERSION: Smallest version to try, in the order M1 to M4, 1 to 40";
 
 // Level and version where there is no Micro QR.
-const NORMAL_LEVELS: &str = "\
+pub(crate) const NORMAL_LEVELS: &str = "Code
 -l --level LEVEL|: Error correction level [default: M; H with a logo]
 -v --symbol-version VERSION: Version, 1 to 40 [default: the smallest that fits]
 --min-version VERSION: Smallest version to try, 1 to 40";
 
 // The choice of level and version.
-const TEXTS: &str = "\
---micro: Use Micro QR if the data fits (same as --min-version M1), else QR; M1 needs --level L, \
-    and no Micro version has H
+pub(crate) const TEXTS: &str = "Code
+--micro: Use Micro QR if the data fits (same as --min-version M1), else QR; M1 needs --level L, and no Micro version has H
 --boost: Use the highest level, from --level up, that fits the same version; not with -v";
 
 // The character set.
-const MARKS: &str = "\
+pub(crate) const MARKS: &str = "Input
 --eci: Mark the data as UTF-8 (ECI 26); helps if readers show it wrongly
---charset NAME: Character set of the text, with its ECI: utf-8, shift-jis, iso-8859-1 to -16, \
-    windows-1250 to -1252 or -1256; shortest: whichever takes the fewest bits, but for windows \
-    [default: UTF-8 without ECI]";
+--charset NAME: Character set of the text, with its ECI: utf-8, shift-jis, iso-8859-1 to -16, windows-1250 to -1252 or -1256; shortest: whichever takes the fewest bits, but for windows [default: UTF-8 without ECI]";
 
 // The mask.
-const MASKS: &str = "\
+pub(crate) const MASKS: &str = "Code
 --mask 0-7=0..7: Mask pattern; Micro QR has only 0 to 3 [default: lowest penalty]";
 
 // The output.
-const LOOKS: &str = "\
--o --output FILE: Write to FILE, atomically; --lines and split add numbers, e.g. a-000001.png; - \
-    is standard output
--f --format FORMAT|: Output format; terminal: half-blocks in black on white; text: a block per \
-    module; ascii: ## per module; zpl, tspl, escpos: printers [default: FILE's extension (.txt: \
-    half-blocks); to a terminal: terminal; else half-blocks]
--q --quiet-zone MODULES=0..255: Quiet zone on each side, 0 to 255; readers need 4, of Micro QR 2 \
-    [default: 4, Micro QR 2]
--s --scale PIXELS: Pixels per module, 1 to 1,000; in SVG, EPS and PDF also e.g. 2.5 [default: 8; \
-    1 in PIC, half-blocks, terminal, text, ascii]
---size SIZE: Maximum side in pixels, e.g. 300, or a length (30mm; cm, in, pt). SVG, EPS and PDF \
-    without --dpi have exactly that length; other formats need --dpi
---module LENGTH: Side of a module, e.g. 0.5mm; exact in SVG, EPS and PDF without --dpi, else \
-    whole pixels
+pub(crate) const LOOKS: &str = "Output
+-o --output FILE: Write to FILE, atomically; --lines and split add numbers, e.g. a-000001.png; - is standard output
+-f --format FORMAT|: Output format; terminal: half-blocks in black on white; text: a block per module; ascii: ## per module; zpl, tspl, escpos: printers [default: FILE's extension (.txt: half-blocks); to a terminal: terminal; else half-blocks]
+-q --quiet-zone MODULES=0..255: Quiet zone on each side, 0 to 255; readers need 4, of Micro QR 2 [default: 4, Micro QR 2]
+-s --scale PIXELS: Pixels per module, 1 to 1,000; in SVG, EPS and PDF also e.g. 2.5 [default: 8; 1 in PIC, half-blocks, terminal, text, ascii]
+--size SIZE: Maximum side in pixels, e.g. 300, or a length (30mm; cm, in, pt). SVG, EPS and PDF without --dpi have exactly that length; other formats need --dpi
+--module LENGTH: Side of a module, e.g. 0.5mm; exact in SVG, EPS and PDF without --dpi, else whole pixels
 --dpi N=1..65535: Pixels per inch, 1 to 65,535
 --at X,Y: Position on a printed label (ZPL, TSPL), in dots from the left and top [default: 0,0]
 --no-size: Omit width and height in SVG, so that it fills its container
@@ -89,68 +74,37 @@ const LOOKS: &str = "\
 --svg-id NAME: ID of the SVG element
 --svg-class NAMES: Classes of the SVG element, for style sheets
 --pdf-title TEXT: Title of a PDF file
---dark COLOUR: Colour of dark modules in PNG, SVG, EPS, PDF and PPM, e.g. \"#008\" or navy \
-    [default: black]
+--dark COLOUR: Colour of dark modules in PNG, SVG, EPS, PDF and PPM, e.g. \"#008\" or navy [default: black]
 --light COLOUR: Colour of light modules, or transparent (PNG, SVG) [default: white]
 --invert: Swap dark and light; not all readers accept that
---logo FILE: Put a logo in the middle: an SVG or PNG file for SVG output, a PNG file for PNG \
-    output; the code still decodes
+--logo FILE: Put a logo in the middle: an SVG or PNG file for SVG output, a PNG file for PNG output; the code still decodes
 --logo-area: Leave an empty area for a logo, in any format
---logo-size SIZE: Side of the area, in modules or percent of the code's side, e.g. 9 or 20% \
-    [default: the largest that uses about half of the error correction]
+--logo-size SIZE: Side of the area, in modules or percent of the code's side, e.g. 9 or 20% [default: the largest that uses about half of the error correction]
 --logo-margin MODULES=0..20: Light modules around the logo [default: 1]
 --keep-alignment: Keep the logo off alignment patterns, which some readers need
 --verbose: Report version, level, mask and sizes on standard error
---json: Print that report as one line of JSON: on standard output if the code goes to a file, \
-    else on standard error
+--json: Print that report as one line of JSON: on standard output if the code goes to a file, else on standard error
 --werror: Treat warnings as errors
---dry-run: Print the report only, with the smallest size that readers need at --dpi; write no \
-    code [default format: png]";
+--dry-run: Print the report only, with the smallest size that readers need at --dpi; write no code [default format: png]";
 
 // The program itself.
-const ABOUT: &str = "\
+pub(crate) const ABOUT: &str = "Other
 -V --version: Print the version";
 
-/// A group of options under a heading.
-#[derive(Clone, Copy)]
-pub enum Group {
-    /// Those of the task alone, under this heading.
-    Own(&'static str),
-    Data,
-    Files,
-    Tables,
-    Marks,
-    Segments,
-    Lines,
-    Levels,
-    NormalLevels,
-    Texts,
-    Masks,
-    Looks,
-    /// The colours of parts of the code.
-    Colours,
-    About,
-}
-
-/// Returns the heading of a group, and its options unless others have them.
-pub(crate) fn listed(group: Group) -> (&'static str, &'static str) {
-    match group {
-        Group::Own(heading) => (heading, ""),
-        Group::Data => ("Input", DATA),
-        Group::Files => ("Input", FILES),
-        Group::Tables => ("Input", TABLES),
-        Group::Marks => ("Input", MARKS),
-        Group::Segments => ("Input", SEGMENTS),
-        Group::Lines => ("Input", LINES),
-        Group::Levels => ("Code", LEVELS),
-        Group::NormalLevels => ("Code", NORMAL_LEVELS),
-        Group::Texts => ("Code", TEXTS),
-        Group::Masks => ("Code", MASKS),
-        Group::Looks => ("Output", LOOKS),
-        Group::Colours => ("Colours of patterns, in PNG, SVG, EPS and PDF", ""),
-        Group::About => ("Other", ABOUT),
-    }
-}
+// The colours of parts, which `part_colours` names too.
+pub(crate) const COLOURS: &str = "Colours of patterns, in PNG, SVG, EPS and PDF
+--finder-dark COLOUR: Dark modules of finder patterns [default: as --dark]
+--finder-light COLOUR: Light modules in and around finder patterns [default: as --light]
+--alignment-dark COLOUR: Dark modules of alignment patterns
+--alignment-light COLOUR: Light modules of alignment patterns
+--timing-dark COLOUR: Dark timing modules
+--timing-light COLOUR: Light timing modules
+--format-dark COLOUR: Dark modules of the format information
+--format-light COLOUR: Light modules of the format information
+--version-dark COLOUR: Dark modules of the version information
+--version-light COLOUR: Light modules of the version information
+--data-dark COLOUR: Dark modules of data and error correction
+--data-light COLOUR: Light modules of data and error correction";
 
 // The words of which an option takes one. Those of formats are the names in the table of formats,
 // which `bindings/same` compares.
@@ -166,8 +120,15 @@ fn words_of(name: &str) -> &'static [&'static str] {
     }
 }
 
-/// Returns the option of a line of a table.
-pub(crate) fn entry_in(line: &'static str) -> Entry {
+/// Returns the options in the lines of a table.
+///
+/// Errors: only `AllocError`.
+pub(crate) fn entries_in(alloc: Global, lines: &'static str) -> Result<Vec<Entry>, AllocError> {
+    lines.lines().map(entry_in).collect(alloc)
+}
+
+// Returns the option of a line of a table.
+fn entry_in(line: &'static str) -> Entry {
     let (names, help) = line.split_once(": ").unwrap_or((line, ""));
     let (letter, rest) = names.split_once(" --").unwrap_or(("", names));
     let rest = rest.strip_prefix("--").unwrap_or(rest);

@@ -1,11 +1,10 @@
 //! The commands, in the order of the help.
 
-use crate::tables::Group::{
-    self, About, Colours, Data, Files, Levels, Lines, Looks, Marks, Masks, NormalLevels, Own,
-    Segments, Tables, Texts,
+use crate::tables::{
+    ABOUT, COLOURS, DATA, FILES, LEVELS, LINES, LOOKS, MARKS, MASKS, NORMAL_LEVELS, SEGMENTS,
+    TABLES, TEXTS, entries_in,
 };
-use crate::tables::{entry_in, listed};
-use goqlanis_options::options::{Entry, Purpose, entry_of, part_colours};
+use goqlanis_options::options::{Entry, Purpose, entry_of};
 use qrcode_payloads::kinds::{Kind, fields_of};
 use std::alloc::{AllocError, Global};
 
@@ -22,122 +21,92 @@ pub struct Task {
     pub purpose: Purpose,
     // The positional argument and its help, divided by a colon; empty if there is none.
     operand: &'static str,
-    groups: &'static [Group],
+    // Its options by tables; where a heading stands alone, its own.
+    groups: &'static [&'static str],
     // Its own options, one a line. Empty for payloads, whose options follow from their fields.
     own: &'static str,
 }
 
 const TEXT: &str = "TEXT: Text to encode; standard input if neither TEXT nor --input is given";
 
-const PICTURE: &str = "PICTURE: PNG, PBM or PGM files, or text files of half blocks; standard \
-    input if none is given";
+const PICTURE: &str =
+    "PICTURE: PNG, PBM or PGM files, or text files of half blocks; standard input if none is given";
 
-const ALL: &str = "PICTURE: Pictures of all codes, in any order, in the formats of goqlanis read; \
-    - is standard input";
-
-const ELEMENTS: &str = "ELEMENTS: Application identifiers (AI) in round brackets, each with its \
-    value, e.g. (01)09521234543213(10)AB; write ( in a value as \\(; standard input if neither \
-    ELEMENTS nor --input is given. With --application: plain data";
+const ALL: &str =
+    "PICTURE: Pictures of all codes, in any order, in the formats of goqlanis read; - is standard input";
 
 #[rattlefmt::skip]
-const PLAIN: &[Group] = &[
-    Data, Own("Code"), Marks, Segments, Lines, Levels, Texts, Masks, Looks, Colours, About,
-];
+const ELEMENTS: &str = "ELEMENTS: Application identifiers (AI) in round brackets, each with its value, e.g. (01)09521234543213(10)AB; write ( in a value as \\(; standard input if neither ELEMENTS nor --input is given. With --application: plain data";
 
 #[rattlefmt::skip]
-const DAMAGED: &[Group] = &[
-    Data, Own("Code"), Marks, Segments, Lines, Levels, Texts, Masks, Looks, Colours,
-];
-
-const SPLIT: &[Group] = &[Data, Own("Code"), NormalLevels, Masks, Looks, Colours];
+const PLAIN: &[&str] = &[DATA, "Code", MARKS, SEGMENTS, LINES, LEVELS, TEXTS, MASKS, LOOKS, COLOURS, ABOUT];
 
 #[rattlefmt::skip]
-const PAYLOAD: &[Group] = &[
-    Tables, Own("Input"), Marks, Lines, Levels, Texts, Masks, Looks, Colours,
-];
+const DAMAGED: &[&str] = &[DATA, "Code", MARKS, SEGMENTS, LINES, LEVELS, TEXTS, MASKS, LOOKS, COLOURS];
+
+const SPLIT: &[&str] = &[DATA, "Code", NORMAL_LEVELS, MASKS, LOOKS, COLOURS];
+
+#[rattlefmt::skip]
+const PAYLOAD: &[&str] = &[TABLES, "Input", MARKS, LINES, LEVELS, TEXTS, MASKS, LOOKS, COLOURS];
 
 // Of payloads whose format fixes the level.
-const FIXED: &[Group] = &[Tables, Own("Input"), Lines, Masks, Looks, Colours];
+const FIXED: &[&str] = &[TABLES, "Input", LINES, MASKS, LOOKS, COLOURS];
 
-#[rattlefmt::skip]
-const LABEL: &[Group] = &[Files, Own("Input"), Lines, NormalLevels, Masks, Looks, Colours];
+const LABEL: &[&str] = &[FILES, "Input", LINES, NORMAL_LEVELS, MASKS, LOOKS, COLOURS];
 
-const READING: &[Group] = &[Own("Output")];
+const READING: &[&str] = &["Output"];
 
-// A task: its name, purpose, argument, groups, what it does, and its own options.
-macro_rules! task {
-    ($word:literal, $purpose:expr, $operand:expr, $groups:expr, $about:literal, $own:literal) => {
-        Task {
-            word: $word,
-            about: $about,
-            purpose: $purpose,
-            operand: $operand,
-            groups: $groups,
-            own: $own,
-        }
-    };
-}
-
-// The command of a payload.
-macro_rules! payload {
-    ($word:literal, $kind:ident, $groups:expr, $about:literal) => {
-        task!($word, Purpose::Content(Kind::$kind), "", $groups, $about, "")
-    };
-}
+// What tasks have unless their row says otherwise.
+const CODE: Task = Task {
+    word: "",
+    about: "Make QR and Micro QR codes, and read them back",
+    purpose: Purpose::Draw,
+    operand: "",
+    groups: PLAIN,
+    own: "",
+};
 
 /// The task without a command: a plain code.
-#[rattlefmt::skip]
-pub static DRAWING: Task = task!("", Purpose::Draw, TEXT, PLAIN,
-    "Make QR and Micro QR codes, and read them back", "");
+pub static DRAWING: Task = Task {
+    operand: TEXT,
+    ..CODE
+};
 
 #[rattlefmt::skip]
 static TASKS: &[Task] = &[
-    task!("read", Purpose::Read, PICTURE, READING, "Decode the QR codes in a picture", "\
+    Task { word: "read", purpose: Purpose::Read, operand: PICTURE, groups: READING, about: "Decode the QR codes in a picture", own: "\
 -o --output FILE: Write the data to FILE, atomically; - is standard output
--v --verbose: Report version, level, mask, position, corrected errors, headers and segments on \
-    standard error
---json: Write the data and the --verbose report as a JSON list"),
-    task!("check", Purpose::Check, PICTURE, READING,
-        "Report where the modules of QR codes in a picture depart from the standard",
-        "--json: Write a JSON list instead of text"),
-    task!("split", Purpose::Several, TEXT, SPLIT,
-        "Split data over up to 16 numbered files (structured append)", "\
+-v --verbose: Report version, level, mask, position, corrected errors, headers and segments on standard error
+--json: Write the data and the --verbose report as a JSON list" },
+    Task { word: "check", purpose: Purpose::Check, operand: PICTURE, groups: READING, about: "Report where the modules of QR codes in a picture depart from the standard", own: "--json: Write a JSON list instead of text" },
+    Task { word: "split", purpose: Purpose::Several, operand: TEXT, groups: SPLIT, about: "Split data over up to 16 numbered files (structured append)", own: "\
 --count N=1..16: Number of codes, 1 to 16, in the smallest version that fits [default: fewest]
---max-version VERSION: Largest version to use, 1 to 40 [default: 40]"),
-    task!("join", Purpose::Join, ALL, READING,
-        "Decode the codes that split made, and join their data",
-        "-o --output FILE: Write the data to FILE, atomically; - is standard output"),
-    task!("damage", Purpose::Damage, TEXT, DAMAGED,
-        "Make a code with wrong codewords, to test readers", "\
---wrong-codewords N: Wrong codewords in each block: a number, most (as many as goqlanis corrects) \
-    or beyond (one more) [default: most]
---wrong-format N=0..15: Wrong bits in each copy of the format information; 3 are corrected \
-    [default: 0]
---wrong-version N=0..18: Wrong bits in each copy of the version information, which versions 7 to \
-    40 have [default: 0]
---wrong-patterns N=0..65535: Wrong modules of finder, timing and alignment patterns and separators \
-    [default: 0]
+--max-version VERSION: Largest version to use, 1 to 40 [default: 40]" },
+    Task { word: "join", purpose: Purpose::Join, operand: ALL, groups: READING, about: "Decode the codes that split made, and join their data", own: "-o --output FILE: Write the data to FILE, atomically; - is standard output" },
+    Task { word: "damage", purpose: Purpose::Damage, operand: TEXT, groups: DAMAGED, about: "Make a code with wrong codewords, to test readers", own: "\
+--wrong-codewords N: Wrong codewords in each block: a number, most (as many as goqlanis corrects) or beyond (one more) [default: most]
+--wrong-format N=0..15: Wrong bits in each copy of the format information; 3 are corrected [default: 0]
+--wrong-version N=0..18: Wrong bits in each copy of the version information, which versions 7 to 40 have [default: 0]
+--wrong-patterns N=0..65535: Wrong modules of finder, timing and alignment patterns and separators [default: 0]
 --seed N=0..18446744073709551615: Which ones are wrong [default: 0]
 --mirror: Swap left and right
---turn DEGREES|: Turn the code clockwise, after --mirror [default: 0]"),
-    payload!("wifi", Wifi, PAYLOAD, "Wi-Fi network"),
-    payload!("mecard", Mecard, PAYLOAD, "Contact (MECARD)"),
-    payload!("vcard", Vcard, PAYLOAD, "Contact (vCard 3.0)"),
-    payload!("epc", Payment, FIXED, "SEPA credit transfer (EPC QR code)"),
-    payload!("bill", Bill, FIXED, "Swiss QR-bill, with its cross in SVG, PNG, EPS and PDF; 46 mm \
-        wide in SVG, EPS and PDF, at most that with --dpi"),
-    payload!("upi", Upi, PAYLOAD, "Payment by UPI (India)"),
-    payload!("pix", Pix, PAYLOAD, "Static payment by Pix (Brazil)"),
-    payload!("promptpay", Promptpay, PAYLOAD, "Payment by PromptPay (Thailand)"),
-    payload!("email", Mail, PAYLOAD, "E-mail"),
-    payload!("geo", Geo, PAYLOAD, "Location"),
-    payload!("tel", Tel, PAYLOAD, "Phone call"),
-    payload!("sms", Sms, PAYLOAD, "Text message"),
-    payload!("otp", Otp, PAYLOAD, "One-time password for authenticator apps"),
-    payload!("event", Event, PAYLOAD, "Calendar event"),
-    task!("gs1", Purpose::Elements, ELEMENTS, LABEL, "GS1 element string", "\
---application INDICATOR: Encode data in an industry's own format (FNC1 in second position); AIM \
-    assigns the indicator: two digits or a letter"),
+--turn DEGREES|: Turn the code clockwise, after --mirror [default: 0]" },
+    Task { word: "wifi", purpose: Purpose::Content(Kind::Wifi), groups: PAYLOAD, about: "Wi-Fi network", ..CODE },
+    Task { word: "mecard", purpose: Purpose::Content(Kind::Mecard), groups: PAYLOAD, about: "Contact (MECARD)", ..CODE },
+    Task { word: "vcard", purpose: Purpose::Content(Kind::Vcard), groups: PAYLOAD, about: "Contact (vCard 3.0)", ..CODE },
+    Task { word: "epc", purpose: Purpose::Content(Kind::Payment), groups: FIXED, about: "SEPA credit transfer (EPC QR code)", ..CODE },
+    Task { word: "bill", purpose: Purpose::Content(Kind::Bill), groups: FIXED, about: "Swiss QR-bill, with its cross in SVG, PNG, EPS and PDF; 46 mm wide in SVG, EPS and PDF, at most that with --dpi", ..CODE },
+    Task { word: "upi", purpose: Purpose::Content(Kind::Upi), groups: PAYLOAD, about: "Payment by UPI (India)", ..CODE },
+    Task { word: "pix", purpose: Purpose::Content(Kind::Pix), groups: PAYLOAD, about: "Static payment by Pix (Brazil)", ..CODE },
+    Task { word: "promptpay", purpose: Purpose::Content(Kind::Promptpay), groups: PAYLOAD, about: "Payment by PromptPay (Thailand)", ..CODE },
+    Task { word: "email", purpose: Purpose::Content(Kind::Mail), groups: PAYLOAD, about: "E-mail", ..CODE },
+    Task { word: "geo", purpose: Purpose::Content(Kind::Geo), groups: PAYLOAD, about: "Location", ..CODE },
+    Task { word: "tel", purpose: Purpose::Content(Kind::Tel), groups: PAYLOAD, about: "Phone call", ..CODE },
+    Task { word: "sms", purpose: Purpose::Content(Kind::Sms), groups: PAYLOAD, about: "Text message", ..CODE },
+    Task { word: "otp", purpose: Purpose::Content(Kind::Otp), groups: PAYLOAD, about: "One-time password for authenticator apps", ..CODE },
+    Task { word: "event", purpose: Purpose::Content(Kind::Event), groups: PAYLOAD, about: "Calendar event", ..CODE },
+    Task { word: "gs1", purpose: Purpose::Elements, operand: ELEMENTS, groups: LABEL, about: "GS1 element string", own: "\
+--application INDICATOR: Encode data in an industry's own format (FNC1 in second position); AIM assigns the indicator: two digits or a letter" },
 ];
 
 /// Returns the tasks of the commands.
@@ -184,7 +153,7 @@ impl Task {
                 let fields = fields_of(kind).iter();
                 fields.map(|field| entry_of(kind, *field)).collect(alloc)
             }
-            _ => self.own.lines().map(entry_in).collect(alloc),
+            _ => entries_in(alloc, self.own),
         }
     }
 
@@ -194,11 +163,11 @@ impl Task {
     pub(crate) fn all_options(&self, alloc: Global) -> Result<Vec<Headed>, AllocError> {
         let mut all = Vec::new(alloc);
         for group in self.groups {
-            let (heading, lines) = listed(*group);
-            match group {
-                Own(_) => push_under(&mut all, heading, &self.own_options(alloc)?)?,
-                Colours => push_colours(&mut all, heading)?,
-                _ => push_lines(&mut all, heading, lines)?,
+            let (heading, lines) = group.split_once('\n').unwrap_or((*group, ""));
+            if lines.is_empty() {
+                push_under(&mut all, heading, &self.own_options(alloc)?)?;
+            } else {
+                push_under(&mut all, heading, &entries_in(alloc, lines)?)?;
             }
         }
         Ok(all)
@@ -212,24 +181,6 @@ fn push_under(
 ) -> Result<(), AllocError> {
     for entry in options {
         all.push((heading, *entry))?;
-    }
-    Ok(())
-}
-
-fn push_colours(all: &mut Vec<Headed>, heading: &'static str) -> Result<(), AllocError> {
-    for colour in part_colours() {
-        all.push((heading, colour.entry))?;
-    }
-    Ok(())
-}
-
-fn push_lines(
-    all: &mut Vec<Headed>,
-    heading: &'static str,
-    lines: &'static str,
-) -> Result<(), AllocError> {
-    for line in lines.lines() {
-        all.push((heading, entry_in(line)))?;
     }
     Ok(())
 }

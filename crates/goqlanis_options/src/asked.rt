@@ -1,8 +1,9 @@
 //! Turns the command line into a request.
 
-use crate::colours::{check_colours, ink_of, part_colour, part_inks};
+use crate::colours::{check_colours, ink_of, part_inks};
 use crate::damage::{AskedDamage, damage_of};
 use crate::fields::Fields;
+use crate::formats::{check_format, format_of, takers, takes};
 use crate::frames::{frame_of, place_of};
 use crate::logos::{AskedLogo, logo_of};
 use crate::options::Purpose;
@@ -12,15 +13,13 @@ use crate::warnings::warn;
 use clap::ArgMatches;
 use clap::parser::ValueSource;
 use goqlanis_files::failure::{Doubts, Failure};
-use goqlanis_files::streams::has_colours;
 use goqlanis_files::usage;
 use goqlanis_request::{Choice, Request};
 use qrcode::types::{EcLevel, Version};
 use qrcode_append::Versions;
-use qrcode_formats::{Colours, Density, FORMATS, Format, Middle, format_named, format_of_ending};
+use qrcode_formats::Format;
 use qrcode_payloads::kinds::Kind;
 use std::alloc::Global;
-use std::fs;
 
 /// The source of the data.
 #[derive(Clone, Copy)]
@@ -143,7 +142,7 @@ pub fn asked_for<'a, 'w>(
     let alloc = rt.alloc();
     let target = target_of(alloc, given)?;
     let is_dry = given.get_flag("dry-run");
-    let format = format(rt, given.get_str("format"), target, is_dry)?;
+    let format = format_of(rt, given.get_str("format"), target, is_dry)?;
     check_format(alloc, given, format)?;
     let request = request_of(alloc, purpose, given, format)?;
     let input = input_of(alloc, given)?;
@@ -258,14 +257,13 @@ fn lines_of<'a>(alloc: Global, given: &ArgMatches<'a>) -> Result<Option<Lines<'a
 // Checks that several drawings go to files, can be printed one after another, or are pages of one
 // PDF document.
 fn check_one_behind_another(alloc: Global, asked: &Asked<'_, '_>) -> Result<(), Failure> {
-    let format = asked.request.format;
-    let is_pdf = format == Format::Pdf;
-    if matches!(asked.target, Target::File(_)) || format.row().is_series || is_pdf {
+    if matches!(asked.target, Target::File(_)) || takes(asked.request.format, "series") {
         return Ok(());
     }
+    let names = takers(alloc, "series")?;
     usage!(alloc;
         "pictures of this format cannot follow one another on standard output: add --output, e.g. \
-        -o a.png, and files are numbered; text, pdf, zpl, tspl and escpos can"
+        -o a.png, and files are numbered; {names} can"
     )
 }
 
@@ -376,50 +374,6 @@ fn request_of<'a>(
     Ok(request)
 }
 
-// Options that not all formats support, besides the colours of parts.
-const LIMITED: &str =
-    "dark light dpi invert at logo svg-title svg-desc svg-id svg-class no-size pdf-title";
-
-// Checks that the format supports the given options.
-fn check_format(alloc: Global, given: &ArgMatches<'_>, format: Format) -> Result<(), Failure> {
-    // (No option is called "".)
-    let part = part_colour(given).unwrap_or("");
-    for option in LIMITED.split(' ').chain([part]) {
-        if let Some(why) = lacked(format, option).filter(|_| is_given(given, option)) {
-            return usage!(alloc; "--{option}: {why}");
-        }
-    }
-    Ok(())
-}
-
-// Returns what a format lacks for an option, and what would help; `None` if it lacks nothing.
-#[rattlefmt::skip]
-fn lacked(format: Format, option: &str) -> Option<&'static str> {
-    let row = format.row();
-    let is_svg = format == Format::SvgPath;
-    match option {
-        "dark" | "light" => (row.colours == Colours::Fixed).then_some(
-            "only PNG, SVG, EPS, PDF and PPM have colours; add --format png, svg or eps"),
-        "dpi" if is_svg => Some(
-            "SVG has no resolution; leave it out: lengths are exact without it"),
-        "dpi" => (row.density == Density::Nothing).then_some(
-            "text and PIC have no resolution; use another --format, e.g. png"),
-        "invert" => (format == Format::Pic).then_some(
-            "PIC draws no light modules; use another --format"),
-        "at" => (!row.has_place).then_some(
-            "only labels have a place for the code; add --format zpl or tspl"),
-        "logo" => (!matches!(row.middle, Middle::Element | Middle::Pixels)).then_some(
-            "only SVG and PNG take a logo; add --format svg, or use --logo-area instead and put \
-            the logo there yourself"),
-        "svg-title" | "svg-desc" | "svg-id" | "svg-class" | "no-size" => (!is_svg).then_some(
-            "only SVG has it; add --format svg"),
-        "pdf-title" => (format != Format::Pdf).then_some(
-            "only PDF has it; add --format pdf"),
-        _ => (row.parts == Colours::Fixed).then_some(
-            "only PNG, SVG, EPS and PDF have colours of parts; add --format png, svg, eps or pdf"),
-    }
-}
-
 // Returns the level: the given one, or by default M; L for version M1, which has no other; and H
 // with a logo, to leave room for it, unless the payload's format fixes the level or the code is a
 // Micro one, which has no H.
@@ -455,49 +409,4 @@ fn version(name: &str) -> Option<Version> {
         None => name.parse::<i16>().map(Version::Normal),
     };
     version.ok().filter(|version| version.is_valid())
-}
-
-// Returns the format: the given one, or that of the file extension, or the one for terminals; PNG
-// if nothing is drawn.
-fn format(
-    rt: &HostRuntime,
-    name: Option<&str>,
-    target: Target<'_>,
-    is_dry: bool,
-) -> Result<Format, Failure> {
-    if let Some(format) = name.and_then(format_named) {
-        return Ok(format);
-    }
-    let Target::File(path) = target else {
-        if is_dry {
-            return Ok(Format::Png);
-        }
-        let is_coloured = matches!(target, Target::Terminal) && has_colours(rt);
-        return Ok(if is_coloured {
-            Format::Terminal
-        } else {
-            Format::HalfBlocks
-        });
-    };
-    if let Some(format) = ending_format(path) {
-        return Ok(format);
-    }
-    if fs::metadata(rt, path).is_ok_and(|found| found.is_dir()) {
-        return usage!(rt.alloc(); "--output {path}: it is a folder; name a file in it");
-    }
-    let known = FORMATS
-        .iter()
-        .filter_map(|row| row.ending)
-        .collect::<Vec<&str>>(rt.alloc())?;
-    let endings = known.join(rt.alloc(), " .")?;
-    usage!(rt.alloc();
-        "--output {path}: the file extension is none of .{endings}; use one of these and convert \
-        the file, or add --format"
-    )
-}
-
-/// Returns the format that belongs to the file extension of `path`.
-pub fn ending_format(path: &str) -> Option<Format> {
-    let (_, ending) = path.rsplit_once('.')?;
-    format_of_ending(ending)
 }

@@ -1,12 +1,12 @@
 //! The colour options.
 
+use crate::formats::{takers, takes};
 use crate::nearest::nearest;
 use crate::options::part_colours;
 use clap::ArgMatches;
 use goqlanis_files::failure::Failure;
 use goqlanis_files::usage;
 use goqlanis_request::Request;
-use qrcode_formats::Colours;
 use qrcode_sheets::PartInk;
 use qrcode_sheets::colours::{Colour, NAMES, colour_named};
 use qrcode_sheets::sheet::Ink;
@@ -17,16 +17,16 @@ use std::alloc::{AllocError, Global};
 /// Errors: `Usage` for an unknown colour; `OutOfMemory`.
 pub fn part_inks<'a>(alloc: Global, given: &ArgMatches<'a>) -> Result<Vec<PartInk<'a>>, Failure> {
     let mut inks = Vec::new(alloc);
-    for colour in part_colours() {
-        if let Some(text) = given.get_str(colour.entry.long) {
+    for (option, part, tone) in part_colours() {
+        if let Some(text) = given.get_str(option) {
             inks.push(PartInk {
-                part: colour.part,
+                part: *part,
                 tone: if given.get_flag("invert") {
-                    !colour.tone
+                    !*tone
                 } else {
-                    colour.tone
+                    *tone
                 },
-                ink: ink_of(alloc, colour.entry.long, text)?,
+                ink: ink_of(alloc, option, text)?,
             })?;
         }
     }
@@ -76,26 +76,23 @@ fn unknown_colour(alloc: Global, option: &str, text: &str) -> Result<String, All
 
 /// Checks that the format supports the colours: not all support transparency.
 ///
-/// Errors: `Usage`, with what would help; `OutOfMemory`.
+/// Errors: `Usage`, with the formats that do; `OutOfMemory`.
 pub fn check_colours(alloc: Global, request: &Request<'_>) -> Result<(), Failure> {
     let is_opaque = request.dark.opacity == 255 && request.light.opacity == 255;
-    let row = request.format.row();
-    if row.colours == Colours::Opaque && !is_opaque {
-        return usage!(alloc; "EPS, PDF and PPM have no transparency: use --format png or svg");
-    }
-    if row.parts != Colours::Any && !request.parts.iter().all(|part| part.ink.opacity == 255) {
-        return usage!(alloc;
-            "colours of parts are drawn over --dark and --light in SVG, EPS and PDF: for \
-            transparent ones use --format png"
-        );
-    }
-    Ok(())
+    let are_opaque = request.parts.iter().all(|part| part.ink.opacity == 255);
+    let (what, of) = if !is_opaque && !takes(request.format, "transparent") {
+        ("transparent", "")
+    } else if !are_opaque && !takes(request.format, "transparent-parts") {
+        ("transparent-parts", " of parts")
+    } else {
+        return Ok(());
+    };
+    let names = takers(alloc, what)?;
+    usage!(alloc; "transparent colours{of} go with --format {names}")
 }
 
 /// Returns the first option on the command line that colours a part.
 pub fn part_colour(given: &ArgMatches<'_>) -> Option<&'static str> {
-    let found = part_colours()
-        .iter()
-        .find(|colour| given.contains_id(colour.entry.long));
-    Some(found?.entry.long)
+    let mut options = part_colours().iter().map(|(option, _, _)| *option);
+    options.find(|option| given.contains_id(option))
 }

@@ -22,7 +22,7 @@ mod parts;
 
 pub use habits::{OTHER_NAMES, counts};
 pub use kinds::entry_of;
-pub use parts::{PartColour, part_colours};
+pub(crate) use parts::part_colours;
 
 /// The value that an option takes.
 #[derive(Clone, Copy)]

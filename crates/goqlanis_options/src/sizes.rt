@@ -33,31 +33,19 @@ pub fn extent_of(
     let dots = pixels_per_inch(format, dpi);
     // The size of a bill stands where no option says otherwise.
     let has_own = purpose.is_bill() && (is_exact || dpi.is_some()) && !given.get_flag("no-size");
-    let own = has_own.then_some("46mm");
-    if let Some(text) = given.get_str("scale") {
-        let tip = scale_tip(purpose, text);
-        return or_refused(alloc, "scale", text, scale_of(text, format, is_exact), tip);
-    }
-    if let Some(text) = given.get_str("module") {
-        return or_refused(alloc, "module", text, module_of(text, dots, is_exact), "");
-    }
-    match given.get_str("size").or(own) {
-        Some(text) => or_refused(alloc, "size", text, side_of(text, dots, is_exact), ""),
-        None => Ok(Extent::Module(format.row().pixels)),
-    }
-}
-
-// Explains why `text`, the value of `--option`, gives no size.
-fn or_refused(
-    alloc: Global,
-    option: &str,
-    text: &str,
-    extent: Result<Extent, &'static str>,
-    tip: &str,
-) -> Result<Extent, Failure> {
+    let size = given.get_str("size").or(has_own.then_some("46mm"));
+    let (option, text, extent) = match (given.get_str("scale"), given.get_str("module"), size) {
+        (Some(text), _, _) => ("scale", text, scale_of(text, format, is_exact)),
+        (_, Some(text), _) => ("module", text, module_of(text, dots, is_exact)),
+        (_, _, Some(text)) => ("size", text, side_of(text, dots, is_exact)),
+        _ => return Ok(Extent::Module(format.row().pixels)),
+    };
     match extent {
         Ok(extent) => Ok(extent),
-        Err(why) => usage!(alloc; "--{option} {text}: {why}{tip}"),
+        Err(why) => {
+            let tip = scale_tip(purpose, option, text);
+            usage!(alloc; "--{option} {text}: {why}{tip}")
+        }
     }
 }
 
@@ -86,9 +74,10 @@ fn scale_of(text: &str, format: Format, is_exact: bool) -> Result<Extent, &'stat
 }
 
 // What else to say about a scale that is wrong: -s is no name of a network.
-fn scale_tip(purpose: Purpose, text: &str) -> &'static str {
+fn scale_tip(purpose: Purpose, option: &str, text: &str) -> &'static str {
+    let is_wifi = matches!(purpose, Purpose::Content(Kind::Wifi)) && option == "scale";
     let is_number = text.starts_with(|first: char| first.is_ascii_digit() || first == '-');
-    if matches!(purpose, Purpose::Content(Kind::Wifi)) && !is_number {
+    if is_wifi && !is_number {
         "; the name of the network is --ssid"
     } else {
         ""

@@ -1,6 +1,7 @@
 //! Warnings on standard error; the code is drawn anyway.
 
-use crate::asked::{Asked, Source, Target, ending_format};
+use crate::asked::{Asked, Source, Target};
+use crate::formats::ending_format;
 use goqlanis_files::doubted;
 use goqlanis_files::failure::{Doubts, Failure};
 use goqlanis_files::streams::shown;
