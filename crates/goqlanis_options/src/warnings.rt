@@ -2,6 +2,7 @@
 
 use crate::asked::{Asked, Source, Target};
 use crate::formats::ending_format;
+use crate::report::Sizes;
 use goqlanis_files::doubted;
 use goqlanis_files::failure::{Doubts, Failure};
 use goqlanis_files::streams::shown;
@@ -162,20 +163,14 @@ const MOST_FIELD: u32 = 99_999;
 /// Warns of sizes that may be unexpected or unreadable: a side at least 0.1 mm below `--size`,
 /// modules under 0.25 mm, and a PDF page or ZPL graphic that is too large.
 ///
-/// The code has `modules` modules a side, quiet zone included, each of `scale` pixels; `dots` is
-/// the number of pixels per inch, if known.
-///
 /// Errors: `Refused` with the first warning if warnings are errors; `OutOfMemory`.
-pub fn warn_of_sizes(
+pub(crate) fn warn_of_sizes(
     rt: &HostRuntime,
     asked: &Asked<'_, '_>,
-    modules: u32,
-    scale: u32,
-    dots: Option<u32>,
+    sizes: Sizes,
 ) -> Result<(), Failure> {
-    let doubts = asked.doubts;
-    let side = modules.saturating_mul(scale);
-    if let Some(dots) = dots {
+    let (doubts, side) = (asked.doubts, sizes.side);
+    if let Some(dots) = sizes.dots {
         let made = hundredths_of(side, dots);
         let wanted = match asked.request.extent {
             Extent::Side(_, Some(wanted)) => wanted,
@@ -183,12 +178,13 @@ pub fn warn_of_sizes(
         };
         if made.saturating_add(10) <= wanted {
             let (wanted, made) = (Decimal(wanted), Decimal(made));
+            let (modules, scale) = (sizes.modules, sizes.scale);
             doubted!(rt, doubts;
                 "a side of {wanted} mm comes out at {made} mm: {modules} modules of {scale} whole \
                 pixels"
             )?;
         }
-        let module = hundredths_of(scale, dots);
+        let module = hundredths_of(sizes.scale, dots);
         if module < 25 {
             let module = Decimal(module);
             doubted!(rt, doubts;
