@@ -49,7 +49,9 @@ fn run_words(rt: &HostRuntime) -> Result<ExitCode, Failure> {
 // Returns the task of the command line. If its first word is a command, the word moves into the
 // program's name, so that `clap` parses the rest.
 fn take_command(alloc: Global, words: &mut Vec<String>) -> Result<&'static Task, AllocError> {
-    if words.len() > 1 && words[1].as_str() == "help" {
+    let first = words.get(1).map_or("", String::as_str);
+    let second = words.get(2).and_then(|word| task_named(word.as_str()));
+    if first == "help" || second.is_some() && matches!(first, "--help" | "-h") {
         words.remove(1);
         words.push(String::from_str(alloc, "--help")?)?;
     }

@@ -76,7 +76,7 @@ pub static DRAWING: Task = Task {
 static TASKS: &[Task] = &[
     Task { word: "read", purpose: Purpose::Read, operand: PICTURE, groups: READING, about: "Decode the QR codes in a picture", own: "\
 -o --output FILE: Write the data to FILE, atomically; - is standard output
--v --verbose: Report version, level, mask, position, corrected errors, headers and segments on standard error
+--verbose: Report version, level, mask, position, corrected errors, headers and segments on standard error
 --json: Write the data and the --verbose report as a JSON list" },
     Task { word: "check", purpose: Purpose::Check, operand: PICTURE, groups: READING, about: "Report where the modules of QR codes in a picture depart from the standard", own: "--json: Write a JSON list instead of text" },
     Task { word: "split", purpose: Purpose::Several, operand: TEXT, groups: SPLIT, about: "Split data over up to 16 numbered files (structured append)", own: "\

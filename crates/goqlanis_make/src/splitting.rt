@@ -5,13 +5,15 @@ use goqlanis_files::failure::Failure;
 use goqlanis_files::refused;
 use goqlanis_files::streams::{MOST_DATA, shown};
 use goqlanis_options::asked::{Asked, Split, Target};
+use goqlanis_request::VersionName;
 use goqlanis_tables::columns::Columns;
 use goqlanis_tables::fields::Line;
 use goqlanis_tables::names::{Pattern, check_made};
 use goqlanis_tables::pages::Pages;
 use qrcode::QrCode;
-use qrcode::types::QrError;
-use qrcode_append::{encode_among, encode_counted};
+use qrcode::bits::Manner;
+use qrcode::types::{EcLevel, QrError};
+use qrcode_append::{Versions, encode_among, encode_counted};
 use std::alloc::Global;
 use std::fs;
 use std::process::ExitCode;
@@ -40,11 +42,34 @@ pub(crate) fn draw_several(
     };
     match made {
         Ok(codes) => draw_each(rt, asked, pattern.as_ref(), codes),
-        Err(QrError::DataTooLong) => refused!(alloc;
-            "the data does not fit: allow more codes (--count, up to 16), larger versions or a \
-            lower --level; 16 codes hold at most 47,216 bytes, at --level L"
-        ),
+        Err(QrError::DataTooLong) => too_long(alloc, split, manner, level, bytes),
         Err(_) => Err(Failure::OutOfMemory),
+    }
+}
+
+// Says what would hold data that does not fit.
+fn too_long(
+    alloc: Global,
+    split: Split,
+    manner: Manner,
+    level: EcLevel,
+    bytes: &[u8],
+) -> Result<ExitCode, Failure> {
+    let count = split.count.map_or(MOST_SYMBOLS, usize::from);
+    let versions = Versions {
+        greatest: 40,
+        ..split.versions
+    };
+    let codes = encode_counted(alloc, bytes, manner, versions, level, count).ok();
+    match codes.as_ref().and_then(|codes| codes.first()) {
+        Some(code) => {
+            let name = VersionName(code.version());
+            refused!(alloc; "the data does not fit; {count} codes of version {name} hold it")
+        }
+        None => refused!(alloc;
+            "the data does not fit: allow more codes (--count, up to 16) or a lower --level; 16 \
+            codes hold at most 47,216 bytes, at --level L"
+        ),
     }
 }
 

@@ -190,7 +190,7 @@ def qrencode_reports_a_refused_write(program):
         return is_said and os.fstat(short.fileno()).st_size == 100
 
 
-REFUSED = ("1", "-o old.svg --trim", "-f png --eci 1", "-s 0", "--version", "read -v blank.pbm",
+REFUSED = ("1", "-o old.svg --trim", "-f png --eci 1", "-s 0", "--version", "read --verbose blank.pbm",
            "check --json three.pbm", "check run.pbm", "gs1 --application 37 1")
 # Arguments that draw pictures, which are then read while requests for memory fail.
 READ = ("-f pbm -s 2 --micro 1", "-f pgm -s 2 --micro 1", "-f png -s 2 --micro 1", "--micro 1")

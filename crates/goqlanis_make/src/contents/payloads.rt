@@ -25,6 +25,6 @@ pub(crate) fn payload_of<G: Given>(
 {
     match text_of(alloc, kind, given) {
         Ok(text) => Ok(text),
-        Err(error) => not_made(alloc, kind, error, columns),
+        Err(error) => not_made(alloc, kind, error, given, columns),
     }
 }

@@ -7,15 +7,17 @@ use goqlanis_files::refused;
 use goqlanis_options::options::entry_of;
 use goqlanis_tables::columns::Columns;
 use qrcode_contents::fields::errors::{Cause, ContentError, Field};
+use qrcode_payloads::given::Given;
 use qrcode_payloads::kinds::Kind;
 use std::alloc::Global;
 
 /// Fails because of an error of a payload format, with a message: the option, what is wrong with
 /// it, and what its help says.
-pub(crate) fn not_made(
+pub(crate) fn not_made<G: Given>(
     alloc: Global,
     kind: Kind,
     error: ContentError,
+    given: &G,
     columns: &Columns,
 ) -> Result<String, Failure>
     ensures { IsErr result }
@@ -26,13 +28,22 @@ pub(crate) fn not_made(
     let what = what_is_wrong(kind, field, cause);
     let entry = entry_of(kind, field);
     let (name, help) = (columns.label(alloc, field)?, entry.help);
-    if entry.long.is_empty() {
+    let mut letters = given.text(Field::Secret).chars();
+    let foreign = letters.find(|letter| !is_in_base_32(*letter));
+    if let (Field::Secret, Cause::Character, Some(letter)) = (field, cause, foreign) {
+        refused!(alloc; "{name}: base 32 has no {letter}; expected: {help}")
+    } else if entry.long.is_empty() {
         refused!(alloc; "the whole text: {what}")
     } else if matches!(cause, Cause::ControlCharacter | Cause::CheckDigits) {
         refused!(alloc; "{name}: {what}")
     } else {
         refused!(alloc; "{name}: {what}; expected: {help}")
     }
+}
+
+// Whether a secret may have this character, but for padding at its end.
+fn is_in_base_32(letter: char) -> bool {
+    matches!(letter, 'A'..='Z' | 'a'..='z' | '2'..='7' | ' ' | '-')
 }
 
 // Says what is wrong with a field, more precisely than its cause if possible.
@@ -59,6 +70,10 @@ fn what_is_wrong(kind: Kind, field: Field, cause: Cause) -> &'static str {
         ) => "it may only have digits, spaces and -.(), with + in front",
         (_, Field::Begin | Field::End | Field::Stamp, Cause::TooShort) =>
             "it has no time zone: add that of the place and day, e.g. +02:00, or Z for UTC",
+        (_, Field::Begin | Field::Stamp | Field::Birthday, Cause::Range) =>
+            "no such day or time exists",
+        (_, Field::End, Cause::Range) =>
+            "no such day or time exists, or it is not later than --begin",
         (_, Field::Begin | Field::Stamp, Cause::Character) => "it is not written as a day or time",
         (_, Field::End, Cause::Character) => "it is not in the same form as --begin",
         (_, Field::Hidden, Cause::Word) => "it is neither true nor false",
