@@ -249,13 +249,17 @@ def large_codes_beside_other_things_are_read(program):
     return True
 
 
-def _stretched(pixels, modules, *codes):
-    """Returns a PBM file of squares side by side, at so many pixels for so many modules."""
+def _beside(*codes):
+    """Returns the rows of squares side by side, with 4 modules around each."""
     high = max(map(len, codes))
     tall = [it + [[0] * len(it)] * (high - len(it)) for it in codes]
     rows = [sum([[0] * 4 + row for row in line], []) + [0] * 4 for line in zip(*tall)]
     blank = [[0] * len(rows[0])] * 4
-    rows = [*blank, *rows, *blank]
+    return [*blank, *rows, *blank]
+
+
+def _stretched(pixels, modules, rows):
+    """Returns a PBM file of rows of modules, at so many pixels for so many modules."""
     wide = [[row[x * modules // pixels] for x in range(len(row) * pixels // modules)]
             for row in rows]
     ink = [wide[y * modules // pixels] for y in range(len(rows) * pixels // modules)]
@@ -280,9 +284,17 @@ def codes_of_uneven_pixels_beside_another_are_read(program):
             (_square(program, "-v", "M1", "12"), 5, 2, "12"), (decoyed, 5, 2, "decoys"),
             (_square(program, "-v", "40", "large"), 5, 2, "large"), (spoilt, 5, 2, "decoys"),
             (_square(program, "-v", "1", "small"), 6, 5, "small"), (pierced, 2, 1, "pierced")):
-        if _lines_read(program, _stretched(pixels, modules, code, other)) != sorted([said, "hi"]):
+        if _lines_read(program, _stretched(pixels, modules, _beside(code, other))) != sorted([said, "hi"]):
             return False
     return True
+
+
+def a_hundred_codes_of_uneven_pixels_are_read_in_order(program):
+    """From left to right and from top to bottom, at two and a half pixels a module."""
+    codes = [_square(program, "-v", "1", f"{it:02}") for it in range(100)]
+    rows = [row for at in range(0, 100, 10) for row in _beside(*codes[at:at + 10])]
+    ran = run(program, ["read"], "/", _stretched(5, 2, rows))
+    return ran.stdout.decode().split() == [f"{it:02}" for it in range(100)]
 
 
 def light_codes_at_an_angle_are_read(program):
