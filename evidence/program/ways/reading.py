@@ -3,6 +3,7 @@ size."""
 import json
 import random
 import re
+import resource
 import zlib
 
 import checked
@@ -230,6 +231,18 @@ def crowded_pages_are_read(program):
                           (noise, b"")):
         ran = run(program, ["read"], "/", picture)
         if ran.stdout != said or ran.returncode != (not said):
+            return False
+    return True
+
+
+def chess_boards_take_seconds(program):
+    """In boards of 4,096 by 4,096 pixels, with fields of one pixel and of two by one, all runs are
+    equally long. None is taken for a finder pattern, so six seconds of a processor are plenty."""
+    for row in (0x55, 0x33):
+        board = bytes([row] * 512 + [row ^ 255] * 512) * 2048
+        ran = run(program, ["read"], "/", b"P4\n4096 4096\n" + board, preexec_fn=lambda:
+                  resource.setrlimit(resource.RLIMIT_CPU, (6, 6)))
+        if (ran.returncode, ran.stdout) != (1, b""):
             return False
     return True
 
