@@ -61,10 +61,10 @@ def page(*codes):
 
 
 def slanted(*codes):
-    """Returns a plain PBM file of symbols: name, column and row of the middle, degrees, scale."""
+    """Returns a plain PBM file of symbols: rows, column and row of the middle, degrees, scale."""
     ink = [[0] * 200 for _ in range(180)]
-    for name, middle, height, degrees, scale in codes:
-        rows, turn = SYMBOLS[name], math.radians(degrees)
+    for rows, middle, height, degrees, scale in codes:
+        turn = math.radians(degrees)
         right, fall = math.cos(turn) / scale, math.sin(turn) / scale
         for y in range(180):
             for x in range(200):

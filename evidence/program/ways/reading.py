@@ -5,11 +5,12 @@ import random
 import re
 import resource
 import zlib
+from itertools import product
 
 import checked
 import crowds
 import png
-from room import FILES, SYMBOLS, figures, file_of, modules_of, run, squares
+from room import FILES, SYMBOLS, figures, file_of, modules_of, run, slanted, squares
 
 EXCHANGED = ", inverted"
 NOT_HEADERS = ("segment: ", "goqlanis: warning: ")
@@ -297,7 +298,8 @@ def codes_of_uneven_pixels_beside_another_are_read(program):
             (_square(program, "-v", "M1", "12"), 5, 2, "12"), (decoyed, 5, 2, "decoys"),
             (_square(program, "-v", "40", "large"), 5, 2, "large"), (spoilt, 5, 2, "decoys"),
             (_square(program, "-v", "1", "small"), 6, 5, "small"), (pierced, 2, 1, "pierced")):
-        if _lines_read(program, _stretched(pixels, modules, _beside(code, other))) != sorted([said, "hi"]):
+        page = _stretched(pixels, modules, _beside(code, other))
+        if _lines_read(program, page) != sorted([said, "hi"]):
             return False
     return True
 
@@ -317,6 +319,17 @@ def light_codes_at_an_angle_are_read(program):
     ink = "\n".join("".join(map(str, row)) for row in rows)
     ran = run(program, ["read"], "/", f"P1\n204 {len(rows)}\n{ink}".encode())
     return ran.stdout == b"half one\nhalf two\n"
+
+
+def a_quarter_of_a_turned_finder_pattern_may_be_wrong(program):
+    """Its corners, those of its light ring, and the middles of its sides: twelve modules that lines
+    through its middle across, down and along the diagonals of the picture do not cross."""
+    rows = [[*row] for row in SYMBOLS["one.pbm"]]
+    corners = [*product((0, 6), repeat=2), *product((1, 5), repeat=2)]
+    for x, y in (*corners, (3, 0), (0, 3), (6, 3), (3, 6)):
+        rows[y][x] ^= 1
+    ran = run(program, ["read"], "/", slanted((rows, 100, 90, 22.5, 5)))
+    return ran.stdout == b"half one"
 
 
 def codes_that_nearly_touch_are_read(program):
