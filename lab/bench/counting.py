@@ -19,7 +19,9 @@ from pathlib import Path
 HERE = Path(__file__).resolve().parent
 TOP = HERE.parents[1]
 sys.dont_write_bytecode = True
-sys.path += [str(TOP / it) for it in ("tools", "bindings/python", "evidence/judge")]
+sys.path += [str(TOP / it) for it in ("tools", "bindings/python", "evidence/judge",
+                                      "evidence/program")]
+from room import file_of  # noqa: E402
 from sums import CRATES, all_below  # noqa: E402
 
 DIGITS = b"0123456789" * 709
@@ -133,11 +135,18 @@ def build_calls(folder):
     return folder / "calls"
 
 
+def library(folder):
+    """Returns the Python package, over the C library in out/."""
+    build_calls(folder)
+    os.environ["GOQLANIS_LIB"] = str(folder / "libgoqlanis.so.1")
+    import goqlanis
+    return goqlanis
+
+
 @functools.cache
 def squares(folder):
     """Returns squares to read by name: undamaged, and with the most damage that is corrected."""
-    os.environ["GOQLANIS_LIB"] = str(folder / "libgoqlanis.so.1")
-    import goqlanis
+    goqlanis = library(folder)
     import looks
     found = {}
     for name, (version, length) in READ.items():
@@ -152,25 +161,18 @@ def squares(folder):
 
 @functools.cache
 def png_file(folder):
-    build_calls(folder)
-    os.environ["GOQLANIS_LIB"] = str(folder / "libgoqlanis.so.1")
-    import goqlanis
-    return goqlanis.encode(SYMBOLS["40"], "M").png(8)
+    return library(folder).encode(SYMBOLS["40"], "M").png(8)
 
 
 @functools.cache
 def page(folder, name):
     """Returns a PBM file of 480 by 480 pixels: a code, and what surrounds it."""
-    build_calls(folder)
-    os.environ["GOQLANIS_LIB"] = str(folder / "libgoqlanis.so.1")
-    import goqlanis
-    code = goqlanis.encode(b"beside", "M", 1).matrix
+    code = library(folder).encode(b"beside", "M", 1).matrix
     rows = [[int(PAGES[name](x, y)) for x in range(480)] for y in range(480)]
     for y, x in product(range(116), repeat=2):
         is_code = 16 <= min(x, y) and max(x, y) < 100
         rows[y][x] = int(is_code and code[y // 4 - 4][x // 4 - 4])
-    lines = (int("".join(map(str, row)), 2).to_bytes(60, "big") for row in rows)
-    return b"P4\n480 480\n" + b"".join(lines)
+    return file_of(rows, 0, 1)
 
 
 def short(number):
