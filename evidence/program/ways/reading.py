@@ -213,23 +213,26 @@ def _square(program, *words):
     return modules_of(run(program, words, "/").stdout)
 
 
-def _tiled(rows, count, pitch):
+def _tiled(rows, count, pitch, above=()):
     """Returns a PBM file of `count` by `count` copies of a square, each `pitch` pixels from the
-    last. A dark line at the end keeps it from being a single square in an even margin."""
+    last, and of rows above them. A dark line at the end keeps it from being a single square in an
+    even margin."""
+    above = [it + [0] * (pitch * count - len(it)) for it in above]
     wide = [(it + [0] * (pitch - len(it))) * count for it in rows]
     wide += [[0] * (pitch * count)] * (pitch - len(rows))
-    wide = wide * count + [[1] * (pitch * count)]
+    wide = above + wide * count + [[1] * (pitch * count)]
     ink = "\n".join("".join(map(str, it)) for it in [[0] * (pitch * count), *wide])
     return f"P1\n{pitch * count} {len(wide) + 1}\n{ink}".encode()
 
 
 def crowded_pages_are_read(program):
-    """All of 121 codes are read, and nothing in 1,024 finder patterns alone, or in noise."""
+    """All of 121 codes are read, one above 1,024 finder patterns, though more squares have three of
+    these than are tried, and nothing in noise."""
     code = _square(program, "-v", "1", "hi")
     finder = [it[:7] for it in code[:7]]
     noise = b"P4\n400 400\n" + random.Random(1).randbytes(20000)
-    for picture, said in ((_tiled(code, 11, 29), b"hi\n" * 121), (_tiled(finder, 32, 9), b""),
-                          (noise, b"")):
+    for picture, said in ((_tiled(code, 11, 29), b"hi\n" * 121), (noise, b""),
+                          (_tiled(finder, 32, 9, code + [[]] * 4), b"hi")):
         ran = run(program, ["read"], "/", picture)
         if ran.stdout != said or ran.returncode != (not said):
             return False
