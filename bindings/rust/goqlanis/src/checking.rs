@@ -1,5 +1,5 @@
 //! Reports what departs from the standard in a code.
-use crate::reading::{modules, unread};
+use crate::reading::{modules, with_room};
 use crate::{Color, EcLevel, Unread, Version};
 use goqlanis_sys as sys;
 use std::fmt;
@@ -70,8 +70,7 @@ pub struct DataCheck {
 /// # Ok::<(), Box<dyn std::error::Error>>(())
 /// ```
 pub fn check(picture: &[u8]) -> Result<Vec<Check>, Unread> {
-    let mut room = 4;
-    loop {
+    with_room(|room| {
         let mut checks = vec![sys::goq_checked::default(); room];
         let mut wrong = vec![0; room * sys::GOQ_BLOCKS_MAX];
         let mut counts = sys::GOQ_CHECKS;
@@ -82,12 +81,8 @@ pub fn check(picture: &[u8]) -> Result<Vec<Check>, Unread> {
             let (given, size) = (picture.as_ptr(), picture.len());
             sys::goq_check(given, size, all, count, numbers, length, &mut counts)
         };
-        match answer {
-            sys::GOQ_OK => return Ok(checks_of(&checks[..counts.codes], &wrong)),
-            sys::GOQ_SMALL_BUFFER => room *= 8,
-            answer => return Err(unread(answer)),
-        }
-    }
+        (answer, move || checks_of(&checks[..counts.codes], &wrong))
+    })
 }
 
 // Returns checks, whose wrong codewords follow one another.
@@ -124,10 +119,8 @@ pub fn check_square(colors: &[Color]) -> Result<Check, Unread> {
         let (out, length) = (wrong.as_mut_ptr(), wrong.len());
         sys::goq_check_square(given.as_ptr(), given.len(), out, length, &mut known)
     };
-    match answer {
-        sys::GOQ_OK => Ok(Check::named(known, &wrong[..known.blocks])),
-        answer => Err(unread(answer)),
-    }
+    Unread::accept(answer)?;
+    Ok(Check::named(known, &wrong[..known.blocks]))
 }
 
 impl Check {

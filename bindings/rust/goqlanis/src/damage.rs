@@ -28,27 +28,17 @@ pub struct Damaged {
     pub most_codewords: usize,
 }
 
-/// Why a symbol cannot have so much damage.
-#[derive(Clone, Copy, Debug, PartialEq, Eq)]
-pub enum TooMuch {
+answers! {
+    /// Why a symbol cannot have so much damage.
+    TooMuch:
     /// A block has fewer codewords.
-    Codewords,
+    Codewords = GOQ_MANY_CODEWORDS,
     /// The format information has only 15 bits.
-    FormatBits,
+    FormatBits = GOQ_MANY_FORMAT_BITS,
     /// The version information has only 18 bits, or the version has none.
-    VersionBits,
+    VersionBits = GOQ_MANY_VERSION_BITS,
     /// The patterns have fewer modules.
-    PatternModules,
-    /// Memory ran out.
-    OutOfMemory,
-}
-
-says! { TooMuch:
-    TooMuch::Codewords => "{}", sys::goq_strerror(sys::GOQ_MANY_CODEWORDS);
-    TooMuch::FormatBits => "{}", sys::goq_strerror(sys::GOQ_MANY_FORMAT_BITS);
-    TooMuch::VersionBits => "{}", sys::goq_strerror(sys::GOQ_MANY_VERSION_BITS);
-    TooMuch::PatternModules => "{}", sys::goq_strerror(sys::GOQ_MANY_PATTERN_MODULES);
-    TooMuch::OutOfMemory => "{}", sys::goq_strerror(sys::GOQ_OUT_OF_MEMORY);
+    PatternModules = GOQ_MANY_PATTERN_MODULES,
 }
 
 impl QrCode {
@@ -73,17 +63,7 @@ impl QrCode {
         let answer = unsafe {
             sys::goq_damage(code.modules.as_mut_ptr(), code.modules.len(), &wrong, &mut promised)
         };
-        match answer {
-            sys::GOQ_OK => Ok(Damaged {
-                code,
-                is_promised: promised.is_promised == 1,
-                most_codewords: promised.codewords,
-            }),
-            sys::GOQ_MANY_CODEWORDS => Err(TooMuch::Codewords),
-            sys::GOQ_MANY_FORMAT_BITS => Err(TooMuch::FormatBits),
-            sys::GOQ_MANY_VERSION_BITS => Err(TooMuch::VersionBits),
-            sys::GOQ_MANY_PATTERN_MODULES => Err(TooMuch::PatternModules),
-            _ => Err(TooMuch::OutOfMemory),
-        }
+        TooMuch::accept(answer)?;
+        Ok(Damaged { code, is_promised: promised.is_promised == 1, most_codewords: promised.codewords })
     }
 }

@@ -32,6 +32,36 @@ macro_rules! says {
     };
 }
 
+// An error: the answers of the library that it stands for, with their texts. All others mean that
+// memory ran out.
+macro_rules! answers {
+    ($(#[$about:meta])* $name:ident: $($(#[$told:meta])* $cause:ident = $answer:ident,)+) => {
+        $(#[$about])*
+        #[derive(Clone, Copy, Debug, PartialEq, Eq)]
+        pub enum $name {
+            $($(#[$told])* $cause,)+
+            /// Memory ran out.
+            OutOfMemory,
+        }
+
+        impl $name {
+            // Returns the error that an answer stands for, unless that is success.
+            pub(crate) fn accept(answer: u32) -> Result<(), $name> {
+                match answer {
+                    sys::GOQ_OK => Ok(()),
+                    $(sys::$answer => Err($name::$cause),)+
+                    _ => Err($name::OutOfMemory),
+                }
+            }
+        }
+
+        says! { $name:
+            $($name::$cause => "{}", sys::goq_strerror(sys::$answer);)+
+            $name::OutOfMemory => "{}", sys::goq_strerror(sys::GOQ_OUT_OF_MEMORY);
+        }
+    };
+}
+
 pub mod areas;
 pub mod charsets;
 pub mod checking;

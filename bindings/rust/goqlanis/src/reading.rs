@@ -4,56 +4,31 @@ use crate::{Color, EcLevel, Version};
 use goqlanis_sys as sys;
 use std::fmt;
 
-/// Why a square or a picture cannot be read.
-#[derive(Clone, Copy, Debug, PartialEq, Eq)]
-pub enum Unread {
+answers! {
+    /// Why a square or a picture cannot be read.
+    Unread:
     /// No version has this many modules.
-    NoSuchSide,
+    NoSuchSide = GOQ_NO_SUCH_SIDE,
     /// No level and mask have format information within three bits of each copy.
-    NoFormat,
+    NoFormat = GOQ_NO_FORMAT,
     /// A block has too many wrong codewords.
-    Damaged,
+    Damaged = GOQ_DAMAGED,
     /// The data bits are not segments and a terminator, e.g. because they begin with a header.
-    NotSpelled,
+    NotSpelled = GOQ_NOT_SPELLED,
     /// The data bits are not text that readers show.
-    NotShown,
+    NotShown = GOQ_NOT_SHOWN,
     /// The square cannot be read in any of the sixteen positions.
-    NotRead,
+    NotRead = GOQ_NOT_READ,
     /// The picture is not a PNG, PBM or PGM file, nor half blocks.
-    NotPicture,
+    NotPicture = GOQ_NOT_PICTURE,
     /// The picture is truncated, damaged, interlaced, or more than 65,535 pixels a side or
     /// 67,108,864 in all.
-    BrokenPicture,
+    BrokenPicture = GOQ_BROKEN_PICTURE,
     /// The picture shows no code.
-    NoSquare,
+    NoSquare = GOQ_NO_SQUARE,
     /// The picture is more than 67,108,864 bytes.
-    LargePicture,
-    /// Memory ran out.
-    OutOfMemory,
+    LargePicture = GOQ_LARGE_PICTURE,
 }
-
-// The causes, by the answers of the library.
-const CAUSES: [(u32, Unread); 10] = [
-    (sys::GOQ_NO_SUCH_SIDE, Unread::NoSuchSide),
-    (sys::GOQ_NO_FORMAT, Unread::NoFormat),
-    (sys::GOQ_DAMAGED, Unread::Damaged),
-    (sys::GOQ_NOT_SPELLED, Unread::NotSpelled),
-    (sys::GOQ_NOT_SHOWN, Unread::NotShown),
-    (sys::GOQ_NOT_READ, Unread::NotRead),
-    (sys::GOQ_NOT_PICTURE, Unread::NotPicture),
-    (sys::GOQ_BROKEN_PICTURE, Unread::BrokenPicture),
-    (sys::GOQ_NO_SQUARE, Unread::NoSquare),
-    (sys::GOQ_LARGE_PICTURE, Unread::LargePicture),
-];
-
-impl fmt::Display for Unread {
-    fn fmt(&self, out: &mut fmt::Formatter<'_>) -> fmt::Result {
-        let found = CAUSES.iter().find(|row| row.1 == *self);
-        out.write_str(sys::goq_strerror(found.map_or(sys::GOQ_OUT_OF_MEMORY, |row| row.0)))
-    }
-}
-
-impl std::error::Error for Unread {}
 
 /// A decoded square.
 #[derive(Clone, Debug, PartialEq, Eq)]
@@ -264,8 +239,7 @@ pub fn picture_length(file: &[u8]) -> usize {
 /// # Ok::<(), Box<dyn std::error::Error>>(())
 /// ```
 pub fn read_picture(picture: &[u8]) -> Result<Vec<Code>, Unread> {
-    let mut room = 4;
-    loop {
+    with_room(|room| {
         let mut codes = vec![sys::goq_code::default(); room];
         let mut parts = vec![sys::goq_part::default(); room * sys::GOQ_PARTS_MAX];
         let mut bytes = vec![0; room * sys::GOQ_BYTES_MAX];
@@ -278,11 +252,19 @@ pub fn read_picture(picture: &[u8]) -> Result<Vec<Code>, Unread> {
             let (given, size) = (picture.as_ptr(), picture.len());
             sys::goq_read_picture(given, size, all, count, headed, items, out, length, &mut scan)
         };
-        match answer {
-            sys::GOQ_OK => return Ok(codes_of(&codes[..scan.codes], &parts, &bytes)),
-            sys::GOQ_SMALL_BUFFER => room *= 8,
-            answer => return Err(unread(answer)),
+        (answer, move || codes_of(&codes[..scan.codes], &parts, &bytes))
+    })
+}
+
+// Makes a call with room for more and more items, until there is enough, and returns what it found.
+pub(crate) fn with_room<T, F: FnOnce() -> T>(call: impl Fn(usize) -> (u32, F)) -> Result<T, Unread> {
+    let mut room = 4;
+    loop {
+        let (answer, found) = call(room);
+        if answer != sys::GOQ_SMALL_BUFFER {
+            return Unread::accept(answer).map(|()| found());
         }
+        room *= 8;
     }
 }
 
@@ -302,26 +284,20 @@ pub struct Missed {
 /// Returns the squares in a picture that look like codes but do not decode, next to the codes that
 /// `read_picture` returns.
 pub fn missed(picture: &[u8]) -> Result<Vec<Missed>, Unread> {
-    let (mut room, mut count) = (4, 0);
-    loop {
-        let mut found = vec![sys::goq_missed_code::default(); room];
+    with_room(|room| {
+        let (mut found, mut count) = (vec![sys::goq_missed_code::default(); room], 0);
         // SAFETY: the lengths are those of the buffers.
         let answer = unsafe {
             let (given, size) = (picture.as_ptr(), picture.len());
             sys::goq_missed(given, size, found.as_mut_ptr(), found.len(), &mut count)
         };
-        match answer {
-            sys::GOQ_OK => {
-                let told = |it: &sys::goq_missed_code| {
-                    let sys::goq_missed_code { width, left, top, why } = *it;
-                    Missed { width, left, top, why: unread(why) }
-                };
-                return Ok(found[..count].iter().map(told).collect());
-            }
-            sys::GOQ_SMALL_BUFFER => room *= 8,
-            answer => return Err(unread(answer)),
-        }
-    }
+        (answer, move || {
+            let told = |&sys::goq_missed_code { width, left, top, why }: &_| {
+                Missed { width, left, top, why: Unread::accept(why).expect_err("it is no success") }
+            };
+            found[..count].iter().map(told).collect()
+        })
+    })
 }
 
 // Returns codes, whose parts and bytes follow one another.
@@ -381,18 +357,11 @@ fn read_by<T: Default>(
 ) -> Result<(Vec<u8>, T), Unread> {
     let mut data = vec![0; sys::GOQ_BYTES_MAX];
     let mut known = T::default();
-    match call(&modules(colors), &mut data, &mut known) {
-        sys::GOQ_OK => Ok((data, known)),
-        answer => Err(unread(answer)),
-    }
+    Unread::accept(call(&modules(colors), &mut data, &mut known))?;
+    Ok((data, known))
 }
 
 // Returns modules as the library takes them.
 pub(crate) fn modules(colors: &[Color]) -> Vec<u8> {
     colors.iter().map(|color| u8::from(*color == Color::Dark)).collect()
-}
-
-// Returns the error that an answer other than success stands for.
-pub(crate) fn unread(answer: u32) -> Unread {
-    CAUSES.iter().find(|row| row.0 == answer).map_or(Unread::OutOfMemory, |row| row.1)
 }

@@ -1,5 +1,4 @@
 //! Splits data over several symbols (structured append), and joins it again.
-use crate::reading::unread;
 use crate::{accepted, Color, EcLevel, QrCode, QrError, QrResult, Unread, Version};
 use goqlanis_sys as sys;
 
@@ -131,6 +130,6 @@ pub fn join<S: AsRef<[Color]>>(squares: &[S]) -> Result<Vec<u8>, Unjoined> {
         sys::GOQ_TWICE => Err(Unjoined::Twice(place)),
         sys::GOQ_PARITY => Err(Unjoined::Parity),
         sys::GOQ_OUT_OF_MEMORY => Err(Unjoined::OutOfMemory),
-        answer => Err(Unjoined::Square(place, unread(answer))),
+        answer => Unread::accept(answer).map(|()| data).map_err(|why| Unjoined::Square(place, why)),
     }
 }
