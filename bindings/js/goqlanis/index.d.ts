@@ -191,25 +191,25 @@ export const PAYLOADS: Readonly<Record<string,
 /** The text of a payload, by its kind in PAYLOADS. Throws an error that names the wrong `field`. */
 export function payload(kind: string, fields: Record<string, Field>): string;
 type Payload<Names extends string> = (fields: { [name in Names]?: Field }) => string;
-type Address = "street" | "city" | "region" | "code" | "country";
-type Card = "family" | "given" | "phone" | "email" | "url" | "birthday" | "note" | Address;
 export const wifi: Payload<"ssid" | "password" | "security" | "hidden">;
-export const mecard: Payload<Card>;
-export const vcard: Payload<Card | "name" | "organisation" | "title" | "mobile" | "workPhone"
-    | "homePhone" | "nickname" | "fax">;
-export const payment: Payload<"name" | "iban" | "amount" | "bic" | "purpose" | "reference"
-    | "message" | "information">;
-export const bill: Payload<"iban" | "name" | "street" | "number" | "code" | "city" | "country"
-    | "amount" | "currency" | "reference" | "message" | "debtorName" | "debtorStreet"
-    | "debtorNumber" | "debtorCode" | "debtorCity" | "debtorCountry">;
+export const mecard: Payload<"family" | "given" | "phone" | "email" | "url" | "birthday" | "note" |
+    "street" | "city" | "region" | "code" | "country">;
+export const vcard: Payload<"name" | "family" | "given" | "organisation" | "phone" | "email" | "url"
+    | "street" | "city" | "region" | "code" | "country" | "note" | "title" | "birthday" | "mobile" |
+    "workPhone" | "homePhone" | "nickname" | "fax">;
+export const payment: Payload<"name" | "iban" | "amount" | "bic" | "purpose" | "reference" |
+    "message" | "information">;
+export const bill: Payload<"iban" | "name" | "street" | "number" | "code" | "city" | "country" |
+    "amount" | "currency" | "reference" | "message" | "debtorName" | "debtorStreet" | "debtorNumber"
+    | "debtorCode" | "debtorCity" | "debtorCountry">;
 export const mail: Payload<"address" | "subject" | "body" | "cc" | "bcc">;
 export const geo: Payload<"latitude" | "longitude">;
 export const tel: Payload<"number">;
 export const sms: Payload<"number" | "body">;
-export const otp: Payload<"account" | "secret" | "issuer" | "algorithm" | "digits" | "period"
-    | "counter">;
-export const event: Payload<"begin" | "end" | "summary" | "location" | "description" | "uid"
-    | "stamp">;
+export const otp: Payload<"account" | "secret" | "issuer" | "algorithm" | "digits" | "period" |
+    "counter">;
+export const event: Payload<"begin" | "end" | "summary" | "location" | "description" | "uid" |
+    "stamp">;
 export const upi: Payload<"payee" | "name" | "amount" | "note" | "reference" | "category">;
 export const pix: Payload<"payee" | "name" | "city" | "amount" | "reference" | "description">;
 export const promptpay: Payload<"payee" | "amount">;
