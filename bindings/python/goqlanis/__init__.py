@@ -1,54 +1,21 @@
 """Creates and reads QR and Micro QR codes with a library that is proved correct.
 
-`encode` makes a symbol of a str or bytes, and `save` writes it to a file, completely or not at all:
+`encode` makes a symbol of a str or bytes, and `save` writes it to a file, completely or not at all;
+goqlanis.contents writes the text for Wi-Fi networks, contacts, payments and more. `read` reads the
+codes of a picture, a symbol or a square of modules:
 
 >>> import goqlanis
->>> symbol = goqlanis.encode("https://example.org")
+>>> symbol = goqlanis.encode(goqlanis.contents.wifi("Guests", "secret"), "H")
 >>> symbol.version, symbol.level, symbol.width
-('2', 'M', 25)
+('4', 'H', 33)
 >>> symbol.save("code.png", scale=8, border=4, dark="#008", light=None, dpi=300)
->>> symbol.save("code.svg")
-
-For a terminal, for an HTML page, and as bytes:
-
-    symbol.terminal()
-    page = f"<p>{symbol.svg_inline(scale=4)}</p>"
-    page = f'<img src="{symbol.png_data_uri(scale=4)}" alt="code">'
-    data = symbol.png(scale=8)
-
-You can choose the level, the version, the highest level that needs no larger symbol, Micro QR, or
-several symbols:
-
->>> goqlanis.encode("12345", "H"), goqlanis.encode("12345", version=7)
-(<goqlanis.Symbol 1-H>, <goqlanis.Symbol 7-M>)
->>> goqlanis.encode("12345", boost=True), goqlanis.encode("12345", "L", micro=True)
-(<goqlanis.Symbol 1-H>, <goqlanis.Symbol M1-L>)
->>> len(goqlanis.encode_sequence("a" * 5000))
-3
-
-goqlanis.contents writes the text for Wi-Fi networks, contacts, payments and more:
-
->>> goqlanis.encode(goqlanis.contents.wifi("Guests", "secret")).version
-'3'
-
-`read` reads the codes of a picture, a symbol or a square of modules:
-
 >>> [code.text for code in goqlanis.read("code.png")]
-['https://example.org']
->>> goqlanis.read(symbol).data, goqlanis.read_text(symbol.matrix)
-(b'https://example.org', 'https://example.org')
+['WIFI:T:WPA;S:Guests;P:secret;;']
 
 Each reason why the library rejects something is a subclass of goqlanis.Error (help(goqlanis.errors)
-lists them), and its message says what would help:
-
->>> goqlanis.encode("a" * 3000)
-Traceback (most recent call last):
-    ...
-goqlanis.NoRoom: 3,000 bytes at level M: at most 2,331 fit, more of digits or capitals; no level \
-holds them: encode_sequence splits them over several codes
-
-help(goqlanis.encode), help(goqlanis.Symbol) and help(goqlanis.contents) explain all options,
-help(goqlanis.Code) and help(goqlanis.Reading) what is read, help(goqlanis.Check) what is checked.
+lists them), and its message says what would help. help(goqlanis.encode), help(goqlanis.Symbol) and
+help(goqlanis.contents) explain all options, help(goqlanis.Code) and help(goqlanis.Reading) what is
+read, help(goqlanis.Check) what is checked. docs/PYTHON.md has more examples.
 """
 from typing import TYPE_CHECKING
 
