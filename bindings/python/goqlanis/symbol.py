@@ -9,7 +9,7 @@ import tempfile
 import urllib.parse
 import webbrowser
 from dataclasses import dataclass, field, replace
-from typing import IO, Any, Dict, Iterator, Optional, Tuple, Union
+from typing import IO, Any, Callable, Dict, Iterator, Optional, Tuple, Type, TypeVar, Union
 
 from . import _checks, _drawing, _files, areas
 from ._checks import named, shown, version_name
@@ -20,7 +20,17 @@ from .errors import NoSuchSide, NotInFormat, refuse
 
 Path = Union[str, bytes, "os.PathLike[str]"]
 Whole = Optional[int]
+Kind = TypeVar("Kind", str, bytes)
 BLACK_ON_WHITE, USUAL_COLOURS = "\x1b[38;5;16;48;5;231m", "\x1b[0m"
+
+
+def _method(name: str, kind: Type[Kind], said: str) -> Callable[..., Kind]:
+    """Returns the method that draws a symbol in a format as a str or bytes."""
+    def draw(self: "Symbol", scale: Whole = None, quiet_zone: Whole = None, **look: Any) -> Any:
+        found = self._drawn(name, scale, quiet_zone, look)
+        return found.decode() if issubclass(kind, str) else found
+    draw.__name__, draw.__doc__ = name, said
+    return named(draw)
 
 
 @dataclass(frozen=True, repr=False)
@@ -147,68 +157,41 @@ class Symbol:
         data += b"\n" if name == "txt" else b""
         _files.write(out, data, _drawing.KINDS[name].is_text)
 
-    @named
-    def png(self, scale: Whole = None, quiet_zone: Whole = None, **look: Any) -> bytes:
-        """Returns the bytes of a PNG file, with at most 65,535 pixels per side.
+    png = _method("png", bytes, """Returns a PNG file, with at most 65,535 pixels a side.
 
         >>> encode("01234567").png()[:8]
         b'\\x89PNG\\r\\n\\x1a\\n'
-        """
-        return self._drawn("png", scale, quiet_zone, look)
-
-    @named
-    def svg(self, scale: Whole = None, quiet_zone: Whole = None, **look: Any) -> str:
-        """Returns the text of an SVG file, which has one path.
+        """)
+    svg = _method("svg", str, """Returns the text of an SVG file, which has one path.
 
         >>> encode("01234567").svg().startswith("<?xml")
         True
-        """
-        return self._drawn("svg", scale, quiet_zone, look).decode()
-
-    @named
-    def eps(self, scale: Whole = None, quiet_zone: Whole = None, **look: Any) -> str:
-        """Returns Encapsulated PostScript, with one point per pixel.
+        """)
+    eps = _method("eps", str, """Returns Encapsulated PostScript, with one point per pixel.
 
         >>> encode("01234567").eps(scale=2).splitlines()[1]
         '%%BoundingBox: 0 0 58 58'
-        """
-        return self._drawn("eps", scale, quiet_zone, look).decode()
-
-    @named
-    def pdf(self, scale: Whole = None, quiet_zone: Whole = None, **look: Any) -> bytes:
-        """Returns the bytes of a PDF file with one page and one point per pixel.
+        """)
+    pdf = _method("pdf", bytes, """Returns a PDF file of one page, with one point per pixel.
 
         >>> encode("01234567").pdf(size="30mm")[:8]
         b'%PDF-1.4'
-        """
-        return self._drawn("pdf", scale, quiet_zone, look)
-
-    @named
-    def pbm(self, scale: Whole = None, quiet_zone: Whole = None, **look: Any) -> bytes:
-        """Returns the bytes of a PBM file: black and white pixels, eight per byte.
+        """)
+    pbm = _method("pbm", bytes, """Returns a PBM file: black and white pixels, eight per byte.
 
         >>> encode("01234567").pbm(scale=1, border=0)[:10]
         b'P4\\n21 21\\n\\xfe'
-        """
-        return self._drawn("pbm", scale, quiet_zone, look)
-
-    @named
-    def grey(self, scale: Whole = None, quiet_zone: Whole = None, **look: Any) -> bytes:
-        """Returns the pixels row by row, a byte each: 0 for a dark pixel, 255 for a light one.
+        """)
+    grey = _method("grey", bytes, """Returns pixels row by row, a byte each: 0 if dark, else 255.
 
         >>> encode("01234567").grey(scale=1, border=0)[:8]
         b'\\x00\\x00\\x00\\x00\\x00\\x00\\x00\\xff'
-        """
-        return self._drawn("grey", scale, quiet_zone, look)
-
-    @named
-    def pic(self, scale: Whole = None, quiet_zone: Whole = None, **look: Any) -> str:
-        """Returns PIC text, for troff.
+        """)
+    pic = _method("pic", str, """Returns PIC text, for troff.
 
         >>> encode("01234567").pic().splitlines()[0]
         'maxpswid=29;maxpsht=29;movewid=0;moveht=1;boxwid=1;boxht=1'
-        """
-        return self._drawn("pic", scale, quiet_zone, look).decode()
+        """)
 
     def text(self, light: bool = False, quiet_zone: Whole = None, *, border: Whole = None) -> str:
         """Returns half blocks, two modules per character; `light` is for light text on a dark
