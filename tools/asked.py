@@ -16,7 +16,7 @@ TOP = Path(__file__).resolve().parent.parent
 # Of the package for JavaScript without numbers.mjs, which bindings/same compares.
 PAGE = ("web/*.*", "web/build", "bindings/js/goqlanis/[a-mo-z]*.mjs", "bindings/js/goqlanis/*.ts",
         "bindings/js/*.[cmt]*", "bindings/js/build", "bindings/js/over", "bindings/js/test",
-        "lab/web/run", "lab/web/*.py", "lab/web/*.js")
+        "lab/web/run", "lab/web/cases", "lab/web/*.py", "lab/web/*.js")
 ARM = ("crates/*/src", "bindings/c", "bindings/python", "evidence/program", "tools/*.c",
        "lab/arm/run", "lab/arm/*.py", "lab/race")
 # Where it is stored what was found, of which sources, and whether these must be as they were.
