@@ -21,7 +21,6 @@ fn contacts_are_the_printed_ones() {
     assert_eq!(contact.mecard().unwrap(), "MECARD:N:Owen,Sean;EMAIL:srowen@example.com;;");
     let card = Card { name: "Frank Dawson", family: "Dawson", given: "Frank", country: "U.S.A.", ..Card::default() };
     assert_eq!(card.text().unwrap(), "BEGIN:VCARD\r\nVERSION:3.0\r\nN:Dawson;Frank;;;\r\nFN:Frank Dawson\r\nADR:;;;;;;U.S.A.\r\nEND:VCARD\r\n");
-    assert_eq!(Card { note: "\0", ..card }.text(), Err(ContentError::Refused("note", Cause::ControlCharacter)));
 }
 
 #[test]
@@ -42,7 +41,6 @@ fn payments_are_the_printed_ones() {
     };
     assert!(bill.text().unwrap().ends_with("\n\n\nEUR\n\n\n\n\n\n\n\nSCOR\nRF18539007547034\n\nEPD"));
     assert_eq!(Bill { debtor: Party { city: "", ..creditor }, ..bill }.text(), Err(ContentError::Refused("debtor.city", Cause::Empty)));
-    assert_eq!(Bill { cents: Some(0), ..bill }.text(), Err(ContentError::Refused("cents", Cause::Range)));
 }
 
 #[test]
@@ -55,6 +53,5 @@ fn passwords_and_events_are_the_printed_ones() {
     let event = Event { uid: "AF23B2@example.com", stamp: Some(MOMENT), span: Span::Times(MOMENT, end), summary: "Bastille Day Party", location: "", description: "" };
     assert!(event.text().unwrap().contains("\r\nDTSTART:19970714T170000Z\r\nDTEND:19970715T040000Z\r\nSUMMARY:Bastille Day Party\r\n"));
     assert!(Event { span: Span::Days(MOMENT.day, end.day), ..event }.text().unwrap().contains("\r\nDTEND;VALUE=DATE:19970715\r\n"));
-    assert_eq!(Event { span: Span::Times(end, end), ..event }.text(), Err(ContentError::Refused("end", Cause::Range)));
     assert_eq!(Event { stamp: Some(Moment { hour: 24, ..MOMENT }), ..event }.text(), Err(ContentError::Refused("stamp", Cause::Range)));
 }

@@ -6,7 +6,7 @@ use goqlanis::damage::{Damage, TooMuch};
 use goqlanis::logos::{LogoError, LogoOptions};
 use goqlanis::checking::{DataCheck, Rank, WrongModules};
 use goqlanis::{missed, Missed};
-use goqlanis::{check, check_square, read, read_any, read_picture, read_text, Color, EcLevel, Options, Part, Position};
+use goqlanis::{check, check_square, read, read_picture, read_text, Color, EcLevel, Options, Part, Position};
 use goqlanis::{QrCode, QrError, Segment, Unread};
 use goqlanis::{Version, Writing};
 
@@ -19,7 +19,6 @@ fn symbols() {
     assert_eq!((code[(0, 0)], code[(7, 0)]), (Color::Dark, Color::Light));
     assert!(code.is_functional(0, 0) && !code.is_functional(20, 20));
     assert!(!code.is_functional(1 << 32, 0) && !code.is_functional(0, usize::MAX));
-    assert_eq!(QrCode::new(b"").unwrap().width(), 21);
 }
 
 #[test]
@@ -44,7 +43,6 @@ fn texts() {
     let text = "Größe: 5 m²";
     assert_eq!(QrCode::of_text(text, EcLevel::M).unwrap().version(), Version::Normal(1));
     assert_eq!(QrCode::of_marked_text(text, EcLevel::M).unwrap().version(), Version::Normal(2));
-    assert_eq!(QrCode::of_text(&"a".repeat(2954), EcLevel::L).unwrap_err(), QrError::DataTooLong);
 }
 
 #[test]
@@ -105,8 +103,6 @@ fn colours_of_patterns() {
     assert_eq!(read_picture(&file).unwrap()[0].reading.data, b"01234567");
     let large = |size| code.render().module_size(size).pattern_color(Pattern::Finder, Color::Dark, red).try_build();
     assert_eq!((large(283), large(282).is_ok()), (Err(RenderError::TooLarge), true));
-    let blue = eps::Color { red: 0, green: 0, blue: 255 };
-    assert!(code.render().pattern_color(Pattern::Format, Color::Dark, blue).build().contains("\n0 255 div 0 255 div 255 255 div setrgbcolor\n"));
     let file = code.render().pattern_color(Pattern::Finder, Color::Dark, pdf::Color([255, 0, 0])).build();
     assert!(String::from_utf8_lossy(&file).contains("\n1.000000 0.000000 0.000000 rg\n4 4 7 1 re\n18 4 7 1 re\n"));
     let (dark, three) = (Color::Dark, [Color::Dark; 9]);
@@ -138,13 +134,9 @@ fn too_large() {
     let code = QrCode::new(b"01234567").unwrap();
     assert_eq!(code.render::<png::Color>().module_size(2260).try_build(), Err(RenderError::TooLarge));
     assert_eq!(code.render::<unicode::Dense1x2>().module_size(142).try_build(), Err(RenderError::TooLarge));
-    assert_eq!(code.render::<unicode::Dense1x2>().module_size(141).try_build().unwrap().lines().count(), 2045);
     let characters = |width, height| code.render::<char>().module_dimensions(width, height).try_build();
-    assert_eq!(code.render::<char>().module_size(3000).try_build(), Err(RenderError::TooLarge));
     assert_eq!((characters(142, 1), characters(1, 142)), (Err(RenderError::TooLarge), Err(RenderError::TooLarge)));
-    assert_eq!(characters(2, 141).unwrap().lines().count(), 29 * 141);
     assert_eq!(code.render::<pbm::Bit>().module_size(565).try_build(), Err(RenderError::TooLarge));
-    assert_eq!(code.render::<pbm::Bit>().module_size(564).build().len(), 15 + 16356 * 2045);
 }
 
 #[test]
@@ -211,7 +203,6 @@ fn segments() {
     let refused = |segment: Segment<'_>| QrCode::with_segments(&[segment], Version::Normal(1), EcLevel::M).unwrap_err();
     assert_eq!(refused(Segment::Numeric(b"12a")), QrError::InvalidCharacter);
     assert_eq!(refused(Segment::Eci(1_000_000)), QrError::InvalidEciDesignator);
-    assert_eq!(refused(Segment::Byte(&[0; 15])), QrError::DataTooLong);
     assert_eq!(QrCode::with_segments(&[Segment::Fnc1First], Version::Micro(4), EcLevel::M).unwrap_err(), QrError::UnsupportedCharacterSet);
 }
 
@@ -222,7 +213,6 @@ fn readings() {
     assert_eq!((found.data, found.version, found.ec_level, found.wrong), (b"01234567".to_vec(), Version::Micro(2), EcLevel::L, 0));
     assert_eq!(read(&[Color::Dark; 440]).unwrap_err(), Unread::NoSuchSide);
     assert_eq!(read(&[Color::Dark; 441]).unwrap_err(), Unread::NoFormat);
-    assert_eq!(read_any(&[Color::Dark; 441]).unwrap_err(), Unread::NotRead);
     let bytes = QrCode::new(b"\xff").unwrap();
     assert_eq!(read_text(&bytes.to_colors()).unwrap_err(), Unread::NotShown);
     let header = QrCode::with_segments(&[Segment::Fnc1First, Segment::Numeric(b"0109501101530003")], Version::Normal(1), EcLevel::M).unwrap();
@@ -243,8 +233,6 @@ fn codes_of_pictures() {
     assert_eq!(codes[1].parts, [Part::Byte(6)]);
     assert!(check(&file).unwrap().iter().all(|it| it.is_standard && it.wrong_by_block == [0]));
     assert_eq!(read_picture(b"hello").unwrap_err(), Unread::NotPicture);
-    assert_eq!(read_picture(b"P1 2 2 0 0 0").unwrap_err(), Unread::BrokenPicture);
-    assert_eq!(read_picture(b"P1 2 2 0 0 0 0").unwrap_err(), Unread::NoSquare);
     assert_eq!(read_picture(&vec![0; (1 << 26) + 1]).unwrap_err(), Unread::LargePicture);
 }
 
@@ -291,8 +279,6 @@ fn checks() {
     assert!(joined.to_string().contains("\ndata: its bits are not segments and a terminator\nmasks with "));
     let fewer = DataCheck { bits: Some((1, 2)), ..found[0].data.unwrap() };
     assert!(fewer.to_string().starts_with("data: 1 bits, 0 more"));
-    assert_eq!(check(b"hello").unwrap_err(), Unread::NotPicture);
-    assert_eq!(check_square(&[Color::Dark; 441]).unwrap_err(), Unread::NoFormat);
 }
 
 #[test]
