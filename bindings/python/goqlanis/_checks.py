@@ -6,20 +6,11 @@ import operator
 from typing import Any, Callable, Iterable, List, Optional, Tuple, TypeVar
 
 from ._numbers import CHARSETS, STRUCTS
-from .errors import NoSuchLevel, NoSuchSet, NoSuchVersion
+from .errors import INSTEAD, NoSuchLevel, NoSuchSet, NoSuchVersion
 
 Call = TypeVar("Call", bound=Callable[..., Any])
 # The names of arguments in other packages, and what to use here.
-OTHERS = {"error": "level='H'", "error_correction": "level='H'", "boost_error": "boost=True, or leave it out for False",
-          "mask_pattern": "mask=3", "encoding": "charset='iso-8859-1'", "symbol_count": "count=3",
-          "mode": "encode_segments", "unit": "size='30mm' (SVG, EPS, PDF) or size=300 (pixels)",
-          "box_size": "scale=8",
-          "fill_color": "dark='navy'", "color": "dark='navy'", "foreground": "dark='navy'",
-          "back_color": "light='white'", "background": "light='white'",
-          "invert": "dark='white', light='black'", "format": "kind='png'",
-          "symbol_version": "version=7", "omitsize": "CSS: svg {width: 100%}",
-          "xmldecl": "svg_inline", "separator": "finder_light='white'",
-          "dark_module": "format_dark='black'"}
+OTHERS = {name: here for names, here in INSTEAD for name in names.split()}
 # The options that all methods take that draw.
 LOOK = ("border", "dark", "light", "dpi", "size", "title")
 # Those of them that are colours of parts, in the order of the library's struct.

@@ -11,7 +11,7 @@ from . import _numbers as goq
 from ._checks import shown
 from ._library import Element, Field, library
 from ._numbers import BYTES_MAX, PAYLOADS
-from .errors import NoRoom, TooLong, WrongField, refuse
+from .errors import FIELDS, FORMS, RANGES, NoRoom, TooLong, WrongField, refuse
 
 Number = Union[int, float, str, decimal.Decimal]
 
@@ -25,58 +25,56 @@ MOST_DIGITS = 40
 
 
 class EmptyField(WrongField):
-    why = "it may not be empty"
+    pass
 
 
 class TooShort(WrongField):
-    why = "it is shorter than the format allows"
+    pass
 
 
 class ControlCharacter(WrongField):
-    why = "it has a line break or another control character"
+    pass
 
 
 class WrongCharacter(WrongField):
-    why = "it has a character that the format does not allow there"
+    pass
 
 
 class WrongCheckDigits(WrongField):
-    why = "the check digits do not match: look for a mistyped or swapped digit"
+    pass
 
 
 class OutOfRange(WrongField):
-    why = "it is outside what the format allows"
+    pass
 
 
 class Unused(WrongField):
-    why = "it cannot be given together with the other fields"
+    pass
 
 
 class TooManyDecimals(WrongField):
-    why = "it has too many digits after the point"
+    pass
 
 
 class UnknownWord(WrongField):
-    why = "it is not one of the values that it may have"
+    pass
 
 
 class UnknownIdentifier(WrongField):
-    why = "its application identifier is not in the table"
+    pass
 
 
 class WrongLength(WrongField):
-    why = "its value has too few or too many characters"
+    pass
 
 
-_CAUSES = {goq.FIELD_EMPTY: EmptyField, goq.FIELD_TOO_LONG: TooLong,
-           goq.FIELD_TOO_SHORT: TooShort, goq.FIELD_CONTROL: ControlCharacter,
-           goq.FIELD_CHARACTER: WrongCharacter, goq.FIELD_CHECK_DIGITS: WrongCheckDigits,
-           goq.FIELD_RANGE: OutOfRange, goq.FIELD_UNUSED: Unused,
-           goq.FIELD_DECIMALS: TooManyDecimals, goq.FIELD_WORD: UnknownWord,
-           goq.NO_SUCH_IDENTIFIER: UnknownIdentifier, goq.ELEMENT_LENGTH: WrongLength}
-for _each in (WrongField, *_CAUSES.values()):
+_CAUSES: Dict[int, Type[WrongField]] = {getattr(goq, it[0]): globals()[it[1]] for it in FIELDS}
+WrongField.__module__ = "goqlanis.contents"
+for _, _name, _why in FIELDS:
+    _each = globals()[_name]
+    _each.why = _why
     if _each is not TooLong:
-        _each.__module__ = "goqlanis.contents"
+        _each.__module__, _each.__doc__ = "goqlanis.contents", f"The field is wrong: {_why}."
 
 
 def text_of(kind: str, given: Dict[str, Any]) -> str:
@@ -170,24 +168,8 @@ def _lengths(identifier: bytes) -> str:
 
 
 # What would help, by the name of the field, in the words of the program.
-_NUMBER = "write digits, after + for an international number"
-_DEGREES = "write degrees as -33.8568"
-_TIME = "write it with its zone, as 2026-11-28T14:00Z or +01:00, or begin and end as days"
-_ADDRESSES = "write addresses alone, without names or spaces, with commas between"
-_FORMS = {"iban": "write it as DE89 3704 0044 0532 0130 00",
-          "bic": "it has 8 or 11 letters and digits",
-          "creditor.country": "write two letters, e.g. CH",
-          "debtor.country": "write two letters, e.g. CH", "birthday": "write it as 1970-01-31",
-          "phone": _NUMBER, "number": _NUMBER, "mobile": _NUMBER, "work_phone": _NUMBER,
-          "home_phone": _NUMBER, "fax": _NUMBER, "email": "write one address with one @",
-          "address": _ADDRESSES, "cc": _ADDRESSES, "bcc": _ADDRESSES,
-          "secret": "write A to Z and 2 to 7", "purpose": "write up to four letters and digits",
-          "issuer": "write it without a colon",
-          "account": "write it without a colon", "amount": "write it as 12 or 12.30",
-          "latitude": _DEGREES, "longitude": _DEGREES, "period": "write a whole number",
-          "counter": "write a whole number", "stamp": _TIME, "begin": _TIME, "end": _TIME}
-_RANGES = {"amount": "0.01 to 999999999.99", "latitude": "-90 to 90", "longitude": "-180 to 180",
-           "period": "1 to 4294967295 seconds"}
+_FORMS = {name: said for names, said in FORMS for name in names.split()}
+_RANGES = {name: said for name, said in RANGES}
 
 
 def _said(kind: Type[WrongField], field: str) -> str:

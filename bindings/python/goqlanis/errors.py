@@ -1,5 +1,6 @@
 """The exceptions of the package, one for each reason."""
-from typing import Dict, Tuple, Type
+import pkgutil
+from typing import Dict, List, Tuple, Type
 
 from . import _numbers as goq
 
@@ -19,9 +20,6 @@ class WrongField(Error, ValueError):
     """The format cannot express a field: `field` is its name, or `text` for the whole text."""
 
     why = "the format cannot say it"
-
-    def __init_subclass__(cls) -> None:
-        cls.__doc__ = cls.__doc__ or f"A field of a payload or an element is wrong: {cls.why}."
 
     def __init__(self, field: str, said: str = ""):
         super().__init__(field, said)
@@ -45,7 +43,6 @@ class LevelNotInVersion(Error, ValueError):
 
 class TooLong(WrongField):
     """A field is longer than the format allows, or data is more than 1,048,576 bytes."""
-    why = "it is longer than the format allows"
 
 
 class NoMode(Error, ValueError):
@@ -148,61 +145,16 @@ class TooMuchDamage(Error, ValueError):
     """A symbol has fewer codewords or bits than shall be wrong."""
 
 
+def _tables() -> List[List[List[str]]]:
+    """Returns the tables of messages.txt: the rows of each, and the parts of a row."""
+    text = (pkgutil.get_data("goqlanis", "messages.txt") or b"").decode()
+    return [[row.split(" | ") for row in part.splitlines() if " | " in row]
+            for part in text.split("\n# ")]
+
+
+ANSWERS, FIELDS, FORMS, RANGES, INSTEAD = _tables()
 _CAUSES: Dict[int, Tuple[Type[Error], str]] = {
-    goq.NO_SUCH_LEVEL: (NoSuchLevel, "the levels are L, M, Q and H"),
-    goq.NO_SUCH_VERSION: (NoSuchVersion, "the versions are 1 to 40 and M1 to M4"),
-    goq.LEVEL_NOT_IN_VERSION: (LevelNotInVersion, "the version has no such level: use level L or "
-                               "a Normal version"),
-    goq.TOO_LONG: (TooLong, "no code holds more than 7,089 bytes"),
-    goq.NO_MODE: (NoMode, "the version lacks a mode that the data needs; M3, M4 and 1 to 40 have "
-                  "all"),
-    goq.NO_ROOM: (NoRoom, "the data does not fit: use a lower level or a larger version, or split "
-                  "it"),
-    goq.OUT_OF_MEMORY: (OutOfMemory, "out of memory"),
-    goq.NO_SUCH_SIZE: (NoSuchSize, "the picture would be too large: take a smaller scale or "
-                       "border"),
-    goq.NOT_IN_MODE: (NotInMode, "a segment has bytes that its mode cannot encode: use byte mode"),
-    goq.NO_SUCH_NUMBER: (NoSuchNumber, "character sets have numbers up to 999,999, applications up "
-                         "to 255"),
-    goq.NO_SUCH_SIDE: (NoSuchSide, "no version has this many modules: give them without a quiet "
-                       "zone"),
-    goq.NO_FORMAT: (NoFormat, "the format information cannot be read; read_any tries all "
-                    "positions"),
-    goq.DAMAGED: (Damaged, "the code is damaged: a block has more errors than can be corrected"),
-    goq.NOT_SPELLED: (NotSpelled, "the bits are not segments and a terminator, e.g. after a "
-                      "header; read_text reads a text that is marked as UTF-8"),
-    goq.NO_SUCH_MASK: (NoSuchMask, "the masks are 0 to 7, for Micro QR 0 to 3"),
-    goq.NOT_IN_FORMAT: (NotInFormat, "PNG and SVG have colours, EPS, PDF and PPM opaque ones, and "
-                        "only PNG has dpi"),
-    goq.NOT_SHOWN: (NotShown, "the bits are not a text that readers show; read gives the bytes"),
-    goq.NOT_READ: (Unread, "the square does not decode in any of the sixteen positions, or has a "
-                   "header: read says more if it is upright"),
-    goq.NOT_PICTURE: (NotPicture, "it is neither a PNG, PBM or PGM file nor half blocks; convert "
-                      "it to PNG"),
-    goq.BROKEN_PICTURE: (BrokenPicture, "the picture is cut off, damaged, interlaced, or more than "
-                         "65,535 pixels a side or 67,108,864 in all; save it anew, or smaller"),
-    goq.NO_SQUARE: (NoSquare, "the picture shows no code, neither in an even margin nor by its "
-                    "finder patterns"),
-    goq.LARGE_PICTURE: (BrokenPicture, "the picture is more than 67,108,864 bytes: cut it into "
-                        "smaller ones"),
-    goq.NO_SUCH_SET: (NoSuchSet, "no character set has this name or number"),
-    goq.NOT_IN_SET: (NotInSet, "the character set lacks a character of the text"),
-    goq.NO_SUCH_AREA: (NoSuchArea, "an area is a rectangle inside the code, or up to 31,329: "
-                       "left, top, width and height in modules"),
-    goq.NO_AREA: (AreaTooLarge, "no central area leaves that reserve: use a higher level or less "
-                  "reserve"),
-    goq.AREA_BLOCK: (AreaTooLarge, "the area covers more codewords of a block than may be lost: "
-                     "shrink it"),
-    goq.AREA_FORMAT: (AreaTooLarge, "the area covers too many modules of the format information: "
-                      "move it"),
-    goq.MANY_CODEWORDS: (TooMuchDamage, "a block has fewer codewords than shall be wrong"),
-    goq.MANY_FORMAT_BITS: (TooMuchDamage, "no more than 15 bits of the format information can be "
-                           "wrong"),
-    goq.MANY_VERSION_BITS: (TooMuchDamage, "versions 7 to 40 alone have version information, of "
-                            "18 bits"),
-    goq.MANY_PATTERN_MODULES: (TooMuchDamage, "the patterns have fewer modules than shall be "
-                               "wrong"),
-}
+    getattr(goq, answer): (globals()[name], said) for answer, name, said in ANSWERS}
 
 # Tracebacks show them under the name by which the package exports them.
 for _name in __all__:
