@@ -43,21 +43,14 @@ class Symbol:
     this library is promised to correct. Symbols with the same modules, version, level and logo are
     equal, and symbols can be members of sets.
 
-    All methods that draw it take the same arguments (`look`), as far as the format has them:
-
-    - `scale`: pixels per module, in SVG also e.g. 2.5; the default is 8, for text and PIC 1;
-    - `size`: instead of `scale`, the most pixels that a side may have, or a length, e.g. "30mm"
-      ("cm", "in", "pt"). A side of SVG, EPS and PDF is as long; in PNG, with `dpi`, modules are as
-      large as fits;
-    - `border`, or `quiet_zone`: light modules on each side; the default is 4, for Micro QR 2;
-    - `dark`, `light`: the colours of dark and light modules: a CSS name, "#rgb", "#rrggbb",
-      "#rrggbbaa", a tuple (red, green, blue) or (red, green, blue, opacity), each 0 to 255, or None
-      for transparent. EPS, PDF and PPM have only opaque colours; PBM and others have none. Colours
-      that many readers cannot tell apart give a UserWarning;
-    - `finder_dark`, `finder_light`, and so on for `alignment`, `timing`, `format`, `version` and
-      `data`: colours of these patterns and of the data, in PNG, SVG, EPS and PDF;
-    - `dpi`: the dots per inch that a PNG file states;
-    - `title`: the title of an SVG file, which screen readers read aloud.
+    All methods that draw it take the same arguments, as far as the format has them (docs/PYTHON.md,
+    "Drawing"): `scale`, pixels per module, by default 8, for text and PIC 1; or `size`, the most
+    pixels of a side, or a length such as "30mm" (cm, in, pt); `border` or `quiet_zone`, by default
+    4 modules, for Micro QR 2; `dark` and `light`, a CSS name, "#rgb", "#rrggbb", "#rrggbbaa", a
+    tuple (red, green, blue) or (red, green, blue, opacity), or None for transparent; `finder_dark`,
+    `finder_light` and so on for `alignment`, `timing`, `format`, `version` and `data`; `dpi`, which
+    a PNG file states; `title` of an SVG file. Colours that many readers cannot tell apart give a
+    UserWarning.
 
     With a logo, only SVG can be drawn, and half blocks with a light area in its place.
 
