@@ -33,31 +33,8 @@ macro_rules! charsets {
     };
 }
 
-charsets! {
-    // From goqlanis.h, by bindings/same:
-    Iso8859_1 = GOQ_ISO_8859_1, "For Western Europe.";
-    Iso8859_2 = GOQ_ISO_8859_2, "For Central Europe.";
-    Iso8859_3 = GOQ_ISO_8859_3, "For Southern Europe.";
-    Iso8859_4 = GOQ_ISO_8859_4, "For Northern Europe.";
-    Iso8859_5 = GOQ_ISO_8859_5, "With Cyrillic letters.";
-    Iso8859_6 = GOQ_ISO_8859_6, "With Arabic letters.";
-    Iso8859_7 = GOQ_ISO_8859_7, "With Greek letters.";
-    Iso8859_8 = GOQ_ISO_8859_8, "With Hebrew letters.";
-    Iso8859_9 = GOQ_ISO_8859_9, "For Turkish.";
-    Iso8859_10 = GOQ_ISO_8859_10, "For Northern Europe.";
-    Iso8859_11 = GOQ_ISO_8859_11, "With Thai letters.";
-    Iso8859_13 = GOQ_ISO_8859_13, "For the Baltic.";
-    Iso8859_14 = GOQ_ISO_8859_14, "For Celtic languages.";
-    Iso8859_15 = GOQ_ISO_8859_15, "Part 1 with the euro sign.";
-    Iso8859_16 = GOQ_ISO_8859_16, "For South-Eastern Europe.";
-    ShiftJis = GOQ_SHIFT_JIS, "For Japanese, with Kanji segments.";
-    Windows1250 = GOQ_WINDOWS_1250, "Of Windows, for Central Europe.";
-    Windows1251 = GOQ_WINDOWS_1251, "Of Windows, with Cyrillic letters.";
-    Windows1252 = GOQ_WINDOWS_1252, "Of Windows, for Western Europe.";
-    Windows1256 = GOQ_WINDOWS_1256, "Of Windows, with Arabic letters.";
-    Utf8 = GOQ_UTF_8, "UTF-8 after its header.";
-    // Up to here.
-}
+// The sets of goqlanis.h, as bindings/same writes them.
+include!("charsets.in");
 
 /// Why a text is not encoded in a character set.
 #[derive(Clone, Copy, Debug, PartialEq, Eq)]

@@ -16,6 +16,33 @@
 //! assert_eq!(wrong.text(), Err(ContentError::Refused("iban", Cause::CheckDigits)));
 //! # Ok::<(), ContentError>(())
 //! ```
+//!
+//! ```
+//! use goqlanis::contents::{Cause, ContentError, Upi};
+//!
+//! let upi = Upi { payee: "nadeem@npci", name: "nadeem chinna", cents: Some(1000), note: "Pay to mystar store", reference: "4894398cndhcd23", category: "0000" };
+//! assert_eq!(upi.text()?, "upi://pay?pa=nadeem@npci&pn=nadeem%20chinna&mc=0000&tr=4894398cndhcd23&tn=Pay%20to%20mystar%20store&am=10.00&cu=INR");
+//! assert_eq!(Upi { payee: "nadeem", ..upi }.text(), Err(ContentError::Refused("payee", Cause::Character)));
+//! # Ok::<(), ContentError>(())
+//! ```
+//!
+//! ```
+//! use goqlanis::contents::{Cause, ContentError, Pix};
+//!
+//! let pix = Pix { payee: "123e4567-e12b-12d1-a456-426655440000", name: "Fulano de Tal", city: "BRASILIA", ..Pix::default() };
+//! assert_eq!(pix.text()?, "00020126580014br.gov.bcb.pix0136123e4567-e12b-12d1-a456-4266554400005204000053039865802BR5913Fulano de Tal6008BRASILIA62070503***63041D3D");
+//! assert_eq!(Pix { city: "São Paulo", ..pix }.text(), Err(ContentError::Refused("city", Cause::Character)));
+//! # Ok::<(), ContentError>(())
+//! ```
+//!
+//! ```
+//! use goqlanis::contents::{Cause, ContentError, PromptPay};
+//!
+//! let phone = PromptPay { payee: "0000000000", cents: Some(422) };
+//! assert_eq!(phone.text()?, "00020101021229370016A000000677010111011300660000000005802TH530376454044.226304E469");
+//! assert_eq!(PromptPay { cents: Some(0), ..phone }.text(), Err(ContentError::Refused("cents", Cause::Range)));
+//! # Ok::<(), ContentError>(())
+//! ```
 use goqlanis_sys as sys;
 use std::fmt;
 
@@ -285,192 +312,8 @@ macro_rules! payloads {
     )+};
 }
 
-payloads! {
-    /// A Wi-Fi network.
-    Wifi.text of GOQ_WIFI {
-        /// The name of the network, 1 to 32 bytes.
-        ssid: &'a str,
-        /// The password, empty for an open network.
-        password: &'a str,
-        /// How the network is secured.
-        security: Security,
-        /// Whether the network does not broadcast its name.
-        hidden: bool,
-    }
-
-    /// A contact, as MECARD. Empty fields are left out.
-    Contact.mecard of GOQ_MECARD {
-        /// The family name, or the only name.
-        family: &'a str,
-        /// The given name.
-        given: &'a str,
-        /// A telephone number.
-        phone: &'a str,
-        /// An e-mail address.
-        email: &'a str,
-        /// The URL of a web page.
-        url: &'a str,
-        /// The birthday, e.g. `1970-01-31` or `19700131`.
-        birthday: &'a str,
-        /// A note.
-        note: &'a str,
-        /// The street.
-        street: &'a str,
-        /// The city.
-        city: &'a str,
-        /// The region.
-        region: &'a str,
-        /// The postal code.
-        code: &'a str,
-        /// The country.
-        country: &'a str,
-    }
-
-    /// A contact, as vCard 3.0. Empty fields are left out.
-    Card.text of GOQ_VCARD {
-        /// The full name, as it is displayed.
-        name: &'a str,
-        /// The family name.
-        family: &'a str,
-        /// The given name.
-        given: &'a str,
-        /// The organisation.
-        organisation: &'a str,
-        /// A telephone number.
-        phone: &'a str,
-        /// An e-mail address.
-        email: &'a str,
-        /// The URL of a web page.
-        url: &'a str,
-        /// The street.
-        street: &'a str,
-        /// The city.
-        city: &'a str,
-        /// The region.
-        region: &'a str,
-        /// The postal code.
-        code: &'a str,
-        /// The country.
-        country: &'a str,
-        /// A note.
-        note: &'a str,
-        /// The title or function.
-        title: &'a str,
-        /// The birthday, e.g. `1970-01-31`.
-        birthday: &'a str,
-        /// The number of the mobile phone.
-        mobile: &'a str,
-        /// The number at work.
-        work_phone: &'a str,
-        /// The number at home.
-        home_phone: &'a str,
-        /// The nickname.
-        nickname: &'a str,
-        /// The fax number.
-        fax: &'a str,
-    }
-
-    /// A SEPA credit transfer (EPC QR code), for a symbol of level M and at most version 13.
-    Payment.text of GOQ_PAYMENT {
-        /// The payee, up to 70 characters.
-        name: &'a str,
-        /// The account number.
-        iban: &'a str,
-        /// The amount in euro cents.
-        cents: u64,
-        /// The code of the bank. With it the text has version 001, without it version 002.
-        bic: &'a str,
-        /// The purpose: up to four letters and digits.
-        purpose: &'a str,
-        /// A reference of ISO 11649, instead of a message.
-        reference: &'a str,
-        /// A message to the payee, up to 140 characters.
-        message: &'a str,
-        /// A note to the payer, up to 70 characters.
-        information: &'a str,
-    }
-
-    /// A link that writes an e-mail. Empty fields are left out.
-    Mail.text of GOQ_MAIL {
-        /// The address of the recipient, or several with commas between.
-        address: &'a str,
-        /// The subject.
-        subject: &'a str,
-        /// The text.
-        body: &'a str,
-        /// The addresses that get a copy.
-        cc: &'a str,
-        /// The addresses that get a copy, unseen by the others.
-        bcc: &'a str,
-    }
-
-    /// A payment by UPI (India), in rupees. Empty fields are left out.
-    ///
-    /// ```
-    /// use goqlanis::contents::{Cause, ContentError, Upi};
-    ///
-    /// let upi = Upi { payee: "nadeem@npci", name: "nadeem chinna", cents: Some(1000), note: "Pay to mystar store", reference: "4894398cndhcd23", category: "0000" };
-    /// assert_eq!(upi.text()?, "upi://pay?pa=nadeem@npci&pn=nadeem%20chinna&mc=0000&tr=4894398cndhcd23&tn=Pay%20to%20mystar%20store&am=10.00&cu=INR");
-    /// assert_eq!(Upi { payee: "nadeem", ..upi }.text(), Err(ContentError::Refused("payee", Cause::Character)));
-    /// # Ok::<(), ContentError>(())
-    /// ```
-    Upi.text of GOQ_UPI {
-        /// The address of the payee, e.g. name@bank.
-        payee: &'a str,
-        /// The name of the payee.
-        name: &'a str,
-        /// The amount in paise; with `None`, the payer enters it.
-        cents: Option<u64>,
-        /// A note.
-        note: &'a str,
-        /// A reference, e.g. an order number.
-        reference: &'a str,
-        /// The category of a merchant, four digits.
-        category: &'a str,
-    }
-
-    /// A static payment by Pix (Brazil), in reais. All fields are ASCII.
-    ///
-    /// ```
-    /// use goqlanis::contents::{Cause, ContentError, Pix};
-    ///
-    /// let pix = Pix { payee: "123e4567-e12b-12d1-a456-426655440000", name: "Fulano de Tal", city: "BRASILIA", ..Pix::default() };
-    /// assert_eq!(pix.text()?, "00020126580014br.gov.bcb.pix0136123e4567-e12b-12d1-a456-4266554400005204000053039865802BR5913Fulano de Tal6008BRASILIA62070503***63041D3D");
-    /// assert_eq!(Pix { city: "São Paulo", ..pix }.text(), Err(ContentError::Refused("city", Cause::Character)));
-    /// # Ok::<(), ContentError>(())
-    /// ```
-    Pix.text of GOQ_PIX {
-        /// The Pix key of the payee.
-        payee: &'a str,
-        /// The name of the payee, up to 25 bytes of ASCII.
-        name: &'a str,
-        /// The city, up to 15 bytes of ASCII.
-        city: &'a str,
-        /// The amount in centavos; with `None`, the payer enters it.
-        cents: Option<u64>,
-        /// A reference (txid) of letters and digits.
-        reference: &'a str,
-        /// A description; together with the key, up to 73 bytes of ASCII.
-        description: &'a str,
-    }
-
-    /// A payment by PromptPay (Thailand), in baht.
-    ///
-    /// ```
-    /// use goqlanis::contents::{Cause, ContentError, PromptPay};
-    ///
-    /// let phone = PromptPay { payee: "0000000000", cents: Some(422) };
-    /// assert_eq!(phone.text()?, "00020101021229370016A000000677010111011300660000000005802TH530376454044.226304E469");
-    /// assert_eq!(PromptPay { cents: Some(0), ..phone }.text(), Err(ContentError::Refused("cents", Cause::Range)));
-    /// # Ok::<(), ContentError>(())
-    /// ```
-    PromptPay.text of GOQ_PROMPTPAY {
-        /// The 10 digits of a telephone number, 13 of a national or tax ID, or 15 of an e-wallet.
-        payee: &'a str,
-        /// The amount in satang; with `None`, the payer enters it.
-        cents: Option<u64>,
-    }
-}
+// The payloads whose fields are texts, amounts and words, as bindings/same writes them.
+include!("payloads.in");
 
 /// A name with its address.
 #[derive(Clone, Copy, Debug, Default, PartialEq, Eq)]

@@ -411,17 +411,8 @@ macro_rules! colour_format {
     };
 }
 
-// From goqlanis.h, by bindings/same:
-// The maximum pixels per side, by format number, if there is a limit.
-const SIDES: [(u32, u32); 11] = [(0, 4096), (1, 4096), (4, 16384), (5, 65535), (7, 16384),
-    (9, 16384), (12, 16384), (13, 16384), (14, 16384), (15, 16384), (16, 4096)];
-colour_format!("A PDF file of one page, one point per pixel.", pdf, GOQ_PDF);
-file_format!("ZPL II text for label printers, one dot per pixel.", zpl::Dot, String, 8, GOQ_ZPL, text);
-file_format!("TSPL commands for label printers, one dot per pixel.", tspl::Dot, Vec<u8>, 8, GOQ_TSPL, plain);
-file_format!("ESC/POS raster for receipt printers, at most 65,535 dots a side.", escpos::Dot, Vec<u8>, 8, GOQ_ESC_POS, plain);
-file_format!("XBM text.", xbm::Dot, String, 8, GOQ_XBM, text);
-colour_format!("A PPM file, three bytes per pixel.", ppm, GOQ_PPM);
-// Up to here.
+// Formats of goqlanis.h, and the most pixels of a side, as bindings/same writes them.
+include!("formats.in");
 
 // An SVG format, whose colours are text, and the units of its view box that a module of this number
 // of pixels has.
