@@ -1,3 +1,2 @@
-pub mod Charsets
 pub mod Tickets
 mod Bounds

@@ -1,7 +1,6 @@
 //! Calls of `qrcode` to copy from.
 #![tactic(auto)]
 
-pub mod charset;
 pub mod drawings;
 pub mod label;
 pub mod payments;

@@ -1,6 +1,6 @@
-//! Symbols of payments and bills: from a value with named fields to the symbol in which readers
-//! show its text, no larger than the format allows. Symbols of the other formats are made the same
-//! way, without that limit.
+//! Symbols of payments: from a value with named fields to the symbol in which readers show its text,
+//! no larger than the format allows. Symbols of bills are made the same way, those of the other
+//! formats without that limit.
 
 ghost use Rattle.std.specs.Prelude.{◌≡◌, ℕ, ◌≤◌, pos, chars, None, IfOk, IfErr, IsTrue};
 ghost use Rattle.qrcode_types.specs.Versions.{is_valid, side};
@@ -8,7 +8,6 @@ ghost use Rattle.qrcode_types.specs.declared.types.EcLevel.TheVariants.{M};
 ghost use Rattle.qrcode_types.specs.declared.types.Version.TheVariants.{Normal};
 ghost use Rattle.qrcode_bits.specs.Manners.{HoldsAs};
 ghost use Rattle.qrcode_bits.specs.declared.bits.manner.Manner.TheVariants.{Text};
-ghost use Rattle.qrcode_contents.specs.Bill.{invoice_of, bill_text};
 ghost use Rattle.qrcode_contents.specs.Payment.{payment_fields, payment_refusal, payment_text};
 ghost use Rattle.qrcode.specs.Texts.{IsShownAs};
 ghost use Rattle.qrcode_examples.specs.Wants.{IsWant};
@@ -16,7 +15,6 @@ ghost use Rattle.qrcode_examples.specs.declared.payments.Unmade.TheVariants.{Con
 
 use qrcode::types::QrError;
 use qrcode::{EcLevel, QrCode, Version};
-use qrcode_contents::bill::{self, Bill};
 use qrcode_contents::errors::ContentError;
 use qrcode_contents::payment::{self, Payment};
 use std::alloc::Global;
@@ -77,18 +75,4 @@ pub fn payment(alloc: Global, payment: &Payment) -> Result<QrCode, Unmade>
 {
     let text = payment.text(alloc)?;
     bounded(alloc, text.as_str(), payment::LEVEL, payment::LARGEST)
-}
-
-/// Encodes the Swiss QR bill `bill` at level M, in at most Normal 25: 117 modules along a side.
-///
-/// Errors: `Content` if the format cannot express `bill`; `Large` if it takes a larger version;
-/// `Code(DataTooLong)` if no version holds its text; `Content(OutOfMemory)` or `Code(OutOfMemory)`
-/// if memory runs out.
-pub fn bill(alloc: Global, bill: &Bill) -> Result<QrCode, Unmade>
-    ensures shown { IfOk result (λ code. IsShownAs code.version M
-        (chars (bill_text (invoice_of bill.now))) code.modules) }
-    ensures at_most { IfOk result (λ code. side code.version ≤ 117) }
-{
-    let text = bill.text(alloc)?;
-    bounded(alloc, text.as_str(), bill::LEVEL, bill::LARGEST)
 }

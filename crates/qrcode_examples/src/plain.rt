@@ -3,41 +3,10 @@
 
 use qrcode::bits::Bits;
 use qrcode::render::image::{ImageBuffer, Luma, Rgb};
-use qrcode::render::{svg, unicode};
+use qrcode::render::svg;
 use qrcode::types::QrResult;
 use qrcode::{EcLevel, QrCode, Version};
 use std::alloc::Global;
-
-/// Draws a text as SVG and in half blocks.
-///
-/// Errors: only `OutOfMemory`.
-pub fn text(alloc: Global) -> QrResult<(String, String)> {
-    let code = QrCode::of_text(alloc, "01234567", EcLevel::M)?;
-    let svg = code
-        .render::<svg::Color>()
-        .min_dimensions(200, 200)
-        .build(alloc)?;
-    let text = code.render::<unicode::Dense1x2>().build(alloc)?;
-    Ok((svg, text))
-}
-
-/// Draws the text of a payment as SVG.
-///
-/// Errors: only `OutOfMemory`.
-pub fn payment(alloc: Global) -> QrResult<String> {
-    let code = QrCode::of_text(alloc, "BCD\n002\n1\nSCT\n..", EcLevel::M)?;
-    code.render::<svg::Color>()
-        .min_dimensions(200, 200)
-        .build(alloc)
-}
-
-/// Draws a ticket number as a Micro symbol in half blocks.
-///
-/// Errors: only `OutOfMemory`.
-pub fn ticket(alloc: Global) -> QrResult<String> {
-    let code = QrCode::with_version(alloc, b"01234567", Version::Micro(2), EcLevel::L)?;
-    code.render::<unicode::Dense1x2>().build(alloc)
-}
 
 /// Encodes bits written manually, with an ECI designator before the bytes.
 ///
@@ -58,7 +27,7 @@ pub fn colors(alloc: Global) -> QrResult<ImageBuffer<Rgb>> {
     code.render()
         .dark_color(Rgb([128, 0, 0]))
         .light_color(Rgb([255, 255, 128]))
-        .min_dimensions(200, 200)
+        .min_width(200)
         .build(alloc)
 }
 

@@ -8,7 +8,7 @@ ghost use Rattle.qrcode.specs.Texts.{IsShownAs};
 use qrcode::bits::{Bits, Manner};
 use qrcode::canvas::MaskPattern;
 use qrcode::types::QrResult;
-use qrcode::{Color, EcLevel, QrCode, Version};
+use qrcode::{EcLevel, QrCode, Version};
 use std::alloc::Global;
 
 /// Encodes `text` at level M, in the smallest Normal version. Readers that decode bytes as UTF-8
@@ -36,13 +36,6 @@ pub fn marked_sign(alloc: Global, text: &str) -> QrResult<QrCode>
 /// Errors: `DataTooLong` if Normal 2 does not hold `text`; `OutOfMemory` if memory runs out.
 pub fn small_label(alloc: Global, text: &str) -> QrResult<QrCode> {
     QrCode::of_text_in(alloc, text, Version::Normal(2), EcLevel::M)
-}
-
-/// Encodes `text` as `small_label` does, but after ECI 26 (UTF-8).
-///
-/// Errors: `DataTooLong` if Normal 2 does not hold both; `OutOfMemory` if memory runs out.
-pub fn small_marked_label(alloc: Global, text: &str) -> QrResult<QrCode> {
-    QrCode::of_marked_text_in(alloc, text, Version::Normal(2), EcLevel::M)
 }
 
 /// Encodes `text` at level L, in the smallest of all 44 versions that holds it.
@@ -85,12 +78,4 @@ pub fn mask_of(code: &QrCode) -> MaskPattern
     ensures { IsMaskOf code.now.version code.now.level result code.now.modules }
 {
     code.mask()
-}
-
-/// Counts the dark modules of `code`.
-pub fn count_of_dark(code: &QrCode) -> usize {
-    code.colors()
-        .iter()
-        .filter(|color| **color == Color::Dark)
-        .count()
 }

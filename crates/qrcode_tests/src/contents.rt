@@ -1,7 +1,124 @@
-//! Tests of payloads, FNC1 symbols, structured append, and the text of errors.
+//! Tests of `join`, of separators, and of the text of errors.
 
-mod joining;
-mod refusals;
-mod sequences;
-mod symbols;
-mod texts;
+use crate::common::{Row, check, check_row};
+use qrcode::types::QrError;
+use qrcode_append::errors::JoinError::{self, Missing, Parity, Stranger, Twice};
+use qrcode_append::{Part, join};
+use qrcode_contents::errors::{Cause, ContentError, Field};
+use qrcode_gs1::errors::{Cause as ElementCause, Gs1Error};
+use qrcode_gs1::symbol::are_apart;
+use qrcode_gs1::symbol::errors::SymbolError;
+use qrcode_reader::correct::Damaged;
+use std::alloc::Global;
+use std::fmt::Display;
+
+const DIGITS: &[u8] = b"31415926535897932";
+
+// The XOR of these digits.
+const PARITY: u8 = 0x32;
+
+// The three parts of the digits; then parts that no symbol of the library has: one on its own, three
+// with another last place, parity or place, and one with another digit. The tests of the C library
+// join others.
+#[rattlefmt::skip]
+static PARTS: [Part<'static>; 8] = [
+    Part { place: 0, last: 2, parity: PARITY, bytes: b"3141592" },
+    Part { place: 1, last: 2, parity: PARITY, bytes: b"65358" },
+    Part { place: 2, last: 2, parity: PARITY, bytes: b"97932" },
+    Part { place: 0, last: 0, parity: 0x39, bytes: b"3141592" },
+    Part { place: 1, last: 3, parity: PARITY, bytes: b"65358" },
+    Part { place: 2, last: 2, parity: 0, bytes: b"97932" },
+    Part { place: 3, last: 2, parity: PARITY, bytes: b"97932" },
+    Part { place: 2, last: 2, parity: PARITY, bytes: b"97933" },
+];
+
+// The indices of the parts to join, and the joined data or the error.
+struct Joining(&'static [usize], Result<&'static [u8], JoinError>);
+
+static ROWS: [Joining; 7] = [
+    Joining(&[2, 0, 1], Ok(DIGITS)),
+    Joining(&[3], Ok(b"3141592")),
+    Joining(&[0, 4, 2], Err(Stranger(1))),
+    Joining(&[0, 1, 5], Err(Stranger(2))),
+    Joining(&[6, 0, 1], Err(Stranger(0))),
+    Joining(&[0, 1, 7], Err(Parity)),
+    Joining(&[], Err(Missing(0))),
+];
+
+impl Row for Joining {
+    fn holds(&self, alloc: Global) -> bool {
+        let mut parts = Vec::new(alloc);
+        for number in self.0 {
+            let Some(part) = PARTS.get(*number) else {
+                return false;
+            };
+            if parts.push(*part).is_err() {
+                return false;
+            }
+        }
+        match (join(alloc, &parts), &self.1) {
+            (Ok(joined), Ok(bytes)) => joined.as_slice() == *bytes,
+            (Err(error), Err(expected)) => error == *expected,
+            _ => false,
+        }
+    }
+}
+
+#[test]
+fn parts_are_joined(rt: HostRuntime) {
+    check(&rt, rt.alloc(), &ROWS);
+}
+
+#[test]
+fn separators_stand_apart_or_not(rt: HostRuntime) {
+    assert!(rt; are_apart(b"") && are_apart(b"\x1d") && are_apart(b"\x1da\x1d"));
+    assert!(rt; are_apart(b"AA1234BBB112text text text text\r"));
+    assert!(rt; !are_apart(b"\x1d\x1d") && !are_apart(b"a\x1d\x1db"));
+}
+
+// Whether `error` is displayed as `text`.
+fn reads_as<E: Display>(alloc: Global, error: &E, text: &str) -> bool {
+    match format!(in alloc; "{error}") {
+        Ok(shown) => shown.as_str() == text,
+        Err(_) => false,
+    }
+}
+
+// The errors of `join`, and their text.
+#[rattlefmt::skip]
+static OF_PARTS: [(JoinError, &str); 5] = [
+    (Stranger(1), "part 1 is not of the same data as the first"),
+    (Missing(0), "the part at place 0 is missing"),
+    (Twice(15), "more than one part has place 15"),
+    (Parity, "the parity is that of other data"),
+    (JoinError::OutOfMemory, "out of memory"),
+];
+
+#[test]
+fn errors_say_why(rt: HostRuntime) {
+    let alloc = rt.alloc();
+    for (i, (error, text)) in OF_PARTS.iter().enumerate() {
+        check_row(&rt, i, reads_as(alloc, error, *text));
+    }
+    let town = ContentError::Refused(Field::DebtorCity, Cause::CheckDigits);
+    assert!(rt; reads_as(alloc, &town, "DebtorCity: CheckDigits"));
+    assert!(rt; reads_as(alloc, &ContentError::OutOfMemory, "out of memory"));
+    let wrong = Gs1Error::Refused(2, ElementCause::CheckDigit);
+    assert!(rt; reads_as(alloc, &wrong, "element 2: CheckDigit"));
+    assert!(rt;
+        reads_as(
+            alloc,
+            &SymbolError::Elements(wrong),
+            "element 2: CheckDigit"
+        )
+    );
+    assert!(rt; reads_as(alloc, &Gs1Error::OutOfMemory, "out of memory"));
+    assert!(rt;
+        reads_as(
+            alloc,
+            &SymbolError::Symbol(QrError::DataTooLong),
+            "data too long"
+        )
+    );
+    assert!(rt; reads_as(alloc, &Damaged, "too many errors in a block"));
+}

@@ -5,17 +5,11 @@
 #[cfg(test)]
 mod bits;
 #[cfg(test)]
-mod calls;
-#[cfg(test)]
-mod canvases;
-#[cfg(test)]
 mod common;
 #[cfg(test)]
 mod contents;
 #[cfg(test)]
 mod render;
-#[cfg(test)]
-mod squares;
 #[cfg(test)]
 mod symbol;
 #[cfg(test)]

@@ -1,9 +1,7 @@
-//! Tests of pictures: worked examples, a user-defined element, and callers that need no proof.
+//! Tests of pictures: worked examples. `evidence/memory/cases` and
+//! the tests of the C library draw more.
 
-mod callers;
 mod drawings;
-mod files;
 mod images;
 mod pictures;
 mod texts;
-mod vectors;

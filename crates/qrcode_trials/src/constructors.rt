@@ -7,7 +7,10 @@ use qrcode::QrCode;
 use qrcode::bits::encode_auto;
 use qrcode::types::{QrError, QrResult};
 use qrcode_append::errors::JoinError;
-use qrcode_append::{Part, encode_several, encode_text_several, join};
+use qrcode_append::{
+    Part, Versions, encode_several, encode_several_within, encode_text_several,
+    encode_text_several_within, join,
+};
 use qrcode_gs1::elements::Element;
 use qrcode_gs1::errors::Gs1Error;
 use qrcode_gs1::symbol::errors::SymbolError;
@@ -22,9 +25,23 @@ pub fn run(alloc: Global, asked: &Asked<'_>) -> QrResult<Digest> {
         "text-several" => {
             Ok(of_codes(&encode_text_several(alloc, asked.text(), version, level)?))
         }
+        "several-within" => {
+            Ok(count_of(&encode_several_within(alloc, asked.data(), versions(asked), level)?))
+        }
+        "text-several-within" => {
+            Ok(count_of(&encode_text_several_within(alloc, asked.text(), versions(asked), level)?))
+        }
         "auto" => Ok(digest_of(encode_auto(alloc, asked.data(), level)?)),
         "join" => joined(alloc, asked.data(), (asked.number(1) % 256) as u8),
         _ => Ok(Digest::of(constructed(alloc, asked)?.colors())),
+    }
+}
+
+// Returns the range of versions that the second and third data argument bound.
+fn versions(asked: &Asked<'_>) -> Versions {
+    Versions {
+        least: asked.number(1) as usize,
+        greatest: asked.number(2) as usize,
     }
 }
 
@@ -70,6 +87,14 @@ fn of_elements(alloc: Global, asked: &Asked<'_>) -> QrResult<QrCode> {
         Err(SymbolError::Symbol(error)) => Err(error),
         Err(SymbolError::Elements(Gs1Error::OutOfMemory)) => Err(QrError::OutOfMemory),
         Err(_) => Err(QrError::InvalidCharacter),
+    }
+}
+
+// Returns the number of symbols, and the modules along a side of the last.
+fn count_of(codes: &[QrCode]) -> Digest {
+    match codes.last() {
+        Some(code) => Digest::of_sum(codes.len(), (code.width() % 256) as u32),
+        None => Digest::of_sum(0, 0),
     }
 }
 

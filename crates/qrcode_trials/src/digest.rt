@@ -3,8 +3,6 @@
 ghost use Rattle.std.specs.Prelude.{◌<◌};
 
 use qrcode::types::Color;
-use std::io;
-use std::io::Print;
 
 /// The largest prime below 2^32.
 const PRIME: u64 = 4_294_967_291;
@@ -60,14 +58,6 @@ impl Digest {
         }
     }
 
-    /// Returns a digest of a length and a single item.
-    pub fn of_one<T: Item>(length: usize, item: T) -> Digest {
-        Digest {
-            length,
-            sum: (u64::from(item.number()) + 1) % PRIME,
-        }
-    }
-
     /// Returns a digest of a length and a checksum that was computed elsewhere.
     pub fn of_sum(length: usize, sum: u32) -> Digest {
         Digest {
@@ -83,10 +73,4 @@ impl Digest {
             sum: (self.sum * 257 + other.sum) % PRIME,
         }
     }
-}
-
-/// Prints `digest` without ending the line.
-pub fn print_digest<R: Print>(rt: &R, digest: Digest) -> io::Result<()> {
-    let Digest { length, sum } = digest;
-    print!(rt; "length {length}, checksum {sum:08x}")
 }

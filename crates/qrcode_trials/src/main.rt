@@ -16,7 +16,7 @@ mod word;
 mod words;
 
 use bits::Note;
-use digest::{Digest, print_digest};
+use digest::Digest;
 use qrcode::types::QrResult;
 use std::alloc::Global;
 use std::io::Print;
@@ -44,7 +44,8 @@ fn print_answer(rt: &HostRuntime) -> io::Result<()> {
 
 // Prints a digest, and what a failed push did.
 fn print_made<R: Print>(rt: &R, digest: Digest, note: Note) -> io::Result<()> {
-    print_digest(rt, digest)?;
+    let Digest { length, sum } = digest;
+    print!(rt; "length {length}, checksum {sum:08x}")?;
     match note {
         Note::Whole => println!(rt; ""),
         Note::Unchanged => println!(rt; "; refused, the list unchanged"),
@@ -90,6 +91,6 @@ fn made(alloc: Global, call: &str, asked: &Asked<'_>) -> QrResult<Digest> {
         "picture" => pictures::run(alloc, asked),
         "file" => files::run(alloc, asked),
         "read" => readings::run(alloc, asked),
-        _ => Ok(Digest::of_one(asked.data().len(), false)),
+        _ => Ok(Digest::of_sum(asked.data().len(), 1)),
     }
 }

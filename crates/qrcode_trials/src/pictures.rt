@@ -1,6 +1,9 @@
 //! Draws pictures in each format.
 
+ghost use Rattle.std.specs.Prelude.{◌≡◌, ◌*◌, ◌≤◌, length};
+
 use crate::digest::Digest;
+use crate::files::{THREE, of_file};
 use crate::symbols::of_digits;
 use crate::word::Word;
 use crate::words::{Asked, number};
@@ -58,7 +61,7 @@ fn text<P: Pixel<Image = String>>(alloc: Global, asked: &Asked<'_>) -> QrResult<
 
 // Draws a picture that is the bytes of a file.
 fn file<P: Pixel<Image = Vec<u8>>>(alloc: Global, asked: &Asked<'_>) -> QrResult<Digest> {
-    Ok(Digest::of(&picture::<P>(alloc, asked)?))
+    of_file(&picture::<P>(alloc, asked)?)
 }
 
 // Draws a picture that is an image buffer.
@@ -75,18 +78,44 @@ fn bars(alloc: Global, asked: &Asked<'_>) -> QrResult<Digest> {
     Ok(digest)
 }
 
-// Draws no module (`none`), a wide symbol (`wide`), a chessboard (`board`), each call of the canvas
-// (`calls`), a rectangle pixel by pixel (`rect`), or the symbol of digits in the version that is
-// asked for.
+// Draws no module (`none`), a square of one (`dark`), two (`diagonal`) or three a side (`three`), a
+// wide symbol (`wide`), a chessboard (`board`), each call of the canvas (`calls`), a rectangle pixel
+// by pixel (`rect`), or the symbol of digits in the version that is asked for.
 fn picture<P: Pixel>(alloc: Global, asked: &Asked<'_>) -> QrResult<P::Image> {
     match asked.version {
         "none" => built(alloc, &Renderer::<P>::new(&[], 0, 0)),
+        "dark" => cells::<P>(alloc, &DARK, 1, asked),
+        "diagonal" => cells::<P>(alloc, &DIAGONAL, 2, asked),
+        "three" => cells::<P>(alloc, &THREE, 3, asked),
         "wide" => wide::<P>(alloc, number(asked.level)),
         "board" => board::<P>(alloc),
         "calls" => drawn::<P>(alloc),
         "rect" => filled::<P>(alloc),
         _ => built(alloc, &of_digits(alloc, asked.version())?.render::<P>()),
     }
+}
+
+// Squares of one module and of two a side.
+static DARK: [Color; 1] = [Color::Dark];
+
+static DIAGONAL: [Color; 4] = [Color::Dark, Color::Light, Color::Light, Color::Dark];
+
+// Draws a square. The numbers, if there are any: width and height of a module in pixels, and the
+// modules of the quiet zone.
+fn cells<P: Pixel>(
+    alloc: Global,
+    modules: &[Color],
+    side: usize,
+    asked: &Asked<'_>,
+) -> QrResult<P::Image>
+    requires square { length modules.now ≡ side * side }
+    requires at_most { side ≤ 3 }
+{
+    let mut renderer = Renderer::<P>::new(modules, side, asked.number(2));
+    if !asked.given.is_empty() {
+        renderer.module_dimensions(asked.number(0), asked.number(1));
+    }
+    built(alloc, &renderer)
 }
 
 // Draws the picture of a renderer, if it fits.

@@ -18,7 +18,7 @@ pub fn run(alloc: Global, asked: &Asked<'_>) -> QrResult<Digest> {
     match asked.kind {
         "bits" => {
             let read = bits_of(alloc, &colors)?;
-            Ok(Digest::of(&read.bits).and(Digest::of_one(read.wrong.len(), true)))
+            Ok(Digest::of(&read.bits).and(Digest::of_sum(read.wrong.len(), 2)))
         }
         "pieces" => of_pieces(alloc, &bits_of(alloc, &colors)?),
         _ => of_parts(alloc, &colors),
@@ -28,7 +28,7 @@ pub fn run(alloc: Global, asked: &Asked<'_>) -> QrResult<Digest> {
 // Reads headers and segments, in any position.
 fn of_parts(alloc: Global, colors: &[Color]) -> QrResult<Digest> {
     let read = read_any_parts(alloc, colors).map_err(refusal)?.reading;
-    Ok(Digest::of(&read.parts.bytes).and(Digest::of_one(read.wrong.len(), true)))
+    Ok(Digest::of(&read.parts.bytes).and(Digest::of_sum(read.wrong.len(), 2)))
 }
 
 // Reads the data bits.

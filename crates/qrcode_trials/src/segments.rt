@@ -23,6 +23,7 @@ pub fn run(alloc: Global, asked: &Asked<'_>) -> QrResult<Digest> {
         "least-text" => {
             Ok(of_segments(least_segments_in(alloc, data, version, Modes::TEXT)?.into_iter()))
         }
+        "runs" => Ok(of_segments(Parser::new(data))),
         _ => Ok(of_segments(Parser::new(data).optimize(version))),
     }
 }

@@ -3,7 +3,6 @@
 use crate::digest::Digest;
 use crate::words::Asked;
 use qrcode::QrCode;
-use qrcode::canvas::MaskPattern;
 use qrcode::types::{Color, EcLevel, QrError, QrResult, Version};
 use qrcode_area::areas::{Area, Rectangle};
 use qrcode_area::covered::with_area;
@@ -30,19 +29,9 @@ pub fn run(alloc: Global, asked: &Asked<'_>) -> QrResult<Digest> {
         "into-colors" => Ok(Digest::of(&code.into_colors())),
         "to-debug-str" => Ok(Digest::of(code.to_debug_str(alloc, '#', '.')?.as_bytes())),
         "clone" => Ok(Digest::of(code.colors()).and(Digest::of(code.clone()?.colors()))),
-        "under-mask" => under_mask(alloc, &code),
         "covered" => covered(alloc, &code),
         _ => asked_of(&code, version),
     }
-}
-
-// Returns the digest of the symbol under a mask that all versions have.
-fn under_mask(alloc: Global, code: &QrCode) -> QrResult<Digest> {
-    let mask = MaskPattern::Diamonds;
-    if !mask.exists_in(code.version()) {
-        return Err(QrError::InvalidVersion);
-    }
-    Ok(Digest::of(&code.under_mask(alloc, mask)?))
 }
 
 // Returns the digest of the symbol with one module covered.

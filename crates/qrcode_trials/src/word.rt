@@ -44,14 +44,14 @@ impl Pixel for Word {
 
     type Canvas = string::Canvas<Word>;
 
-    ghost unit = { (1, 1) };
+    ghost unit = { (2, 1) };
 
     ghost unit_positive = { Prim.search rules };
 
     ghost is_default_color = { λ c word. word.0 ≡ is_dark c };
 
     fn default_unit_size() -> (u32, u32) {
-        (1, 1)
+        (2, 1)
     }
 
     fn default_color(color: Color) -> Word {

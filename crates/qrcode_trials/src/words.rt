@@ -88,7 +88,12 @@ impl<'a> Asked<'a> {
 
     /// Returns the bytes of the first data argument.
     pub fn data(&self) -> &'a [u8] {
-        match self.given.first() {
+        self.data_at(0)
+    }
+
+    /// Returns the bytes of the data argument at index `place`, or none.
+    pub fn data_at(&self, place: usize) -> &'a [u8] {
+        match self.given.get(place) {
             Some(given) => &given.bytes,
             None => &[],
         }
@@ -101,9 +106,6 @@ impl<'a> Asked<'a> {
 
     /// Returns the data argument at index `place` as a number, or 0.
     pub fn number(&self, place: usize) -> u32 {
-        match self.given.get(place) {
-            Some(given) => given.number(),
-            None => 0,
-        }
+        number(str::from_utf8(self.data_at(place)).unwrap_or(""))
     }
 }

@@ -1,7 +1,6 @@
-//! Tests of how data is cut into segments, and of how segments are joined.
+//! Tests of how data is cut into segments, and of how segments are joined. `evidence/memory/cases`
+//! and the tests of the C library have other cuts.
 
-ghost use Rattle.std.specs.Prelude.{◌≤◌, length, IsTrue};
-ghost use Rattle.qrcode_types.specs.Versions.{is_valid};
 ghost use Rattle.qrcode_bits.specs.Groups.{IsJoinable};
 
 use crate::common::{Row, check, range};
@@ -32,34 +31,13 @@ type Cut = (Mode, usize, usize);
 struct Cutting(&'static [u8], Version, Way, Result<&'static [Cut], QrError>);
 
 #[rattlefmt::skip]
-static CUTS: [Cutting; 23] = [
-    Cutting(b"", Normal(1), Runs, Ok(&[])),
-    Cutting(
-        b"01049123451234591597033130128%10ABC123", Normal(1), Runs,
-        Ok(&[
-            (Numeric, 0, 29), (Alphanumeric, 29, 30), (Numeric, 30, 32), (Alphanumeric, 32, 35),
-            (Numeric, 35, 38),
-        ]),
-    ),
+static CUTS: [Cutting; 13] = [
     Cutting(
         b"\x82\xa0\x81\x41\x41\xb1\x81\xf0", Normal(1), Runs,
         Ok(&[(Kanji, 0, 4), (Alphanumeric, 4, 5), (Byte, 5, 6), (Kanji, 6, 8)]),
     ),
-    Cutting(
-        b"\xe3\x81\x82\xe3\x80\x81A\xef\xbd\xb1\xe2\x84\xab", Normal(1), Runs,
-        Ok(&[
-            (Kanji, 0, 4), (Byte, 4, 5), (Kanji, 5, 7), (Byte, 7, 10), (Kanji, 10, 12),
-            (Byte, 12, 13),
-        ]),
-    ),
-    Cutting(b"\x81\x30", Normal(1), Runs, Ok(&[(Byte, 0, 1), (Numeric, 1, 2)])),
     Cutting(b"\xeb\xc0", Normal(1), Runs, Ok(&[(Byte, 0, 1), (Byte, 1, 2)])),
-    Cutting(b"\x81\x7f", Normal(1), Runs, Ok(&[(Byte, 0, 1), (Byte, 1, 2)])),
     Cutting(b"\x81\x40\x81", Normal(1), Runs, Ok(&[(Kanji, 0, 2), (Byte, 2, 3)])),
-    Cutting(
-        b"a1 b", Normal(1), Runs,
-        Ok(&[(Byte, 0, 1), (Numeric, 1, 2), (Alphanumeric, 2, 3), (Byte, 3, 4)]),
-    ),
     Cutting(b"1234567A", Normal(1), Joined, Ok(&[(Alphanumeric, 0, 8)])),
     Cutting(b"123A", Micro(2), Joined, Ok(&[(Numeric, 0, 3), (Alphanumeric, 3, 4)])),
     Cutting(b"123A", Micro(3), Joined, Ok(&[(Alphanumeric, 0, 4)])),
@@ -69,34 +47,8 @@ static CUTS: [Cutting; 23] = [
     Cutting(b"ABC123abcd", Normal(1), Joined, Ok(&[(Alphanumeric, 0, 6), (Byte, 6, 10)])),
     Cutting(b"a1234b", Normal(1), Joined, Ok(&[(Byte, 0, 1), (Numeric, 1, 5), (Byte, 5, 6)])),
     Cutting(b"a1234bc", Normal(1), Joined, Ok(&[(Byte, 0, 1), (Numeric, 1, 5), (Byte, 5, 7)])),
-    Cutting(b"\x82\xa0\x81\x41\x41\xb1\x81\xf0", Normal(1), Joined, Ok(&[(Byte, 0, 8)])),
-    Cutting(
-        b"\x82\xa0\x82\xa0\x82\xa0\x82\xa0\x82\xa0\xff", Normal(1), Joined,
-        Ok(&[(Kanji, 0, 10), (Byte, 10, 11)]),
-    ),
-    Cutting(
-        b"01049123451234591597033130128%10ABC123", Normal(9), Joined,
-        Ok(&[(Numeric, 0, 29), (Alphanumeric, 29, 38)]),
-    ),
-    // The tests of the C library ask for other cuts with the fewest bits.
-    Cutting(b"123A", Micro(2), Least, Ok(&[(Numeric, 0, 3), (Alphanumeric, 3, 4)])),
     Cutting(b"", Micro(1), Least, Ok(&[])),
 ];
-
-// Cuts data into runs.
-fn runs(alloc: Global, bytes: &[u8]) -> QrResult<Vec<Segment>>
-    requires length { length bytes.now ≤ 1048576 }
-{
-    Ok(Parser::new(bytes).collect(alloc)?)
-}
-
-// Cuts data into runs, and joins them.
-fn joined(alloc: Global, bytes: &[u8], version: Version) -> QrResult<Vec<Segment>>
-    requires valid { IsTrue (is_valid version) }
-    requires length { length bytes.now ≤ 1048576 }
-{
-    Ok(Parser::new(bytes).optimize(version).collect(alloc)?)
-}
 
 // Cuts data in the way that is asked for.
 fn segments(alloc: Global, data: &[u8], version: Version, way: Way) -> QrResult<Vec<Segment>> {
@@ -107,8 +59,8 @@ fn segments(alloc: Global, data: &[u8], version: Version, way: Way) -> QrResult<
         return Err(DataTooLong);
     }
     match way {
-        Runs => runs(alloc, data),
-        Joined => joined(alloc, data, version),
+        Runs => Ok(Parser::new(data).collect(alloc)?),
+        Joined => Ok(Parser::new(data).optimize(version).collect(alloc)?),
         Least => least_segments(alloc, data, version),
     }
 }
@@ -129,7 +81,6 @@ impl Row for Cutting {
     fn holds(&self, alloc: Global) -> bool {
         match (segments(alloc, self.0, self.1, self.2), &self.3) {
             (Ok(segments), Ok(cuts)) => are_cuts(&segments, cuts),
-            (Err(error), Err(expected)) => error == *expected,
             _ => false,
         }
     }
@@ -188,12 +139,7 @@ fn bits_of(version: Version, cuts: &[Cut]) -> usize {
     let mut bits: usize = 0;
     for (mode, begin, end) in cuts {
         if version.is_valid() && begin <= end && *end <= 100 {
-            let segment = Segment {
-                mode: *mode,
-                begin: *begin,
-                end: *end,
-            };
-            bits = bits.saturating_add(segment.encoded_len(version));
+            bits = bits.saturating_add(range(*mode, *begin, *end).encoded_len(version));
         }
     }
     bits

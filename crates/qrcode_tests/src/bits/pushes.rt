@@ -1,25 +1,82 @@
-//! Tests of pushes of segments, and of the largest list. `evidence/memory/cases` asks what the other
-//! pushes write, and which are refused.
+//! Tests of pushes of segments, of the largest list, and of errors that a caller from C cannot cause.
+//! `evidence/memory/cases` asks what the other pushes write, and which are refused.
 
 ghost use Rattle.std.specs.Prelude.{length, IsTrue};
 ghost use Rattle.qrcode_types.specs.Versions.{is_valid};
 ghost use Rattle.qrcode_bits.specs.Segments.{AreInside};
 
-use crate::common::Push::{Byte, FirstPosition};
-use crate::common::{Push, make_push, range};
-use qrcode_bits::bits::Bits;
+use crate::common::range;
+use qrcode::EcLevel::{self, H, L};
+use qrcode::QrCode;
+use qrcode_bits::bits::{Bits, Manner};
 use qrcode_bits::optimize::Segment;
-use qrcode_types::types::QrError::{DataTooLong, UnsupportedCharacterSet};
+use qrcode_types::types::QrError::{DataTooLong, InvalidVersion, UnsupportedCharacterSet};
 use qrcode_types::types::Version::{self, Micro, Normal};
 use qrcode_types::types::{Mode, QrResult};
 use std::alloc::Global;
 
-// Whether a list has this version, these bytes and this number of bits.
-fn is_list(bits: Bits, version: Version, bytes: &[u8], length: usize) -> bool {
-    bits.version() == version
-        && bits.len() == length
-        && bits.is_empty() == (length == 0)
-        && bits.into_bytes().as_slice() == bytes
+// A call that appends to a bit list, or ends it.
+#[derive(Clone, Copy)]
+enum Push<'a> {
+    Designator(u32),
+    Byte(&'a [u8]),
+    FirstPosition,
+    Terminator(EcLevel),
+}
+
+use Push::{Byte, Designator, FirstPosition, Terminator};
+
+// Makes the call `push` on `bits`.
+fn make_push(bits: &mut Bits, push: Push<'_>) -> QrResult<()> {
+    match push {
+        Designator(number) => bits.push_eci_designator(number),
+        Byte(bytes) => bits.push_byte_data(bytes),
+        FirstPosition => bits.push_fnc1_first_position(),
+        Terminator(ec_level) => bits.push_terminator(ec_level),
+    }
+}
+
+// Makes all pushes, in order.
+fn push_all(bits: &mut Bits, pushes: &[Push<'_>]) -> QrResult<()> {
+    for push in pushes {
+        make_push(bits, *push)?;
+    }
+    Ok(())
+}
+
+// Makes the symbol of `pushes`, the last of which has to be a terminator.
+fn of_pushes(
+    alloc: Global,
+    version: Version,
+    ec_level: EcLevel,
+    pushes: &[Push<'_>],
+) -> QrResult<QrCode> {
+    if !version.is_valid() {
+        return Err(InvalidVersion);
+    }
+    let mut bits = Bits::new(alloc, version);
+    push_all(&mut bits, pushes)?;
+    match bits.max_len(ec_level) {
+        Ok(room) if room <= bits.len() => QrCode::with_bits(alloc, bits, ec_level),
+        _ => Err(InvalidVersion),
+    }
+}
+
+static GREEK: [Push<'static>; 3] = [
+    Designator(9),
+    Byte(b"\xca\xfe\xe4\xe9\xea\xe1\xf2 QR"),
+    Terminator(L),
+];
+
+// Bits that end for L but are drawn at H, and versions that do not exist.
+#[test]
+fn calls_refuse(rt: HostRuntime) {
+    let alloc = rt.alloc();
+    assert!(rt; of_pushes(alloc, Normal(1), H, &GREEK).err() == Some(DataTooLong));
+    let refused = QrCode::in_version(alloc, b"1", Manner::Text, Micro(0), L).err();
+    assert!(rt; refused == Some(InvalidVersion));
+    let refused = QrCode::at_least(alloc, b"1", Manner::Bytes, Normal(41), L).err();
+    assert!(rt; refused == Some(InvalidVersion));
 }
 
 // Pushes the segments of `bytes`.
@@ -45,8 +102,9 @@ fn ranges_give(
         return false;
     };
     let mut bits = Bits::new(alloc, version);
-    let answered = push_ranges(&mut bits, bytes, ranges);
-    is_list(bits, version, held.0, held.1) && answered == answer
+    let is_new = bits.is_empty() && bits.version() == version;
+    let is_answer = push_ranges(&mut bits, bytes, ranges) == answer && !bits.is_empty();
+    is_new && is_answer && bits.len() == held.1 && bits.into_bytes().as_slice() == held.0
 }
 
 // The segments before one that fails stay in the list.

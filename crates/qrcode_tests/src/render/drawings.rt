@@ -1,6 +1,5 @@
 //! Squares of modules, written as text.
 
-use crate::squares::{DIGITS_MICRO, DIGITS_NORMAL};
 use qrcode_types::types::{Color, QrResult};
 use std::alloc::Global;
 
@@ -17,34 +16,61 @@ pub const DARK: Drawing = Drawing(1, "#");
 /// Two modules along a side; the first and the last are dark.
 pub const DIAGONAL: Drawing = Drawing(2, "#.\n.#");
 
-/// The symbol of `01234567` in Normal 1 at level M.
+/// The symbol of `01234567` in Normal 1 at M that the standard (ISO/IEC 18004) prints.
 pub const NORMAL_1: Drawing = Drawing(21, DIGITS_NORMAL);
 
-/// The symbol of `01234567` in Micro 2 at level L.
+/// That in Micro 2 at L.
 pub const MICRO_2: Drawing = Drawing(13, DIGITS_MICRO);
-
-// Returns the colour of a letter.
-fn color(letter: u8) -> Color {
-    if letter == b'#' {
-        Color::Dark
-    } else {
-        Color::Light
-    }
-}
-
-// Appends the modules of a drawing.
-fn push_modules(modules: &mut Vec<Color>, letters: &str) -> QrResult<()> {
-    for letter in letters.bytes() {
-        if letter != b'\n' {
-            modules.push(color(letter))?;
-        }
-    }
-    Ok(())
-}
 
 /// Returns the modules of a drawing.
 pub fn modules(alloc: Global, letters: &str) -> QrResult<Vec<Color>> {
     let mut modules = Vec::new(alloc);
-    push_modules(&mut modules, letters)?;
+    for letter in letters.bytes() {
+        match letter {
+            b'#' => modules.push(Color::Dark)?,
+            b'.' => modules.push(Color::Light)?,
+            _ => {}
+        }
+    }
     Ok(modules)
 }
+
+/// Normal 1 at M, under mask 2.
+pub const DIGITS_NORMAL: &str = "\
+#######..#.##.#######
+#.....#..####.#.....#
+#.###.#.#.....#.###.#
+#.###.#.##....#.###.#
+#.###.#.#.###.#.###.#
+#.....#.#...#.#.....#
+#######.#.#.#.#######
+........#..##........
+#.#####..#..#.#####..
+...#.#.##.#.#..#.##..
+..#...##.#.#.#..#####
+....#....#.....####..
+...######..#.#..#....
+........#.#####..##..
+#######..##.#.##.....
+#.....#.#.#####...#.#
+#.###.#.#...#..#.##..
+#.###.#.##..#..#.....
+#.###.#.#.##.#..#.#..
+#.....#........##.##.
+#######.####.#..#.#..";
+
+// Micro 2 at L, under mask 1 of Micro.
+const DIGITS_MICRO: &str = "\
+#######.#.#.#
+#.....#.###.#
+#.###.#..##.#
+#.###.#..####
+#.###.#.###..
+#.....#.#...#
+#######..####
+.........##..
+##.#....#...#
+.##.#.#.#.#.#
+###..#######.
+...#.#....##.
+###.#..##.###";

@@ -1,33 +1,27 @@
 //! Tests of images of pixels, and of which sizes fit.
 
+ghost use Rattle.std.specs.Prelude.{◌≡◌, ◌*◌, ◌≤◌, length};
+
 use crate::common::check_row;
-use crate::render::drawings::{DIAGONAL, Drawing, MICRO_2, NONE, NORMAL_1};
+use crate::render::drawings::{DIAGONAL, MICRO_2, NORMAL_1, modules};
 use crate::render::pictures::Colors::{Both, Usual};
-use crate::render::pictures::Size::{AtLeast, AtMost, Default, Of, Same};
-use crate::render::pictures::Zone::{Off, On};
+use crate::render::pictures::Size::{AtLeast, AtMost, Default, Of};
+use crate::render::pictures::Zone::On;
 use crate::render::pictures::{Pixels, Row, paints};
 use qrcode_render::image::{Channels, Luma, LumaA, Rgb, Rgba};
-use qrcode_render::{Pixel, Renderer};
-use qrcode_types::types::Color;
+use qrcode_render::{Pixel, Renderer, svg};
+use qrcode_types::types::{Color, QrResult};
+use std::alloc::Global;
 
 #[rattlefmt::skip]
-static GREYS: [Row<Luma, Pixels>; 5] = [
+static GREYS: [Row<Luma, Pixels>; 4] = [
     Row(DIAGONAL, On(1), Usual, AtMost(10, 5), Pixels((8, 4), 32, &[
         255, 255, 255, 255, 255, 255, 255, 255,
         255, 255, 0, 0, 255, 255, 255, 255,
         255, 255, 255, 255, 0, 0, 255, 255,
         255, 255, 255, 255, 255, 255, 255, 255,
     ])),
-    Row(DIAGONAL, On(1), Usual, AtLeast(7, 7), Pixels((8, 8), 64, &[
-        255, 255, 255, 255, 255, 255, 255, 255,
-        255, 255, 255, 255, 255, 255, 255, 255,
-        255, 255, 0, 0, 255, 255, 255, 255,
-        255, 255, 0, 0, 255, 255, 255, 255,
-        255, 255, 255, 255, 0, 0, 255, 255,
-        255, 255, 255, 255, 0, 0, 255, 255,
-        255, 255, 255, 255, 255, 255, 255, 255,
-        255, 255, 255, 255, 255, 255, 255, 255,
-    ])),
+    Row(DIAGONAL, On(1), Usual, AtLeast(7, 7), Pixels((8, 8), 64, &[255])),
     Row(DIAGONAL, On(1), Usual, AtLeast(10, 10), Pixels((12, 12), 144, &[
         255, 255, 255, 255, 255, 255, 255, 255, 255, 255, 255, 255,
         255, 255, 255, 255, 255, 255, 255, 255, 255, 255, 255, 255,
@@ -35,41 +29,20 @@ static GREYS: [Row<Luma, Pixels>; 5] = [
         255, 255, 255, 0, 0, 0, 255, 255, 255, 255, 255, 255,
     ])),
     Row(NORMAL_1, On(4), Usual, Default, Pixels((232, 232), 53824, &[255])),
-    Row(NONE, On(0), Usual, Default, Pixels((0, 0), 0, &[])),
 ];
 
 #[rattlefmt::skip]
-static GREYS_WITH_OPACITY: [Row<LumaA, Pixels>; 1] = [
-    Row(DIAGONAL, Off(1), Usual, Same(1), Pixels((2, 2), 8, &[0, 255, 255, 255, 255, 255, 0, 255])),
-];
-
-#[rattlefmt::skip]
-static COLORS: [Row<Rgb, Pixels>; 3] = [
-    Row(DIAGONAL, On(0), Usual, Same(1), Pixels((2, 2), 12, &[
-        0, 0, 0, 255, 255, 255, 255, 255, 255, 0, 0, 0,
-    ])),
-    Row(DIAGONAL, On(0), Both(Rgb([1, 2, 3]), Rgb([4, 5, 6])), Same(1), Pixels((2, 2), 12, &[
+static COLORS: [Row<Rgb, Pixels>; 2] = [
+    Row(DIAGONAL, On(0), Both(Rgb([1, 2, 3]), Rgb([4, 5, 6])), Of(1, 1), Pixels((2, 2), 12, &[
         1, 2, 3, 4, 5, 6, 4, 5, 6, 1, 2, 3,
     ])),
     Row(MICRO_2, On(2), Usual, AtLeast(200, 200), Pixels((204, 204), 124_848, &[255])),
 ];
 
-#[rattlefmt::skip]
-static COLORS_WITH_OPACITY: [Row<Rgba, Pixels>; 1] = [
-    Row(Drawing(2, ".#\n##"), On(1), Usual, Of(1, 1), Pixels((4, 4), 64, &[
-        255, 255, 255, 255, 255, 255, 255, 255, 255, 255, 255, 255, 255, 255, 255, 255,
-        255, 255, 255, 255, 255, 255, 255, 255, 0, 0, 0, 255, 255, 255, 255, 255,
-        255, 255, 255, 255, 0, 0, 0, 255, 0, 0, 0, 255, 255, 255, 255, 255,
-        255, 255, 255, 255, 255, 255, 255, 255, 255, 255, 255, 255, 255, 255, 255, 255,
-    ])),
-];
-
 #[test]
 fn pixels_are_painted(rt: HostRuntime) {
     paints(&rt, rt.alloc(), &GREYS);
-    paints(&rt, rt.alloc(), &GREYS_WITH_OPACITY);
     paints(&rt, rt.alloc(), &COLORS);
-    paints(&rt, rt.alloc(), &COLORS_WITH_OPACITY);
 }
 
 // Whether a pixel has exactly these channels.
@@ -114,4 +87,28 @@ fn fits_up_to_the_greatest_side(rt: HostRuntime) {
         renderer.module_dimensions(*width, *height);
         check_row(&rt, i, renderer.fits() == *fits);
     }
+}
+
+// Draws at least `pixels` across and down, in a quiet zone of `zone` modules: a caller that needs no
+// proof.
+fn framed(alloc: Global, symbol: &[Color], side: usize, zone: u32, pixels: u32) -> QrResult<String>
+    requires square { length symbol.now ≡ side * side }
+    requires at_least { 1 ≤ side }
+    requires at_most { side ≤ 177 }
+    requires zone { zone ≤ 4096 }
+    requires pixels { pixels ≤ 4096 }
+{
+    Renderer::<svg::Color>::new(symbol, side, 4)
+        .quiet_zone_modules(zone)
+        .min_dimensions(pixels, pixels)
+        .build(alloc)
+}
+
+#[test]
+fn callers_need_no_proof(rt: HostRuntime) {
+    let alloc = rt.alloc();
+    let symbol = modules(alloc, MICRO_2.1).expect(&rt, "modules");
+    assert!(rt; symbol.len() == 169);
+    let text = framed(alloc, &symbol, 13, 10, 200).expect(&rt, "a text");
+    assert!(rt; text.contains("viewBox=\"0 0 231 231\""));
 }

@@ -20,8 +20,6 @@ pub enum Zone {
     Off(u8),
     /// This many modules, switched off after the size of a module is set.
     OffAfter(u8),
-    /// The first number of modules, then the second, switched off and on again.
-    Changed(u8, u8),
 }
 
 /// How the pixels of a module are set.
@@ -29,14 +27,10 @@ pub enum Zone {
 pub enum Size {
     /// The default of the pixel type.
     Default,
-    /// This many, both across and down.
-    Same(u16),
     /// This many across, and this many down.
     Of(u16, u16),
     /// The fewest with which the picture has at least these sides.
     AtLeast(u16, u16),
-    /// The fewest with which the picture has at least this side, both across and down.
-    AtLeastSame(u16),
     /// The most with which the picture has at most these sides.
     AtMost(u16, u16),
 }
@@ -45,8 +39,6 @@ pub enum Size {
 pub enum Colors<P> {
     /// The defaults.
     Usual,
-    /// This for dark modules.
-    Dark(P),
     /// These for dark and for light modules.
     Both(P, P),
 }
@@ -59,28 +51,13 @@ pub struct Row<P, E>(pub Drawing, pub Zone, pub Colors<P>, pub Size, pub E);
 pub enum Text {
     /// Exactly this.
     Is(&'static str),
-    /// Any text that starts with this.
-    Starts(&'static str),
     /// A text with this CRC-32.
     Sum(u32),
 }
 
-/// The expected file: a header, and the bytes after it.
-#[derive(Clone, Copy)]
-pub struct File(pub &'static [u8], pub &'static [u8]);
-
 /// The expected image: its sides, its length in bytes, and its first bytes.
 #[derive(Clone, Copy)]
 pub struct Pixels(pub (u32, u32), pub usize, pub &'static [u8]);
-
-// Returns the quiet zone that is set first.
-fn first_of(zone: Zone) -> u8 {
-    match zone {
-        Zone::On(first) | Zone::Off(first) | Zone::OffAfter(first) | Zone::Changed(first, _) => {
-            first
-        }
-    }
-}
 
 // Makes a renderer, and sets its quiet zone.
 fn renderer<'a, P: Pixel>(symbol: &'a [Color], side: usize, zone: Zone) -> Renderer<'a, P>
@@ -89,15 +66,12 @@ fn renderer<'a, P: Pixel>(symbol: &'a [Color], side: usize, zone: Zone) -> Rende
     ensures count { result.count ≡ side }
     ensures at_most { side_of result ≤ 687 }
 {
-    let mut renderer = Renderer::<P>::new(symbol, side, u32::from(first_of(zone)));
+    let modules = match zone {
+        Zone::On(modules) | Zone::Off(modules) | Zone::OffAfter(modules) => modules,
+    };
+    let mut renderer = Renderer::<P>::new(symbol, side, u32::from(modules));
     if let Zone::Off(_) = zone {
         renderer.quiet_zone(false);
-    }
-    if let Zone::Changed(_, zone) = zone {
-        renderer
-            .quiet_zone_modules(u32::from(zone))
-            .quiet_zone(false)
-            .quiet_zone(true);
     }
     renderer
 }
@@ -109,17 +83,11 @@ fn resize<P: Pixel>(renderer: &mut Renderer<P>, size: Size)
 {
     match size {
         Size::Default => {}
-        Size::Same(width) => {
-            renderer.module_size(u32::from(width));
-        }
         Size::Of(width, height) => {
             renderer.module_dimensions(u32::from(width), u32::from(height));
         }
         Size::AtLeast(width, height) => {
             renderer.min_dimensions(u32::from(width), u32::from(height));
-        }
-        Size::AtLeastSame(width) => {
-            renderer.min_width(u32::from(width));
         }
         Size::AtMost(width, height) => {
             renderer.max_dimensions(u32::from(width), u32::from(height));
@@ -129,14 +97,8 @@ fn resize<P: Pixel>(renderer: &mut Renderer<P>, size: Size)
 
 // Sets the pixels for dark and light modules.
 fn color<P: Pixel>(renderer: &mut Renderer<P>, colors: &Colors<P>) {
-    match colors {
-        Colors::Usual => {}
-        Colors::Dark(dark) => {
-            renderer.dark_color(*dark);
-        }
-        Colors::Both(dark, light) => {
-            renderer.dark_color(*dark).light_color(*light);
-        }
+    if let Colors::Both(dark, light) = colors {
+        renderer.dark_color(*dark).light_color(*light);
     }
 }
 
@@ -161,7 +123,6 @@ fn picture<P: Pixel, E>(rt: &impl Abort, alloc: Global, row: &Row<P, E>) -> P::I
 fn is_text(text: &str, expected: Text) -> bool {
     match expected {
         Text::Is(whole) => text == whole,
-        Text::Starts(start) => text.starts_with(start),
         Text::Sum(sum) => checksum_of_bytes(text.as_bytes()) == sum,
     }
 }
@@ -178,18 +139,6 @@ fn are_pixels<P: Channels>(image: ImageBuffer<P>, expected: Pixels) -> bool {
 pub fn writes<P: Pixel<Image = String>>(rt: &impl Abort, alloc: Global, rows: &[Row<P, Text>]) {
     for (i, row) in rows.iter().enumerate() {
         check_row(rt, i, is_text(picture(rt, alloc, row).as_str(), row.4));
-    }
-}
-
-/// Asserts that the rows draw their file.
-pub fn makes<P: Pixel<Image = Vec<u8>>>(rt: &impl Abort, alloc: Global, rows: &[Row<P, File>]) {
-    for (i, row) in rows.iter().enumerate() {
-        let File(head, bytes) = row.4;
-        check_row(
-            rt,
-            i,
-            picture(rt, alloc, row).strip_prefix(head) == Some(bytes),
-        );
     }
 }
 

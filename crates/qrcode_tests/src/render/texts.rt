@@ -1,27 +1,27 @@
-//! Tests of pictures of characters, strings and half blocks.
+//! Tests of pictures that are texts or files, and of the traits of their pixels.
 
-use crate::render::drawings::{DARK, DIAGONAL, NONE, NORMAL_1};
+use crate::render::drawings::{DARK, DIAGONAL, DIGITS_NORMAL, Drawing, NONE, NORMAL_1};
 use crate::render::pictures::Colors::{Both, Usual};
-use crate::render::pictures::Size::{AtLeast, AtLeastSame, Default, Of};
+use crate::render::pictures::Size::{AtLeast, Default, Of};
 use crate::render::pictures::Text::{Is, Sum};
 use crate::render::pictures::Zone::{Off, OffAfter, On};
 use crate::render::pictures::{Row, Text, writes};
-use crate::squares::DIGITS_NORMAL;
-use qrcode_render::Pixel;
-use qrcode_render::string::{Canvas, Element, Str};
+use qrcode_render::string::{Element, Str};
 use qrcode_render::unicode::Dense1x2;
-use qrcode_types::types::{Color, QrResult};
+use qrcode_render::{Renderer, pic, svg};
+use qrcode_sheets::svg_path::{Path, PathElement};
+use qrcode_sheets::{pbm, pgm};
+use qrcode_types::types::Color;
 
 #[rattlefmt::skip]
-static CHARACTERS: [Row<char, Text>; 8] = [
+static CHARACTERS: [Row<char, Text>; 7] = [
     Row(DIAGONAL, On(1), Usual, Default, Is("    \n █  \n  █ \n    ")),
-    Row(DIAGONAL, On(0), Usual, Of(2, 1), Is("██  \n  ██")),
     Row(NONE, On(0), Usual, Default, Is("")),
     Row(NONE, On(1), Usual, Default, Is("  \n  ")),
     Row(NORMAL_1, Off(4), Both('#', '.'), Of(1, 1), Is(DIGITS_NORMAL)),
     // The order of setters matters: first the quiet zone is on when the size is set, then off.
     Row(DARK, OffAfter(1), Usual, AtLeast(10, 10), Is("████\n████\n████\n████")),
-    Row(DARK, Off(1), Usual, AtLeastSame(10), Is(
+    Row(DARK, Off(1), Usual, AtLeast(10, 10), Is(
         "██████████\n██████████\n██████████\n██████████\n██████████\n\
         ██████████\n██████████\n██████████\n██████████\n██████████"
     )),
@@ -30,81 +30,60 @@ static CHARACTERS: [Row<char, Text>; 8] = [
 ];
 
 #[rattlefmt::skip]
-static TEXTS: [Row<Str<'static>, Text>; 2] = [
-    Row(DIAGONAL, On(1), Usual, Default, Is("    \n █  \n  █ \n    ")),
+static TEXTS: [Row<Str<'static>, Text>; 1] = [
     Row(DIAGONAL, On(1), Both(Str("!B!"), Str("A")), Of(2, 2), Is(
         "AAAAAAAA\nAAAAAAAA\nAA!B!!B!AAAA\nAA!B!!B!AAAA\n\
         AAAA!B!!B!AA\nAAAA!B!!B!AA\nAAAAAAAA\nAAAAAAAA"
     )),
 ];
 
-// The tests of the C library draw more half blocks.
 static HALF_BLOCKS: [Row<Dense1x2, Text>; 2] = [
     Row(NONE, On(0), Usual, Default, Is("")),
     Row(DIAGONAL, On(1), Usual, Default, Is(" ▄  \n  ▀ ")),
 ];
 
-// A user-defined element: `1` for a dark module, `00` for a light one.
-#[derive(Clone, Copy)]
-struct Digit(bool);
-
-impl Element for Digit {
-    ghost use Rattle.std.specs.Prelude.{◌≡◌, [], ◌∷◌, if◌then◌else◌};
-    ghost use Rattle.qrcode_types.specs.Colors.{is_dark};
-
-    ghost text = { λ digit. if digit.0 then 49 ∷ [] else 48 ∷ 48 ∷ [] };
-
-    ghost is_default = { λ c digit. digit.0 ≡ is_dark c };
-
-    fn default_color(color: Color) -> Digit {
-        match color {
-            Color::Dark => Digit(true),
-            Color::Light => Digit(false),
-        }
-    }
-
-    fn strlen(self) -> usize {
-        if self.0 { 1 } else { 2 }
-    }
-
-    fn append_to_string(self, string: &mut String) -> QrResult<()> {
-        if self.0 {
-            string.push_str("1")?;
-        } else {
-            string.push_str("00")?;
-        }
-        Ok(())
-    }
-}
-
-impl Pixel for Digit {
-    ghost use Rattle.std.specs.Prelude.{◌≡◌};
-    ghost use Rattle.std.proofs.Common.{rules};
-    ghost use Rattle.qrcode_types.specs.Colors.{is_dark};
-
-    type Image = String;
-
-    type Canvas = Canvas<Digit>;
-
-    ghost unit = { (2, 1) };
-
-    ghost unit_positive = { Prim.search rules };
-
-    ghost is_default_color = { λ c digit. digit.0 ≡ is_dark c };
-
-    fn default_unit_size() -> (u32, u32) {
-        (2, 1)
-    }
-
-    fn default_color(color: Color) -> Digit {
-        <Digit as Element>::default_color(color)
-    }
-}
+#[rattlefmt::skip]
+static SVG: [Row<svg::Color<'static>, Text>; 1] = [
+    Row(DARK, On(0), Usual, Default, Is(concat!(
+        "<?xml version=\"1.0\" standalone=\"yes\"?><svg xmlns=\"http://www.w3.org/2000/svg\" ",
+        "version=\"1.1\" width=\"8\" height=\"8\" viewBox=\"0 0 8 8\" ",
+        "shape-rendering=\"crispEdges\"><rect x=\"0\" y=\"0\" width=\"8\" height=\"8\" ",
+        "fill=\"#fff\"/><path fill=\"#000\" d=\"M0 0h8v8H0V0\"/></svg>"
+    ))),
+];
 
 #[rattlefmt::skip]
-static DIGITS: [Row<Digit, Text>; 2] = [
-    Row(DIAGONAL, On(0), Usual, Default, Is("110000\n000011")),
-    Row(DIAGONAL, On(0), Both(Digit(false), Digit(true)), Default, Is("000011\n110000")),
+static PIC: [Row<pic::Color, Text>; 1] = [
+    Row(DARK, On(0), Usual, Default, Is(concat!(
+        "maxpswid=8;maxpsht=8;movewid=0;moveht=1;boxwid=1;boxht=1\n",
+        "define p { box wid $3 ht $4 fill 1 with .nw at $1,-$2 }\n",
+        "box wid maxpswid ht maxpsht with .nw at 0,0\np(0,0,8,8)\n"
+    ))),
+];
+
+#[rattlefmt::skip]
+static PATHS: [Row<Path<'static>, Text>; 1] = [
+    Row(
+        Drawing(2, "##\n.#"), On(1), Both(Path("a\"b<c&d>"), Path("t&n")), Of(3, 2),
+        Is(concat!(
+            "<?xml version=\"1.0\" standalone=\"yes\"?><svg xmlns=\"http://www.w3.org/2000/svg\" ",
+            "version=\"1.1\" width=\"12\" height=\"8\" viewBox=\"0 0 4 4\" ",
+            "preserveAspectRatio=\"none\" shape-rendering=\"crispEdges\">",
+            "<rect width=\"4\" height=\"4\" fill=\"t&amp;n\"/>",
+            "<path fill=\"a&quot;b&lt;c&amp;d&gt;\" stroke=\"none\" ",
+            "d=\"m1 1h2v1h-2m1 0h1v1h-1\"/></svg>"
+        )),
+    ),
+];
+
+#[rattlefmt::skip]
+static ELEMENTS: [Row<PathElement<'static>, Text>; 1] = [
+    Row(DARK, On(1), Both(PathElement("navy"), PathElement("#fff")), Default, Is(concat!(
+        "<svg xmlns=\"http://www.w3.org/2000/svg\" version=\"1.1\" width=\"24\" height=\"24\" ",
+        "viewBox=\"0 0 3 3\" preserveAspectRatio=\"none\" shape-rendering=\"crispEdges\">",
+        "<rect width=\"3\" height=\"3\" fill=\"#fff\"/><path fill=\"navy\" ",
+        "stroke=\"none\" d=\"m1 1h1v1h-1\"/></svg>"
+    ))),
 ];
 
 #[test]
@@ -112,11 +91,42 @@ fn texts_are_written(rt: HostRuntime) {
     writes(&rt, rt.alloc(), &CHARACTERS);
     writes(&rt, rt.alloc(), &TEXTS);
     writes(&rt, rt.alloc(), &HALF_BLOCKS);
-    writes(&rt, rt.alloc(), &DIGITS);
+    writes(&rt, rt.alloc(), &SVG);
+    writes(&rt, rt.alloc(), &PIC);
+    writes(&rt, rt.alloc(), &PATHS);
+    writes(&rt, rt.alloc(), &ELEMENTS);
+}
+
+static SQUARE: [Color; 4] = [Color::Dark, Color::Light, Color::Light, Color::Dark];
+
+// A negative, and greys whose quiet zone is changed.
+#[test]
+fn files_are_in_colours(rt: HostRuntime) {
+    let mut renderer = Renderer::<pbm::Bit>::new(&SQUARE, 2, 0);
+    renderer
+        .dark_color(pbm::Bit::White)
+        .light_color(pbm::Bit::Black)
+        .module_dimensions(5, 2);
+    let file = renderer.build(rt.alloc()).expect(&rt, "a file");
+    let pixels = b"\x07\xc0\x07\xc0\xf8\0\xf8\0".as_slice();
+    assert!(rt; file.strip_prefix(b"P4\n10 4\n") == Some(pixels));
+    let mut renderer = Renderer::<pgm::Grey>::new(&SQUARE, 2, 4);
+    renderer
+        .quiet_zone_modules(1)
+        .quiet_zone(false)
+        .quiet_zone(true)
+        .module_size(1);
+    renderer
+        .dark_color(pgm::Grey(40))
+        .light_color(pgm::Grey(200));
+    let file = renderer.build(rt.alloc()).expect(&rt, "a file");
+    let pixels = b"\xc8\xc8\xc8\xc8\xc8\x28\xc8\xc8\xc8\xc8\x28\xc8\xc8\xc8\xc8\xc8".as_slice();
+    assert!(rt; file.strip_prefix(b"P5\n4 4\n255\n") == Some(pixels));
 }
 
 #[test]
-fn counts_bytes_of_elements(rt: HostRuntime) {
-    assert!(rt; '█'.strlen() == 3);
-    assert!(rt; Str("!B!").strlen() == 3);
+fn pixels_have_traits(rt: HostRuntime) {
+    assert!(rt; '█'.strlen() == 3 && Str("!B!").strlen() == 3);
+    assert!(rt; svg::Color::default().0 == "" && svg::Color("#000") < svg::Color("#fff"));
+    assert!(rt; pic::Color::default() == pic::Color);
 }

@@ -3,7 +3,7 @@
 ghost use Rattle.std.specs.Prelude.{◌≡◌, IsTrue};
 ghost use Rattle.qrcode_types.specs.Versions.{is_valid, has_level};
 
-use crate::common::{Row, are_dark, check, check_row, checksum_of_bytes};
+use crate::common::{check_row, checksum_of_bytes};
 use qrcode_symbol::canvas::{Canvas, MaskPattern, Module, is_functional};
 use qrcode_types::types::Version::{self, Micro, Normal};
 use qrcode_types::types::{Color, EcLevel, QrResult};
@@ -100,14 +100,15 @@ fn begin(canvas: &mut Canvas, version: Version, start: Start)
     ensures version { canvas.new.version ≡ version }
     ensures level { canvas.new.level ≡ canvas.old.level }
 {
+    let width = version.width();
     match start {
         Start::Patterns => canvas.draw_all_functional_patterns(),
-        Start::Over(x, y) => {
-            lighten(canvas, version, x, y);
+        Start::Over(x, y) if 0 <= x && x < width && 0 <= y && y < width => {
+            canvas.put(x, y, Color::Light);
             canvas.draw_all_functional_patterns();
         }
         Start::Light => lighten_all(canvas, version),
-        Start::Nothing => {}
+        _ => {}
     }
 }
 
@@ -149,12 +150,6 @@ fn draw(rt: &impl Abort, alloc: Global, drawing: Drawing) -> Canvas
     canvas
 }
 
-// The codewords of `01234567` in Normal 1 at M.
-const DIGITS: Codewords = (
-    b"\x10\x20\x0c\x56\x61\x80\xec\x11\xec\x11\xec\x11\xec\x11\xec\x11",
-    b"\xa5\x24\xd4\xc1\xed\x36\xc7\x87\x2c\x55",
-);
-
 const EMPTY: Codewords = (&[], &[]);
 
 const LINES: Option<MaskPattern> = Some(MaskPattern::VerticalLines);
@@ -162,20 +157,14 @@ const LINES: Option<MaskPattern> = Some(MaskPattern::VerticalLines);
 const CHECKERBOARD: Option<MaskPattern> = Some(MaskPattern::Checkerboard);
 
 // A canvas, and the CRC-32 of its letters. The squares were drawn by hand; those of Micro 3 and
-// with masks by the places and masks of evidence/judge.
+// with masks by the places and masks of evidence/judge. `evidence/answers` has segno's.
 struct Drawn(Drawing, u32);
 
 #[rattlefmt::skip]
-static DRAWN: [Drawn; 7] = [
+static DRAWN: [Drawn; 4] = [
     // The bits of missing codewords stay empty.
     Drawn(
         Drawing(Normal(2), EcLevel::L, Start::Over(18, 18), EMPTY, [None, None]), 0x4c0d_4abd,
-    ),
-    Drawn(
-        Drawing(
-            Micro(1), EcLevel::L, Start::Patterns, (b"\xa5\x3c\x70", b"\x81\xe6"), [None, None],
-        ),
-        0x93fe_9d50,
     ),
     // 84 bits of data and 48 of error correction are drawn, and no module stays empty.
     Drawn(
@@ -185,17 +174,6 @@ static DRAWN: [Drawn; 7] = [
             [None, None],
         ),
         0x10ed_a893,
-    ),
-    Drawn(
-        Drawing(Normal(1), EcLevel::M, Start::Patterns, DIGITS, [LINES, None]), 0xd3b4_a900,
-    ),
-    Drawn(
-        Drawing(
-            Micro(2), EcLevel::L, Start::Patterns,
-            (b"\x40\x18\xac\xc3\x00", b"\x86\x0d\x22\xae\x30"),
-            [Some(MaskPattern::LargeCheckerboard), None],
-        ),
-        0x14cc_9023,
     ),
     // Patterns under one mask, and then under another, which only changes the format word.
     Drawn(
@@ -212,36 +190,27 @@ fn shows(alloc: Global, drawn: (&Canvas, &[Color], &[bool]), version: Version, s
     requires version { drawn.0.now.version ≡ version }
 {
     let (canvas, colors, modules) = drawn;
-    match letters(alloc, canvas, version) {
-        Ok(text) => {
-            checksum_of_bytes(text.as_bytes()) == sum && are_dark(text.as_str(), colors, modules)
+    let Ok(text) = letters(alloc, canvas, version) else {
+        return false;
+    };
+    let mut i = 0usize;
+    for letter in text.as_str().bytes() {
+        if letter != b'\n' {
+            let is_dark = letter == b'#' || letter == b'*';
+            let is_color = matches!(colors.get(i), Some(Color::Dark)) == is_dark;
+            if !is_color || matches!(modules.get(i), Some(true)) != is_dark {
+                return false;
+            }
+            i = i.wrapping_add(1);
         }
-        Err(_) => false,
     }
-}
-
-// Whether a clone of the canvas has the expected letters, and the canvas the same modules.
-fn draws(rt: &impl Abort, alloc: Global, drawn: &Drawn) -> bool {
-    let canvas = draw(rt, alloc, drawn.0);
-    let copy = canvas.clone().expect(rt, "a copy");
-    let modules = canvas.to_bools(alloc).expect(rt, "modules");
-    let colors = canvas.into_colors(alloc).expect(rt, "colours");
-    shows(alloc, (&copy, &colors, &modules), drawn.0.0, drawn.1)
-}
-
-#[test]
-fn canvases_are_drawn(rt: HostRuntime) {
-    for (i, drawn) in DRAWN.iter().enumerate() {
-        check_row(&rt, i, draws(&rt, rt.alloc(), drawn));
-    }
+    let are_all = colors.len() == i && modules.len() == i;
+    are_all && checksum_of_bytes(text.as_bytes()) == sum
 }
 
 // Canvases, and their letters under the best mask.
 #[rattlefmt::skip]
-static BEST: [Drawn; 3] = [
-    Drawn(
-        Drawing(Normal(1), EcLevel::M, Start::Patterns, DIGITS, [None, None]), 0xd3b4_a900,
-    ),
+static BEST: [Drawn; 2] = [
     // All modules are light and stay so under each mask: all penalties are 170, so the first mask
     // wins, with the format word 0x4445.
     Drawn(Drawing(Micro(1), EcLevel::L, Start::Light, EMPTY, [None, None]), 0x956d_d1f3),
@@ -250,19 +219,30 @@ static BEST: [Drawn; 3] = [
     Drawn(Drawing(Micro(1), EcLevel::L, Start::Nothing, EMPTY, [None, None]), 0xcb02_1188),
 ];
 
-// Whether the canvas has the expected letters under its best mask.
-fn draws_best(rt: &impl Abort, alloc: Global, drawn: &Drawn) -> bool {
+// Whether a clone of the canvas, or the canvas under its best mask, has the expected letters, and
+// the canvas the same modules.
+fn draws(rt: &impl Abort, alloc: Global, drawn: &Drawn, is_best: bool) -> bool {
     let canvas = draw(rt, alloc, drawn.0);
-    let best = canvas.apply_best_mask(alloc).expect(rt, "a canvas");
-    let modules = best.to_bools(alloc).expect(rt, "modules");
-    let colors = canvas.best_colors(alloc).expect(rt, "colours");
-    shows(alloc, (&best, &colors, &modules), drawn.0.0, drawn.1)
+    let copy = match is_best {
+        true => canvas.apply_best_mask(alloc).expect(rt, "a canvas"),
+        false => canvas.clone().expect(rt, "a copy"),
+    };
+    let modules = copy.to_bools(alloc).expect(rt, "modules");
+    let colors = match is_best {
+        true => canvas.into_best_colors(alloc),
+        false => canvas.into_colors(alloc),
+    };
+    let colors = colors.expect(rt, "colours");
+    shows(alloc, (&copy, &colors, &modules), drawn.0.0, drawn.1)
 }
 
 #[test]
-fn canvases_are_under_their_best_masks(rt: HostRuntime) {
+fn canvases_are_drawn(rt: HostRuntime) {
+    for (i, drawn) in DRAWN.iter().enumerate() {
+        check_row(&rt, i, draws(&rt, rt.alloc(), drawn, false));
+    }
     for (i, drawn) in BEST.iter().enumerate() {
-        check_row(&rt, i, draws_best(&rt, rt.alloc(), drawn));
+        check_row(&rt, i, draws(&rt, rt.alloc(), drawn, true));
     }
 }
 
@@ -296,41 +276,23 @@ fn modules_are_masked(rt: HostRuntime) {
     }
 }
 
-// Whether a place belongs to a pattern; `None` if the version is invalid or the place outside.
-fn functional(version: Version, x: i16, y: i16) -> Option<bool> {
-    if !version.is_valid() {
-        return None;
-    }
-    let width = version.width();
-    if -width <= x && x < width && -width <= y && y < width {
-        Some(is_functional(version, width, x, y))
-    } else {
-        None
-    }
-}
-
-// A version, a place (negative coordinates count from the lower right corner), and whether it
-// belongs to a pattern. `bindings/c/facts` asks for all places from 0 on.
-struct Place(Version, i16, i16, bool);
-
-static PLACES: [Place; 8] = [
-    Place(Normal(7), -7, -7, true),
-    Place(Normal(7), -9, -9, true),
-    Place(Normal(7), -10, -7, false),
-    Place(Normal(7), 8, -8, true),
-    Place(Normal(7), 6, -16, true),
-    Place(Normal(7), 5, -12, false),
-    Place(Normal(7), -45, -45, true),
-    Place(Micro(2), 0, -1, true),
+// Places in Normal 7 and whether they belong to a pattern; negative coordinates count from the lower
+// right corner. `bindings/c/facts` asks for all places from 0 on.
+#[rattlefmt::skip]
+static PLACES: [(i16, i16, bool); 7] = [
+    (-7, -7, true), (-9, -9, true), (-10, -7, false), (8, -8, true), (6, -16, true),
+    (5, -12, false), (-45, -45, true),
 ];
-
-impl Row for Place {
-    fn holds(&self, _alloc: Global) -> bool {
-        functional(self.0, self.1, self.2) == Some(self.3)
-    }
-}
 
 #[test]
 fn functional_places(rt: HostRuntime) {
-    check(&rt, rt.alloc(), &PLACES);
+    for (i, (x, y, expected)) in PLACES.iter().enumerate() {
+        let is_inside = -45 <= *x && *x < 45 && -45 <= *y && *y < 45;
+        check_row(
+            &rt,
+            i,
+            is_inside && is_functional(Normal(7), 45, *x, *y) == *expected,
+        );
+    }
+    assert!(rt; is_functional(Micro(2), 13, 0, -1));
 }

@@ -62,23 +62,8 @@ fn is_dark_by_run(first: usize, past: usize, x: usize, y: usize) -> bool {
     column.wrapping_add(y) % 2 == 0
 }
 
-// Returns `row` with the places from `first` to before `past` inverted.
-fn changed<R: PackedRow>(row: R, first: u32, past: u32) -> R
-    requires first { first < R.room }
-    requires past { past < R.room }
-{
-    row.xor(R::first(past)).xor(R::first(first))
-}
-
-// Returns the first `width` places of a row.
+// Returns the modules of row `y`.
 #[tactic(auto, using(qrcode_penalty::proofs::RowLists::cut_fits))]
-fn cut<R: PackedRow>(row: R, width: u32) -> R
-    requires { width < R.room }
-    ensures { FitsWidth width (R.bits result) }
-{
-    row.and(R::first(width))
-}
-
 fn row_of<R: PackedRow>(kind: Kind, y: usize, width: u32) -> R
     requires { width < R.room }
     ensures { FitsWidth width (R.bits result) }
@@ -86,10 +71,10 @@ fn row_of<R: PackedRow>(kind: Kind, y: usize, width: u32) -> R
     let mut row = R::first(0);
     for x in 0..width {
         if kind.is_dark(x as usize, y) {
-            row = changed(row, x, x + 1);
+            row = row.xor(R::first(x + 1)).xor(R::first(x));
         }
     }
-    cut(row, width)
+    row.and(R::first(width))
 }
 
 fn fill<R: PackedRow>(kind: Kind, width: u32, rows: &mut [R])
