@@ -150,12 +150,7 @@ def are_drawn(run, path):
                      *["--invert"] * is_inverted]
             colors = wanted(rows, letters, 3, is_inverted)
             side = width + 6
-            if png_cells(run([*words, "-f", "png"]), 2) != colors:
-                return False
-            if svg_cells(run([*words, "-f", "svg"]).decode(), side) != colors:
-                return False
-            if eps_cells(run([*words, "-f", "eps"]).decode(), side, 2) != colors:
-                return False
-            if pdf_cells(run([*words, "-f", "pdf"]), side) != colors:
-                return False
-    return True
+            yield png_cells(run([*words, "-f", "png"]), 2) == colors
+            yield svg_cells(run([*words, "-f", "svg"]).decode(), side) == colors
+            yield eps_cells(run([*words, "-f", "eps"]).decode(), side, 2) == colors
+            yield pdf_cells(run([*words, "-f", "pdf"]), side) == colors

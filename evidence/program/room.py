@@ -48,6 +48,12 @@ def modules_of(file):
     return [[int(it) for it in line[:across]] for line in lines]
 
 
+def plain(rows):
+    """Returns a plain PBM file (P1) of rows of pixels."""
+    text = "\n".join("".join(map(str, row)) for row in rows)
+    return f"P1\n{len(rows[0])} {len(rows)}\n{text}".encode()
+
+
 def page(*codes):
     """Returns a page with a line like text, and symbols, with ! a quarter dark, as a PBM file."""
     ink = [[int(4 <= y < 12 and 9 * x * x % 7 < y % 5) for x in range(200)] for y in range(180)]
@@ -57,7 +63,7 @@ def page(*codes):
             for x in range(len(rows) * scale):
                 spoilt = name.endswith("!") and min(x, y) >= len(rows) // 2 * scale
                 ink[top + y][left + x] = int(spoilt or rows[y // scale][x // scale])
-    return b"P1\n200 180\n" + "\n".join("".join(map(str, row)) for row in ink).encode()
+    return plain(ink)
 
 
 def slanted(*codes):
@@ -73,7 +79,7 @@ def slanted(*codes):
                 j = math.floor(len(rows) / 2 + right * down - fall * across)
                 if 0 <= min(i, j) and max(i, j) < len(rows):
                     ink[y][x] = int(rows[j][i])
-    return b"P1\n200 180\n" + "\n".join("".join(map(str, row)) for row in ink).encode()
+    return plain(ink)
 
 
 # A logo whose pixels all differ, and some of which are transparent.

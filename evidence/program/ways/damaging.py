@@ -26,17 +26,15 @@ def as_much_is_wrong_as_asked(program):
         whole = _square(program, *words, "--wrong-codewords", "0")
         bits = reading.read_bits(whole)
         held = spelled(form(bits.version), bits.bits).data
-        if (bits.version, bits.level, bits.wrong, held) != (version, level, 0, b"0123"):
-            return False
+        yield (bits.version, bits.level, bits.wrong, held) == (version, level, 0, b"0123")
         has_version = version[0] != "M" and int(version) >= 7
         most, count = bounds(version, level)[0], str(3 * has_version)
         for name, wrong in (("most", most), ("beyond", most + 1)):
             more = ["--wrong-codewords", name, "--wrong-format", "3", "--wrong-version", count]
             found = wrong_in(whole, _square(program, *words, *more), version, level, bits.mask)
             wanted = {wrong}, {3}, {3} if has_version else set(), 0
-            if (*map(set, found[:3]), found[3]) != wanted:
-                return False
-    return len(PAIRS) == 168
+            yield (*map(set, found[:3]), found[3]) == wanted
+    yield len(PAIRS) == 168
 
 
 def another_seed_is_other_damage(program):
@@ -55,10 +53,9 @@ def damaged_codes_are_turned(program):
             for degrees in ("0", "90", "180", "270"):
                 more = [*words, *mirror, "--turn", degrees]
                 drawn = run(program, ["damage", *SMALL, *more, "0123"], "/").stdout
-                if modules_of(drawn) != wanted or run(program, ["read"], "/", drawn).stdout != b"0123":
-                    return False
+                yield modules_of(drawn) == wanted
+                yield run(program, ["read"], "/", drawn).stdout == b"0123"
                 wanted = [list(row) for row in zip(*wanted[::-1])]
-    return True
 
 
 def patterns_are_wrong(program):
@@ -69,6 +66,4 @@ def patterns_are_wrong(program):
                    for more in ("0", f"1 --wrong-format 2 --wrong-patterns {count}")]
         bits = reading.read_bits(squares[0])
         found = wrong_in(*squares, bits.version, bits.level, bits.mask)
-        if ({*found[0]}, {*found[1]}, {0, *found[2]}, found[3]) != ({1}, {2}, {0}, count):
-            return False
-    return True
+        yield ({*found[0]}, {*found[1]}, {0, *found[2]}, found[3]) == ({1}, {2}, {0}, count)

@@ -27,9 +27,7 @@ def labels_show_the_dots(program):
         rows = labels.rows_of(dots.split(b"\n", 2)[2], (across + 7) // 8, count)
         for kind, carried_out in (("zpl", labels.zpl), ("tspl", labels.tspl)):
             for option, place in (("", (0, 0)), ("--at 50,3", (50, 3))):
-                if carried_out(written(program, f"-f {kind} {option} {words}")) != (place, rows):
-                    return False
-    return True
+                yield carried_out(written(program, f"-f {kind} {option} {words}")) == (place, rows)
 
 
 def labels_are_those_of_zint(program):
@@ -39,11 +37,10 @@ def labels_are_those_of_zint(program):
         words = ["gs1", elements, "-l", "LMQH"[int(level) - 1], "-f", "pbm", "-s", "1", "-q", "0"]
         drawn = run(program, words, "/").stdout
         read = run(program, ["read"], "/", file_of(rows, 4, 2)).stdout
-        if drawn != file_of(rows, 0, 1) or read != string.encode():
-            return False
+        yield drawn == file_of(rows, 0, 1) and read == string.encode()
     long = run(program, ["gs1", "(10)abcdefghijklmnopqrst" * 200, "-l", "H"], "/")
     is_said = long.stderr == b"goqlanis: no version holds the elements at level H\n"
-    return len(found) == 6 and long.returncode == 1 and is_said
+    yield len(found) == 6 and long.returncode == 1 and is_said
 
 
 def covered_squares_are_those_that_others_read(program):
@@ -61,9 +58,8 @@ def covered_squares_are_those_that_others_read(program):
             light[at + inside.start:at + inside.stop] = b"\xff" * size
         drawn = run(program, ["--logo-area", "--logo-size", str(size), *words], "/")
         more = run(program, ["--logo-area", "--logo-size", str(size + 2), *words], "/")
-        if size and drawn.stdout != light or more.returncode != 1:
-            return False
-    return len(lines) == 40
+        yield (not size or drawn.stdout == light) and more.returncode == 1
+    yield len(lines) == 40
 
 
 def _greys(pgm):
@@ -159,9 +155,7 @@ def a_logo_in_png_is_drawn_over_colours_of_parts(program):
                     for row in colors for _ in range(8)]
             _put_logo(rows, 176, 192)
             drawn = run(program, [*words, *["--invert"] * is_inverted], folder).stdout
-            if png.pixels_of(drawn) != rows:
-                return False
-    return True
+            yield png.pixels_of(drawn) == rows
 
 
 def the_cross_of_a_bill(program):
@@ -243,13 +237,12 @@ def a_document_has_the_pages_of_its_lines(program):
     for words, lines, each in DOCUMENTS:
         ran = run(program, [*shlex.split(words), "-f", "pdf"], "/", lines.encode())
         files = [documents.pages_of(written(program, f"{it} -f pdf")) for it in each]
-        if documents.pages_of(ran.stdout) != (files[0][0], sum((it[1] for it in files), [])):
-            return False
+        yield documents.pages_of(ran.stdout) == (files[0][0], sum((it[1] for it in files), []))
     with empty() as folder:
         run(program, ["split", "--count", "3", "-o", "a.pdf", "abc"], folder)
         files = [documents.pages_of(held(folder, f"a-00000{it}.pdf")) for it in (1, 2, 3)]
         ran = run(program, ["split", "--count", "3", "-f", "pdf", "abc"], folder)
-    return documents.pages_of(ran.stdout)[1] == sum((it[1] for it in files), [])
+    yield documents.pages_of(ran.stdout)[1] == sum((it[1] for it in files), [])
 
 
 def a_long_document_has_its_pages_in_order(program):

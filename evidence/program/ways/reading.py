@@ -10,7 +10,8 @@ from itertools import product
 import checked
 import crowds
 import png
-from room import FILES, SYMBOLS, figures, file_of, modules_of, run, slanted, squares
+from room import (FILES, SYMBOLS, figures, file_of, modules_of, plain, run, slanted,
+                  squares)
 
 EXCHANGED = ", inverted"
 NOT_HEADERS = ("segment: ", "goqlanis: warning: ")
@@ -40,9 +41,7 @@ def checks_are_those_of_the_judge(program):
                 except checked.Uncorrected:
                     continue
                 ran = run(program, ["check", "--json"], "/", file_of(rows, 4, 1))
-                if (ran.returncode, json.loads(ran.stdout)) != (1 - said["standard"], [said]):
-                    return False
-    return True
+                yield (ran.returncode, json.loads(ran.stdout)) == (1 - said["standard"], [said])
 
 
 def grades_are_those_of_the_standard(program):
@@ -86,9 +85,8 @@ def symbols_of_other_encoders_are_read(program):
         read, lines = _read(program, file_of(rows, number % 5, 1 + number % 4))
         named = f"version {'M' * (kind == 'Micro')}{version}, level {level}, {mask}"
         wanted = [named, "wrong codewords: 0", *_headers_said(headers)]
-        if read != data or lines[:1] + lines[3:] != wanted:
-            return False
-    return number > 100
+        yield read == data and lines[:1] + lines[3:] == wanted
+    yield number > 100
 
 
 def large_pictures_are_read(program):
@@ -115,17 +113,16 @@ def headers_are_read_in_all_positions(program):
                                     (file_of(other, 4, 8), EXCHANGED)):
                 wanted = [f"position: {position}{shades}", "wrong codewords: 0"]
                 read, lines = _read(program, picture)
-                if read != data or lines[2:] != wanted + _headers_said(headers):
-                    return False
-    return len(with_headers[::3]) > 3
+                yield read == data and lines[2:] == wanted + _headers_said(headers)
+    yield len(with_headers[::3]) > 3
 
 
 def png_files_of_every_kind_are_read(program):
     """Every colour type, depth and filter is read; damaged files are rejected."""
     (name, rows), *_ = ((it.split(" "), rows) for it, rows in SYMBOLS.items() if it[0].isdigit())
     for color, depth in png.KINDS:
-        if run(program, ["read"], "/", png.file_of(rows, color, depth)).stdout != name[2].encode():
-            return False
+        read = run(program, ["read"], "/", png.file_of(rows, color, depth)).stdout
+        yield read == name[2].encode()
     whole = png.file_of(rows, 0, 1)
     large = png.chunk(b"IHDR", bytes([0, 1, 0, 0] * 2 + [1, 0, 0, 0, 0]))
     at = whole.index(b"IDAT") + 20
@@ -134,9 +131,7 @@ def png_files_of_every_kind_are_read(program):
                         (png.file_of(rows, 0, 1, 1), b"interlaced"), (b"\xff\xd8\xff\xe0", b"JPEG"),
                         (whole[:8] + large + whole[33:], b"65536 by 65536 pixels")):
         ran = run(program, ["read"], "/", given)
-        if ran.returncode != 1 or ran.stdout or said not in ran.stderr:
-            return False
-    return True
+        yield ran.returncode == 1 and not ran.stdout and said in ran.stderr
 
 
 def png_files_with_faults_beside_the_picture_are_read(program):
@@ -194,11 +189,9 @@ def png_files_are_read_as_the_standard_says(program):
             (png.with_stream(plain, lambda it: it[:2] + b"\7" + it[3:]), b"damaged"),
             (png.with_stream(plain, lambda it: it[:-1] + bytes([it[-1] ^ 1])), b"damaged")):
         ran = run(program, ["read"], "/", given)
-        if (ran.returncode, ran.stdout) != ((1, b"") if said else (0, text)):
-            return False
-        if said not in ran.stderr or bool(said) != bool(ran.stderr):
-            return False
-    return text != b""
+        yield (ran.returncode, ran.stdout) == ((1, b"") if said else (0, text))
+        yield said in ran.stderr and bool(said) == bool(ran.stderr)
+    yield text != b""
 
 
 def a_percent_sign_is_a_separator_behind_fnc1_alone(program):
@@ -221,8 +214,7 @@ def _tiled(rows, count, pitch, above=()):
     wide = [(it + [0] * (pitch - len(it))) * count for it in rows]
     wide += [[0] * (pitch * count)] * (pitch - len(rows))
     wide = above + wide * count + [[1] * (pitch * count)]
-    ink = "\n".join("".join(map(str, it)) for it in [[0] * (pitch * count), *wide])
-    return f"P1\n{pitch * count} {len(wide) + 1}\n{ink}".encode()
+    return plain([[0] * (pitch * count), *wide])
 
 
 def crowded_pages_are_read(program):
@@ -234,9 +226,7 @@ def crowded_pages_are_read(program):
     for picture, said in ((_tiled(code, 11, 29), b"hi\n" * 121), (noise, b""),
                           (_tiled(finder, 32, 9, code + [[]] * 4), b"hi")):
         ran = run(program, ["read"], "/", picture)
-        if ran.stdout != said or ran.returncode != (not said):
-            return False
-    return True
+        yield ran.stdout == said and ran.returncode == (not said)
 
 
 def chess_boards_take_seconds(program):
@@ -246,9 +236,7 @@ def chess_boards_take_seconds(program):
         board = bytes([row] * 512 + [row ^ 255] * 512) * 2048
         ran = run(program, ["read"], "/", b"P4\n4096 4096\n" + board, preexec_fn=lambda:
                   resource.setrlimit(resource.RLIMIT_CPU, (6, 6)))
-        if (ran.returncode, ran.stdout) != (1, b""):
-            return False
-    return True
+        yield (ran.returncode, ran.stdout) == (1, b"")
 
 
 def _lines_read(program, picture):
@@ -261,9 +249,7 @@ def large_codes_beside_other_things_are_read(program):
     for version in range(30, 41):
         for number in (3, 4):
             file, texts = crowds.made(program, version, number)
-            if _lines_read(program, file) != sorted(texts):
-                return False
-    return True
+            yield _lines_read(program, file) == sorted(texts)
 
 
 def _beside(*codes):
@@ -280,8 +266,7 @@ def _stretched(pixels, modules, rows):
     wide = [[row[x * modules // pixels] for x in range(len(row) * pixels // modules)]
             for row in rows]
     ink = [wide[y * modules // pixels] for y in range(len(rows) * pixels // modules)]
-    text = "\n".join("".join(map(str, it)) for it in ink)
-    return f"P1\n{len(ink[0])} {len(ink)}\n{text}".encode()
+    return plain(ink)
 
 
 def codes_of_uneven_pixels_beside_another_are_read(program):
@@ -302,9 +287,7 @@ def codes_of_uneven_pixels_beside_another_are_read(program):
             (_square(program, "-v", "40", "large"), 5, 2, "large"), (spoilt, 5, 2, "decoys"),
             (_square(program, "-v", "1", "small"), 6, 5, "small"), (pierced, 2, 1, "pierced")):
         page = _stretched(pixels, modules, _beside(code, other))
-        if _lines_read(program, page) != sorted([said, "hi"]):
-            return False
-    return True
+        yield _lines_read(program, page) == sorted([said, "hi"])
 
 
 def a_hundred_codes_of_uneven_pixels_are_read_in_order(program):
@@ -319,9 +302,7 @@ def light_codes_at_an_angle_are_read(program):
     """Those of slanted.pbm with dark and light swapped, in a light frame."""
     rows = [[1 - int(it) for it in line] for line in FILES["slanted.pbm"].decode().split("\n")[2:]]
     rows = [[0] * 204, *([0, 0, *row, 0, 0] for row in rows), [0] * 204]
-    ink = "\n".join("".join(map(str, row)) for row in rows)
-    ran = run(program, ["read"], "/", f"P1\n204 {len(rows)}\n{ink}".encode())
-    return ran.stdout == b"half one\nhalf two\n"
+    return run(program, ["read"], "/", plain(rows)).stdout == b"half one\nhalf two\n"
 
 
 def a_quarter_of_a_turned_finder_pattern_may_be_wrong(program):
@@ -343,9 +324,7 @@ def codes_that_nearly_touch_are_read(program):
     rows = [row + more for row, more in zip(rows, beside + [[0] * 21] * 63)]
     rows += [[0], *below]
     rows = [[0] * 4 + row + [0] * (110 - len(row)) for row in [[]] * 4 + rows + [[]] * 4]
-    text = "\n".join("".join(map(str, it)) for it in rows)
-    picture = f"P1\n114 {len(rows)}\n{text}".encode()
-    return _lines_read(program, picture) == sorted(texts)
+    return _lines_read(program, plain(rows)) == sorted(texts)
 
 
 def no_micro_code_is_read_inside_an_unread_code(program):
@@ -370,11 +349,7 @@ def damaged_micro_codes_alone_are_read_in_any_margin(program):
             across = left + len(wide) + right
             lines = [[0] * left + it + [0] * right for it in wide]
             lines = [*[[0] * across] * top, *lines, *[[0] * across] * bottom]
-            ink = "\n".join("".join(map(str, it)) for it in lines)
-            picture = f"P1\n{across} {len(lines)}\n{ink}".encode()
-            if run(program, ["read"], "/", picture).stdout != b"12345":
-                return False
-    return True
+            yield run(program, ["read"], "/", plain(lines)).stdout == b"12345"
 
 
 def wrong_codewords_of_micro_codes_on_a_page(program):
@@ -386,8 +361,5 @@ def wrong_codewords_of_micro_codes_on_a_page(program):
         ran = run(program, ["read"], "/", _tiled(rows, 1, 20))
         alone = run(program, ["read"], "/", file_of(rows, 2, 4))
         is_warned = b"warning: version M1" in alone.stderr
-        if (ran.stdout, ran.returncode, alone.stdout) != (on_page, not on_page, b"12"):
-            return False
-        if is_warned != ((version, wrong) == ("M1", 1)):
-            return False
-    return True
+        yield (ran.stdout, ran.returncode, alone.stdout) == (on_page, not on_page, b"12")
+        yield is_warned == ((version, wrong) == ("M1", 1))

@@ -50,10 +50,9 @@ def every_option_has_a_case(program):
         shown = written(program, f"{task} --help").decode()
         options = re.findall(r"^ +(?:(-\w), )?(--[\w-]+)", shown, re.MULTILINE)
         for option in options:
-            if option[1] not in drawn and not given[task] & {*option} - {""}:
-                return False
+            yield option[1] in drawn or bool(given[task] & {*option} - {""})
         drawn = drawn or {long for _, long in options}
-    return len(tasks) == 21
+    yield len(tasks) == 21
 
 
 def help_has_lines_of_80_characters(program):
@@ -92,10 +91,10 @@ def shells_complete(program):
     options += b"--svg-class"
     wanted = [b"--level", b"png pic pbm pgm pdf ppm", b"", b"", b"wifi", options, b"--verbose", b"",
               b"EUR", b""]
-    if bash.stderr or bash.stdout.split(b"\n")[:-1] != wanted:
-        return False
-    shells = filter(shutil.which, ("zsh", "fish"))
-    return _are_quoted(program) and all(_reads_completions(program, it) for it in shells)
+    yield not bash.stderr and bash.stdout.split(b"\n")[:-1] == wanted
+    yield _are_quoted(program)
+    for shell in filter(shutil.which, ("zsh", "fish")):
+        yield _reads_completions(program, shell)
 
 
 def _are_quoted(program):

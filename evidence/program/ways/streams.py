@@ -28,17 +28,13 @@ def no_bytes_to_a_terminal(program):
     for kind, head in heads.items():
         asked, status = in_terminal(program, ["-f", kind, "-o", "-", "1"])
         refused = in_terminal(program, ["-f", kind, "1"])
-        if refused != (said, 1) or status or not asked.startswith(head):
-            return False
+        yield refused == (said, 1) and not status and asked.startswith(head)
     for kind in ("eps", "pic", "zpl", "xbm"):
-        if in_terminal(program, ["-f", kind, "1"]) != (written(program, f"-f {kind} 1"), 0):
-            return False
+        yield in_terminal(program, ["-f", kind, "1"]) == (written(program, f"-f {kind} 1"), 0)
     for words in (["--lines"], ["split", "--count", "2"]):
         asked, status = in_terminal(program, [*words, "-f", "pdf", "-o", "-", "1"])
         refused = in_terminal(program, [*words, "-f", "pdf", "1"])
-        if refused != (said, 1) or status or not asked.endswith(b"%%EOF\n"):
-            return False
-    return True
+        yield refused == (said, 1) and not status and asked.endswith(b"%%EOF\n")
 
 
 def a_terminal_is_asked_for_what_is_wanted(program):
@@ -46,9 +42,7 @@ def a_terminal_is_asked_for_what_is_wanted(program):
     for words, what in (([], b"the text"), (["--lines"], b"the lines"), (["read"], b"a picture"),
                         (["several"], b"the text"), (["join", "-"], b"a picture")):
         shown, _ = in_terminal(program, words, given=b"\x04")
-        if b"goqlanis: " + what + b", and Ctrl-D at its end:\n" not in shown:
-            return False
-    return True
+        yield b"goqlanis: " + what + b", and Ctrl-D at its end:\n" in shown
 
 
 def a_closed_pipe_ends_a_run_quietly(program):
@@ -226,7 +220,5 @@ def refused_memory_is_reported_in_a_line(program):
             while is_refused:
                 *answer, is_refused = _with_a_request_refused(*asked, at, given)
                 is_reported = answer[0] in silent and line.fullmatch(answer[1])
-                if not is_reported and tuple(answer) != whole:
-                    return False
+                yield bool(is_reported) or tuple(answer) == whole
                 at += 1
-    return True
