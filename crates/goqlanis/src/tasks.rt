@@ -3,7 +3,7 @@
 use clap::ArgMatches;
 use clap::error::{Error, ErrorKind};
 use goqlanis_files::failure::{Failure, status};
-use goqlanis_files::streams::{Escaped, print};
+use goqlanis_files::streams::{Escapes, print};
 use goqlanis_files::{refused, usage};
 use goqlanis_help::advice::{advice, wrapped_help};
 use goqlanis_help::command::{command_of, end_of_help, usage_of};
@@ -93,7 +93,7 @@ fn refuse(
     if !error.use_stderr() {
         return print(rt, wrapped_help(rt.alloc(), text.as_str())?.as_bytes());
     }
-    let shown = Escaped {
+    let shown = Escapes {
         bytes: text.as_bytes(),
         has_lines: true,
     };

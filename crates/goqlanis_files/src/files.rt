@@ -10,7 +10,7 @@ use thiserror::Error;
 
 /// Why a file is not written.
 #[derive(Debug, Drop, Error)]
-pub enum Unwritten {
+pub enum WriteError {
     /// The path cannot be opened, written or looked up.
     #[error("{0}")]
     File(#[from] io::Error),
@@ -60,73 +60,128 @@ struct Folder {
     // The path for look-ups: the open file under /proc/self/fd; or, where there is no /proc, the
     // name, which a folder that takes its place could redirect.
     way: String,
-    _open: File,
+    open: File,
 }
 
 // Opens a folder. One that cannot be opened is rejected: with only its name, the output would go to
 // whatever takes its place.
-fn open_folder(rt: &HostRuntime, name: &str) -> Result<Folder, Unwritten> {
+fn open_folder(rt: &HostRuntime, name: &str) -> Result<Folder, WriteError> {
     let name = format!(in rt.alloc(); "{name}/")?;
     let open = match File::open(rt, name.as_str()) {
         Ok(open) => open,
         Err(error) if error.kind() == ErrorKind::PermissionDenied => {
-            return Err(Unwritten::Closed(name));
+            return Err(WriteError::Closed(name));
         }
-        Err(error) => return Err(Unwritten::Folder(name, error)),
+        Err(error) => return Err(WriteError::Folder(name, error)),
     };
     let way = if fs::metadata(rt, "/proc/self/fd").is_ok() {
         format!(in rt.alloc(); "/proc/self/fd/{}/", open.as_raw_fd())?
     } else {
         String::from_str(rt.alloc(), name.as_str())?
     };
-    Ok(Folder {
-        name,
-        way,
-        _open: open,
-    })
+    Ok(Folder { name, way, open })
 }
 
-/// Writes `bytes` to the file at `path` atomically: to a temporary file in the same folder, which
-/// only its owner can read, and which is then renamed. Links are followed. Pipes, devices and files
-/// that are already open are written directly. A write-protected file is rejected; so is another
-/// user's link, pipe or file in a folder that everybody may write to.
-///
-/// Errors: the `Unwritten` that says why; an old regular file is then as it was.
-pub fn write_whole(rt: &HostRuntime, path: &str, bytes: &[u8]) -> Result<(), Unwritten> {
-    let mut place = String::from_str(rt.alloc(), path)?;
-    for _ in 0..LINKS {
-        let (within, name) = parts_of(place.as_str());
-        let folder = open_folder(rt, within)?;
-        let inside = format!(in rt.alloc(); "{}{name}", folder.way.as_str())?;
-        let found = match fs::symlink_metadata(rt, inside.as_str()) {
-            Ok(found) => found,
-            Err(error) if error.kind() == ErrorKind::NotFound => {
-                return replace(rt, folder, inside.as_str(), None, bytes);
+/// A file that is being written. A regular one has another name until it is whole.
+#[derive(Drop)]
+pub struct Draft {
+    file: File,
+    // What it becomes, unless it is a pipe, a device or a file that was already open.
+    fresh: Option<Fresh>,
+}
+
+// A new file, which only its owner can read until it is whole.
+#[derive(Drop)]
+struct Fresh {
+    // Its path until then.
+    beside: String,
+    // The path that it gets, in this folder, and the old file there.
+    path: String,
+    old: Option<Metadata>,
+    _folder: Folder,
+    // The permissions that new files usually get in the folder.
+    usual: u32,
+}
+
+impl Draft {
+    /// Begins to write the file at `path`: as a temporary file in the same folder, which only its
+    /// owner can read. Links are followed. Pipes, devices and files that are already open are
+    /// written directly. A write-protected file is rejected; so is another user's link, pipe or
+    /// file in a folder that everybody may write to.
+    ///
+    /// Errors: the `WriteError` that says why.
+    pub fn begin(rt: &HostRuntime, path: &str) -> Result<Draft, WriteError> {
+        let mut place = String::from_str(rt.alloc(), path)?;
+        for _ in 0..LINKS {
+            let (within, name) = parts_of(place.as_str());
+            let folder = open_folder(rt, within)?;
+            let inside = format!(in rt.alloc(); "{}{name}", folder.way.as_str())?;
+            let found = match fs::symlink_metadata(rt, inside.as_str()) {
+                Ok(found) => found,
+                Err(error) if error.kind() == ErrorKind::NotFound => {
+                    return make_fresh(rt, folder, inside, None);
+                }
+                Err(error) => return Err(WriteError::File(error)),
+            };
+            if is_open_file(rt, name, &found) {
+                return reopened(rt, inside.as_str(), &found);
             }
-            Err(error) => return Err(Unwritten::File(error)),
-        };
-        if is_open_file(rt, name, &found) {
-            return append(rt, inside.as_str(), &found, bytes);
+            if is_strange(rt, folder.way.as_str(), &found)? {
+                return Err(WriteError::Strange);
+            }
+            if found.is_file() {
+                return make_fresh(rt, folder, inside, Some(found));
+            }
+            if found.is_dir() {
+                return Err(WriteError::IsFolder);
+            }
+            if !found.is_symlink() {
+                return straight(rt, inside.as_str(), false);
+            }
+            place = link_target(rt, inside.as_str(), within)?;
         }
-        if is_strange(rt, folder.way.as_str(), &found)? {
-            return Err(Unwritten::Strange);
-        }
-        if found.is_file() && found.mode() & 0o222 == 0 {
-            return Err(Unwritten::Protected);
-        }
-        if found.is_file() {
-            return replace(rt, folder, inside.as_str(), Some(found), bytes);
-        }
-        if found.is_dir() {
-            return Err(Unwritten::IsFolder);
-        }
-        if !found.is_symlink() {
-            return write_straight(rt, inside.as_str(), false, bytes);
-        }
-        place = link_target(rt, inside.as_str(), within)?;
+        // Opens it, so that the error is the one that Linux gives for this many links.
+        straight(rt, place.as_str(), false)
     }
-    // Opens it, so that the error is the one that Linux gives for this many links.
-    write_straight(rt, place.as_str(), false, bytes)
+
+    /// Appends `bytes`.
+    pub fn write(&mut self, bytes: &[u8]) -> io::Result<()> {
+        self.file.write_all(bytes)
+    }
+
+    /// Ends the file: gives it its permissions, waits until it is on disk if it `is_flushed`, and
+    /// renames it to its path. If anything fails, removes it.
+    ///
+    /// Errors: the `WriteError` that says why; an old regular file is then as it was.
+    pub fn end(self, rt: &HostRuntime, is_flushed: bool) -> Result<(), WriteError> {
+        let Some(fresh) = &self.fresh else {
+            return Ok(());
+        };
+        let done = put_in_place(rt, &self.file, fresh, is_flushed);
+        if done.is_err() {
+            self.remove(rt);
+        }
+        done
+    }
+
+    /// Removes the temporary file, if there is one.
+    pub fn remove(self, rt: &HostRuntime) {
+        if let Some(fresh) = &self.fresh {
+            let _ = fs::remove_file(rt, fresh.beside.as_str());
+        }
+    }
+}
+
+/// Waits until the folder of `path` is on disk, with the names of its files, on file systems that
+/// know this.
+///
+/// Errors: the `WriteError` that says why.
+pub fn flush_folder(rt: &HostRuntime, path: &str) -> Result<(), WriteError> {
+    let (within, _) = parts_of(path);
+    match open_folder(rt, within)?.open.sync_all() {
+        Err(error) if error.kind() != ErrorKind::InvalidInput => Err(WriteError::File(error)),
+        _ => Ok(()),
+    }
 }
 
 // Whether `found` is the link to an open file of this or another process, as /dev/stdout is: among
@@ -138,33 +193,8 @@ fn is_open_file(rt: &HostRuntime, name: &str, found: &Metadata) -> bool {
         && fs::metadata(rt, "/proc/self").is_ok_and(|proc| proc.dev() == found.dev())
 }
 
-// Whether `path` names an open file, directly or through links.
-fn leads_to_open_file(rt: &HostRuntime, path: &str) -> Result<bool, Unwritten> {
-    let mut place = String::from_str(rt.alloc(), path)?;
-    for _ in 0..LINKS {
-        let (folder, name) = parts_of(place.as_str());
-        if folder == "/proc/self/fd" {
-            // This holds even where there is no /proc.
-            return Ok(true);
-        }
-        let found = fs::symlink_metadata(rt, place.as_str())?;
-        if !found.is_symlink() || is_open_file(rt, name, &found) {
-            return Ok(found.is_symlink());
-        }
-        place = link_target(rt, place.as_str(), folder)?;
-    }
-    Ok(false)
-}
-
-/// Whether `path` names something other than a regular file: a folder, a pipe, a device, or a file
-/// that is already open, such as /dev/stdout.
-pub fn is_stream(rt: &HostRuntime, path: &str) -> bool {
-    leads_to_open_file(rt, path).unwrap_or(false)
-        || fs::metadata(rt, path).is_ok_and(|found| !found.is_file())
-}
-
 // Returns the path that a link in `folder` points to.
-fn link_target(rt: &HostRuntime, link: &str, folder: &str) -> Result<String, Unwritten> {
+fn link_target(rt: &HostRuntime, link: &str, folder: &str) -> Result<String, WriteError> {
     let named = fs::read_link(rt, link)?;
     let target = named.as_path().as_str();
     if target.starts_with('/') {
@@ -189,54 +219,60 @@ fn parts_of(path: &str) -> (&str, &str) {
     path.rsplit_once('/').unwrap_or((".", path))
 }
 
-// Appends to a file that is already open, to which the link `found` leads. The owner's rights of
+// Opens a file again that is already open, to which the link `found` leads. The owner's rights of
 // such a link say for what the file is open.
-fn append(rt: &HostRuntime, place: &str, found: &Metadata, bytes: &[u8]) -> Result<(), Unwritten> {
+fn reopened(rt: &HostRuntime, place: &str, found: &Metadata) -> Result<Draft, WriteError> {
     if found.mode() & 0o200 == 0 {
-        return Err(Unwritten::ReadOnly);
+        return Err(WriteError::ReadOnly);
     }
-    write_straight(rt, place, true, bytes)
+    straight(rt, place, true)
 }
 
-// Writes to a pipe or device, or appends to a file that is already open. A regular file that took
-// its place meanwhile is left alone.
-fn write_straight(
-    rt: &HostRuntime,
-    place: &str,
-    is_open: bool,
-    bytes: &[u8],
-) -> Result<(), Unwritten> {
-    let mut file = OpenOptions::new()
+// Opens a pipe or device, or a file that is already open, at its end. A regular file that took its
+// place meanwhile is left alone.
+fn straight(rt: &HostRuntime, place: &str, is_open: bool) -> Result<Draft, WriteError> {
+    let file = OpenOptions::new()
         .write(true)
         .append(is_open)
         .open(rt, place)?;
     if !is_open && file.metadata()?.is_file() {
-        return Err(Unwritten::File(io::Error::from(ErrorKind::AlreadyExists)));
+        return Err(WriteError::File(io::Error::from(ErrorKind::AlreadyExists)));
     }
-    Ok(file.write_all(bytes)?)
+    Ok(Draft { file, fresh: None })
 }
 
-// Writes a temporary file under the first free name, and renames it to `path`, where an old file
-// may be.
-fn replace(
+// Creates a temporary file under the first free name, which becomes the one at `path`, where an old
+// file may be.
+fn make_fresh(
     rt: &HostRuntime,
     folder: Folder,
-    path: &str,
+    path: String,
     old: Option<Metadata>,
-    bytes: &[u8],
-) -> Result<(), Unwritten> {
+) -> Result<Draft, WriteError> {
+    if old.as_ref().is_some_and(|old| old.mode() & 0o222 == 0) {
+        return Err(WriteError::Protected);
+    }
     for number in 0..NAMES {
         let beside = format!(in rt.alloc(); "{}goqlanis-{number}.new", folder.way.as_str())?;
         match private_file(rt, beside.as_str()) {
             Ok((file, usual)) => {
-                let filled = fill(file, usual, old.as_ref(), bytes);
-                return rename_filled(rt, filled, beside.as_str(), path);
+                let fresh = Fresh {
+                    beside,
+                    path,
+                    old,
+                    _folder: folder,
+                    usual,
+                };
+                return Ok(Draft {
+                    file,
+                    fresh: Some(fresh),
+                });
             }
             Err(error) if error.kind() == ErrorKind::AlreadyExists => {}
-            Err(error) => return Err(Unwritten::Folder(folder.name, error)),
+            Err(error) => return Err(WriteError::Folder(folder.name, error)),
         }
     }
-    Err(Unwritten::Taken(folder.name))
+    Err(WriteError::Taken(folder.name))
 }
 
 // Creates a file that only its owner can access. Also returns the permissions that a new file
@@ -262,23 +298,29 @@ fn create(rt: &HostRuntime, path: &str, mode: u32) -> io::Result<File> {
         .open(rt, path)
 }
 
-// Writes all of a new file, sets its permissions and waits until it is on disk. From opening to
-// renaming, the file is never looked up by name, since others may have given that name to another
-// file.
-fn fill(mut file: File, usual: u32, old: Option<&Metadata>, bytes: &[u8]) -> Result<(), Unwritten> {
-    let rights = match old {
-        Some(old) => rights_after(&file, usual, old)?,
-        None => usual,
+// Gives a whole file its permissions and its name. From opening to renaming, the file is never
+// looked up by name, since others may have given that name to another file.
+fn put_in_place(
+    rt: &HostRuntime,
+    file: &File,
+    fresh: &Fresh,
+    is_flushed: bool,
+) -> Result<(), WriteError> {
+    let rights = match &fresh.old {
+        Some(old) => rights_after(file, fresh.usual, old)?,
+        None => fresh.usual,
     };
-    file.write_all(bytes)?;
     file.set_permissions(Permissions::from_mode(rights))?;
-    Ok(file.sync_all()?)
+    if is_flushed {
+        file.sync_all()?;
+    }
+    fs::rename(rt, fresh.beside.as_str(), fresh.path.as_str()).map_err(WriteError::Place)
 }
 
 // Gives a new file the owner and group of the old one if that is allowed, and returns its
 // permissions. If it replaces another user's file but stays this user's, it gets no more rights
 // than any new file, and the old owner must be able to read it.
-fn rights_after(file: &File, usual: u32, old: &Metadata) -> Result<u32, Unwritten> {
+fn rights_after(file: &File, usual: u32, old: &Metadata) -> Result<u32, WriteError> {
     let kept = kept_rights(old.mode());
     let is_given = fchown(file, Some(old.uid()), Some(old.gid())).is_ok();
     if is_given || file.metadata()?.uid() == old.uid() {
@@ -288,20 +330,6 @@ fn rights_after(file: &File, usual: u32, old: &Metadata) -> Result<u32, Unwritte
     if rights & 0o4 != 0 {
         Ok(rights)
     } else {
-        Err(Unwritten::Owner)
+        Err(WriteError::Owner)
     }
-}
-
-// Renames a completely written file to `path`. Removes it if writing or renaming failed.
-fn rename_filled(
-    rt: &HostRuntime,
-    filled: Result<(), Unwritten>,
-    beside: &str,
-    path: &str,
-) -> Result<(), Unwritten> {
-    let done = filled.and_then(|()| fs::rename(rt, beside, path).map_err(Unwritten::Place));
-    if done.is_err() {
-        let _ = fs::remove_file(rt, beside);
-    }
-    done
 }

@@ -1,7 +1,7 @@
 //! Reads and writes files, standard input and standard output.
 
 use crate::failure::Failure;
-use crate::files::{Unwritten, write_whole};
+use crate::files::{Draft, WriteError};
 use crate::refused;
 use goqlanis_request::Grouped;
 use std::alloc::Global;
@@ -36,16 +36,82 @@ pub fn print(rt: &HostRuntime, bytes: &[u8]) -> Result<ExitCode, Failure> {
     }
 }
 
-/// Writes `bytes` to the file at `path`. If anything fails, an old file stays as it was.
+/// Writes `bytes` to the file at `path`, and waits until they are on disk if it `is_flushed`. If
+/// anything fails, an old file stays as it was.
 ///
 /// Errors: `Unwritten`, with the reason; `OutOfMemory` if memory runs out.
-pub fn write_file(rt: &HostRuntime, path: &str, bytes: &[u8]) -> Result<ExitCode, Failure> {
-    match write_whole(rt, path, bytes) {
-        Ok(()) => Ok(ExitCode::SUCCESS),
-        Err(Unwritten::OutOfMemory(_)) => Err(Failure::OutOfMemory),
-        Err(error) => {
-            Err(Failure::Unwritten(format!(in rt.alloc(); "cannot write {path}: {error}")?))
+pub fn write_file(
+    rt: &HostRuntime,
+    path: &str,
+    bytes: &[u8],
+    is_flushed: bool,
+) -> Result<ExitCode, Failure> {
+    let mut file = Series::new(Some(path));
+    let written = file.write(rt, bytes);
+    let ended = file.end(rt, written.is_ok(), is_flushed);
+    written?;
+    ended?;
+    Ok(ExitCode::SUCCESS)
+}
+
+/// Returns what was `done` with the file at `path`; a failure names it.
+pub fn named<T>(alloc: Global, path: &str, done: Result<T, WriteError>) -> Result<T, Failure> {
+    match done {
+        Ok(done) => Ok(done),
+        Err(WriteError::OutOfMemory(_)) => Err(Failure::OutOfMemory),
+        Err(error) => Err(Failure::Unwritten(format!(in alloc; "cannot write {path}: {error}")?)),
+    }
+}
+
+/// Where several drawings go one behind another: standard output, or one file.
+#[derive(Drop)]
+pub struct Series<'a> {
+    // The file, if it is one; it is begun with the first drawing.
+    path: Option<&'a str>,
+    draft: Option<Draft>,
+}
+
+impl<'a> Series<'a> {
+    /// Returns the series of drawings in the file at `path`, or else on standard output.
+    pub fn new(path: Option<&'a str>) -> Series<'a> {
+        Series { path, draft: None }
+    }
+
+    /// Writes `bytes` behind what was written.
+    ///
+    /// Errors: those of `print` and `write_file`.
+    pub fn write(&mut self, rt: &HostRuntime, bytes: &[u8]) -> Result<(), Failure> {
+        let Some(path) = self.path else {
+            print(rt, bytes)?;
+            return Ok(());
+        };
+        let mut draft = match self.draft.take() {
+            Some(draft) => draft,
+            None => named(rt.alloc(), path, Draft::begin(rt, path))?,
+        };
+        let written = draft.write(bytes);
+        self.draft = Some(draft);
+        named(rt.alloc(), path, written.map_err(WriteError::File))
+    }
+
+    /// Ends the file, if there is one, and waits until it is on disk if it `is_flushed`; unless it
+    /// `is_whole`, an old file stays as it was.
+    ///
+    /// Errors: those of `write_file`.
+    pub fn end(
+        &mut self,
+        rt: &HostRuntime,
+        is_whole: bool,
+        is_flushed: bool,
+    ) -> Result<(), Failure> {
+        let (Some(path), Some(draft)) = (self.path, self.draft.take()) else {
+            return Ok(());
+        };
+        if is_whole {
+            return named(rt.alloc(), path, draft.end(rt, is_flushed));
         }
+        draft.remove(rt);
+        Ok(())
     }
 }
 
@@ -61,13 +127,13 @@ pub fn write_data(
     match output {
         None if rt.stdout().is_terminal() => show(rt, data),
         None | Some("-") => print(rt, data),
-        Some(path) => write_file(rt, path, data),
+        Some(path) => write_file(rt, path, data, true),
     }
 }
 
 // Writes data to a terminal, with escapes, and ends the last line.
 fn show(rt: &HostRuntime, data: &[u8]) -> Result<ExitCode, Failure> {
-    let shown = Escaped {
+    let shown = Escapes {
         bytes: data,
         has_lines: true,
     };
@@ -141,21 +207,21 @@ pub fn unread<T>(alloc: Global, name: &str, error: &io::Error) -> Result<T, Fail
 /// reorder others, become escapes such as \u{1b}; bytes that are not UTF-8 become escapes such as
 /// \xff.
 #[derive(Clone, Copy)]
-pub struct Escaped<'a> {
+pub struct Escapes<'a> {
     pub bytes: &'a [u8],
     /// Whether line breaks and tabs are left as they are.
     pub has_lines: bool,
 }
 
 /// Displays `text` within one line, with escapes for line breaks and tabs too.
-pub fn shown(text: &str) -> Escaped<'_> {
-    Escaped {
+pub fn shown(text: &str) -> Escapes<'_> {
+    Escapes {
         bytes: text.as_bytes(),
         has_lines: false,
     }
 }
 
-impl fmt::Display for Escaped<'_> {
+impl fmt::Display for Escapes<'_> {
     fn fmt<W: fmt::Write>(&self, f: &mut fmt::Formatter<W>) -> fmt::Result {
         for chunk in self.bytes.utf8_chunks() {
             write_text(f, chunk.valid(), self.has_lines)?;

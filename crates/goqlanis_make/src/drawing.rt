@@ -272,7 +272,7 @@ pub(crate) fn check_terminal(rt: &HostRuntime, asked: &Asked<'_, '_>) -> Result<
     Ok(())
 }
 
-/// Writes a drawing to its target, if there is one.
+/// Writes a drawing to its target, if there is one. Files of lines are not flushed to disk.
 ///
 /// Errors: those of `print` and `write_file`.
 pub(crate) fn write_drawing(
@@ -284,29 +284,26 @@ pub(crate) fn write_drawing(
         return Ok(ExitCode::SUCCESS);
     };
     match asked.target {
-        Target::File(path) => write_file(rt, path, &bytes),
+        Target::File(path) => write_file(rt, path, &bytes, asked.input.lines.is_none()),
         // Its title may have characters that hide or reorder others on a terminal.
         Target::Terminal if asked.request.format == Format::SvgPath => write_data(rt, None, &bytes),
         Target::Terminal | Target::StandardOutput => print(rt, &bytes),
     }
 }
 
-/// Writes a drawing to its target: PDF for standard output as the next page of a document, others as
-/// they are.
+/// Writes a drawing, if there is one, behind others: PDF as the next page of a document.
 ///
-/// Errors: those of `Pages::add` and `write_drawing`.
+/// Errors: those of `Pages::add` and `Series::write`.
 pub(crate) fn write_page(
     rt: &HostRuntime,
     asked: &Asked<'_, '_>,
-    pages: &mut Pages,
+    pages: &mut Pages<'_>,
     drawing: Option<Vec<u8>>,
-) -> Result<ExitCode, Failure> {
-    match (drawing, asked.request.format, asked.target) {
-        (Some(file), Format::Pdf, Target::Terminal | Target::StandardOutput) => {
-            pages.add(rt, &file)?;
-            Ok(ExitCode::SUCCESS)
-        }
-        (drawing, _, _) => write_drawing(rt, asked, drawing),
+) -> Result<(), Failure> {
+    match (drawing, asked.request.format) {
+        (Some(file), Format::Pdf) => pages.add(rt, &file),
+        (Some(bytes), _) => pages.series.write(rt, &bytes),
+        (None, _) => Ok(()),
     }
 }
 

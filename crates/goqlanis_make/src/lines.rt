@@ -2,11 +2,11 @@
 
 use crate::drawing::{draw_one, write_drawing, write_page};
 use crate::making::{draw_elements, draw_payload};
-use goqlanis_files::failure::{Doubts, Failure};
-use goqlanis_files::progress::Progress;
-use goqlanis_files::streams::{ask, shown, unread};
+use goqlanis_files::failure::{Doubts, Failure, Place};
+use goqlanis_files::files::flush_folder;
+use goqlanis_files::streams::{Series, ask, named, shown, unread};
 use goqlanis_files::{doubted, refused};
-use goqlanis_options::asked::{Asked, Lines, Report, Source, Target, Work};
+use goqlanis_options::asked::{Asked, Lines, Source, Target, Work};
 use goqlanis_options::fields::Fields;
 use goqlanis_tables::checks::check_columns;
 use goqlanis_tables::fields::Line;
@@ -15,9 +15,10 @@ use goqlanis_tables::names::{Pattern, check_made, common_form};
 use goqlanis_tables::pages::Pages;
 use goqlanis_tables::rows::{Row, loose};
 use goqlanis_tables::tables::Table;
+use std::alloc::Global;
 use std::collections::BTreeSet;
 use std::fs;
-use std::io::{BufRead, BufReader, IsTerminal, Read};
+use std::io::{BufRead, BufReader, Read};
 use std::process::ExitCode;
 
 // Where the codes of lines go.
@@ -27,8 +28,47 @@ struct Output<'a> {
     pattern: Option<Pattern<'a>>,
     // The names of files that later lines could use again, in their common form.
     names: BTreeSet<String>,
-    pages: Pages,
-    progress: Progress,
+    // Whether one was written.
+    has_files: bool,
+    // The document or series of drawings, if they go one behind another.
+    pages: Pages<'a>,
+}
+
+impl<'a> Output<'a> {
+    // Returns where the codes of a table go; nothing is written yet.
+    fn of(
+        rt: &HostRuntime,
+        asked: &Asked<'a, '_>,
+        table: &Table<'_>,
+    ) -> Result<Output<'a>, Failure> {
+        let pattern = Pattern::read(rt, asked, &table.columns)?;
+        let path = match asked.target {
+            Target::File(path) if pattern.is_none() => Some(path),
+            _ => None,
+        };
+        Ok(Output {
+            pattern,
+            names: BTreeSet::new(rt.alloc()),
+            has_files: false,
+            pages: Pages::new(rt.alloc(), Series::new(path)),
+        })
+    }
+
+    // Ends the document, which is left out unless it `is_whole`, or waits until the folder of the
+    // files is on disk.
+    fn end(
+        &mut self,
+        rt: &HostRuntime,
+        asked: &Asked<'_, '_>,
+        is_whole: bool,
+    ) -> Result<(), Failure> {
+        match asked.target {
+            Target::File(path) if self.has_files => {
+                named(rt.alloc(), path, flush_folder(rt, path))
+            }
+            _ => self.pages.series.end(rt, is_whole, true),
+        }
+    }
 }
 
 /// Draws a code of each line as it arrives, without its LF or CR LF. A line that is refused is
@@ -61,26 +101,13 @@ fn draw_from<R: Read + Drop>(
 ) -> Result<ExitCode, Failure> {
     let mut from = BufReader::new(rt.alloc(), from).map_err(|_| Failure::OutOfMemory)?;
     let table = Table::read(rt.alloc(), asked, lines, &mut from)?;
-    let mut output = Output {
-        pattern: Pattern::read(rt, asked, &table.columns)?,
-        names: BTreeSet::new(rt.alloc()),
-        pages: Pages::new(rt.alloc()),
-        progress: progress_of(rt, asked),
-    };
+    let mut output = Output::of(rt, asked, &table)?;
     check_columns(rt, asked, &table)?;
     let drawn = draw_each(rt, asked, &table, &mut output, &mut from);
-    output.progress.clear(rt);
-    drawn
-}
-
-// Returns the progress line, which is not shown where reports or drawings go to the terminal.
-fn progress_of(rt: &HostRuntime, asked: &Asked<'_, '_>) -> Progress {
-    let goes_to_file = matches!(asked.target, Target::File(_));
-    let has_reports = asked.report != Report::Nothing || asked.is_dry;
-    Progress::new(
-        rt,
-        has_reports || !goes_to_file && rt.stdout().is_terminal(),
-    )
+    let ended = output.end(rt, asked, drawn.is_ok());
+    let code = drawn?;
+    ended?;
+    Ok(code)
 }
 
 // Draws each line, and reports the refused ones. In a table, lines without any data are left out.
@@ -91,7 +118,7 @@ fn draw_each<R: BufRead>(
     output: &mut Output<'_>,
     from: &mut R,
 ) -> Result<ExitCode, Failure> {
-    let mut code = ExitCode::SUCCESS;
+    let mut is_whole = true;
     let mut read = Vec::new(rt.alloc());
     for number in 1..usize::MAX {
         let place = table.place(number);
@@ -103,20 +130,33 @@ fn draw_each<R: BufRead>(
             break;
         }
         if let Some(line) = table.line(rt.alloc(), &read, number)? {
-            match draw_line(rt, asked, table, output, &line) {
-                Ok(_) => output.progress.show(rt, number),
-                Err(Failure::Refused(why)) => {
-                    output.progress.clear(rt);
-                    let why = shown(why.as_str());
-                    let _ = eprintln!(rt; "goqlanis: {place}{why}");
-                    code = ExitCode::FAILURE;
-                }
-                Err(failure) => return Err(failure),
-            }
+            let drawn = draw_line(rt, asked, table, output, &line);
+            is_whole = reported(rt, place, drawn)? && is_whole;
         }
     }
     output.pages.end(rt)?;
-    Ok(code)
+    Ok(if is_whole {
+        ExitCode::SUCCESS
+    } else {
+        ExitCode::FAILURE
+    })
+}
+
+// Reports a refusal of a line; returns whether there is none.
+fn reported(
+    rt: &HostRuntime,
+    place: Place<'_>,
+    drawn: Result<(), Failure>,
+) -> Result<bool, Failure> {
+    match drawn {
+        Ok(()) => Ok(true),
+        Err(Failure::Refused(why)) => {
+            let why = shown(why.as_str());
+            let _ = eprintln!(rt; "goqlanis: {place}{why}");
+            Ok(false)
+        }
+        Err(failure) => Err(failure),
+    }
 }
 
 // Draws a line, to a file named after it if `--output` is given.
@@ -126,7 +166,7 @@ fn draw_line(
     table: &Table<'_>,
     output: &mut Output<'_>,
     line: &Line<'_>,
-) -> Result<ExitCode, Failure> {
+) -> Result<(), Failure> {
     let doubts = Doubts {
         place: Some(table.place(line.number)),
         ..asked.doubts
@@ -139,19 +179,32 @@ fn draw_line(
     };
     let name = pattern.name(rt.alloc(), line)?;
     let common = common_form(rt.alloc(), name.as_str())?;
-    if output.names.contains(common.as_str()) {
-        return refused!(rt.alloc();
-            "{name} is the file of an earlier line; {{}} in --output numbers the codes"
-        );
-    }
+    check_new(rt.alloc(), &output.names, name.as_str(), common.as_str())?;
     check_made(rt, &asked, name.as_str())?;
     let target = Target::File(name.as_str());
     let asked = Asked { target, ..asked };
-    let code = write_drawing(rt, &asked, draw_data(rt, &asked, table, line)?)?;
+    let drawing = draw_data(rt, &asked, table, line)?;
+    output.has_files = output.has_files || drawing.is_some();
+    write_drawing(rt, &asked, drawing)?;
     if pattern.has_text() {
         output.names.insert(common)?;
     }
-    Ok(code)
+    Ok(())
+}
+
+// Refuses a name that an earlier line has, in the form `common` to all names that may be the same.
+fn check_new(
+    alloc: Global,
+    names: &BTreeSet<String>,
+    name: &str,
+    common: &str,
+) -> Result<(), Failure> {
+    if names.contains(common) {
+        return refused!(alloc;
+            "{name} is the file of an earlier line; {{}} in --output numbers the codes"
+        );
+    }
+    Ok(())
 }
 
 // Draws what a line holds.

@@ -3,7 +3,7 @@
 use crate::drawing::{check_empty, draw_reported, manner, write_drawing, write_page};
 use goqlanis_files::failure::Failure;
 use goqlanis_files::refused;
-use goqlanis_files::streams::{MOST_DATA, shown};
+use goqlanis_files::streams::{MOST_DATA, Series, shown};
 use goqlanis_options::asked::{Asked, Split, Target};
 use goqlanis_request::VersionName;
 use goqlanis_tables::columns::Columns;
@@ -81,7 +81,7 @@ fn draw_each(
     codes: Vec<QrCode>,
 ) -> Result<ExitCode, Failure> {
     let count = codes.len();
-    let mut pages = Pages::new(rt.alloc());
+    let mut pages = Pages::new(rt.alloc(), Series::new(None));
     for (index, code) in codes.into_iter().enumerate() {
         if let Some(pattern) = pattern {
             let name = part_name(rt.alloc(), pattern, index.saturating_add(1))?;

@@ -263,7 +263,7 @@ fn check_one_behind_another(alloc: Global, asked: &Asked<'_, '_>) -> Result<(), 
     let names = takers(alloc, "series")?;
     usage!(alloc;
         "pictures of this format cannot follow one another on standard output: add --output, e.g. \
-        -o a.png, and files are numbered; {names} can"
+        -o a-{{}}.png, and files are numbered; {names} can"
     )
 }
 

@@ -52,7 +52,7 @@ pub(crate) fn ending_format(path: &str) -> Option<Format> {
 
 /// Whether a format takes an option; or a series of pictures, or transparent colours of all modules
 /// or of parts.
-pub(crate) fn takes(format: Format, option: &str) -> bool {
+pub fn takes(format: Format, option: &str) -> bool {
     let row = format.row();
     match option {
         "series" => row.is_series || format == Format::Pdf,

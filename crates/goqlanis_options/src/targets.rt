@@ -36,7 +36,7 @@ pub fn reader_of(rt: &HostRuntime, asked: &Asked<'_, '_>, path: &str) -> Option<
 /// Checks that the drawing does not replace a file that is read.
 ///
 /// Errors: `Usage` if it does; `OutOfMemory`.
-pub(crate) fn check_target(rt: &HostRuntime, asked: &Asked<'_, '_>) -> Result<(), Failure> {
+pub fn check_target(rt: &HostRuntime, asked: &Asked<'_, '_>) -> Result<(), Failure> {
     let Target::File(path) = asked.target else {
         return Ok(());
     };

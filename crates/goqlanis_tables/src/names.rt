@@ -4,11 +4,11 @@ use crate::columns::Columns;
 use crate::fields::Line;
 use crate::inputs::is_one_of;
 use goqlanis_files::failure::Failure;
-use goqlanis_files::files::is_stream;
 use goqlanis_files::streams::is_unseen;
 use goqlanis_files::{refused, usage};
 use goqlanis_options::asked::{Asked, Target};
-use goqlanis_options::targets::reader_of;
+use goqlanis_options::formats::takes;
+use goqlanis_options::targets::{check_target, reader_of};
 use std::alloc::{AllocError, Global};
 use std::fs;
 use unicode_normalization::to_nfc;
@@ -38,9 +38,11 @@ pub struct Pattern<'a> {
 }
 
 impl<'a> Pattern<'a> {
-    /// Parses the path in `--output`, if there is one.
+    /// Parses the path in `--output`, if there is one. With `--lines` one without placeholders is
+    /// no pattern if the format has several codes in a file.
     ///
-    /// Errors: `Usage` if it does not name a file for each code; `OutOfMemory`.
+    /// Errors: `Usage` if it does not name a file for each code, or one that is not read;
+    /// `OutOfMemory`.
     pub fn read(
         rt: &HostRuntime,
         asked: &Asked<'a, '_>,
@@ -50,6 +52,25 @@ impl<'a> Pattern<'a> {
             return Ok(None);
         };
         let pattern = Pattern::of(rt.alloc(), path, columns)?;
+        if asked.input.lines.is_some()
+            && !pattern.has_places
+            && takes(asked.request.format, "series")
+        {
+            check_target(rt, asked)?;
+            return Ok(None);
+        }
+        pattern.check(rt, asked, columns)?;
+        Ok(Some(pattern))
+    }
+
+    // Checks that it names a file for each code.
+    fn check(
+        &self,
+        rt: &HostRuntime,
+        asked: &Asked<'_, '_>,
+        columns: &Columns,
+    ) -> Result<(), Failure> {
+        let path = self.path;
         let folder = path.rsplit_once('/').map_or("", |(folder, _)| folder);
         if is_stream(rt, path) {
             usage!(rt.alloc();
@@ -60,18 +81,22 @@ impl<'a> Pattern<'a> {
             usage!(rt.alloc();
                 "--output: {{}}, {{text}} and {{1}} are for the file name, not for its folder"
             )
-        } else if pattern.has_text() && asked.input.lines.is_none() {
+        } else if self.has_text() && asked.input.lines.is_none() {
             usage!(rt.alloc();
                 "--output: {{text}} and {{1}} are for --lines; {{}} is the number"
             )
+        } else if !self.has_places && asked.input.lines.is_some() {
+            usage!(rt.alloc();
+                "--output {path}: files of this format have one code; add {{}}, which stands for \
+                its number, e.g. a-{{}}.png"
+            )
         } else {
-            check_words(rt.alloc(), path, columns)?;
-            Ok(Some(pattern))
+            Ok(())
         }
     }
 
-    // Parses a path.
-    fn of(alloc: Global, path: &'a str, columns: &Columns) -> Result<Pattern<'a>, AllocError> {
+    // Parses a path; refuses placeholders that are unknown.
+    fn of(alloc: Global, path: &'a str, columns: &Columns) -> Result<Pattern<'a>, Failure> {
         let mut parts = parts_of(alloc, path, columns)?;
         let has_places = parts.iter().any(|part| !matches!(part, Part::Text(_)));
         if !has_places {
@@ -113,17 +138,17 @@ impl<'a> Pattern<'a> {
     }
 }
 
-// Returns the parts of a path.
-fn parts_of<'a>(
-    alloc: Global,
-    path: &'a str,
-    columns: &Columns,
-) -> Result<Vec<Part<'a>>, AllocError> {
+// Returns the parts of a path; refuses placeholders that are unknown.
+fn parts_of<'a>(alloc: Global, path: &'a str, columns: &Columns) -> Result<Vec<Part<'a>>, Failure> {
     let mut parts = Vec::new(alloc);
     let mut pieces = path.split('{');
     parts.push(Part::Text(pieces.next().unwrap_or("")))?;
     for piece in pieces {
-        let (part, rest) = place_of(piece, columns).unwrap_or((Part::Text("{"), piece));
+        let (part, rest) = match (place_of(piece, columns), piece.split_once('}')) {
+            (Some(found), _) => found,
+            (None, Some((word, _))) => return unknown(alloc, word, columns),
+            (None, None) => (Part::Text("{"), piece),
+        };
         parts.push(part)?;
         parts.push(Part::Text(rest))?;
     }
@@ -159,14 +184,8 @@ fn place_of<'a>(piece: &'a str, columns: &Columns) -> Option<(Part<'a>, &'a str)
     Some((place, rest))
 }
 
-// Checks that a path has no placeholders that are unknown.
-fn check_words(alloc: Global, path: &str, columns: &Columns) -> Result<(), Failure> {
-    if path.contains("%0") || path.contains("%d") {
-        return usage!(alloc; "--output {path}: for the number in three digits, write {{:03}}");
-    }
-    let Some(word) = unknown_word(path, columns) else {
-        return Ok(());
-    };
+// Fails: a placeholder is unknown.
+fn unknown<T>(alloc: Global, word: &str, columns: &Columns) -> Result<T, Failure> {
     if columns.is_empty() {
         return usage!(alloc;
             "--output: {{{word}}} is unknown; {{}} is the number, {{:04}} the same with zeros, \
@@ -175,14 +194,6 @@ fn check_words(alloc: Global, path: &str, columns: &Columns) -> Result<(), Failu
     }
     let list = columns.list(alloc)?;
     usage!(alloc; "--output: {{{word}}} is unknown; the columns are {list}")
-}
-
-// Returns the first placeholder that is unknown.
-fn unknown_word<'a>(path: &'a str, columns: &Columns) -> Option<&'a str> {
-    path.split('{').skip(1).find_map(|piece| {
-        let (word, _) = piece.split_once('}')?;
-        place_of(piece, columns).is_none().then_some(word)
-    })
 }
 
 // Checks the file name of a generated path: not too long, not empty, not `.` or `..`, none that
@@ -235,12 +246,17 @@ pub fn common_form(alloc: Global, name: &str) -> Result<String, AllocError> {
     to_nfc(alloc, name.to_lowercase(alloc)?.as_str())
 }
 
+// Whether a path names a folder, a pipe or a device.
+fn is_stream(rt: &HostRuntime, path: &str) -> bool {
+    fs::metadata(rt, path).is_ok_and(|found| !found.is_file())
+}
+
 /// Checks that a generated name is a plain file, and not the input: no line may write elsewhere.
 pub fn check_made(rt: &HostRuntime, asked: &Asked<'_, '_>, name: &str) -> Result<(), Failure> {
-    let what = if is_stream(rt, name) {
-        "a pipe, device or folder"
-    } else if fs::symlink_metadata(rt, name).is_ok_and(|found| found.is_symlink()) {
+    let what = if fs::symlink_metadata(rt, name).is_ok_and(|found| found.is_symlink()) {
         "a link"
+    } else if is_stream(rt, name) {
+        "a pipe, device or folder"
     } else if let Some(reader) = reader_of(rt, asked, name) {
         return refused!(rt.alloc(); "{name}: {reader} reads this file; each code gets its own");
     } else {

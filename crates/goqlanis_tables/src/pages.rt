@@ -1,4 +1,4 @@
-//! One PDF document with a page for each code, for standard output.
+//! One PDF document with a page for each code.
 //!
 //! The library draws each code as a file of one page, and it is proved what that file shows. The
 //! document takes the page and its drawing operators from there, byte for byte; only the numbers of
@@ -6,7 +6,7 @@
 
 use goqlanis_files::failure::Failure;
 use goqlanis_files::refused;
-use goqlanis_files::streams::print;
+use goqlanis_files::streams::Series;
 use std::alloc::{AllocError, Global};
 
 // The most bytes of pages. Where an object begins has ten digits in the table; the rest is for nodes.
@@ -21,7 +21,9 @@ const MOST_KIDS: usize = 1_000;
 
 /// A document, which is written page by page. Without any page nothing is written.
 #[derive(Drop)]
-pub struct Pages {
+pub struct Pages<'a> {
+    /// Where it is written.
+    pub series: Series<'a>,
     // The number of bytes written so far.
     length: usize,
     // Where each object begins, by number.
@@ -42,10 +44,11 @@ struct Parts<'a> {
     information: &'a str,
 }
 
-impl Pages {
+impl<'a> Pages<'a> {
     /// Returns a document without pages.
-    pub fn new(alloc: Global) -> Pages {
+    pub fn new(alloc: Global, series: Series<'a>) -> Pages<'a> {
         Pages {
+            series,
             length: 0,
             starts: Vec::new(alloc),
             nodes: Vec::new(alloc),
@@ -54,7 +57,7 @@ impl Pages {
 
     /// Writes the page of a file that the library drew, as the next of the document.
     ///
-    /// Errors: `Refused` if the document would be too long; those of `print`; `OutOfMemory`.
+    /// Errors: `Refused` if the document would be too long; those of `Series::write`; `OutOfMemory`.
     pub fn add(&mut self, rt: &HostRuntime, file: &[u8]) -> Result<(), Failure> {
         let Some(parts) = str::from_utf8(file).ok().and_then(parts_of) else {
             return refused!(rt.alloc();
@@ -123,14 +126,14 @@ impl Pages {
 
     // Writes a text.
     fn put(&mut self, rt: &HostRuntime, text: &str) -> Result<(), Failure> {
-        print(rt, text.as_bytes())?;
+        self.series.write(rt, text.as_bytes())?;
         self.length = self.length.saturating_add(text.len());
         Ok(())
     }
 
     /// Writes the end of the document, if it has pages: their tree, and where each object begins.
     ///
-    /// Errors: those of `print`; `OutOfMemory`.
+    /// Errors: those of `Series::write`; `OutOfMemory`.
     pub fn end(&mut self, rt: &HostRuntime) -> Result<(), Failure> {
         if self.starts.is_empty() {
             return Ok(());

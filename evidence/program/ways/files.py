@@ -2,7 +2,9 @@
 other users."""
 import os
 import re
+import shutil
 import struct
+import subprocess
 
 from room import FILES, empty, held, put, room, run
 
@@ -18,6 +20,20 @@ def _access_list(entries):
 # Entries for the owner, another user, the group, the mask, and all others.
 FOR_A_USER = _access_list(((1, 6, 0xffffffff), (2, 4, 1001), (4, 0, 0xffffffff),
                            (16, 4, 0xffffffff), (32, 0, 0xffffffff)))
+
+
+def lines_flush_their_folder_alone(program):
+    """A file is flushed to the disk, but of many files only their folder. (Passes if no program can
+    be traced.)"""
+    def flushes(*words):
+        ran = ["strace", "-o", "log", "-e", "trace=fsync,rename", program, *words]
+        subprocess.run(ran, cwd=folder, capture_output=True, check=False)
+        return re.findall(r"^(fsync|rename)\(", (held(folder, "log") or b"").decode(), re.MULTILINE)
+    with room() as folder:
+        if not shutil.which("strace") or not flushes("-o", "a.svg", "1"):
+            return True
+        return (flushes("-o", "a.svg", "1") == ["fsync", "rename"] and
+                flushes("--lines", "-o", "{}.svg", "-i", "kept") == ["rename", "rename", "fsync"])
 
 
 def lists_of_access_give_nobody_more(program):

@@ -86,22 +86,6 @@ def pages_are_written_as_their_lines_come(program):
         return ran.stdout.read().endswith(b"%%EOF\n") and ran.wait(timeout=60) == 0
 
 
-def a_line_says_how_many_lines_are_done(program):
-    """The count shows on a terminal without drawings; the message of a failing line replaces it."""
-    with room() as folder:
-        words = ["--lines", "-i", f"{folder}/lines", "-o", f"{folder}/a.svg"]
-        refusal = (b"goqlanis: %s/lines: line 2: 3,000 bytes at level M: at most 2,331 fit, more of "
-                   b"digits or capitals; goqlanis split splits them over several codes\n"
-                   % folder.encode())
-        shown, status = in_terminal(program, words)
-        dumb = in_terminal(program, words, TERM="dumb")
-        drawn = in_terminal(program, ["--lines", "-i", f"{folder}/kept"])[0]
-        made = sorted(it for it in os.listdir(folder) if it.startswith("a-"))
-        wanted = b"\r1 lines done\r\x1b[K" + refusal + b"\r3 lines done\r\x1b[K"
-        is_shown = (shown, status, made) == (wanted, 1, ["a-000001.svg", "a-000003.svg"])
-        return is_shown and dumb == (refusal, 1) and b" lines" not in drawn
-
-
 # The ends of the ranges of Unicode's Default_Ignorable_Code_Point (DerivedCoreProperties) that are
 # not format characters: fillers, variation selectors, and unassigned code points.
 IGNORED = ("\u034f\u115f\u1160\u17b4\u17b5\u180b\u180f\u2065\u3164\ufe00\ufe0f\uffa0\ufff0\ufff8"
