@@ -79,7 +79,7 @@ pub(crate) const LOOKS: &str = "Output
 --invert: Swap dark and light; not all readers accept that
 --logo FILE: Put a logo in the middle: an SVG or PNG file for SVG output, a PNG file for PNG output; the code still decodes
 --logo-area: Leave an empty area for a logo, in any format
---logo-size SIZE: Side of the area, in modules or percent of the code's side, e.g. 9 or 20% [default: the largest that uses about half of the error correction]
+--logo-size SIZE: Side of the area, in modules or percent of the code's side, e.g. 9 or 20% [default: a fourth for a logo; else the largest that uses about half of the error correction]
 --logo-margin MODULES=0..20: Light modules around the logo [default: 1]
 --keep-alignment: Keep the logo off alignment patterns, which some readers need
 --verbose: Report version, level, mask and sizes on standard error

@@ -1,6 +1,7 @@
 //! What stands in the middle of a code: a logo, read from a file, the Swiss cross, or nothing.
 #![tactic(auto)]
 
+pub mod areas;
 mod logos;
 pub mod middle;
 mod shrinking;

@@ -3,25 +3,21 @@
 ghost use Rattle.std.specs.Prelude.{IfOk, IsErr};
 ghost use Rattle.qrcode_sheets.specs.Places.{HasPixels};
 
+use crate::areas::area_of;
 use crate::logos::{element_of, pixels_of};
 use crate::shrinking::shrunk;
 use goqlanis_files::failure::Failure;
+use goqlanis_files::refused;
 use goqlanis_files::streams::read_file;
-use goqlanis_files::{doubted, refused};
 use goqlanis_options::asked::Asked;
 use goqlanis_options::logos::{AskedLogo, Logo, Middle};
-use goqlanis_request::areas::{LogoError, LogoSize, LogoWish, logo_area, roomier};
-use goqlanis_request::overlays::{
-    CROSS_UNITS, Inside, cross_pixels, cross_size, cross_width, with_logo,
-};
+use goqlanis_request::Request;
+use goqlanis_request::overlays::{CROSS_UNITS, Inside, cross_pixels, cross_width, with_logo};
 use goqlanis_request::places::place_in;
-use goqlanis_request::{Request, VersionName};
 use qrcode::QrCode;
-use qrcode::types::Version;
 use qrcode_area::areas::Rectangle;
-use qrcode_area::excess::Excess;
 use qrcode_sheets::{Inset, Place};
-use std::alloc::{AllocError, Global};
+use std::alloc::Global;
 
 // The maximum size of a logo file: 1 MiB.
 const MOST_LOGO: usize = 1_048_576;
@@ -56,7 +52,7 @@ pub fn middle_of(
     code: &QrCode,
 ) -> Result<Option<Rectangle>, Failure> {
     match &asked.logo {
-        Some(logo) => Ok(Some(area_of(alloc, code, wish_of(logo, code))?)),
+        Some(logo) => Ok(Some(area_of(alloc, logo, code)?)),
         None => Ok(None),
     }
 }
@@ -72,7 +68,7 @@ pub fn draw_with_middle(
     code: &QrCode,
 ) -> Result<(Rectangle, Vec<u8>), Failure> {
     let is_png = request.format.row().middle == qrcode_formats::Middle::Pixels;
-    let area = area_of(alloc, code, wish_of(logo, code))?;
+    let area = area_of(alloc, logo, code)?;
     let bytes = match logo.middle {
         Middle::Logo(Logo::Pixels(pixels, across, down)) => {
             let place = place_of(alloc, request, code, area, logo.margin)?;
@@ -93,73 +89,6 @@ pub fn draw_with_middle(
         Middle::Light => draw_inside(alloc, request, code, area, Inside::Nothing),
     };
     Ok((area, bytes?))
-}
-
-/// Warns of a logo that is less than a tenth of the code's side, across or down.
-///
-/// Errors: `Refused` if warnings are errors; `OutOfMemory`.
-pub fn warn_of_logo(
-    rt: &HostRuntime,
-    asked: &Asked<'_, '_>,
-    code: &QrCode,
-    area: Option<Rectangle>,
-) -> Result<(), Failure> {
-    let logo = asked.logo.as_ref().filter(|logo| logo.file.is_some());
-    let (Some(area), Some(logo)) = (area, logo) else {
-        return Ok(());
-    };
-    let wish = wish_of(logo, code);
-    if is_ample(wish, logo.margin, area, code.width()) {
-        return Ok(());
-    }
-    let (width, height) = logo_sides(wish, logo.margin, area);
-    match ampler(rt.alloc(), logo, code) {
-        Some(version) => {
-            let name = VersionName(version);
-            doubted!(rt, asked.doubts;
-                "the logo gets only {width} by {height} modules; for more, use -v {name}"
-            )
-        }
-        None => doubted!(rt, asked.doubts;
-            "the logo gets only {width} by {height} modules; for more, use a larger --logo-size"
-        ),
-    }
-}
-
-// Whether a logo is at least a tenth of the code's side, across and down.
-fn is_ample(wish: LogoWish, margin: u8, area: Rectangle, side: usize) -> bool {
-    let (width, height) = logo_sides(wish, margin, area);
-    width.min(height).saturating_mul(10) >= side
-}
-
-// Returns the smallest larger version in which the logo is at least a tenth of the code's side.
-fn ampler(alloc: Global, logo: &AskedLogo<'_>, code: &QrCode) -> Option<Version> {
-    let (wish, level) = (wish_of(logo, code), code.error_correction_level());
-    for number in 1..41usize {
-        let (version, side) = (Version::Normal(number as i16), 4 * number + 17);
-        if side <= code.width() || !version.has_level(level) {
-            continue;
-        }
-        match logo_area(alloc, version, level, wish) {
-            Ok(area) if is_ample(wish, logo.margin, area, side) => return Some(version),
-            _ => {}
-        }
-    }
-    None
-}
-
-// Returns the sides of a logo in modules, as it fits into an area within its margin.
-fn logo_sides(wish: LogoWish, margin: u8, area: Rectangle) -> (usize, usize) {
-    let margins = 2 * margin as usize;
-    let (width, height) = (
-        area.width.saturating_sub(margins),
-        area.height.saturating_sub(margins),
-    );
-    let (across, down) = (wish.across as usize, wish.down as usize);
-    (
-        width.min(height.saturating_mul(across) / down.max(1)),
-        height.min(width.saturating_mul(down) / across.max(1)),
-    )
 }
 
 // Draws a code with a logo in its area, as a PNG file. A logo with more pixels than its place is
@@ -222,25 +151,6 @@ fn draw_inside(
     }
 }
 
-// Returns the size and proportions wanted for the area.
-fn wish_of(asked: &AskedLogo<'_>, code: &QrCode) -> LogoWish {
-    let (across, down) = match asked.middle {
-        Middle::Logo(Logo::Pixels(_, across, down)) => (*across as u32, *down as u32),
-        Middle::Logo(Logo::Element(across, down, _)) => (*across, *down),
-        Middle::Cross | Middle::Light => (1, 1),
-    };
-    LogoWish {
-        size: if matches!(asked.middle, Middle::Cross) {
-            LogoSize::Modules(cross_size(code.width()))
-        } else {
-            asked.size
-        },
-        across,
-        down,
-        kept: asked.kept,
-    }
-}
-
 // Fails: the area is too small for a logo within its margin.
 fn no_room<T>(alloc: Global, area: Rectangle) -> Result<T, Failure>
     ensures { IsErr result }
@@ -266,49 +176,4 @@ fn place_of(
         Some(place) => Ok(place),
         None => no_room(alloc, area),
     }
-}
-
-// Returns the requested area of a code.
-fn area_of(alloc: Global, code: &QrCode, wish: LogoWish) -> Result<Rectangle, Failure> {
-    let (version, level) = (code.version(), code.error_correction_level());
-    match logo_area(alloc, version, level, wish) {
-        Ok(area) => Ok(area),
-        Err(LogoError::OutOfMemory) => Err(Failure::OutOfMemory),
-        Err(error) => Err(Failure::Refused(refusal_text(alloc, code, wish, error)?)),
-    }
-}
-
-// Explains why a code has no such area, and which version and level has room for it.
-fn refusal_text(
-    alloc: Global,
-    code: &QrCode,
-    wish: LogoWish,
-    error: LogoError,
-) -> Result<String, AllocError> {
-    let (version, level) = (code.version(), code.error_correction_level());
-    let (name, side) = (VersionName(version), code.width());
-    let mut text = match error {
-        LogoError::Outside => format!(in alloc;
-            "--logo-size: version {name} has {side} modules a side"
-        ),
-        LogoError::Patterns => format!(in alloc;
-            "--logo-size: in version {name} the area covers patterns by which readers find a code"
-        ),
-        LogoError::Excess(
-            Excess::Block {
-                touched,
-                allowed,
-                ..
-            },
-        ) => format!(in alloc;
-            "--logo-size: in version {name} at level {level:?} the area covers {touched} codewords \
-            of a block, of which {allowed} may be lost"
-        ),
-        _ => format!(in alloc; "version {name} at level {level:?} has no room for a logo"),
-    }?;
-    if let Some((version, level)) = roomier(alloc, version, level, wish)? {
-        let name = VersionName(version);
-        write!(text, "; version {name} at level {level:?} has room for it")?;
-    }
-    Ok(text)
 }

@@ -8,20 +8,22 @@ ghost use Rattle.goqlanis_request.specs.Elements.{IsApplicationIn, IsElementsIn}
 ghost use Rattle.goqlanis_make.specs.Labels.{label_text};
 
 use crate::charsets::text_code;
-use crate::contents::Elements;
+use crate::contents::{Elements, with_round_brackets};
 use crate::damaging::draw_damaged;
 use crate::segments::{characters_of, is_empty, segments_of};
 use goqlanis_files::failure::Failure;
 use goqlanis_files::streams::{print, write_data, write_file};
 use goqlanis_files::{refused, usage};
-use goqlanis_logos::middle::{draw_with_middle, has_pixels, middle_of, warn_of_logo};
+use goqlanis_logos::areas::{version_for, warn_of_logo};
+use goqlanis_logos::middle::{draw_with_middle, has_pixels, middle_of};
 use goqlanis_options::asked::{Asked, Target, Work};
 use goqlanis_options::charsets::Coded;
 use goqlanis_options::report::show_report;
 use goqlanis_request::{
-    Drawing, Extent, Request, Segment, application_refusal_text, data_refusal_text, drawing_of,
-    elements_refusal_text, manner_of, quiet_zone, refusal_text, scale, segments_refusal_text,
-    symbol_for_application, symbol_in, symbol_of, symbol_of_elements, unwritable,
+    Choice, Drawing, Extent, Request, Segment, application_refusal_text, data_refusal_text,
+    drawing_of, elements_refusal_text, manner_of, quiet_zone, refusal_text, scale,
+    segments_refusal_text, symbol_for_application, symbol_in, symbol_of, symbol_of_elements,
+    unwritable,
 };
 use goqlanis_tables::pages::Pages;
 use qrcode::QrCode;
@@ -37,26 +39,76 @@ use std::alloc::Global;
 use std::io::IsTerminal;
 use std::process::ExitCode;
 
-/// Encodes `bytes`, and draws and reports the code as `draw_reported` does.
-pub(crate) fn draw_one(
+/// Encodes data, and draws and reports the code as `draw_reported` does. A larger version may give
+/// a logo more room.
+pub(crate) fn draw(
     rt: &HostRuntime,
     asked: &Asked<'_, '_>,
-    bytes: &[u8],
+    data: &[u8],
 ) -> Result<Option<Vec<u8>>, Failure> {
-    let alloc = rt.alloc();
-    check_empty(alloc, asked, bytes)?;
-    if let Some(name) = asked.input.charset {
-        let (code, coded) = text_code(alloc, asked, name, bytes)?;
-        return draw_reported(rt, asked, code, Some(coded));
+    let (code, coded) = encode(rt.alloc(), asked, data)?;
+    let Some(choice) = choice_for_logo(rt.alloc(), asked, &code)? else {
+        return draw_reported(rt, asked, code, coded);
+    };
+    let request = Request {
+        choice,
+        ..asked.request
+    };
+    let asked = Asked { request, ..*asked };
+    let (code, coded) = encode(rt.alloc(), &asked, data)?;
+    draw_reported(rt, &asked, code, coded)
+}
+
+// Encodes data, with `--charset` in a character set; with `--segment` the segments that are given.
+fn encode(
+    alloc: Global,
+    asked: &Asked<'_, '_>,
+    data: &[u8],
+) -> Result<(QrCode, Option<Coded>), Failure> {
+    let request = &asked.request;
+    match (asked.work, asked.input.segments, asked.input.charset) {
+        (Work::Elements(indicator), _, _) => {
+            Ok((gs1_code(alloc, request, indicator, data)?, None))
+        }
+        (_, Some(words), _) => Ok((segments_code(alloc, asked, words)?, None)),
+        (_, _, Some(name)) => {
+            check_empty(alloc, asked, data)?;
+            let (code, coded) = text_code(alloc, asked, name, data)?;
+            Ok((code, Some(coded)))
+        }
+        _ => Ok((bytes_code(alloc, asked, data)?, None)),
     }
+}
+
+// Makes a code of text or bytes.
+fn bytes_code(alloc: Global, asked: &Asked<'_, '_>, bytes: &[u8]) -> Result<QrCode, Failure> {
+    check_empty(alloc, asked, bytes)?;
     let (request, manner) = (&asked.request, manner(alloc, asked, bytes)?);
     match symbol_in(alloc, request.choice, manner, request.level, bytes) {
-        Ok(code) => draw_reported(rt, asked, code, None),
+        Ok(code) => Ok(code),
         Err(error) => {
             let why = data_refusal_text(alloc, request, manner, bytes, error)?;
             Err(Failure::Refused(why))
         }
     }
+}
+
+// Returns the choice of a larger version in which the logo gets what it should, if there is one and
+// the version is not given.
+fn choice_for_logo(
+    alloc: Global,
+    asked: &Asked<'_, '_>,
+    code: &QrCode,
+) -> Result<Option<Choice>, Failure> {
+    let (Some(logo), Choice::From(_) | Choice::Boosted(_)) = (&asked.logo, asked.request.choice)
+    else {
+        return Ok(None);
+    };
+    let larger = version_for(alloc, logo, code)?.filter(|version| *version != code.version());
+    Ok(larger.map(|version| match asked.request.choice {
+        Choice::Boosted(_) => Choice::Boosted(version),
+        _ => Choice::From(version),
+    }))
 }
 
 // A drawing, and the area in its middle if it has one.
@@ -147,12 +199,8 @@ pub(crate) fn check_empty(
     }
 }
 
-/// Makes a code of chosen segments, given as words MODE:DATA or eci:NUMBER.
-pub(crate) fn segments_code(
-    alloc: Global,
-    asked: &Asked<'_, '_>,
-    words: &[&str],
-) -> Result<QrCode, Failure> {
+// Makes a code of chosen segments, given as words MODE:DATA or eci:NUMBER.
+fn segments_code(alloc: Global, asked: &Asked<'_, '_>, words: &[&str]) -> Result<QrCode, Failure> {
     let segments = segments_of(alloc, words)?;
     let has_none = segments.iter().all(|segment| is_empty(segment));
     if has_none && !asked.input.allows_empty {
@@ -179,12 +227,31 @@ pub(crate) fn segments_code(
     }
 }
 
-/// Makes a code of the GS1 element string in `text`, with identifiers in round brackets.
-pub(crate) fn elements_code(
+// Makes a code of a GS1 element string, or of data in an industry's own format.
+fn gs1_code(
     alloc: Global,
     request: &Request<'_>,
-    text: &str,
-) -> Result<QrCode, Failure>
+    indicator: Option<&str>,
+    data: &[u8],
+) -> Result<QrCode, Failure> {
+    let Ok(text) = str::from_utf8(data) else {
+        return refused!(alloc; "ELEMENTS: they are not UTF-8");
+    };
+    let text = text.trim_end_matches('\n');
+    if let Some(indicator) = indicator {
+        return application_code(alloc, request, indicator, text);
+    }
+    if text.starts_with("http") {
+        return refused!(alloc;
+            "ELEMENTS: a GS1 Digital Link is a plain text: goqlanis \"https://..\""
+        );
+    }
+    let text = with_round_brackets(alloc, text)?;
+    elements_code(alloc, request, text.as_str())
+}
+
+// Makes a code of the GS1 element string in `text`, with identifiers in round brackets.
+fn elements_code(alloc: Global, request: &Request<'_>, text: &str) -> Result<QrCode, Failure>
     ensures symbol { IfOk result (λ code. (items : List Item) × ((label_text items ≡ text.now)
         × IsElementsIn request.now.choice request.now.level items code)) }
 {
@@ -203,8 +270,8 @@ pub(crate) fn elements_code(
     }
 }
 
-/// Makes a code of `text` in an industry's own format, which `indicator` names.
-pub(crate) fn application_code(
+// Makes a code of `text` in an industry's own format, which `indicator` names.
+fn application_code(
     alloc: Global,
     request: &Request<'_>,
     indicator: &str,

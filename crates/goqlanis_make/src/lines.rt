@@ -1,7 +1,7 @@
 //! `--lines`: one code for each line.
 
-use crate::drawing::{draw_one, write_drawing, write_page};
-use crate::making::{draw_elements, draw_payload};
+use crate::drawing::{draw, write_drawing, write_page};
+use crate::making::draw_payload;
 use goqlanis_files::failure::{Doubts, Failure, Place};
 use goqlanis_files::files::flush_folder;
 use goqlanis_files::streams::{Series, ask, named, shown, unread};
@@ -216,14 +216,10 @@ fn draw_data(
 ) -> Result<Option<Vec<u8>>, Failure> {
     match asked.work {
         Work::Payload(fields) => draw_row(rt, asked, fields, table, line),
-        Work::Elements(_) => {
-            let data = table.data(rt.alloc(), line)?;
-            draw_elements(rt, asked, data.as_str())
-        }
-        _ if table.is_whole => draw_one(rt, asked, line.bytes),
+        _ if table.is_whole => draw(rt, asked, line.bytes),
         _ => {
             let data = table.data(rt.alloc(), line)?;
-            draw_one(rt, asked, data.as_str().as_bytes())
+            draw(rt, asked, data.as_str().as_bytes())
         }
     }
 }

@@ -1,10 +1,7 @@
 //! Makes the codes that the command line asks for.
 
-use crate::contents::{payload_of, with_round_brackets};
-use crate::drawing::{
-    application_code, check_terminal, draw_one, draw_reported, elements_code, segments_code,
-    write_drawing,
-};
+use crate::contents::payload_of;
+use crate::drawing::{check_terminal, draw, write_drawing};
 use crate::lines::draw_lines;
 use crate::splitting::{MOST_IN_SEVERAL, draw_several};
 use goqlanis_files::failure::Failure;
@@ -34,11 +31,11 @@ pub fn make(rt: &HostRuntime, asked: &Asked<'_, '_>) -> Result<ExitCode, Failure
         middle: file.as_ref().map_or(logo.middle, Middle::Logo),
         ..logo
     });
-    draw(rt, &Asked { logo, ..*asked })
+    make_all(rt, &Asked { logo, ..*asked })
 }
 
 // Makes codes.
-fn draw(rt: &HostRuntime, asked: &Asked<'_, '_>) -> Result<ExitCode, Failure> {
+fn make_all(rt: &HostRuntime, asked: &Asked<'_, '_>) -> Result<ExitCode, Failure> {
     check_terminal(rt, asked)?;
     if let Work::Split(split) = asked.work {
         return draw_several(rt, asked, split, &data(rt, asked, MOST_IN_SEVERAL)?);
@@ -49,11 +46,8 @@ fn draw(rt: &HostRuntime, asked: &Asked<'_, '_>) -> Result<ExitCode, Failure> {
     }
     let drawing = match (asked.work, asked.input.segments) {
         (Work::Payload(fields), _) => draw_fields(rt, asked, fields)?,
-        (Work::Elements(indicator), _) => draw_gs1(rt, asked, indicator)?,
-        (_, Some(words)) => {
-            draw_reported(rt, asked, segments_code(rt.alloc(), asked, words)?, None)?
-        }
-        (_, None) => draw_one(rt, asked, &data(rt, asked, MOST_DATA)?)?,
+        (_, Some(_)) => draw(rt, asked, b"")?,
+        (_, None) => draw(rt, asked, &data(rt, asked, MOST_DATA)?)?,
     };
     write_drawing(rt, asked, drawing)
 }
@@ -108,7 +102,7 @@ pub(crate) fn draw_payload<G: Given>(
             allows no hint; write e.g. Maerz for März to be safe"
         )?;
     }
-    draw_one(rt, asked, text.as_bytes())
+    draw(rt, asked, text.as_bytes())
 }
 
 // Draws a Swiss QR-bill.
@@ -124,7 +118,7 @@ fn draw_bill(
         )?;
     }
     warn_of_bill(rt, asked)?;
-    draw_one(rt, asked, text.as_bytes())
+    draw(rt, asked, text.as_bytes())
 }
 
 // Warns of what the standard for Swiss QR-bills does not allow.
@@ -187,40 +181,6 @@ fn check_bill(alloc: Global, text: &str) -> Result<(), Failure> {
             )
         }
     }
-}
-
-// Draws a GS1 element string, or data in an industry's own format.
-fn draw_gs1(
-    rt: &HostRuntime,
-    asked: &Asked<'_, '_>,
-    indicator: Option<&str>,
-) -> Result<Option<Vec<u8>>, Failure> {
-    let bytes = data(rt, asked, MOST_DATA)?;
-    let Ok(text) = str::from_utf8(&bytes) else {
-        return refused!(rt.alloc(); "ELEMENTS: they are not UTF-8");
-    };
-    let text = text.trim_end_matches('\n');
-    let Some(indicator) = indicator else {
-        return draw_elements(rt, asked, text);
-    };
-    let code = application_code(rt.alloc(), &asked.request, indicator, text)?;
-    draw_reported(rt, asked, code, None)
-}
-
-/// Draws a GS1 element string.
-pub(crate) fn draw_elements(
-    rt: &HostRuntime,
-    asked: &Asked<'_, '_>,
-    text: &str,
-) -> Result<Option<Vec<u8>>, Failure> {
-    if text.starts_with("http") {
-        return refused!(rt.alloc();
-            "ELEMENTS: a GS1 Digital Link is a plain text: goqlanis \"https://..\""
-        );
-    }
-    let text = with_round_brackets(rt.alloc(), text)?;
-    let code = elements_code(rt.alloc(), &asked.request, text.as_str())?;
-    draw_reported(rt, asked, code, None)
 }
 
 // Returns the data to encode; at most `most` bytes are read.
