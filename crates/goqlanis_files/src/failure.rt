@@ -61,6 +61,12 @@ pub struct Doubts<'a> {
     pub place: Option<Place<'a>>,
 }
 
+/// Warnings that are not errors, on one input.
+pub const WARNINGS: Doubts<'static> = Doubts {
+    is_error: false,
+    place: None,
+};
+
 /// Returns the exit status of a run, and reports a failure in one line on standard error, except
 /// `Unheard`.
 pub fn status(rt: &HostRuntime, run: Result<ExitCode, Failure>) -> ExitCode {
@@ -76,21 +82,12 @@ pub fn status(rt: &HostRuntime, run: Result<ExitCode, Failure>) -> ExitCode {
     code
 }
 
-/// Warns, or fails like `doubted`, since the file `name` has more than its picture, or
-/// faults beside it.
-pub fn warn_of_more(rt: &HostRuntime, is_error: bool, name: &str) -> Result<(), Failure> {
-    let doubts = Doubts {
-        is_error,
-        place: None,
-    };
-    doubted(
-        rt,
-        doubts,
-        format_args!(
-            "{} has extra or faulty data beside its picture, which is ignored",
-            shown(name)
-        ),
-    )
+/// Warns that the file `name` has more than its picture, or faults beside it; if warnings are
+/// errors, fails like `doubted`.
+pub fn warn_of_more(rt: &HostRuntime, doubts: Doubts<'_>, name: &str) -> Result<(), Failure> {
+    let name = shown(name);
+    let what = format_args!("{name} has extra or faulty data beside its picture, which is ignored");
+    doubted(rt, doubts, what)
 }
 
 /// Prints a warning on standard error, with the line that it is about; if warnings are errors,

@@ -1,7 +1,7 @@
 //! Logo files: PNG and SVG.
 
 use base64::engine::general_purpose::STANDARD;
-use goqlanis_files::failure::{Failure, warn_of_more};
+use goqlanis_files::failure::{Doubts, Failure, warn_of_more};
 use goqlanis_files::refused;
 use goqlanis_options::logos::Logo;
 use qrcode_png::{Picture, Unread, read};
@@ -11,12 +11,12 @@ use std::alloc::{AllocError, Global};
 /// Extra or faulty data beside the picture gets a warning, or is an error.
 pub(crate) fn pixels_of(
     rt: &HostRuntime,
-    is_error: bool,
+    doubts: Doubts<'_>,
     path: &str,
     file: &[u8],
 ) -> Result<Logo, Failure> {
     let why = "a PNG file takes a PNG logo; save it as PNG, or use --format svg";
-    let picture = picture_of(rt, is_error, path, file, why)?;
+    let picture = picture_of(rt, doubts, path, file, why)?;
     let (across, down) = picture.sides();
     Ok(Logo::Pixels(picture.pixels(rt.alloc())?, across as u16, down as u16))
 }
@@ -25,13 +25,13 @@ pub(crate) fn pixels_of(
 /// content. Data after a PNG picture gets a warning, or is an error.
 pub(crate) fn element_of(
     rt: &HostRuntime,
-    is_error: bool,
+    doubts: Doubts<'_>,
     path: &str,
     file: &[u8],
 ) -> Result<Logo, Failure> {
     let alloc = rt.alloc();
     let Ok(text) = str::from_utf8(file) else {
-        let (across, down) = picture_of(rt, is_error, path, file, UNKNOWN)?.sides();
+        let (across, down) = picture_of(rt, doubts, path, file, UNKNOWN)?.sides();
         return Ok(image(alloc, across as u32, down as u32, "png", file)?);
     };
     match svg_sides(text) {
@@ -43,7 +43,7 @@ pub(crate) fn element_of(
 // Decodes a PNG file; `other` is the message for any other kind of file.
 fn picture_of(
     rt: &HostRuntime,
-    is_error: bool,
+    doubts: Doubts<'_>,
     path: &str,
     file: &[u8],
     other: &str,
@@ -52,7 +52,7 @@ fn picture_of(
     match read(alloc, file) {
         Ok(picture) => {
             if picture.has_faults() {
-                warn_of_more(rt, is_error, path)?;
+                warn_of_more(rt, doubts, path)?;
             }
             Ok(picture)
         }
@@ -90,53 +90,14 @@ fn image(
     Ok(Logo::Element(across, down, rest))
 }
 
-// The attributes of the root element of an SVG file that give its size, and its namespace.
-#[derive(Clone, Copy)]
-struct Root<'a> {
-    view: &'a str,
-    width: &'a str,
-    height: &'a str,
-    space: &'a str,
-}
-
-impl<'a> Root<'a> {
-    fn set(&mut self, name: &str, value: &'a str) {
-        match name {
-            "width" => self.width = value,
-            "height" => self.height = value,
-            "viewBox" => self.view = value,
-            "xmlns" => self.space = value,
-            _ => {}
-        }
-    }
-}
-
 // Returns the width and height of an SVG file, in proportion.
 fn svg_sides(text: &str) -> Result<(u32, u32), &'static str> {
     if text.contains("<script") || text.contains("<!ENTITY") || has_handler(text) {
         return Err(SCRIPTS);
     }
-    let Some(mut left) = behind_prolog(text).and_then(|text| text.strip_prefix("<svg")) else {
-        return Err(UNKNOWN);
-    };
-    let mut root = Root {
-        view: "",
-        width: "",
-        height: "",
-        space: "",
-    };
-    for _ in 0..text.len() {
-        left = left.trim_start();
-        if left.starts_with('>') && text.trim_end().ends_with("</svg>") {
-            return sides(&root);
-        }
-        let Some((name, value, rest)) = next_attribute(left) else {
-            return Err(UNKNOWN);
-        };
-        root.set(name, value);
-        left = rest;
-    }
-    Err(UNKNOWN)
+    let root = behind_prolog(text).and_then(|text| text.strip_prefix("<svg"));
+    let root = root.filter(|_| text.trim_end().ends_with("</svg>"));
+    root.map_or(Err(UNKNOWN), sides)
 }
 
 // Whether an SVG file has an attribute that browsers execute, such as `onload`.
@@ -186,16 +147,34 @@ fn next_attribute(text: &str) -> Option<(&str, &str, &str)> {
     Some((name, value, rest))
 }
 
+// Returns the value of an attribute of the root element, whose name is left out: empty if it has no
+// such attribute, `None` if it is no element.
+fn attribute<'a>(root: &'a str, wanted: &str) -> Option<&'a str> {
+    let (mut left, mut found) = (root, "");
+    for _ in 0..root.len() {
+        left = left.trim_start();
+        if left.starts_with('>') {
+            return Some(found);
+        }
+        let (name, value, rest) = next_attribute(left)?;
+        if name == wanted {
+            found = value;
+        }
+        left = rest;
+    }
+    None
+}
+
 // Returns the proportions of a root element: of its width and height in pixels, or of its viewBox.
-fn sides(root: &Root<'_>) -> Result<(u32, u32), &'static str> {
-    let mut units = root
-        .view
+fn sides(root: &str) -> Result<(u32, u32), &'static str> {
+    let value = |name| attribute(root, name).ok_or(UNKNOWN);
+    let mut units = value("viewBox")?
         .split(|c: char| c == ',' || c.is_ascii_whitespace())
         .filter(|number| !number.is_empty())
         .skip(2);
-    let found = pixels(root.width).zip(pixels(root.height));
+    let found = pixels(value("width")?).zip(pixels(value("height")?));
     let (across, down) = found.or(units.next().zip(units.next())).ok_or(SIZELESS)?;
-    if root.space != "http://www.w3.org/2000/svg" {
+    if value("xmlns")? != "http://www.w3.org/2000/svg" {
         return Err(NAMELESS);
     }
     whole(across).zip(whole(down)).ok_or(SIZELESS)

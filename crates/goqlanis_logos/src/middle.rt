@@ -29,9 +29,9 @@ pub fn read_logo(rt: &HostRuntime, asked: &Asked<'_, '_>) -> Result<Option<Logo>
     };
     let file = read_file(rt, path, MOST_LOGO)?;
     Ok(Some(if asked.request.format.row().middle == qrcode_formats::Middle::Pixels {
-        pixels_of(rt, asked.doubts.is_error, path, &file)?
+        pixels_of(rt, asked.doubts, path, &file)?
     } else {
-        element_of(rt, asked.doubts.is_error, path, &file)?
+        element_of(rt, asked.doubts, path, &file)?
     }))
 }
 

@@ -56,14 +56,9 @@ fn check_characters(alloc: Global, set: Charset, text: &str) -> Result<(), Failu
     let number = place.saturating_add(1);
     let character = text.chars().nth(place).unwrap_or(' ');
     let code = u32::from(character);
-    let better = CHARSETS
-        .iter()
-        .skip(1)
-        .find(|other| other.lacks(text).is_none());
-    let better = CharsetName(better.copied().unwrap_or(Charset::Utf8));
     refused!(alloc;
-        "character {number}, {character} (U+{code:04X}), is not in {name}; {better} has all, and \
-        --charset shortest finds the best"
+        "character {number}, {character} (U+{code:04X}), is not in {name}; --charset shortest finds \
+        a set that has all"
     )
 }
 
@@ -89,42 +84,24 @@ fn refuse(
     text: &str,
 ) -> Result<(QrCode, Charset), Failure> {
     let level = request.level;
-    let Choice::At(version) = request.choice else {
-        return refuse_all(alloc, level, sets, text);
-    };
-    let name = VersionName(version);
-    if tables::capacity(version, level).is_none() {
-        return refused!(alloc; "version {name} has no level {level:?}");
-    }
-    if version.is_micro() && sets.len() == 1 {
-        return refused!(alloc; "version {name} has no ECI; use a version of 1 to 40");
-    }
-    let least = symbol_among(alloc, Choice::From(version), sets, level, text);
-    let Some(least) = least.ok().map(|(code, _)| VersionName(code.version())) else {
-        return refuse_all(alloc, level, sets, text);
-    };
-    refused!(alloc;
-        "version {name} at level {level:?} does not hold the text; version {least} does"
-    )
-}
-
-// Says that no version holds the text at this level, and what would.
-fn refuse_all(
-    alloc: Global,
-    level: EcLevel,
-    sets: &[Charset],
-    text: &str,
-) -> Result<(QrCode, Charset), Failure> {
-    let any = Choice::From(Version::Normal(1));
-    for lower in [EcLevel::Q, EcLevel::M, EcLevel::L] {
-        if symbol_among(alloc, any, sets, lower, text).is_ok() {
+    if let Choice::At(version) = request.choice {
+        let name = VersionName(version);
+        if tables::capacity(version, level).is_none() {
+            return refused!(alloc; "version {name} has no level {level:?}");
+        }
+        if version.is_micro() && sets.len() == 1 {
+            return refused!(alloc; "version {name} has no ECI; use a version of 1 to 40");
+        }
+        if let Ok((code, _)) = symbol_among(alloc, Choice::From(version), sets, level, text) {
+            let least = VersionName(code.version());
             return refused!(alloc;
-                "no version holds the text at level {level:?}; level {lower:?} holds it"
+                "version {name} at level {level:?} does not hold the text; version {least} does"
             );
         }
     }
     refused!(alloc;
-        "no version holds the text; without --charset, goqlanis split splits it over several codes"
+        "no version holds the text at level {level:?}: use a lower --level, or leave out --charset; \
+        goqlanis split splits the text over several codes"
     )
 }
 

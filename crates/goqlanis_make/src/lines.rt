@@ -233,7 +233,7 @@ fn draw_row(
     line: &Line<'_>,
 ) -> Result<Option<Vec<u8>>, Failure> {
     let columns = &table.columns;
-    let row = Row::of(rt.alloc(), fields.kind, columns, line, &fields)?;
+    let row = Row::of(rt.alloc(), columns, line, &fields)?;
     if let Some(field) = loose(rt.alloc(), columns, line)? {
         let label = columns.label(rt.alloc(), field)?;
         doubted!(rt, asked.doubts;

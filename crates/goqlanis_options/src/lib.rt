@@ -6,7 +6,7 @@ pub mod charsets;
 pub mod colours;
 pub mod damage;
 pub mod fields;
-mod formats;
+pub mod formats;
 pub mod frames;
 pub mod json;
 pub mod logos;

@@ -3,7 +3,7 @@
 use crate::pictures::{picture_name, pictures_in};
 use crate::reading::{picture_of, reported, status_of, warn_of_missed};
 use crate::reports::{push_file, push_heading};
-use goqlanis_files::failure::{Failure, warn_of_more};
+use goqlanis_files::failure::{Failure, WARNINGS, warn_of_more};
 use goqlanis_files::refused;
 use goqlanis_files::streams::write_data;
 use goqlanis_options::asked::Report;
@@ -80,7 +80,7 @@ fn push_checks(
         Err(error) => return refused!(rt.alloc(); "cannot check {name}: {error}"),
     };
     if found.codes.has_more {
-        warn_of_more(rt, false, name)?;
+        warn_of_more(rt, WARNINGS, name)?;
     }
     let is_whole = warn_of_missed(rt, &found.codes);
     for check in found.checks {

@@ -5,7 +5,6 @@ use goqlanis_files::failure::Failure;
 use goqlanis_files::refused;
 use goqlanis_files::streams::write_data;
 use goqlanis_options::pictures::{Pictures, STANDARD_INPUT};
-use goqlanis_request::Grouped;
 use qrcode_append::errors::JoinError;
 use qrcode_append::{Part, join};
 use qrcode_reader::spell::{self, Header};
@@ -13,20 +12,11 @@ use qrcode_scan::Scan;
 use std::alloc::{AllocError, Global};
 use std::process::ExitCode;
 
-// The maximum number of codes in a split.
-const MOST_SYMBOLS: usize = 16;
-
 /// Decodes the codes of a split and writes their joined data. A single code may lack the structured
 /// append header, as `split` makes it.
 pub fn join_pictures(rt: &HostRuntime, pictures: &Pictures<'_, '_>) -> Result<ExitCode, Failure> {
     let names = pictures.names.unwrap_or(STANDARD_INPUT);
     let output = pictures.output;
-    if names.len() > MOST_SYMBOLS {
-        let count = Grouped(names.len());
-        return refused!(rt.alloc();
-            "{count} pictures: a split has at most {MOST_SYMBOLS} codes; name those of one"
-        );
-    }
     let (mut sources, mut scans) = (Vec::new(rt.alloc()), Vec::new(rt.alloc()));
     for name in names {
         if !push_scans(rt, name, &mut scans)? {

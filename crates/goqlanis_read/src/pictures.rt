@@ -1,6 +1,6 @@
 //! The pictures in a file.
 
-use goqlanis_files::failure::{Failure, warn_of_more};
+use goqlanis_files::failure::{Failure, WARNINGS, warn_of_more};
 use goqlanis_files::refused;
 use qrcode_scan::behind_picture;
 use std::alloc::{AllocError, Global};
@@ -30,7 +30,7 @@ pub(crate) fn pictures_in<'a>(
         }
     }
     if !rest.is_empty() {
-        warn_of_more(rt, false, name)?;
+        warn_of_more(rt, WARNINGS, name)?;
     }
     Ok(pictures)
 }

@@ -3,7 +3,7 @@
 use crate::pictures::{picture_name, pictures_in};
 use crate::reports::{object_of, other_set, report};
 use crate::texts::text_of;
-use goqlanis_files::failure::{Failure, warn_of_more};
+use goqlanis_files::failure::{Failure, WARNINGS, warn_of_more};
 use goqlanis_files::streams::{MOST_PICTURE, read_file, read_standard_input, shown, write_data};
 use goqlanis_files::{refused, warning};
 use goqlanis_options::asked::Report;
@@ -177,7 +177,7 @@ fn push_codes(
     match read_codes(alloc, picture) {
         Ok(codes) => {
             if codes.has_more {
-                warn_of_more(rt, false, name)?;
+                warn_of_more(rt, WARNINGS, name)?;
             }
             warn_of_missed(rt, &codes);
             for scan in codes.scans {

@@ -1,6 +1,6 @@
 //! Checks the columns of a table (`--lines`) before its lines are encoded.
 
-use crate::columns::{Columns, identifier_in, is_identifier};
+use crate::columns::{Columns, field_called, identifier_in, is_identifier};
 use crate::tables::Table;
 use goqlanis_files::failure::Failure;
 use goqlanis_files::streams::shown;
@@ -123,10 +123,9 @@ fn check_spelling(
     let known = fields
         .map(|field| option_of(*field).long)
         .collect::<Vec<&'static str>>(alloc)?;
-    for (place, name) in columns.names().iter().enumerate() {
+    for name in columns.names() {
         let name = name.as_str().trim();
-        let is_known = columns.meant(place.saturating_add(1)).is_some();
-        if is_known || is_in_path(alloc, target, name)? {
+        if field_called(kind, name).is_some() || is_in_path(alloc, target, name)? {
             continue;
         }
         if let Some(meant) = nearest(alloc, name, &known)? {
@@ -146,7 +145,7 @@ fn left_out(
     let columns = &table.columns;
     let name = columns.names().get(number.saturating_sub(1))?.as_str();
     match (work, table.lines.field) {
-        (Work::Payload(_), _) => match columns.meant(number) {
+        (Work::Payload(fields), _) => match field_called(fields.kind, name) {
             None if !is_named => Some("is no option of this command, so it"),
             Some(field) if columns.field(field) != Some(number) => Some("stands twice; this one"),
             _ => None,

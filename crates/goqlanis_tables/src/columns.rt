@@ -12,10 +12,8 @@ use std::alloc::{AllocError, Global};
 #[derive(Drop)]
 pub struct Columns {
     names: Vec<String>,
-    // The field of a payload that each is the name of, if it is one.
-    meant: Vec<Option<Field>>,
-    // The fields that columns give, in order, each with the number of its column, from 1.
-    fields: Vec<(Field, usize)>,
+    // The fields of a payload, in order, each with the number of the column that gives it, from 1.
+    fields: Vec<(Field, Option<usize>)>,
 }
 
 impl Columns {
@@ -23,7 +21,6 @@ impl Columns {
     pub fn none(alloc: Global) -> Columns {
         Columns {
             names: Vec::new(alloc),
-            meant: Vec::new(alloc),
             fields: Vec::new(alloc),
         }
     }
@@ -42,7 +39,6 @@ impl Columns {
         };
         let mut columns = Columns {
             names,
-            meant: Vec::new(alloc),
             fields: Vec::new(alloc),
         };
         if let Some(kind) = kind {
@@ -51,20 +47,15 @@ impl Columns {
         Ok(columns)
     }
 
-    // Finds the fields of a payload that columns give: each by the column that is called as its
-    // option, or else by the first that is called by another name of it.
+    // Finds the column of each field of a payload: the one that is called as its option, or else
+    // the first that is called by another name of it.
     fn find_fields(&mut self, kind: Kind) -> Result<(), AllocError> {
-        for name in &self.names {
-            self.meant.push(field_called(kind, name.as_str().trim()))?;
-        }
         for field in fields_in(kind) {
-            let mut meant = self.meant.iter();
-            let other = meant.position(|meant| *meant == Some(*field));
             let number = self.number_of(option_of(*field).long);
+            let mut names = self.names.iter();
+            let other = names.position(|name| field_called(kind, name.as_str()) == Some(*field));
             let number = number.or(other.map(|place| place.saturating_add(1)));
-            if let Some(number) = number {
-                self.fields.push((*field, number))?;
-            }
+            self.fields.push((*field, number))?;
         }
         Ok(())
     }
@@ -86,9 +77,9 @@ impl Columns {
         Some(place.saturating_add(1))
     }
 
-    /// Returns the fields of a payload that columns give, in order, each with the number of its
-    /// column, from 1.
-    pub fn fields(&self) -> &[(Field, usize)] {
+    /// Returns the fields of a payload, in order, each with the number of the column that gives it,
+    /// from 1.
+    pub fn fields(&self) -> &[(Field, Option<usize>)] {
         &self.fields
     }
 
@@ -96,12 +87,7 @@ impl Columns {
     pub fn field(&self, field: Field) -> Option<usize> {
         let mut fields = self.fields.iter();
         let (_, number) = fields.find(|(known, _)| *known == field)?;
-        Some(*number)
-    }
-
-    /// Returns the field of a payload that column `number` is called by.
-    pub fn meant(&self, number: usize) -> Option<Field> {
-        *self.meant.get(number.saturating_sub(1))?
+        *number
     }
 
     /// Whether each of these fields is the name of a column.
@@ -143,10 +129,10 @@ impl Columns {
     }
 }
 
-// Returns the field of payloads of `kind` whose option has this name, or else has it as another
-// name.
-fn field_called(kind: Kind, name: &str) -> Option<Field> {
-    let mut found = None;
+/// Returns the field of payloads of `kind` whose option has this name, or else has it as another
+/// name.
+pub(crate) fn field_called(kind: Kind, name: &str) -> Option<Field> {
+    let (name, mut found) = (name.trim(), None);
     for field in fields_in(kind) {
         let long = option_of(*field).long;
         if long.eq_ignore_ascii_case(name) {

@@ -13,7 +13,6 @@ use goqlanis_options::fields::{DECISIVE, OPEN};
 use goqlanis_options::options::fields::option_of;
 use qrcode_contents::fields::errors::Field;
 use qrcode_payloads::given::Given;
-use qrcode_payloads::kinds::{Kind, fields_of};
 use std::alloc::Global;
 
 /// The fields of a payload in a line: names of options with their texts.
@@ -48,7 +47,6 @@ impl Row {
     /// Errors: `Refused` if the line is not UTF-8, or has fewer fields than columns; `OutOfMemory`.
     pub fn of<G: Given>(
         alloc: Global,
-        kind: Kind,
         columns: &Columns,
         line: &Line<'_>,
         options: &G,
@@ -56,25 +54,21 @@ impl Row {
         utf8(alloc, line.bytes)?;
         let mut pairs = Vec::new(alloc);
         let is_open = is_open(alloc, columns, line)?;
-        for field in fields_of(kind) {
+        for (field, number) in columns.fields() {
             let name = option_of(*field).long;
-            let text = match columns.field(*field) {
+            let text = match number {
                 Some(number) => {
-                    let text = line.field(alloc, number)?;
-                    let text = decided(alloc, name, number, text, is_open)?;
-                    if *field == Field::Hidden {
-                        truth(text)
-                    } else {
-                        text
-                    }
+                    let text = line.field(alloc, *number)?;
+                    decided(alloc, name, *number, text, is_open)?
                 }
                 None => options.text(*field),
             };
-            let pair = (
-                String::from_str(alloc, name)?,
-                String::from_str(alloc, text)?,
-            );
-            pairs.push(pair)?;
+            let text = match field {
+                Field::Hidden => truth(text),
+                _ => text,
+            };
+            let name = String::from_str(alloc, name)?;
+            pairs.push((name, String::from_str(alloc, text)?))?;
         }
         Ok(Row { pairs })
     }
@@ -85,6 +79,9 @@ impl Row {
 /// Errors: `Refused` if the line has fewer fields than columns; `OutOfMemory`.
 pub fn loose(alloc: Global, columns: &Columns, line: &Line<'_>) -> Result<Option<Field>, Failure> {
     for (field, number) in columns.fields() {
+        let Some(number) = number else {
+            continue;
+        };
         let text = line.field(alloc, *number)?;
         let is_mark = |sign: char| sign == '"' || sign.is_whitespace();
         if text.starts_with(is_mark) || text.ends_with(is_mark) {

@@ -50,16 +50,10 @@ impl<'a> Table<'a> {
         let mut line = Vec::new(alloc);
         let has_line = lines.has_header && next_line(alloc, name, from, &mut line, 1)?;
         let first = has_line.then_some(text_of(&line, 1));
-        let columns = columns_of(
-            alloc,
-            asked.work.kind(),
-            lines,
-            Place { file, line: 1 },
-            first,
-        )?;
+        let (kind, place) = (asked.work.kind(), Place { file, line: 1 });
+        let columns = columns_of(alloc, kind, lines, place, first)?;
         let has_elements = matches!(asked.work, Work::Elements(_));
-        let is_text = !has_elements && asked.work.kind().is_none();
-        let is_whole = is_text && lines.field.is_none();
+        let is_whole = !has_elements && kind.is_none() && lines.field.is_none();
         check_delimiter(alloc, asked.target, &columns, is_whole)?;
         let field = match lines.field {
             Some(name) => Some(field_number(alloc, &columns, name)?),
