@@ -11,7 +11,7 @@ use Rattle.qrcode_formats.specs.Formats.{row}
 use Rattle.qrcode_formats.specs.declared.Colours.TheVariants.{Fixed}
 use Rattle.qrcode_formats.specs.declared.Format.{Format}
 use Rattle.qrcode_formats.specs.declared.Format.TheVariants.{EscPos, Grey, Pbm, Pgm, Ppm, Tspl, Xbm}
-use Rattle.qrcode_sheets.specs.Formats.{IsDrawn as IsSheetIn}
+use Rattle.qrcode_sheets.specs.Formats.{IsDrawn}
 use Rattle.qrcode_sheets.specs.Sheets.{rgb}
 use Rattle.goqlanis_buffers.specs.Asking.{escpos_length, pbm_length, pgm_length, ppm_length, side_of, tspl_length, xbm_length, HasLength, IsDrawable}
 use Rattle.goqlanis_buffers.specs.Colours.{colour_shade}
@@ -126,7 +126,7 @@ at_of a = layout a.width a.drawing.now.zone a.drawing.now.scale a.drawing.now.sc
 
 -- a drawing in the requested format, which has no colours of parts, has the length that is computed
 drawn_length : (a : Asked) (f g : Format) (bytes : List ℕ) (count total : ℕ) → f ≡ g → (row g).parts ≡ Fixed → IsDrawable a f
-    → IsSheetIn g (sheet g a.modules.now a.width a.drawing.now []) bytes → length bytes ≡ total → count ≡ total → HasLength a count
+    → IsDrawn g (sheet g a.modules.now a.width a.drawing.now []) bytes → length bytes ≡ total → count ≡ total → HasLength a count
 drawn_length a f g bytes count total is fixed asked drawn long same =
     let h = subst (IsDrawable a) is asked in
     let none = no_paints g a.drawing.now fixed h.sayable in (

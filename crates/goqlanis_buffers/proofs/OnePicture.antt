@@ -9,11 +9,11 @@ use Rattle.qrcode_types.specs.declared.types.Color.TheVariants.{Light}
 use Rattle.qrcode_render.specs.Drawn.{drawn}
 use Rattle.qrcode_sheets.specs.Eps.{eps_paint, eps_rect}
 use Rattle.qrcode_sheets.specs.Formats.{eps_text, IsDrawn}
-use Rattle.qrcode_sheets.specs.Layers.{is_tone, layer, order, unit_layout, AreLayers, AreOver}
+use Rattle.qrcode_sheets.specs.Layers.{is_tone, layer, order, shapes_in, unit_layout, AreLayers, AreOver}
 use Rattle.qrcode_sheets.specs.Parts.{part_of}
 use Rattle.qrcode_sheets.specs.Sheets.{Sheet, eps_ink}
 use Rattle.qrcode_sheets.specs.declared.layers.PartInk.{PartInk}
-use Rattle.goqlanis_buffers.specs.Drawings.{sheet, IsDrawn as IsDrawing}
+use Rattle.goqlanis_buffers.specs.Drawings.{sheet, IsPictureIn}
 use Rattle.goqlanis_buffers.specs.Tints.{ink_paint, Paint}
 use Rattle.goqlanis_buffers.specs.declared.pictures.Drawing.{Drawing}
 use Rattle.qrcode_formats.specs.declared.Format.{Format}
@@ -44,7 +44,7 @@ layers_alike t us ws (j ∷ js) (k ∷ ks) a b same x y =
 
 over_alike : (t : Sheet) (us ws : List PartInk) (a b : List ℕ) → map ink_paint us ≡ map ink_paint ws
     → AreOver Eps (record t { parts = us }) a → AreOver Eps (record t { parts = ws }) b → a ≡ b
-over_alike t us ws a b same x y = x.1.1 ∙ ap (λ l. l ++ t.over) (layers_alike t us ws us ws x.0 y.0 same x.1.0 y.1.0) ∙ sym y.1.1
+over_alike t us ws a b same x y = x.1.1 ∙ ap (λ l. l ++ shapes_in t.over) (layers_alike t us ws us ws x.0 y.0 same x.1.0 y.1.0) ∙ sym y.1.1
 
 -- a drawing with the same colours of parts has one picture
 alike : (f : Format) (t : Sheet) (us ws : List PartInk) (a b : List ℕ) → map ink_paint us ≡ map ink_paint ws → f ≢ Png → f ≢ SvgPath → f ≢ Pdf → f ≢ Zpl
@@ -74,6 +74,6 @@ one_picture f t a b no_png no_path no_pdf no_zpl x y = alike f t t.parts t.parts
 
 -- what C asks for has one picture
 pub one_answer : (f : Format) (modules : List ℕ) (width : ℕ) (d : Drawing) (a b : List ℕ) → f ≢ Png → f ≢ SvgPath → f ≢ Pdf → f ≢ Zpl
-    → IsDrawing f modules width d a → IsDrawing f modules width d b → a ≡ b
+    → IsPictureIn f modules width d a → IsPictureIn f modules width d b → a ≡ b
 one_answer f modules width d a b no_png no_path no_pdf no_zpl x y =
     alike f (sheet f modules width d []) x.inks y.inks a b (x.own ∙ sym y.own) no_png no_path no_pdf no_zpl x.shown y.shown

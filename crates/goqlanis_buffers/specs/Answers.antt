@@ -9,7 +9,7 @@ use Rattle.qrcode.specs.Texts.{ShowsTextOnly}
 use Rattle.qrcode_reader.specs.Readings.{HasNoVersion, HasNoFormat, HasDamagedBlock, ShowsNothing, SpellsNothing}
 use Rattle.goqlanis_buffers.specs.Shades.{colors_of}
 use Rattle.qrcode_formats.specs.Formats.{format_numbered}
-use Rattle.goqlanis_buffers.specs.Drawings.{has_side, is_sayable, IsDrawn}
+use Rattle.goqlanis_buffers.specs.Drawings.{has_side, is_sayable, IsPictureIn}
 use Rattle.goqlanis_buffers.specs.declared.pictures.Drawing.{Drawing}
 use Rattle.qrcode_formats.specs.declared.Format.{Format}
 use Rattle.goqlanis_buffers.specs.Names.{level_named, version_named}
@@ -93,7 +93,7 @@ pub record IsPicture (modules : List ℕ) (width : ℕ) (d : Drawing) (bytes : L
   pub named : Format
   pub asked : IsOfSquare modules width d named
   pub sized : HasSize width d named
-  pub drawn : IsDrawn named modules width d bytes
+  pub drawn : IsPictureIn named modules width d bytes
 
 -- why modules of a width are not drawn into a buffer of `room` bytes: the first of these causes that applies
 abbrev pub IsDrawingCause : List ℕ → ℕ → Drawing → ℕ → Refusal → Type 0

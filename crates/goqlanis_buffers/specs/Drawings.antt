@@ -1,11 +1,11 @@
 -- What the calls for C draw.
-use Rattle.std.specs.Prelude.{◌≡◌, ℕ, ◌==◌, nat_le, ◌&&◌, Bool, true, false, List, [], IsTrue, Option, None, Some, map, if◌then◌else◌}
+use Rattle.std.specs.Prelude.{◌≡◌, ℕ, ◌==◌, nat_le, ◌&&◌, Bool, true, false, List, IsTrue, Option, None, Some, map, if◌then◌else◌}
 use Rattle.qrcode_render.specs.Layout.{layout}
 use Rattle.qrcode_sheets.specs.Paths.{plain}
 use Rattle.goqlanis_buffers.specs.Shades.{colors_of}
 use Rattle.goqlanis_request.specs.Drawings.{sized}
-use Rattle.qrcode_sheets.specs.Formats.{IsDrawn as IsSheetIn}
-use Rattle.qrcode_sheets.specs.Sheets.{Sheet}
+use Rattle.qrcode_sheets.specs.Formats.{IsDrawn}
+use Rattle.qrcode_sheets.specs.Sheets.{Nothing, Sheet}
 use Rattle.qrcode_sheets.specs.declared.layers.PartInk.{PartInk}
 use Rattle.qrcode_formats.specs.Formats.{row}
 use Rattle.qrcode_formats.specs.declared.Density.{Density}
@@ -42,8 +42,7 @@ sheet f modules width d inks = record {
   frame = sized (dots (row f).is_exact d.dpi) plain;
   version = version_for width;
   parts = inks;
-  over = [];
-  inset = None;
+  over = Nothing;
 }
 
 abbrev pub most_dpi : Density → (is_exact : Bool) → ℕ  -- the most dots per inch: what a PNG file holds, and any number in formats of exact sizes
@@ -59,12 +58,12 @@ is_sayable f d = has_density f d.dpi && has_colours f d.dark d.light && have_tin
 
 -- the bytes are the picture of modules of a width, in a format that supports its colours and dots per inch; it is known which modules belong to parts that
 -- have a colour of their own
-pub record IsDrawn (f : Format) (modules : List ℕ) (width : ℕ) (d : Drawing) (bytes : List ℕ) : Type 0 where
+pub record IsPictureIn (f : Format) (modules : List ℕ) (width : ℕ) (d : Drawing) (bytes : List ℕ) : Type 0 where
   pub inks : List PartInk
   pub sayable : IsTrue (is_sayable f d)
   pub known : IsTrue (has_parts width d)
   pub own : map ink_paint inks ≡ paints d
-  pub shown : IsSheetIn f (sheet f modules width d inks) bytes
+  pub shown : IsDrawn f (sheet f modules width d inks) bytes
 
 -- the most pixels a side: four bytes of memory are taken for each in a PNG file in full colour
 abbrev pub most_side : Format → Bool → ℕ

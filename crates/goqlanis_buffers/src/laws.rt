@@ -5,7 +5,7 @@ ghost use Rattle.qrcode_sheets.specs.Formats.{IsDrawn};
 ghost use Rattle.qrcode_sheets.specs.Sheets.{Sheet};
 ghost use Rattle.qrcode_formats.specs.declared.Format.{Format};
 ghost use Rattle.qrcode_formats.specs.declared.Format.TheVariants.{Pdf, Png, SvgPath, Zpl};
-ghost use Rattle.goqlanis_buffers.specs.Drawings.{IsDrawn as IsDrawing};
+ghost use Rattle.goqlanis_buffers.specs.Drawings.{IsPictureIn};
 ghost use Rattle.goqlanis_buffers.specs.declared.answers.Refusal.{Refusal};
 ghost use Rattle.goqlanis_buffers.specs.declared.contents.answers.Refusal as of_contents;
 ghost use Rattle.goqlanis_buffers.specs.declared.pictures.Drawing.{Drawing};
@@ -28,6 +28,6 @@ pub fn pictures()
     ensures one { (f : Format) (t : Sheet) (a b : List ℕ) → f ≢ Png → f ≢ SvgPath → f ≢ Pdf
         → f ≢ Zpl → IsDrawn f t a → IsDrawn f t b → a ≡ b }
     ensures in_c { (f : Format) (modules : List ℕ) (width : ℕ) (d : Drawing) (a b : List ℕ)
-        → f ≢ Png → f ≢ SvgPath → f ≢ Pdf → f ≢ Zpl → IsDrawing f modules width d a
-        → IsDrawing f modules width d b → a ≡ b }
+        → f ≢ Png → f ≢ SvgPath → f ≢ Pdf → f ≢ Zpl → IsPictureIn f modules width d a
+        → IsPictureIn f modules width d b → a ≡ b }
 {}

@@ -10,7 +10,7 @@ ghost use Rattle.goqlanis_buffers.specs.Colours.{colour_name};
 ghost use Rattle.goqlanis_buffers.specs.Calls.{TellsLength, WritesPicture};
 ghost use Rattle.goqlanis_buffers.specs.Answers.{HasSize};
 ghost use Rattle.goqlanis_buffers.specs.Asking.{IsCauseFor, IsDrawable, IsPictureFor};
-ghost use Rattle.goqlanis_buffers.specs.Drawings.{density, dots, has_side, is_sayable, most_side, IsDrawn};
+ghost use Rattle.goqlanis_buffers.specs.Drawings.{density, dots, has_side, is_sayable, most_side, IsPictureIn};
 ghost use Rattle.goqlanis_buffers.specs.Tints.{named_paint, paints};
 
 use crate::answers::Refusal;
@@ -18,11 +18,11 @@ use crate::colours::{has_colours, ink_of, name_of};
 use crate::lengths::known_length;
 use crate::symbols::{colors_of, fill};
 use crate::tints::{NamedTint, has_parts, have_tints, inks_of, is_plain, own_tints, version_for};
-use qrcode::types::{Color, QrResult};
+use qrcode::types::{Color, QrError, QrResult};
 use qrcode_formats::{Density, Format, format_numbered};
-use qrcode_sheets::sheet::Sheet;
+use qrcode_sheets::sheet::{Overlay, Sheet};
 use qrcode_sheets::svg_path::{Frame, Size};
-use qrcode_sheets::{GREATEST_PAINTED, draw};
+use qrcode_sheets::{DrawError, GREATEST_PAINTED, draw};
 use std::alloc::Global;
 
 /// How C wants modules drawn. A colour is transparency, red, green and blue in its four bytes, from
@@ -60,9 +60,6 @@ pub struct Drawing {
     pub data_dark: u32,
     pub data_light: u32,
 }
-
-// Nothing lies over the modules that C gives.
-static NOTHING: [u8; 0] = [];
 
 // The size of a `Drawing` in bytes.
 const SIZE: u32 = 76;
@@ -240,7 +237,7 @@ fn draw_named<'a>(
     requires dark { names.dark.now ≡ colour_name asked.now.drawing.now.dark }
     requires light { names.light.now ≡ colour_name asked.now.drawing.now.light }
     requires own { map named_paint names.own.now ≡ paints asked.now.drawing.now }
-    ensures drawing { IfOk result (λ bytes. IsDrawn format asked.now.modules.now asked.now.width
+    ensures drawing { IfOk result (λ bytes. IsPictureIn format asked.now.modules.now asked.now.width
         asked.now.drawing.now bytes.items) }
     ensures memory { IsOkUnless result OutOfMemory }
 {
@@ -264,10 +261,13 @@ fn draw_named<'a>(
         frame: sized_frame(dots),
         version: version_for(asked.width),
         parts: &inks,
-        over: &NOTHING,
-        inset: None,
+        over: Overlay::Nothing,
     };
-    draw(alloc, format, &sheet)
+    match draw(alloc, format, &sheet) {
+        Ok(file) => Ok(file),
+        Err(DrawError::OutOfMemory) => Err(QrError::OutOfMemory),
+        Err(DrawError::NoParts | DrawError::NoOverlay) => unreachable!(),
+    }
 }
 
 // The dots per inch that a PNG file states, if there are any.

@@ -51,7 +51,7 @@ pub(crate) fn draw_damaged(
     }
     let request = &asked.request;
     let modules = damaged_modules(alloc, request, wanted.position, code, damage)?;
-    match drawn(alloc, request, code, &modules, &[], None) {
+    match drawn(alloc, request, code, &modules) {
         Ok(drawing) => Ok(drawing),
         Err(_) => Err(Failure::OutOfMemory),
     }

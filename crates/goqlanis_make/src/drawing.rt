@@ -50,13 +50,11 @@ pub(crate) fn draw(
     let Some(choice) = choice_for_logo(rt.alloc(), asked, &code)? else {
         return draw_reported(rt, asked, code, coded);
     };
-    let request = Request {
-        choice,
-        ..asked.request
-    };
-    let asked = Asked { request, ..*asked };
-    let (code, coded) = encode(rt.alloc(), &asked, data)?;
-    draw_reported(rt, &asked, code, coded)
+    let mut request = asked.request;
+    request.choice = choice;
+    let larger = Asked { request, ..*asked };
+    let (code, coded) = encode(rt.alloc(), &larger, data)?;
+    draw_reported(rt, &larger, code, coded)
 }
 
 // Encodes data, with `--charset` in a character set; with `--segment` the segments that are given.

@@ -19,6 +19,7 @@ use qrcode::types::{EcLevel, Version};
 use qrcode_append::Versions;
 use qrcode_formats::Format;
 use qrcode_payloads::kinds::Kind;
+use qrcode_sheets::takes_parts;
 use std::alloc::Global;
 
 /// The source of the data.
@@ -352,7 +353,8 @@ fn request_of<'a>(
     let frame = frame_of(alloc, given)?;
     let dark = ink_of(alloc, "dark", given.get_str("dark").unwrap_or("#000"))?;
     let light = ink_of(alloc, "light", given.get_str("light").unwrap_or("#fff"))?;
-    let parts = part_inks(alloc, given)?;
+    // (`check_format` has refused parts that the format lacks.)
+    let parts = part_inks(alloc, given)?.leak();
     let request = Request {
         choice,
         level: level_of(purpose, given, choice),
@@ -367,7 +369,11 @@ fn request_of<'a>(
         frame,
         dark,
         light,
-        parts: parts.leak(),
+        parts: if takes_parts(format, parts) {
+            parts
+        } else {
+            &[]
+        },
         is_inverted: given.get_flag("invert"),
     };
     check_colours(alloc, &request)?;

@@ -1,5 +1,6 @@
 -- How a request draws a symbol.
-use Rattle.std.specs.Prelude.{ℕ, ◌+◌, ◌*◌, ◌/◌, List, [], Option, None, Some, true, max, unwrap_or, if◌then◌else◌}
+use Rattle.std.specs.Prelude.{ℕ, ◌+◌, ◌*◌, ◌/◌, List, Option, None, Some, true, max, unwrap_or, if◌then◌else◌}
+use Rattle.std.specs.Option.{option_or}
 use Rattle.qrcode_types.specs.Versions.{side}
 use Rattle.qrcode_types.specs.declared.types.Color.{Color}
 use Rattle.qrcode_types.specs.declared.types.Version.{Version}
@@ -10,10 +11,8 @@ use Rattle.qrcode.specs.Pictures.{quiet_zone}
 use Rattle.qrcode_sheets.specs.Formats.{IsDrawn}
 use Rattle.qrcode_sheets.specs.Layers.{units}
 use Rattle.goqlanis_request.specs.Masks.{AreUnder}
-use Rattle.qrcode_sheets.specs.Sheets.{Sheet, shade_of}
+use Rattle.qrcode_sheets.specs.Sheets.{Nothing, Overlay, Sheet, shade_of}
 use Rattle.goqlanis_request.specs.declared.drawing.Drawing.{Drawing}
-use Rattle.qrcode_sheets.specs.declared.pasting.Inset.{Inset}
-use Rattle.qrcode_sheets.specs.declared.pasting.Window.{Window}
 use Rattle.goqlanis_request.specs.declared.request.Extent.{Extent}
 use Rattle.goqlanis_request.specs.declared.request.Extent.TheVariants.{Module, Side, Exact}
 use Rattle.goqlanis_request.specs.declared.request.Request.{Request}
@@ -48,10 +47,9 @@ abbrev pub sized : Option ℕ → Frame → Frame
 sized None f = f
 sized (Some dots) f = record f { size = Dots dots }
 
--- the sheet for these modules of a symbol, inside the quiet zone, with `over` or a picture over them. A module has at least one pixel a side; text ends
--- with a newline
-abbrev pub sheet_for : Request → Version → List Color → List ℕ → Option (Window × Inset) → Sheet
-sheet_for r v s over inset = record {
+-- the sheet for these modules of a symbol, inside the quiet zone, with `over` on top. A module has at least one pixel a side; text ends with a newline
+abbrev pub sheet_for : Request → Version → List Color → Overlay → Sheet
+sheet_for r v s over = record {
   modules = s;
   at = layout (side v) (zone_for r v) (max (scale_for r v) 1) (max (scale_for r v) 1);
   dark = shade_of r.dark;
@@ -59,15 +57,14 @@ sheet_for r v s over inset = record {
   is_inverted = r.is_inverted;
   dpi = r.dpi;
   ends_lines = true;
-  dots = dots_for r v;
+  dots = option_or (dots_for r v) r.dpi;
   place = r.place;
   frame = sized (dots_for r v) (frame_of r.frame);
   version = v;
   parts = r.parts.now;
   over = over;
-  inset = inset;
 }
 
 -- the bytes draw the symbol as requested, under the requested mask
 abbrev pub IsShownIn : Request → Drawing → Type 0
-IsShownIn r d = (s : List Color) × (AreUnder r.mask d.code s × IsDrawn r.format (sheet_for r d.code.version s [] None) d.bytes.items)
+IsShownIn r d = (s : List Color) × (AreUnder r.mask d.code s × IsDrawn r.format (sheet_for r d.code.version s Nothing) d.bytes.items)

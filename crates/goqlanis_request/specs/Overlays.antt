@@ -1,5 +1,5 @@
 -- The area in the middle of a drawing, and what is in it.
-use Rattle.std.specs.Prelude.{◌≡◌, ℕ, ◌+◌, ◌*◌, ◌/◌, ◌%◌, ◌<◌, ◌≤◌, ◌&&◌, not, nat_le, nat_lt, Bool, List, [], ◌++◌, Option, None, Some, codes, decimal, if◌then◌else◌}
+use Rattle.std.specs.Prelude.{◌≡◌, ◌≢◌, ◌⊎◌, ℕ, ◌+◌, ◌*◌, ◌/◌, ◌%◌, ◌<◌, ◌≤◌, ◌&&◌, not, nat_le, nat_lt, Bool, false, List, [], ◌++◌, codes, decimal, if◌then◌else◌}
 use Rattle.qrcode_types.specs.Versions.{side}
 use Rattle.qrcode_types.specs.declared.types.Color.{Color}
 use Rattle.qrcode_types.specs.declared.types.Version.{Version}
@@ -10,13 +10,15 @@ use Rattle.qrcode_area.specs.Rectangles.{only}
 use Rattle.qrcode_area.specs.declared.areas.Rectangle.{Rectangle}
 use Rattle.qrcode_png.specs.Image.{Shade, grey_shade}
 use Rattle.goqlanis_request.specs.Drawings.{sheet_for, unit_for, zone_for}
-use Rattle.qrcode_sheets.specs.Formats.{IsDrawn}
+use Rattle.qrcode_sheets.specs.Formats.{IsDrawn, takes_overlay}
+use Rattle.qrcode_sheets.specs.Sheets.{Overlay, Nothing as Bare, Shapes, Pixels as Picture}
+use Rattle.qrcode_formats.specs.Formats.{row}
+use Rattle.qrcode_formats.specs.declared.Middle.TheVariants as middle
 use Rattle.goqlanis_request.specs.Masks.{AreUnder}
 use Rattle.qrcode_formats.specs.declared.Format.{Format}
 use Rattle.qrcode_formats.specs.declared.Format.TheVariants.{Eps, Pdf}
 use Rattle.goqlanis_request.specs.declared.overlays.Inside.{Inside}
 use Rattle.goqlanis_request.specs.declared.overlays.Inside.TheVariants.{Nothing, Cross, Element, Pixels}
-use Rattle.qrcode_sheets.specs.declared.pasting.Inset.{Inset}
 use Rattle.qrcode_sheets.specs.declared.pasting.Window.{Window}
 use Rattle.goqlanis_request.specs.Places.{place_in, HasRoom}
 use Rattle.qrcode_sheets.specs.declared.places.Place.{Place}
@@ -60,31 +62,34 @@ cross_text f unit side left =
 abbrev pub cross_for : Request → Version → List ℕ
 cross_for r v = cross_text r.format (unit_for r v) (side v) (1656 * zone_for r v + 702 * side v)
 
--- the text to draw on top for what is in the area
-abbrev pub element_for : Request → Version → Rectangle → Inside → List ℕ
-element_for r v area Nothing = []
-element_for r v area Cross = cross_for r v
-element_for r v area (Element margin rest) = svg_element (place_in r v area margin) rest.now
-element_for r v area (Pixels n) = []
-
 abbrev pub window_of : Rectangle → Window  -- the area as a window of a picture
 window_of area = record { left = area.left; top = area.top; width = area.width; height = area.height }
 
-abbrev pub inset_for : Rectangle → Inside → Option (Window × Inset)  -- the picture to draw over the area, if there is one
-inset_for area (Pixels n) = Some (window_of area, n)
-inset_for area inside = None
+-- what is in the area as an overlay, with this text for shapes
+abbrev pub overlay_with : Rectangle → Inside → List ℕ → Overlay
+overlay_with area Nothing text = Bare
+overlay_with area (Pixels n) text = Picture (window_of area) n
+overlay_with area inside text = Shapes text
 
-abbrev pub LacksRoom : Version → Rectangle → Inside → Type 0  -- an element that has no room in the area
-LacksRoom v area Nothing = ⊥
-LacksRoom v area Cross = ⊥
-LacksRoom v area (Element margin rest) = ¬ HasRoom v area margin
-LacksRoom v area (Pixels n) = ⊥
+-- what is drawn on top for what is in the area
+abbrev pub overlay_for : Request → Version → Rectangle → Inside → Overlay
+overlay_for r v area Nothing = Bare
+overlay_for r v area Cross = Shapes (cross_for r v)
+overlay_for r v area (Element margin rest) = Shapes (svg_element (place_in r v area margin) rest.now)
+overlay_for r v area (Pixels n) = Picture (window_of area) n
+
+-- what is in the area has no room there, or not in the format: an `svg` element is for SVG alone
+abbrev pub LacksRoom : Format → Version → Rectangle → Inside → Type 0
+LacksRoom f v area Nothing = ⊥
+LacksRoom f v area Cross = takes_overlay f (Shapes []) ≡ false
+LacksRoom f v area (Element margin rest) = ((row f).middle ≢ middle.Element) ⊎ (¬ HasRoom v area margin)
+LacksRoom f v area (Pixels n) = takes_overlay f (Picture (window_of area) n) ≡ false
 
 -- bytes draw the symbol as requested, with the modules of the area light and what is in it on top of everything
 abbrev pub IsShownWith : Request → Code → Rectangle → Inside → List ℕ → Type 0
 IsShownWith r code area inside bytes =
     (light : List Color) × (AreBeside r code area light
-    × IsDrawn r.format (sheet_for r code.version light (element_for r code.version area inside) (inset_for area inside)) bytes)
+    × IsDrawn r.format (sheet_for r code.version light (overlay_for r code.version area inside)) bytes)
 
 abbrev pub lies_between : ℕ → ℕ → ℕ → Bool  -- n is at least `from` and below `to`
 lies_between from to n = nat_le from n && nat_lt n to

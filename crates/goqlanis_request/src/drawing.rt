@@ -1,22 +1,22 @@
 //! Makes symbols, and draws them as requested.
 
-ghost use Rattle.std.specs.Prelude.{◌≡◌, ◌≤◌, ◌⊎◌, length, unwrap_or, IfOk, IfErr, IsOkUnless};
+ghost use Rattle.std.specs.Prelude.{◌≡◌, ◌≤◌, ◌⊎◌, length, unwrap_or, IfOk, IfErr, IsOkUnless, IsTrue};
 ghost use Rattle.qrcode_types.specs.declared.types.QrError.TheVariants.{InvalidVersion, OutOfMemory};
 ghost use Rattle.qrcode.specs.Pictures.{quiet_zone};
-ghost use Rattle.qrcode_sheets.specs.Formats.{IsDrawn};
+ghost use Rattle.qrcode_sheets.specs.Formats.{IsDrawn, takes_overlay};
 ghost use Rattle.goqlanis_request.specs.Drawings.{IsShownIn, dots_for, scale_for, sheet_for, unit_for};
 ghost use Rattle.goqlanis_request.specs.Masks.{LacksMask};
-ghost use Rattle.qrcode_sheets.specs.Sheets.{sheet_of};
+ghost use Rattle.qrcode_sheets.specs.Sheets.{Nothing, overlay_of, sheet_of};
 ghost use Rattle.goqlanis_request.specs.Symbols.{IsSymbolIn, IsRefusedFor};
 
 use crate::masking::modules_under;
 use crate::request::{Choice, Extent, Request};
 use qrcode::QrCode;
 use qrcode::bits::Manner;
-use qrcode::types::{Color, EcLevel, QrResult};
-use qrcode_sheets::sheet::Sheet;
+use qrcode::types::{Color, EcLevel, QrError, QrResult};
+use qrcode_sheets::sheet::{Overlay, Sheet};
 use qrcode_sheets::svg_path::{Frame, Size};
-use qrcode_sheets::{Inset, Window, draw, units};
+use qrcode_sheets::{DrawError, draw, units};
 use std::alloc::Global;
 
 /// A symbol and its picture.
@@ -60,11 +60,11 @@ pub fn drawing_of(alloc: Global, request: &Request<'_>, code: QrCode) -> QrResul
         ⊎ ((e ≡ InvalidVersion) × LacksMask request.now.mask code.version)) }
 {
     let modules = modules_under(alloc, &code, request.mask)?;
-    let bytes = drawn(alloc, request, &code, &modules, &[], None)?;
+    let bytes = drawn(alloc, request, &code, &modules)?;
     Ok(Drawing { code, bytes })
 }
 
-/// Draws these modules of a symbol as requested, with `over` or a picture over them.
+/// Draws these modules of a symbol as requested.
 ///
 /// Errors: only `OutOfMemory`, as `draw` says.
 pub fn drawn(
@@ -72,29 +72,49 @@ pub fn drawn(
     request: &Request<'_>,
     code: &QrCode,
     modules: &[Color],
-    over: &[u8],
-    inset: Option<(Window, Inset<'_>)>,
 ) -> QrResult<Vec<u8>>
     requires { length modules.now ≡ length code.now.modules }
     ensures shown { IfOk result (λ file. IsDrawn request.now.format (sheet_for request.now
-        code.now.version modules.now over.now inset.entry) file.items) }
+        code.now.version modules.now Nothing) file.items) }
     ensures memory { IsOkUnless result OutOfMemory }
 {
-    let sheet = sheet(request, code, modules, over, inset);
-    draw(alloc, request.format, &sheet)
+    drawn_under(alloc, request, code, modules, Overlay::Nothing)
 }
 
-// Returns the sheet for these modules of a symbol, with `over` or a picture over them.
+/// Draws these modules of a symbol as requested, with `over` on top.
+///
+/// Errors: only `OutOfMemory`, as `draw` says.
+pub(crate) fn drawn_under(
+    alloc: Global,
+    request: &Request<'_>,
+    code: &QrCode,
+    modules: &[Color],
+    over: Overlay<'_>,
+) -> QrResult<Vec<u8>>
+    requires modules { length modules.now ≡ length code.now.modules }
+    requires taken { IsTrue (takes_overlay request.now.format (overlay_of over)) }
+    ensures shown { IfOk result (λ file. IsDrawn request.now.format (sheet_for request.now
+        code.now.version modules.now (overlay_of over.entry)) file.items) }
+    ensures memory { IsOkUnless result OutOfMemory }
+{
+    let sheet = sheet(request, code, modules, over);
+    match draw(alloc, request.format, &sheet) {
+        Ok(file) => Ok(file),
+        Err(DrawError::OutOfMemory) => Err(QrError::OutOfMemory),
+        Err(DrawError::NoParts | DrawError::NoOverlay) => unreachable!(),
+    }
+}
+
+// Returns the sheet for these modules of a symbol, with `over` on top.
 fn sheet<'a>(
     request: &Request<'a>,
     code: &QrCode,
     modules: &'a [Color],
-    over: &'a [u8],
-    inset: Option<(Window, Inset<'a>)>,
+    over: Overlay<'a>,
 ) -> Sheet<'a, 'a, 'a>
     requires { length modules.now ≡ length code.now.modules }
     ensures value { sheet_of result ≡ sheet_for request.now code.now.version modules.entry.now
-        over.entry.now inset.entry }
+        (overlay_of over.entry) }
 {
     let dots = dots(request, code);
     let size = match dots {
@@ -111,7 +131,7 @@ fn sheet<'a>(
         is_inverted: request.is_inverted,
         dpi: request.dpi,
         ends_lines: true,
-        dots,
+        dots: dots.or(request.dpi.map(u32::from)),
         place: request.place,
         frame: Frame {
             size,
@@ -120,7 +140,6 @@ fn sheet<'a>(
         version: code.version(),
         parts: request.parts,
         over,
-        inset,
     }
 }
 

@@ -1,15 +1,17 @@
 //! Draws symbols with an empty area in the middle, and what is in it: a logo, or the Swiss cross.
 
-ghost use Rattle.std.specs.Prelude.{◌≡◌, ◌⊎◌, ◌<◌, ◌*◌, ◌^◌, max, length, map, if◌then◌else◌, string_bytes, IfOk, IfErr, IfNone, IfSome};
+ghost use Rattle.std.specs.Prelude.{◌≡◌, ◌⊎◌, ◌<◌, ◌*◌, ◌^◌, max, length, map, if◌then◌else◌, string_bytes, IfOk, IfErr, IfNone, IfSome, IsTrue};
 ghost use Rattle.qrcode_types.specs.Versions.{side};
 ghost use Rattle.qrcode_types.specs.declared.types.QrError.TheVariants.{InvalidVersion, OutOfMemory};
 ghost use Rattle.std.specs.List.{range_with_len};
 ghost use Rattle.qrcode_png.specs.Image.{grey_shade, rgba};
+ghost use Rattle.qrcode_sheets.specs.Formats.{takes_overlay};
+ghost use Rattle.qrcode_sheets.specs.Sheets.{overlay_of};
 ghost use Rattle.goqlanis_request.specs.Drawings.{scale_for};
 ghost use Rattle.goqlanis_request.specs.Masks.{LacksMask};
-ghost use Rattle.goqlanis_request.specs.Overlays.{AreBeside, IsCrossSize, IsCrossWidth, IsShownWith, LacksRoom, cross_for, cross_shade, cross_text, element_for, inset_for, is_black_unit, is_in_bar, lies_between, svg_element};
+ghost use Rattle.goqlanis_request.specs.Overlays.{AreBeside, IsCrossSize, IsCrossWidth, IsShownWith, LacksRoom, cross_for, cross_shade, cross_text, is_black_unit, is_in_bar, lies_between, overlay_for, overlay_with, svg_element};
 
-use crate::drawing::{drawn, quiet_zone, scale, unit};
+use crate::drawing::{drawn_under, quiet_zone, scale, unit};
 use crate::masking::modules_under;
 use crate::places::place_in;
 use crate::request::Request;
@@ -17,7 +19,8 @@ use qrcode::QrCode;
 use qrcode::types::{Color, QrResult};
 use qrcode_area::areas::{Area, Rectangle};
 use qrcode_area::covered::lightened;
-use qrcode_formats::Format;
+use qrcode_formats::{Format, Middle};
+use qrcode_sheets::sheet::Overlay;
 use qrcode_sheets::{Inset, Place, Window};
 use std::alloc::{AllocError, Global};
 
@@ -160,8 +163,8 @@ pub enum Inside<'a> {
 }
 
 /// Draws `code` as requested, with the modules of `area` light and `inside` on top of everything.
-/// Returns `None` if an element has no room: its margin leaves no module, or `area` is not inside
-/// the symbol.
+/// Returns `None` if the format lacks `inside`, or if an element has no room: its margin leaves no
+/// module, or `area` is not inside the symbol.
 ///
 /// Errors: `InvalidVersion` if the version of `code` lacks the requested mask; `OutOfMemory` if
 /// memory runs out, or if the picture is larger than its format allows, as `draw` says.
@@ -175,24 +178,26 @@ pub fn with_logo(
     ensures shown { IfOk result (λ drawn. IfSome drawn (λ bytes.
         IsShownWith request.now code.now area inside.entry bytes.items)) }
     ensures none { IfOk result (λ drawn. IfNone drawn
-        (LacksRoom code.now.version area inside.entry)) }
+        (LacksRoom request.now.format code.now.version area inside.entry)) }
     ensures causes { IfErr result (λ e. (e ≡ OutOfMemory)
         ⊎ ((e ≡ InvalidVersion) × LacksMask request.now.mask code.now.version)) }
 {
-    let Some(element) = element(alloc, request, code, area, inside)? else {
+    let Some(text) = element(alloc, request, code, area, inside)? else {
         return Ok(None);
     };
     let light = modules_beside(alloc, request, code, area)?;
-    let inset = inset_in(area, inside);
-    let bytes = drawn(alloc, request, code, &light, element.as_bytes(), inset)?;
+    let over = overlay_in(area, inside, &text);
+    let bytes = drawn_under(alloc, request, code, &light, over)?;
     Ok(Some(bytes))
 }
 
-// The picture to draw over the area, if there is one.
-fn inset_in<'a>(area: Rectangle, inside: Inside<'a>) -> Option<(Window, Inset<'a>)>
-    ensures { result ≡ inset_for area inside.entry }
+// What lies over the modules: `text`, or the picture.
+fn overlay_in<'a>(area: Rectangle, inside: Inside<'a>, text: &'a str) -> Overlay<'a>
+    ensures { overlay_of result ≡ overlay_with area inside.entry text.entry.now }
 {
     match inside {
+        Inside::Nothing => Overlay::Nothing,
+        Inside::Cross | Inside::Element(..) => Overlay::Shapes(text.as_bytes()),
         Inside::Pixels(inset) => {
             let window = Window {
                 left: area.left,
@@ -200,13 +205,13 @@ fn inset_in<'a>(area: Rectangle, inside: Inside<'a>) -> Option<(Window, Inset<'a
                 width: area.width,
                 height: area.height,
             };
-            Some((window, inset))
+            Overlay::Pixels(window, inset)
         }
-        _ => None,
     }
 }
 
-// The text to draw on top, or `None` if it has no room.
+// The text to draw on top, empty for a picture; or `None` if it has no room, or the format lacks
+// what is in the area.
 fn element(
     alloc: Global,
     request: &Request<'_>,
@@ -214,18 +219,28 @@ fn element(
     area: Rectangle,
     inside: Inside<'_>,
 ) -> Result<Option<String>, AllocError>
-    ensures some { IfOk result (λ found. IfSome found (λ text. string_bytes text
-        ≡ element_for request.now code.now.version area inside.entry)) }
+    ensures some { IfOk result (λ found. IfSome found (λ text.
+        overlay_with area inside.entry (string_bytes text)
+        ≡ overlay_for request.now code.now.version area inside.entry)) }
+    ensures taken { IfOk result (λ found. IfSome found (λ _. IsTrue (takes_overlay
+        request.now.format (overlay_for request.now code.now.version area inside.entry)))) }
     ensures none { IfOk result (λ found. IfNone found
-        (LacksRoom code.now.version area inside.entry)) }
+        (LacksRoom request.now.format code.now.version area inside.entry)) }
 {
-    match inside {
-        Inside::Nothing | Inside::Pixels(_) => Ok(Some(String::new(alloc))),
-        Inside::Cross => Ok(Some(cross(alloc, request, code)?)),
-        Inside::Element(margin, rest) => match place_in(request, code, area, margin) {
-            Some(place) => Ok(Some(svg_element(alloc, place, rest)?)),
-            None => Ok(None),
-        },
+    match (inside, request.format.row().middle) {
+        (Inside::Nothing, _) | (Inside::Pixels(_), Middle::Pixels) => {
+            Ok(Some(String::new(alloc)))
+        }
+        (Inside::Cross, Middle::Element | Middle::Operators) => {
+            Ok(Some(cross(alloc, request, code)?))
+        }
+        (Inside::Element(margin, rest), Middle::Element) => {
+            match place_in(request, code, area, margin) {
+                Some(place) => Ok(Some(svg_element(alloc, place, rest)?)),
+                None => Ok(None),
+            }
+        }
+        _ => Ok(None),
     }
 }
 

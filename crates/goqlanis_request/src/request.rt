@@ -1,7 +1,8 @@
 //! What is asked for: the symbol, and how to draw it.
 
-ghost use Rattle.std.specs.Prelude.{◌≡◌, IsUtf8};
+ghost use Rattle.std.specs.Prelude.{◌≡◌, IsTrue, IsUtf8};
 ghost use Rattle.qrcode_bits.specs.declared.bits.manner.Manner.TheVariants.{Bytes, Text};
+ghost use Rattle.qrcode_sheets.specs.Formats.{takes_parts};
 
 use qrcode::bits::Manner;
 use qrcode::types::{EcLevel, Version};
@@ -69,6 +70,7 @@ pub struct Request<'a> {
     pub parts: &'a [PartInk<'a>],
     /// Whether dark and light are exchanged; not in PIC, which draws no light modules.
     pub is_inverted: bool,
+    pub ghost takes_parts: { IsTrue (takes_parts format parts.now) },
 }
 
 /// Returns how data is written by default: UTF-8 as text, other data as bytes.

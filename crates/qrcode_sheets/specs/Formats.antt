@@ -1,6 +1,6 @@
 -- What each output format draws for a sheet.
-use Rattle.std.specs.Prelude.{◌≡◌, ℕ, ◌==◌, ◌||◌, not, is_some, Bool, true, false, List, [], ◌∷◌, ◌++◌, codes, encode_utf8, length, max, unwrap_or, if◌then◌else◌}
-use Rattle.std.specs.Option.{option_map, option_or}
+use Rattle.std.specs.Prelude.{◌≡◌, ℕ, ◌==◌, ◌&&◌, ◌||◌, not, IsTrue, Bool, Some, true, false, List, [], ◌∷◌, ◌++◌, codes, encode_utf8, length, max, unwrap_or, if◌then◌else◌}
+use Rattle.std.specs.Option.{option_map}
 use Rattle.qrcode_sheets.specs.Eps.{eps_file}
 use Rattle.qrcode_sheets.specs.Files.{pgm_file, pbm_file, ppm_file}
 use Rattle.qrcode_render.specs.Layout.{modules_across}
@@ -13,11 +13,20 @@ use Rattle.qrcode_render.specs.Pic.{pic_text}
 use Rattle.qrcode_render.specs.Svg.{svg_text}
 use Rattle.qrcode_sheets.specs.Zpl.{IsZplOf}
 use Rattle.qrcode_png.specs.Shown.{IsFileOf}
-use Rattle.qrcode_sheets.specs.Layers.{AreOver, IsPaintedFile}
-use Rattle.qrcode_sheets.specs.Sheets.{Sheet, dark_of, light_of, eps_ink, per_metre, png_ink, rgb}
+use Rattle.qrcode_png.specs.Image.{image_of}
+use Rattle.qrcode_sheets.specs.Layers.{AreOver, painted}
+use Rattle.qrcode_sheets.specs.Sheets.{Overlay, Nothing, Shapes, Pixels, Sheet, dark_of, light_of, eps_ink, per_metre, png_ink, rgb}
 use Rattle.qrcode_sheets.specs.Terminal.{coloured_text}
+use Rattle.qrcode_formats.specs.Formats.{row}
+use Rattle.qrcode_formats.specs.declared.Colours.{Colours}
+use Rattle.qrcode_formats.specs.declared.Colours.TheVariants.{Fixed}
 use Rattle.qrcode_formats.specs.declared.Format.{Format}
 use Rattle.qrcode_formats.specs.declared.Format.TheVariants.{HalfBlocks, LightHalfBlocks, Terminal, Chars, Png, Svg, SvgPath, Eps, Pic, Pbm, Pgm, Grey, Pdf, Zpl, Tspl, EscPos, Xbm, Ppm, Ascii}
+use Rattle.qrcode_formats.specs.declared.Middle.{Middle}
+use Rattle.qrcode_formats.specs.declared.Middle.TheVariants as middle
+use Rattle.qrcode_sheets.specs.declared.layers.PartInk.{PartInk}
+use Rattle.qrcode_sheets.specs.declared.render.DrawError.{DrawError}
+use Rattle.qrcode_sheets.specs.declared.render.DrawError.TheVariants.{NoParts, NoOverlay, OutOfMemory}
 
 abbrev pub ended : Sheet → List ℕ → List ℕ  -- text, with a newline at the end if the sheet asks for one
 ended t lines = if t.ends_lines then lines ++ codes "\n" else lines
@@ -32,14 +41,14 @@ char_text t dark light = text_of (dark_of t dark light) (light_of t dark light) 
 
 abbrev pub eps_text : Sheet → List ℕ → List ℕ  -- an EPS file with PostScript over the modules
 eps_text t over =
-    eps_file (option_or t.dots t.dpi) t.at t.modules (dark_of t (eps_ink t.dark) (eps_ink t.light)) (light_of t (eps_ink t.dark) (eps_ink t.light)) over
+    eps_file t.dots t.at t.modules (dark_of t (eps_ink t.dark) (eps_ink t.light)) (light_of t (eps_ink t.dark) (eps_ink t.light)) over
 
 -- bytes are a file with shapes, and `over` over the modules: EPS; PDF with a title, and 72 pixels per inch if none are given; or SVG with one path, and
 -- the size and title of the frame. A module is the unit of PDF's page and of SVG's viewBox
 abbrev pub IsShapes : Format → Sheet → List ℕ → List ℕ → Type 0
 IsShapes Eps t over bytes = bytes ≡ eps_text t over
 IsShapes Pdf t over bytes =
-    IsPdfIn (modules_across t.at) (modules_across t.at) (max (unwrap_or (option_or t.dots t.dpi) 72) 1) (dark_of t (rgb t.dark) (rgb t.light)) (light_of t (rgb t.dark) (rgb t.light)) (picture t.at t.modules) over t.frame.title bytes
+    IsPdfIn (modules_across t.at) (modules_across t.at) (max (unwrap_or t.dots 72) 1) (dark_of t (rgb t.dark) (rgb t.light)) (light_of t (rgb t.dark) (rgb t.light)) (picture t.at t.modules) over t.frame.title bytes
 IsShapes f t over bytes =
     IsPathIn (modules_across t.at) (modules_across t.at) xml_head t.frame (dark_of t t.dark.name t.light.name) (light_of t t.dark.name t.light.name) (picture t.at t.modules) over bytes
 
@@ -47,12 +56,16 @@ IsShapes f t over bytes =
 abbrev pub IsOver : Format → Sheet → List ℕ → Type 0
 IsOver f t bytes = (over : List ℕ) × (AreOver f t over × IsShapes f t over bytes)
 
+abbrev pub is_picture : Overlay → Bool
+is_picture (Pixels window inset) = true
+is_picture over = false
+
 abbrev pub has_layers : Sheet → Bool  -- parts have their own colours, or a picture lies over the modules
-has_layers t = not (length t.parts == 0) || is_some t.inset
+has_layers t = not (length t.parts == 0) || is_picture t.over
 
 -- a PNG file in full colour, or in two colours
 abbrev pub IsPng : Bool → Sheet → List ℕ → Type 0
-IsPng true t bytes = IsPaintedFile t bytes
+IsPng true t bytes = image_of bytes ≡ Some (painted t)
 IsPng false t bytes = IsFileOf (picture t.at t.modules) (dark_of t (png_ink t.dark) (png_ink t.light)) (light_of t (png_ink t.dark) (png_ink t.light)) (option_map per_metre t.dpi) bytes
 
 -- bytes are the file of a sheet in the format
@@ -76,3 +89,25 @@ IsDrawn Zpl t bytes = IsZplOf t.place (dark_of t true false) (light_of t true fa
 IsDrawn Tspl t bytes = bytes ≡ tspl_file_at t.place (dark_of t true false) (light_of t true false) (picture t.at t.modules)
 IsDrawn EscPos t bytes = bytes ≡ escpos_file (dark_of t true false) (light_of t true false) (picture t.at t.modules)
 IsDrawn Xbm t bytes = bytes ≡ xbm_file (dark_of t true false) (light_of t true false) (picture t.at t.modules)
+
+abbrev pub are_own : Colours → Bool  -- parts may have colours of their own
+are_own Fixed = false
+are_own colours = true
+
+abbrev pub takes_parts : Format → List PartInk → Bool  -- the format has colours of parts, or there are none
+takes_parts f inks = length inks == 0 || are_own (row f).parts
+
+abbrev pub lies_in : Middle → Overlay → Bool
+lies_in m Nothing = true
+lies_in middle.Element (Shapes text) = true
+lies_in middle.Operators (Shapes text) = true
+lies_in middle.Pixels (Pixels window inset) = true
+lies_in m over = false
+
+abbrev pub takes_overlay : Format → Overlay → Bool  -- the format has what lies over the modules
+takes_overlay f over = lies_in (row f).middle over
+
+abbrev pub IsCause : Format → Sheet → DrawError → Type 0  -- why a sheet is not drawn
+IsCause f t NoParts = takes_parts f t.parts ≡ false
+IsCause f t NoOverlay = IsTrue (takes_parts f t.parts) × (takes_overlay f t.over ≡ false)
+IsCause f t OutOfMemory = IsTrue (takes_parts f t.parts && takes_overlay f t.over)

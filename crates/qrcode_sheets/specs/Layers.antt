@@ -1,5 +1,5 @@
 -- Symbols whose parts have their own colours, drawn layer upon layer.
-use Rattle.std.specs.Prelude.{◌≡◌, ℕ, ◌+◌, ◌-◌, ◌*◌, ◌/◌, ◌%◌, ◌==◌, nat_le, nat_lt, ◌&&◌, Bool, false, not, List, [], ◌∷◌, ◌++◌, Some, option_map, codes, fold, length, map, slice_index_or, if◌then◌else◌}
+use Rattle.std.specs.Prelude.{◌≡◌, ℕ, ◌+◌, ◌-◌, ◌*◌, ◌/◌, ◌%◌, ◌==◌, nat_le, nat_lt, ◌&&◌, Bool, false, not, List, [], ◌∷◌, ◌++◌, option_map, codes, fold, length, map, slice_index_or, if◌then◌else◌}
 use Rattle.std.specs.List.{range_with_len}
 use Rattle.qrcode_types.specs.Colors.{color_of, is_dark, select_of}
 use Rattle.qrcode_types.specs.Versions.{side}
@@ -11,10 +11,10 @@ use Rattle.qrcode_render.specs.Layout.{Layout, layout, pixels_across, pixels_dow
 use Rattle.qrcode_sheets.specs.Paths.{plain, IsPathOf}
 use Rattle.qrcode_sheets.specs.Pdf.{IsLayerOf}
 use Rattle.qrcode_render.specs.Picture.{picture}
-use Rattle.qrcode_png.specs.Image.{Shade as Pixel, image_of, rgba}
+use Rattle.qrcode_png.specs.Image.{Image, Shade as Pixel, rgba}
 use Rattle.qrcode_sheets.specs.Parts.{part_of}
 use Rattle.qrcode_sheets.specs.Pasted.{shade_with}
-use Rattle.qrcode_sheets.specs.Sheets.{Sheet, Shade, dark_shade, light_shade, eps_ink, per_metre, rgb, shade_bytes, shade_of}
+use Rattle.qrcode_sheets.specs.Sheets.{Overlay, Shapes, Sheet, Shade, dark_shade, light_shade, eps_ink, per_metre, rgb, shade_bytes, shade_of}
 use Rattle.qrcode_formats.specs.declared.Format.{Format}
 use Rattle.qrcode_formats.specs.declared.Format.TheVariants.{Eps, Pdf, SvgPath}
 use Rattle.qrcode_sheets.specs.declared.layers.PartInk.{PartInk}
@@ -60,9 +60,13 @@ abbrev pub AreLayers : Format → Sheet → List PartInk → List ℕ → Type 0
 AreLayers f t [] text = text ≡ []
 AreLayers f t (k ∷ inks) text = (first : List ℕ) × (IsLayer f t k first × ((rest : List ℕ) × (AreLayers f t inks rest × (text ≡ first ++ rest))))
 
--- text is a layer for each colour of parts, and then what lies over all modules
+abbrev pub shapes_in : Overlay → List ℕ  -- the text of shapes
+shapes_in (Shapes text) = text
+shapes_in over = []
+
+-- text is a layer for each colour of parts, and then the shapes that lie over all modules
 abbrev pub AreOver : Format → Sheet → List ℕ → Type 0
-AreOver f t text = (layers : List ℕ) × (AreLayers f t t.parts layers × (text ≡ layers ++ t.over))
+AreOver f t text = (layers : List ℕ) × (AreLayers f t t.parts layers × (text ≡ layers ++ shapes_in t.over))
 
 -- the colour of module i once this colour is drawn over `below`
 abbrev pub shade_over : Sheet → ℕ → Shade → PartInk → Shade
@@ -91,18 +95,18 @@ pixel_bytes t i = shade_bytes (pixel_in t.at (module_shade t) (light_shade t) (i
 
 -- the colour of the pixel at index i, with the sheet's picture over its own
 abbrev pub pixel_shade : Sheet → ℕ → Pixel
-pixel_shade t i = shade_with t.at t.inset (i % pixels_across t.at) (i / pixels_across t.at) (rgba (pixel_bytes t i))
+pixel_shade t i = shade_with t.at t.over (i % pixels_across t.at) (i / pixels_across t.at) (rgba (pixel_bytes t i))
 
 -- the colours of the first `count` pixels
 unfoldable pub pixel_shades : Sheet → ℕ → List Pixel
 pixel_shades t count = map (pixel_shade t) (range_with_len 0 count)
 
--- a PNG file that shows each pixel in its colour
-pub record IsPaintedFile (t : Sheet) (file : List ℕ) : Type 0 where
-  pub shows : image_of file ≡ Some (record {
-    across = pixels_across t.at;
-    down = pixels_down t.at;
-    pixels = pixel_shades t (pixels_down t.at * pixels_across t.at);
-    density = option_map (λ n. (n, n)) (option_map per_metre t.dpi);
-    has_faults = false;
-  })
+-- the picture in a PNG file in full colour
+abbrev pub painted : Sheet → Image
+painted t = record {
+  across = pixels_across t.at;
+  down = pixels_down t.at;
+  pixels = pixel_shades t (pixels_down t.at * pixels_across t.at);
+  density = option_map (λ n. (n, n)) (option_map per_metre t.dpi);
+  has_faults = false;
+}

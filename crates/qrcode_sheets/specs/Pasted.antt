@@ -5,6 +5,7 @@ use Rattle.qrcode_render.specs.Layout.{Layout}
 use Rattle.qrcode_sheets.specs.declared.pasting.Inset.{Inset}
 use Rattle.qrcode_sheets.specs.declared.pasting.Window.{Window}
 use Rattle.qrcode_sheets.specs.declared.places.Place.{Place}
+use Rattle.qrcode_sheets.specs.Sheets.{Overlay, Pixels}
 
 -- the weighted mean of two levels, rounded to the nearest
 abbrev pub mean : ℕ → ℕ → ℕ → ℕ → ℕ
@@ -51,7 +52,7 @@ over_if under (Some pixel) = over under (rgba pixel)
 abbrev pub inset_shade : Layout → Window → Inset → ℕ → ℕ → Shade → Shade
 inset_shade at w n x y own = if is_shown at w x y then over_if own (logo_at n x y) else own
 
--- likewise; without a window and a picture, its own
-abbrev pub shade_with : Layout → Option (Window × Inset) → ℕ → ℕ → Shade → Shade
-shade_with at None x y own = own
-shade_with at (Some middle) x y own = inset_shade at middle.0 middle.1 x y own
+-- likewise; without a picture, its own
+abbrev pub shade_with : Layout → Overlay → ℕ → ℕ → Shade → Shade
+shade_with at (Pixels window inset) x y own = inset_shade at window inset x y own
+shade_with at over x y own = own

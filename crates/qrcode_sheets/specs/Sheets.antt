@@ -11,6 +11,8 @@ use Rattle.qrcode_sheets.specs.declared.layers.PartInk.{PartInk}
 use Rattle.qrcode_sheets.specs.declared.pasting.Inset.{Inset}
 use Rattle.qrcode_sheets.specs.declared.pasting.Window.{Window}
 use Rattle.qrcode_sheets.specs.declared.sheet.Ink.{Ink}
+use Rattle.qrcode_sheets.specs.declared.sheet.Overlay as over
+use Rattle.qrcode_sheets.specs.declared.sheet.Overlay.TheVariants as lies
 use Rattle.qrcode_sheets.specs.declared.sheet.Sheet as lent
 
 -- a colour: its name in SVG; red, green and blue; and its opacity in PNG
@@ -24,10 +26,20 @@ pub record Shade : Type 0 where
 abbrev pub shade_of : Ink → Shade
 shade_of c = record { name = c.name.now; red = c.red; green = c.green; blue = c.blue; opacity = c.opacity }
 
--- modules, where they are, their colours, whether these are exchanged, the dots per inch, and whether text ends with a newline. In formats that have
--- these: the pixels per inch in EPS and PDF, if given; the position on a label; the size, title and the like of an SVG file with one path; the
--- version, by which modules belong to parts; the colours of parts, of which the last for a module counts; what is drawn over all modules; and a
--- picture in a window
+-- what lies over all modules: nothing; SVG elements, PostScript or PDF operators; or a picture in a window
+pub data Overlay : Type 0 where
+  Nothing : Overlay
+  Shapes : (text : List ℕ) → Overlay
+  Pixels : (window : Window) (inset : Inset) → Overlay
+
+abbrev pub overlay_of : over.Overlay → Overlay
+overlay_of lies.Nothing = Nothing
+overlay_of (lies.Shapes text) = Shapes text.now
+overlay_of (lies.Pixels window inset) = Pixels window inset
+
+-- modules, where they are, their colours, whether these are exchanged, the dots per inch in PNG, and whether text ends with a newline. In formats that
+-- have these: the pixels per inch in EPS and PDF; the position on a label; the size, title and the like of an SVG file with one path; the version, by
+-- which modules belong to parts; the colours of parts, of which the last for a module counts; and what lies over all modules
 pub record Sheet : Type 0 where
   pub modules : List Color
   pub at : Layout
@@ -41,8 +53,7 @@ pub record Sheet : Type 0 where
   pub frame : Frame
   pub version : Version
   pub parts : List PartInk
-  pub over : List ℕ
-  pub inset : Option (Window × Inset)
+  pub over : Overlay
 
 abbrev pub sheet_of : lent.Sheet → Sheet
 sheet_of p = record {
@@ -58,8 +69,7 @@ sheet_of p = record {
   frame = frame_of p.frame;
   version = p.version;
   parts = p.parts.now;
-  over = p.over.now;
-  inset = p.inset;
+  over = overlay_of p.over;
 }
 
 -- the value for dark modules: one of these two, which are exchanged if the sheet is inverted
@@ -75,18 +85,22 @@ dark_shade t = dark_of t t.dark t.light
 abbrev pub light_shade : Sheet → Shade  -- the colour of light modules and of the quiet zone
 light_shade t = light_of t t.dark t.light
 
--- the setting of a sheet's renderer, with these values for dark and light modules, exchanged if it is inverted
-abbrev pub setting_of : {P : Type 0} → lent.Sheet → P → P → Setting P
-setting_of p dark light = record {
-  content = p.modules.now;
+-- the setting of a renderer for modules in place of a sheet's, each of n pixels, with these values for dark and light ones
+abbrev pub setting_in : {P : Type 0} → lent.Sheet → List Color → ℕ → P → P → Setting P
+setting_in p modules n dark light = record {
+  content = modules;
   count = p.width;
   zone = p.zone;
-  across = p.scale;
-  down = p.scale;
-  dark = dark_of (sheet_of p) dark light;
-  light = light_of (sheet_of p) dark light;
+  across = n;
+  down = n;
+  dark = dark;
+  light = light;
   whole_zone = p.zone;
 }
+
+-- the setting of a sheet's renderer, with these values for dark and light modules, exchanged if it is inverted
+abbrev pub setting_of : {P : Type 0} → lent.Sheet → P → P → Setting P
+setting_of p dark light = setting_in p p.modules.now p.scale (dark_of (sheet_of p) dark light) (light_of (sheet_of p) dark light)
 
 abbrev pub eps_ink : Shade → eps.Color  -- the colour for EPS
 eps_ink c = record { red = c.red; green = c.green; blue = c.blue }

@@ -1,16 +1,15 @@
 //! The colours of parts, layer upon layer, and what lies over them.
 
-ghost use Rattle.std.specs.Prelude.{◌≡◌, ◌<◌, ◌≤◌, ◌==◌, false, length, IfOk, IsOkUnless};
+ghost use Rattle.std.specs.Prelude.{◌≡◌, ◌<◌, ◌≤◌, length, IfOk, IsOkUnless};
 ghost use Rattle.qrcode_types.specs.declared.types.QrError.TheVariants.{OutOfMemory};
-ghost use Rattle.qrcode_render.specs.Drawn.{drawn};
-ghost use Rattle.qrcode_sheets.specs.Eps.{eps_paint, eps_rect};
 ghost use Rattle.qrcode_sheets.specs.Layers.{is_painted, layer, units, AreOver, IsLayer};
-ghost use Rattle.qrcode_sheets.specs.Sheets.{eps_ink, shade_of, sheet_of};
+ghost use Rattle.qrcode_sheets.specs.Sheets.{sheet_of};
 
 use crate::parts::{Part, part_of};
-use crate::render::{drawn, eps_ink, renderer, rgb};
-use crate::sheet::{Ink, Sheet};
-use crate::{eps, pdf, svg_path};
+use crate::render::{eps_ink, renderer_of, rgb};
+use crate::sheet::{Ink, Overlay, Sheet};
+use crate::svg_path::PathElement;
+use crate::{eps, pdf};
 use qrcode_formats::Format;
 use qrcode_layout::figures::color_of;
 use qrcode_types::types::{Color, QrResult};
@@ -65,7 +64,7 @@ pub fn units(format: Format, pixels: u32) -> u32
     }
 }
 
-/// Returns what a format draws over the modules: a layer for each colour, then `sheet.over`.
+/// Returns what a format draws over the modules: a layer for each colour, then shapes.
 pub(crate) fn over(alloc: Global, format: Format, sheet: &Sheet<'_, '_, '_>) -> QrResult<Vec<u8>>
     ensures value { IfOk result (λ text. AreOver format (sheet_of sheet.now) text.items) }
     ensures memory { IsOkUnless result OutOfMemory }
@@ -74,7 +73,9 @@ pub(crate) fn over(alloc: Global, format: Format, sheet: &Sheet<'_, '_, '_>) -> 
     for ink in sheet.parts {
         text.extend_from_slice(&layer_in(alloc, format, sheet, ink)?)?;
     }
-    text.extend_from_slice(sheet.over)?;
+    if let Overlay::Shapes(shapes) = sheet.over {
+        text.extend_from_slice(shapes)?;
+    }
     Ok(text)
 }
 
@@ -89,47 +90,20 @@ fn layer_in(
     ensures memory { IsOkUnless result OutOfMemory }
 {
     let modules = layer(alloc, sheet, ink)?;
-    let over = Sheet {
-        modules: &modules,
-        width: sheet.width,
-        zone: sheet.zone,
-        scale: units(format, sheet.scale),
-        dark: sheet.dark,
-        light: sheet.light,
-        is_inverted: false,
-        dpi: sheet.dpi,
-        ends_lines: sheet.ends_lines,
-        dots: sheet.dots,
-        place: sheet.place,
-        frame: sheet.frame,
-        version: sheet.version,
-        parts: sheet.parts,
-        over: sheet.over,
-        inset: sheet.inset,
-    };
+    let unit = units(format, sheet.scale);
     match format {
-        Format::Eps => eps_layer(alloc, &over, ink.ink),
+        Format::Eps => {
+            let color = eps_ink(ink.ink);
+            eps::layer(alloc, &renderer_of(sheet, &modules, unit, color, color))
+        }
         Format::Pdf => {
             let color = pdf::Color(rgb(ink.ink));
-            pdf::layer(alloc, color, over.modules, over.width, over.zone)
+            pdf::layer(alloc, color, &modules, sheet.width, sheet.zone)
         }
         _ => {
-            let (dark, light) = (
-                svg_path::PathElement(ink.ink.name),
-                svg_path::PathElement("none"),
-            );
-            Ok(drawn(alloc, &over, dark, light)?.into_bytes())
+            let (dark, light) = (PathElement(ink.ink.name), PathElement("none"));
+            let element = renderer_of(sheet, &modules, unit, dark, light).build(alloc)?;
+            Ok(element.into_bytes())
         }
     }
-}
-
-// PostScript that fills the dark modules with a colour.
-fn eps_layer(alloc: Global, sheet: &Sheet<'_, '_, '_>, ink: Ink<'_>) -> QrResult<Vec<u8>>
-    requires { sheet.now.is_inverted ≡ false }
-    ensures value { IfOk result (λ text. text.items ≡ drawn eps_rect (sheet_of sheet.now).at
-        sheet.now.modules.now (eps_paint (eps_ink (shade_of ink.entry)))) }
-    ensures memory { IsOkUnless result OutOfMemory }
-{
-    let renderer = renderer(sheet, eps_ink(ink), eps_ink(ink));
-    eps::layer(alloc, &renderer)
 }

@@ -30,5 +30,5 @@ pub use layers::{PartInk, units};
 pub use parts::Part;
 pub use pasting::{Inset, Window};
 pub use places::Place;
-pub use render::draw;
+pub use render::{DrawError, draw, takes_overlay, takes_parts};
 pub use shades::GREATEST_PAINTED;

@@ -3,10 +3,10 @@
 ghost use Rattle.std.specs.Prelude.{◌≡◌, ◌+◌, ◌<◌, ◌≤◌, ◌^◌};
 ghost use Rattle.qrcode_png.specs.Image.{rgba};
 ghost use Rattle.qrcode_sheets.specs.Pasted.{is_shown, logo_at, mean, over, scaled, shade_with, shows};
-ghost use Rattle.qrcode_sheets.specs.Sheets.{sheet_of};
+ghost use Rattle.qrcode_sheets.specs.Sheets.{overlay_of, sheet_of};
 
 use crate::places::Place;
-use crate::sheet::Sheet;
+use crate::sheet::{Overlay, Sheet};
 
 /// A picture, as red, green, blue and opacity of each pixel, row by row; and the place in the
 /// drawing where it is shown.
@@ -43,9 +43,10 @@ impl Window {
 /// Returns the pixel in column `x` and row `y` of a drawing: `own`, with the sheet's picture over
 /// it if there is one and its window shows the pixel's module.
 pub(crate) fn with_inset(sheet: &Sheet<'_, '_, '_>, x: usize, y: usize, own: [u8; 4]) -> [u8; 4]
-    ensures { rgba result ≡ shade_with (sheet_of sheet.now).at sheet.now.inset x y (rgba own) }
+    ensures { rgba result ≡ shade_with (sheet_of sheet.now).at (overlay_of sheet.now.over) x y
+        (rgba own) }
 {
-    let Some((window, inset)) = sheet.inset else {
+    let Overlay::Pixels(window, inset) = sheet.over else {
         return own;
     };
     if !is_shown(sheet, window, x, y) {

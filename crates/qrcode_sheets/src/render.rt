@@ -1,38 +1,86 @@
 //! Draws a sheet in each format.
 
-ghost use Rattle.std.specs.Prelude.{◌≡◌, ◌^◌, ◌<◌, true, false, string_bytes, IsTrue, IfOk, IsOkUnless};
-ghost use Rattle.std.specs.Option.{option_or};
+ghost use Rattle.std.specs.Prelude.{◌≡◌, ◌*◌, ◌^◌, ◌<◌, ◌≤◌, ◌&&◌, length, true, false, string_bytes, IsTrue, IfOk, IfErr, IsOkUnless};
 ghost use Rattle.qrcode_types.specs.declared.types.QrError.TheVariants.{OutOfMemory};
 ghost use Rattle.qrcode_render.specs.Picture.{picture};
 ghost use Rattle.qrcode_sheets.specs.Printers.{packed_file};
 ghost use Rattle.qrcode_render.specs.Setting.{fits};
-ghost use Rattle.qrcode_sheets.specs.Formats.{IsDrawn, IsPng, ended, half_block_text, has_layers};
-ghost use Rattle.qrcode_sheets.specs.Sheets.{dark_of, eps_ink, light_of, per_metre, png_ink, rgb, setting_of, shade_of, sheet_of};
+ghost use Rattle.qrcode_sheets.specs.Formats.{IsCause, IsDrawn, IsPng, ended, half_block_text, has_layers, takes_overlay, takes_parts};
+ghost use Rattle.qrcode_sheets.specs.Sheets.{dark_of, eps_ink, light_of, overlay_of, per_metre, png_ink, rgb, setting_in, setting_of, shade_of, sheet_of};
 ghost use Rattle.qrcode_formats.specs.declared.Format.TheVariants.{Eps, Pdf, Png, SvgPath, Tspl, Zpl};
 
-use crate::layers::over;
+use crate::layers::{PartInk, over};
 use crate::packed::{Dot, Packing};
 use crate::pbm::Bit;
 use crate::pdf::Extras;
 use crate::shades::png_file;
-use crate::sheet::{Ink, Sheet};
+use crate::sheet::{Ink, Overlay, Sheet};
 use crate::terminal::coloured;
 use crate::{eps, escpos, pdf, pgm, ppm, svg_path, tspl, xbm, zpl};
-use qrcode_formats::Format;
+use qrcode_formats::{Colours, Format, Middle};
 use qrcode_png::with_density;
 use qrcode_render::image::Luma;
 use qrcode_render::string::Str;
 use qrcode_render::unicode::Dense1x2;
 use qrcode_render::{Pixel, Renderer, pic, svg};
-use qrcode_types::types::QrResult;
+use qrcode_types::types::{Color, QrResult};
 use std::alloc::Global;
+
+/// Why a sheet is not drawn.
+#[derive(Clone, Copy)]
+pub enum DrawError {
+    /// The format has no colours of parts.
+    NoParts,
+    /// The format lacks what lies over the modules.
+    NoOverlay,
+    /// Memory runs out, or the picture is too large.
+    OutOfMemory,
+}
 
 /// Draws a sheet in a format.
 ///
-/// Errors: only `OutOfMemory`, if memory runs out or the picture is too large: a PNG or ESC/POS
-/// picture of more than 65,535 pixels a side, or a PNG file with colours of parts or a picture of
-/// more than `GREATEST_PAINTED`, or a PNG file without pixels.
-pub fn draw(alloc: Global, format: Format, sheet: &Sheet<'_, '_, '_>) -> QrResult<Vec<u8>>
+/// Errors: `NoParts`, `NoOverlay`; or `OutOfMemory`, if memory runs out or the picture is too large:
+/// a PNG or ESC/POS picture of more than 65,535 pixels a side, or a PNG file with colours of parts
+/// or a picture of more than `GREATEST_PAINTED`, or a PNG file without pixels.
+pub fn draw(alloc: Global, format: Format, sheet: &Sheet<'_, '_, '_>) -> Result<Vec<u8>, DrawError>
+    ensures drawing { IfOk result (λ file. IsDrawn format (sheet_of sheet.now) file.items) }
+    ensures whole { IfOk result (λ _. IsTrue (takes_parts format sheet.now.parts.now
+        && takes_overlay format (overlay_of sheet.now.over))) }
+    ensures causes { IfErr result (IsCause format (sheet_of sheet.now)) }
+{
+    if !takes_parts(format, sheet.parts) {
+        return Err(DrawError::NoParts);
+    }
+    if !takes_overlay(format, sheet.over) {
+        return Err(DrawError::NoOverlay);
+    }
+    match file_of(alloc, format, sheet) {
+        Ok(file) => Ok(file),
+        Err(_) => Err(DrawError::OutOfMemory),
+    }
+}
+
+/// Whether a format has colours of parts, or there are none.
+pub fn takes_parts(format: Format, parts: &[PartInk<'_>]) -> bool
+    ensures { result ≡ takes_parts format parts.now }
+{
+    parts.is_empty() || !matches!(format.row().parts, Colours::Fixed)
+}
+
+/// Whether a format has what lies over the modules.
+pub fn takes_overlay(format: Format, over: Overlay<'_>) -> bool
+    ensures { result ≡ takes_overlay format (overlay_of over.entry) }
+{
+    match (format.row().middle, over) {
+        (_, Overlay::Nothing)
+        | (Middle::Element | Middle::Operators, Overlay::Shapes(_))
+        | (Middle::Pixels, Overlay::Pixels(..)) => true,
+        _ => false,
+    }
+}
+
+// The file of a sheet, without what the format lacks.
+fn file_of(alloc: Global, format: Format, sheet: &Sheet<'_, '_, '_>) -> QrResult<Vec<u8>>
     ensures drawing { IfOk result (λ file. IsDrawn format (sheet_of sheet.now) file.items) }
     ensures memory { IsOkUnless result OutOfMemory }
 {
@@ -80,8 +128,8 @@ fn bits<F: Packing>(alloc: Global, sheet: &Sheet<'_, '_, '_>) -> QrResult<Vec<u8
     )
 }
 
-/// Draws the modules of a sheet with these values for dark and light, exchanged if it is inverted.
-pub(crate) fn drawn<P: Pixel>(
+// Draws the modules of a sheet with these values for dark and light, exchanged if it is inverted.
+fn drawn<P: Pixel>(
     alloc: Global,
     sheet: &Sheet<'_, '_, '_>,
     dark: P,
@@ -93,12 +141,8 @@ pub(crate) fn drawn<P: Pixel>(
     renderer(sheet, dark, light).build(alloc)
 }
 
-/// Returns the renderer of a sheet's modules, with these values for dark and light.
-pub(crate) fn renderer<'a, P: Pixel>(
-    sheet: &Sheet<'a, '_, '_>,
-    dark: P,
-    light: P,
-) -> Renderer<'a, P>
+// Returns the renderer of a sheet's modules, with these values for dark and light.
+fn renderer<'a, P: Pixel>(sheet: &Sheet<'a, '_, '_>, dark: P, light: P) -> Renderer<'a, P>
     ensures value { result ≡ setting_of sheet.now dark light }
     ensures fits { IsTrue (fits result) }
 {
@@ -107,10 +151,28 @@ pub(crate) fn renderer<'a, P: Pixel>(
     } else {
         (dark, light)
     };
-    let mut renderer = Renderer::new(sheet.modules, sheet.width as usize, sheet.zone);
+    renderer_of(sheet, sheet.modules, sheet.scale, dark, light)
+}
+
+/// Returns the renderer of these modules in place of a sheet's, each of `unit` pixels, with these
+/// values for dark and light.
+pub(crate) fn renderer_of<'a, P: Pixel>(
+    sheet: &Sheet<'_, '_, '_>,
+    modules: &'a [Color],
+    unit: u32,
+    dark: P,
+    light: P,
+) -> Renderer<'a, P>
+    requires square { length modules.now ≡ sheet.now.width * sheet.now.width }
+    requires at_least { 1 ≤ unit }
+    requires at_most { unit < 2 ^ 16 }
+    ensures value { result ≡ setting_in sheet.now modules.entry.now unit dark light }
+    ensures fits { IsTrue (fits result) }
+{
+    let mut renderer = Renderer::new(modules, sheet.width as usize, sheet.zone);
     renderer.dark_color(dark);
     renderer.light_color(light);
-    renderer.module_size(sheet.scale);
+    renderer.module_size(unit);
     renderer
 }
 
@@ -138,7 +200,7 @@ fn png(alloc: Global, sheet: &Sheet<'_, '_, '_>) -> QrResult<Vec<u8>>
 fn has_layers(sheet: &Sheet<'_, '_, '_>) -> bool
     ensures { result ≡ has_layers (sheet_of sheet.now) }
 {
-    !sheet.parts.is_empty() || sheet.inset.is_some()
+    !sheet.parts.is_empty() || matches!(sheet.over, Overlay::Pixels(..))
 }
 
 // A PNG file in two colours.
@@ -151,13 +213,6 @@ fn two_colours(alloc: Global, sheet: &Sheet<'_, '_, '_>) -> QrResult<Vec<u8>>
         None => renderer.build(alloc),
         Some(dpi) => with_density(alloc, &renderer, per_metre(dpi)),
     }
-}
-
-// The pixels per inch of EPS and PDF, if they are given.
-fn dots_of(sheet: &Sheet<'_, '_, '_>) -> Option<u32>
-    ensures { result ≡ option_or sheet.now.dots sheet.now.dpi }
-{
-    sheet.dots.or(sheet.dpi.map(|dpi| dpi as u32))
 }
 
 // An SVG file with one path, with the size and title of the sheet's frame.
@@ -198,7 +253,7 @@ fn eps(alloc: Global, sheet: &Sheet<'_, '_, '_>) -> QrResult<Vec<u8>>
 {
     let over = over(alloc, Format::Eps, sheet)?;
     let renderer = renderer(sheet, eps_ink(sheet.dark), eps_ink(sheet.light));
-    eps::with_extras(alloc, &renderer, dots_of(sheet), &over)
+    eps::with_extras(alloc, &renderer, sheet.dots, &over)
 }
 
 // A PDF file with the title of the sheet's frame, unless it is empty. Without pixels per inch, a
@@ -210,7 +265,7 @@ fn pdf_file(alloc: Global, sheet: &Sheet<'_, '_, '_>) -> QrResult<Vec<u8>>
     let over = over(alloc, Format::Pdf, sheet)?;
     let (dark, light) = (pdf::Color(rgb(sheet.dark)), pdf::Color(rgb(sheet.light)));
     let title = sheet.frame.title;
-    let dots = dots_of(sheet).unwrap_or(72).max(1);
+    let dots = sheet.dots.unwrap_or(72).max(1);
     let extras = Extras {
         dots,
         over: &over,

@@ -1,11 +1,11 @@
 //! Draws PNG files in full colour: parts in their own colours, and a picture in the middle.
 
-ghost use Rattle.std.specs.Prelude.{◌≡◌, ◌*◌, ◌<◌, [], length, map, slice_index_or, IfOk, IsOkUnless};
+ghost use Rattle.std.specs.Prelude.{◌≡◌, ◌*◌, ◌<◌, [], length, map, slice_index_or, Some, IfOk, IsOkUnless};
 ghost use Rattle.qrcode_types.specs.Colors.{select_of};
 ghost use Rattle.qrcode_types.specs.declared.types.QrError.TheVariants.{OutOfMemory};
-ghost use Rattle.qrcode_png.specs.Image.{rgba};
+ghost use Rattle.qrcode_png.specs.Image.{image_of, rgba};
 ghost use Rattle.qrcode_render.specs.Layout.{pixels_across};
-ghost use Rattle.qrcode_sheets.specs.Layers.{module_bytes, module_shade, pixel_in, pixel_shades, IsPaintedFile};
+ghost use Rattle.qrcode_sheets.specs.Layers.{module_bytes, module_shade, pixel_in, pixel_shades, painted};
 ghost use Rattle.qrcode_sheets.specs.Sheets.{dark_shade, light_shade, shade_bytes, sheet_of};
 
 use crate::layers::is_painted;
@@ -25,7 +25,8 @@ pub const GREATEST_PAINTED: u32 = 8_192;
 /// Errors: only `OutOfMemory`, if memory runs out, or if there would be no pixel or more than
 /// `GREATEST_PAINTED` along a side; that is tested before memory for pixels is requested.
 pub(crate) fn png_file(alloc: Global, sheet: &Sheet<'_, '_, '_>) -> QrResult<Vec<u8>>
-    ensures shows { IfOk result (λ file. IsPaintedFile (sheet_of sheet.now) file.items) }
+    ensures shows { IfOk result (λ file.
+        image_of file.items ≡ Some (painted (sheet_of sheet.now))) }
     ensures memory { IsOkUnless result OutOfMemory }
 {
     let side = (sheet.width + 2 * sheet.zone) * sheet.scale;

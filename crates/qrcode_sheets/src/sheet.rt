@@ -19,8 +19,19 @@ pub struct Ink<'a> {
     pub opacity: u8,
 }
 
-/// A square of modules, and how it is drawn. A format leaves out what it does not have. The list of
-/// colours of parts (`'b`) and their names (`'c`) may live for less long than the rest.
+/// What lies over all modules.
+#[derive(Clone, Copy)]
+pub enum Overlay<'a> {
+    Nothing,
+    /// Elements in `SvgPath`, PostScript in EPS, operators in PDF.
+    Shapes(&'a [u8]),
+    /// A picture in PNG, over the modules that the window shows.
+    Pixels(Window, Inset<'a>),
+}
+
+/// A square of modules, and how it is drawn. A format leaves out what it does not have, but colours
+/// of parts and overlays. The list of colours of parts (`'b`) and their names (`'c`) may live for
+/// less long than the rest.
 #[derive(Clone, Copy)]
 pub struct Sheet<'a, 'b, 'c> {
     /// The modules, row by row.
@@ -36,11 +47,11 @@ pub struct Sheet<'a, 'b, 'c> {
     pub light: Ink<'a>,
     /// Whether dark and light are exchanged; not in PIC, which draws no light modules.
     pub is_inverted: bool,
-    /// The dots per inch: recorded in a PNG file; in EPS and PDF, pixels per inch.
+    /// The dots per inch that a PNG file records.
     pub dpi: Option<u16>,
     /// Whether text ends with a newline.
     pub ends_lines: bool,
-    /// The pixels per inch in EPS and PDF; without it, `dpi`.
+    /// The pixels per inch in EPS and PDF; without it, a pixel is a point.
     pub dots: Option<u32>,
     /// The position on a label in ZPL and TSPL, in dots from the left and from the top.
     pub place: (u32, u32),
@@ -51,10 +62,7 @@ pub struct Sheet<'a, 'b, 'c> {
     /// The colours of parts, in `SvgPath`, EPS, PDF and PNG: a layer over the modules for each. If
     /// several colour the same modules, the last wins.
     pub parts: &'b [PartInk<'c>],
-    /// What is drawn over all modules in `SvgPath`, EPS and PDF: elements, PostScript or operators.
-    pub over: &'a [u8],
-    /// A picture, over the modules that its window shows, in PNG.
-    pub inset: Option<(Window, Inset<'a>)>,
+    pub over: Overlay<'a>,
     pub ghost square: { length modules.now ≡ width * width },
     pub ghost side_at_most: { width + 2 * zone < 2 ^ 16 },
     pub ghost scale_at_least: { 1 ≤ scale },

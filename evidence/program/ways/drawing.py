@@ -161,9 +161,10 @@ def a_logo_in_png_is_drawn_over_colours_of_parts(program):
 def the_cross_of_a_bill(program):
     """In PNG the Swiss cross takes 7/46 of the side, and each pixel shows the colour at its middle:
     a white frame, and on black a white cross with the bars of the style guide for bills. In SVG,
-    EPS and PDF its square is in the right place."""
-    words = ["bill", "--iban", "CH5800791123000889012", "--name", "a", "--code", "2501", "--city",
-             "Biel", "--country", "CH", "-q", "4", "-s", "8"]
+    EPS and PDF its square is in the right place, at two scales."""
+    bill = ["bill", "--iban", "CH5800791123000889012", "--name", "a", "--code", "2501", "--city",
+            "Biel", "--country", "CH", "-q", "4"]
+    words = [*bill, "-s", "8"]
     plain = run(program, [*words, "-f", "pgm"], "/")
     rows = _greys(plain.stdout)
     side = len(rows) - 64
@@ -182,17 +183,18 @@ def the_cross_of_a_bill(program):
                 rows[start + y][start + x] = (0, 0, 0, 255)
     drawn = run(program, [*words, "-f", "png"], "/")
     warned = b"this format lacks the Swiss cross" in plain.stderr and b"cross" not in drawn.stderr
-    shapes = all(_is_in_the_middle(run(program, [*words, "-f", kind], "/"), pattern, side // 8)
-                 for kind, pattern in CROSSES.items())
+    shapes = all(_is_in_the_middle(run(program, [*bill, "-s", scale, "-f", kind], "/"),
+                                   pattern.replace(b"SCALE", scale.encode()), side // 8)
+                 for scale in ("3", "8") for kind, pattern in CROSSES.items())
     return png.pixels_of(drawn.stdout) == rows and warned and shapes
 
 
 # In each format: the modules of a unit, or the units of a module; where the square of the cross
-# begins, in units; and how many units are a 252nd of its side.
+# begins, in units; and how many units are a 252nd of its side. SCALE is the pixels of a module.
 CROSSES = {
     "svg": rb"scale\(1\) scale\((?P<unit>\S+)\) translate\((?P<left>\d+) (?P=left)\) "
            rb"scale\((?P<part>\d+)\)",
-    "eps": rb"gsave 8 (?P<unit>\d+) div dup scale (?P<left>\d+) dup translate (?P<part>\d+) dup "
+    "eps": rb"gsave SCALE (?P<unit>\d+) div dup scale (?P<left>\d+) dup translate (?P<part>\d+) dup "
            rb"scale\n1 setgray 0 0 252 252 rectfill",
     "pdf": rb"\nq (?P<unit>\S+) 0 0 (?P=unit) 0 0 cm (?P<part>\d+) 0 0 (?P=part) (?P<left>\d+) "
            rb"(?P=left) cm\n1 g 0 0 252 252 re f"}

@@ -1,20 +1,26 @@
-use Rattle.std.proofs.Common.{rules, ◌∙◌}
-use Rattle.std.proofs.lemmas.Result.{IfOk-weaker}
-use Rattle.std.specs.Prelude.{IfOk}
+use Rattle.std.proofs.Common.{◌∙◌, rules}
 use Rattle.qrcode_sheets.specs.Formats.{IsDrawn}
 use Rattle.goqlanis_buffers.specs.Drawings.{sheet}
+use Rattle.goqlanis_buffers.proofs.Tinted.{are_taken}
 use Rattle.goqlanis_buffers.proofs.pictures.draw_named.Goals as goal
 
 -- The colours of parts are those that are drawn.
-pub returns-clause-drawing : goal.returns-clause-drawing
-returns-clause-drawing c =
+pub returns-in-Ok-clause-drawing : goal.returns-in-Ok-clause-drawing
+returns-in-Ok-clause-drawing c =
     let a = c.args.asked.now in
     let inks = c.in_ok-inks.inks.items in
-    let shown : IfOk c.draw.result (λ file. IsDrawn c.args.format (sheet c.args.format a.modules.now a.width a.drawing.now inks) file.items) = search rules in
-    IfOk-weaker c.draw.result _ _ (λ file is. record {
+    let shown : IsDrawn c.args.format (sheet c.args.format a.modules.now a.width a.drawing.now inks) c.in-Ok.file.items = search rules in
+    record {
       inks = inks;
       sayable = c.requires.drawable.sayable;
       known = c.requires.drawable.known;
       own = c.in_ok-inks.ensures.value ∙ c.requires.own;
-      shown = is;
-    }) shown
+      shown = shown;
+    }
+
+-- The format has these colours, and nothing lies over the modules.
+pub unreachable-requires : goal.unreachable-requires
+unreachable-requires c =
+    let own = c.in_ok-inks.ensures.value ∙ c.requires.own in
+    let taken = are_taken c.args.format c.args.asked.now.drawing.now c.in_ok-inks.inks.items c.requires.drawable.sayable own in
+    search rules

@@ -1,6 +1,5 @@
 use Rattle.std.proofs.Common.{ap, ap₂, ◌∙◌}
 use Rattle.std.proofs.lemmas.Result.{IfOk-weaker}
-use Rattle.std.specs.Option.{option_or}
 use Rattle.qrcode_sheets.specs.Eps.{eps_file}
 use Rattle.qrcode_render.specs.Setting.{layout_of as at_of}
 use Rattle.qrcode_sheets.specs.Formats.{eps_text}
@@ -17,8 +16,8 @@ returns-clause-shows c =
       (
         c.in_ok-over.ensures.value,
         is
-            ∙ ap₂ (λ d r. eps_file d (at_of r) r.content r.dark r.light over) c.dots_of.ensures c.renderer-renderer.ensures.value
-            ∙ ap₂ (λ a b. eps_file (option_or t.dots t.dpi) t.at t.modules (dark_of t a b) (light_of t a b) over) c.eps_ink.ensures.value c.eps_ink-2.ensures.value
+            ∙ ap (λ r. eps_file t.dots (at_of r) r.content r.dark r.light over) c.renderer-renderer.ensures.value
+            ∙ ap₂ (λ a b. eps_file t.dots t.at t.modules (dark_of t a b) (light_of t a b) over) c.eps_ink.ensures.value c.eps_ink-2.ensures.value
             ∙ ap (eps_text t) c.deref.ensures.value,
       ),
     )) c.with_extras.ensures.value

@@ -22,7 +22,7 @@ loop-index-preserved c =
     ∙ ap (λ (m : List (List ℕ)). pixel_in t.at (λ i. slice_index_or m i []) (shade_bytes (light_shade t)) x y) (c.deref.ensures.value ∙ c.in_ok-modules.ensures)
     ∙ pixel_is t x y c.args.sheet.now.square in
     let pixel = c.with_inset.result in
-    let shows : rgba pixel ≡ pixel_shade t i = c.with_inset.ensures ∙ ap (λ (o : List ℕ). shade_with t.at t.inset x y (rgba o)) own in
+    let shows : rgba pixel ≡ pixel_shade t i = c.with_inset.ensures ∙ ap (λ (o : List ℕ). shade_with t.at t.over x y (rgba o)) own in
     ap (map rgba) c.in_ok-push.ensures.items ∙ map-append rgba c.loop-index.pixels.items (pixel ∷ [])
     ∙ ap (λ (l : List Pixel). l ++ rgba pixel ∷ []) c.loop-index.invariant
     ∙ one_more (pixel_shade t) i (rgba pixel) shows
