@@ -1,6 +1,7 @@
 pub mod Causes
 pub mod Chosen
 pub mod Cuts
+pub mod Designated
 pub mod Given
 pub mod Leasts
 pub mod Lists

@@ -1,5 +1,6 @@
 pub mod Charsets
 pub mod Codes
+pub mod Eci
 pub mod Fronts
 pub mod Given
 pub mod Laid

@@ -2,6 +2,7 @@
 //! takes the fewest bits.
 #![tactic(auto)]
 
+pub mod eci;
 pub mod laws;
 mod pairs_high;
 mod pairs_low;
