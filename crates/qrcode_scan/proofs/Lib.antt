@@ -8,10 +8,13 @@ mod Pieces
 mod Plain
 mod Rasters
 mod Read
+mod ReadTexts
 mod Sampled
 mod Seen
 mod ShownSquares
+mod ShownTexts
 mod Split
 mod Tried
 mod WholeCodes
 mod WhyUnread
+mod WrittenTexts

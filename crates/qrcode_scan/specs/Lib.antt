@@ -9,4 +9,5 @@ pub mod Scans
 pub mod Several
 pub mod Shades
 pub mod Squares
+pub mod Texts
 pub mod Wholes

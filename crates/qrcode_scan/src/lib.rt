@@ -17,6 +17,7 @@ mod scanning;
 mod several;
 mod shades;
 mod squares;
+mod texts;
 mod turned;
 mod wholes;
 
@@ -30,4 +31,5 @@ pub use scanning::{Scan, Unread};
 pub use several::behind_picture;
 pub use shades::pixels_of_colours;
 pub use squares::{Square, square_of};
+pub use texts::shown_text;
 pub use wholes::grids_of;
