@@ -435,8 +435,8 @@ enum { GOQ_MODULES_MAX = 177 * 177 };
 enum { GOQ_BYTES_MAX = 7089 };
 
 /* The most bytes that calls look at unless they check them. Longer data fits no symbols. Texts
-   (GOQ_AS_TEXT, GOQ_AS_MARKED_TEXT, goq_encode_charset, goq_decode), fields of goq_content, GS1
-   elements, and segments other than GOQ_BYTES are read to their end. */
+   (GOQ_AS_TEXT, GOQ_AS_MARKED_TEXT, goq_encode_charset, goq_text, goq_decode), fields of
+   goq_content, GS1 elements, and segments other than GOQ_BYTES are read to their end. */
 enum { GOQ_DATA_MAX = 1048576 };
 
 /* What a symbol is, besides its modules. */
@@ -763,11 +763,19 @@ goq_answer goq_read_any(const uint8_t *modules, size_t modules_length, void *byt
 goq_answer goq_read_text(const uint8_t *modules, size_t modules_length, void *text,
     size_t text_length, goq_reading *reading);
 
-/* Decodes bytes in the character set GOQ_UNMARKED .. GOQ_UTF_8 into UTF-8 text, such as the
-   segments after a header of goq_read_picture. The text goes to the start of `text` (three times as
-   many bytes are always enough), and its length to `count`. The designators 1 (ISO 8859-1), 27 and
-   170 (ASCII) are taken too. Errors: GOQ_NO_SUCH_SET, GOQ_NOT_IN_SET if the bytes are no text in
-   that set, GOQ_SMALL_BUFFER; GOQ_OUT_OF_MEMORY. */
+/* Writes the text that a code shows, in UTF-8, to the start of `text` (three times as many bytes as
+   the data has are always enough), and its length to `count`. `bytes` and `parts` are its data and
+   its headers and segments, as goq_read_picture returns them. Bytes after a GOQ_ECI header, up to
+   the next, are in the character set of its number, and bytes before any in UTF-8. The numbers are
+   GOQ_ISO_8859_1 .. GOQ_UTF_8 and 1 (ISO 8859-1); under 0, 2 (code page 437) and 27 (ASCII) only
+   bytes below 128 are text, and under 170 of these not # $ @ [ \ ] ^ ` { | } ~. Errors:
+   GOQ_NOT_IN_SET if the bytes are no such text, e.g. since a set is not known, or a GOQ_KANJI
+   segment is not under GOQ_SHIFT_JIS; GOQ_SMALL_BUFFER; GOQ_OUT_OF_MEMORY. */
+goq_answer goq_text(const void *bytes, size_t bytes_length, const goq_part *parts,
+    size_t parts_length, void *text, size_t text_length, size_t *count);
+
+/* Writes the text of bytes under one ECI designator, or in UTF-8 if it is GOQ_UNMARKED, like
+   goq_text. Errors: GOQ_NO_SUCH_SET if the number has no set; then those of goq_text. */
 goq_answer goq_decode(const void *bytes, size_t bytes_length, uint32_t designator, void *text,
     size_t text_length, size_t *count);
 

@@ -108,12 +108,12 @@ export const CALLS = {
     "goq_encode_several": "wwwwwww", "goq_encode_segments": "wwnnwww",
     "goq_smallest_version_of_segments": "wwnw", "goq_width": "n", "goq_is_functional": "nnn",
     "goq_draw_with": "wwnwwww", "goq_draw_with_length": "wwnww", "goq_read": "wwwww",
-    "goq_read_any": "wwwww", "goq_read_text": "wwwww", "goq_decode": "wwnwww", "goq_mask": "www",
-    "goq_picture_length": "ww", "goq_read_picture": "wwwwwwwww", "goq_missed": "wwwww",
-    "goq_check": "wwwwwww", "goq_check_square": "wwwww", "goq_join": "wwwwww",
-    "goq_content": "nwwwwww", "goq_gs1": "wwwwww", "goq_encode_gs1": "wwwwwww",
-    "goq_reserve": "nnwwwww", "goq_largest_area": "nnww", "goq_cover": "wwwww",
-    "goq_damage": "wwww",
+    "goq_read_any": "wwwww", "goq_read_text": "wwwww", "goq_text": "wwwwwww",
+    "goq_decode": "wwnwww", "goq_mask": "www", "goq_picture_length": "ww",
+    "goq_read_picture": "wwwwwwwww", "goq_missed": "wwwww", "goq_check": "wwwwwww",
+    "goq_check_square": "wwwww", "goq_join": "wwwwww", "goq_content": "nwwwwww",
+    "goq_gs1": "wwwwww", "goq_encode_gs1": "wwwwwww", "goq_reserve": "nnwwwww",
+    "goq_largest_area": "nnww", "goq_cover": "wwwww", "goq_damage": "wwww",
 };
 export const FORMATS = {
     "txt": {"number": 0, "isText": true, "scale": 1, "hasColours": false},

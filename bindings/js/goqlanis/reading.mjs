@@ -6,7 +6,7 @@ import { KINDS } from "./encoding.mjs";
 import { QrError, refusal, refuse } from "./errors.mjs";
 import { answer, nameOf, number, within } from "./memory.mjs";
 import { BLOCKS_MAX, BYTES_MAX, ECI, FNC1_FIRST, FNC1_SECOND, ONE_OF_SEVERAL, PARTS_MAX, POSITIONS,
-    SEVERAL_MAX, SHIFT_JIS, UTF_8 } from "./numbers.mjs";
+    SEVERAL_MAX } from "./numbers.mjs";
 import { LEVELS, shown, versionName } from "./checks.mjs";
 
 const PARTS = [...Object.keys(KINDS), "oneOfSeveral"];
@@ -94,36 +94,15 @@ function inPicture(picture, of, ask) {
 
 /** Returns the text of data, in UTF-8 or in the sets that ECI headers name, or null. */
 function textOf(parts, data) {
-    const sets = [[UTF_8, 0]];
-    let end = 0;
-    for (const { kind, number, length = 0 } of parts) {
-        if (kind === "kanji" && sets[sets.length - 1][0] !== SHIFT_JIS)
-            return null;
-        if (kind === "eci")
-            sets.push([number, end]);
-        end += length;
-    }
-    if (sets[sets.length - 1][1] > 0 && end !== data.length)
-        return null; /* after FNC1 the data may be shorter than its segments */
-    const texts = sets.map(([number, start], at) =>
-        decoded(data.subarray(start, sets[at + 1]?.[1] ?? data.length), number));
-    return texts.includes(null) ? null : texts.join("");
-}
-
-/** Returns the text of bytes in the set of an ECI number. 0 and 2 are code page 437, 27 is ASCII
-    and 170 a part of it: only what they share with UTF-8 is taken. */
-function decoded(bytes, number) {
-    if ([0, 2, 27, 170].includes(number)) {
-        const lacked = number === 170 ? "#$@[\\]^`{|}~" : "";
-        if (bytes.some((it) => it > 127 || lacked.includes(String.fromCharCode(it))))
-            return null;
-        number = UTF_8;
-    }
     return within((buffers) => {
-        const room = 3 * bytes.length, out = buffers.room(room), count = buffers.room(8);
-        const said = answer("goq_decode", buffers.bytes(bytes), bytes.length, number, out, room,
-            count);
-        return said === "OK" ? checks.textOf(buffers.copy(out, buffers.sizes(count)[0])) : null;
+        const rows = parts.map((it) => ({ ...it, kind: PARTS.indexOf(it.kind) }));
+        const room = 3 * data.length, out = buffers.room(room), count = buffers.room(8);
+        const said = answer("goq_text", buffers.bytes(data), data.length,
+            buffers.structs("goq_part", rows), rows.length, out, room, count);
+        if (said === "NOT_IN_SET")
+            return null;
+        refuse(said);
+        return checks.textOf(buffers.copy(out, buffers.sizes(count)[0]));
     });
 }
 

@@ -67,6 +67,7 @@ CALLS = {
     "goq_read": "data size data size goq_reading",
     "goq_read_any": "data size data size goq_any_reading",
     "goq_read_text": "data size data size goq_reading",
+    "goq_text": "data size goq_part size data size sizes",
     "goq_decode": "data size number data size sizes", "goq_mask": "data size numbers",
     "goq_picture_length": "data size",
     "goq_read_picture": "data size goq_code size goq_part size data size goq_scan",

@@ -133,32 +133,16 @@ class Code(NamedTuple):
         >>> read(latin.png())[0].text, read(latin.png())[0].data
         ('Â±', b'\xc2\xb1')
         """
-        sets, end = [(goq.UTF_8, 0)], 0
-        for part in self.parts:
-            if part.kind == "kanji" and sets[-1][0] != goq.SHIFT_JIS:
-                return None
-            if part.kind == "eci":
-                sets.append((part.number or 0, end))
-            end += part.length or 0
-        if sets[-1][1] > 0 and end != len(self.data):
-            return None  # after FNC1 the data may be shorter than its segments
-        ends = [*(start for _, start in sets[1:]), len(self.data)]
-        texts = [_decoded(self.data[start:end], number) for (number, start), end in zip(sets, ends)]
-        return None if None in texts else "".join(map(str, texts))
-
-
-def _decoded(data: bytes, number: int) -> Optional[str]:
-    """Returns the text of bytes in the set of an ECI number. 0 and 2 are code page 437, 27 is ASCII
-    and 170 a part of it: only what they share with UTF-8 is taken."""
-    if number in (0, 2, 27, 170):
-        if not data.isascii() or number == 170 and set(data) & set(b"#$@[\\]^`{|}~"):
+        numbers = {name: number for number, name in PARTS.items()}
+        parts = [KnownPart(numbers[it.kind], it.number or 0, length=it.length or 0)
+                 for it in self.parts]
+        out, count = ctypes.create_string_buffer(3 * len(self.data) + 1), ctypes.c_size_t()
+        answer = library.goq_text(self.data, len(self.data), (KnownPart * len(parts))(*parts),
+                                  len(parts), out, len(out), ctypes.byref(count))
+        if answer == goq.NOT_IN_SET:
             return None
-        number = goq.UTF_8
-    out, count = ctypes.create_string_buffer(3 * len(data) + 1), ctypes.c_size_t()
-    answer = library.goq_decode(data, len(data), number, out, len(out), ctypes.byref(count))
-    if answer not in (goq.OK, goq.NO_SUCH_SET, goq.NOT_IN_SET):
-        raise refusal(answer)
-    return None if answer else out.raw[:count.value].decode()
+        refuse(answer)
+        return out.raw[:count.value].decode()
 
 
 @overload

@@ -17,3 +17,4 @@ pub mod Tinted
 pub mod Masked
 pub mod Coded
 pub mod Damaged
+pub mod DecodedTexts

@@ -1,17 +1,15 @@
 -- Texts in character sets that C numbers.
-use Rattle.std.specs.Prelude.{◌≡◌, ◌≢◌, ◌⊎◌, ⊤, ℕ, ◌+◌, ◌==◌, ◌<◌, List, take, length, map, chars, slice_get, Option, Some, unwrap_or, IsUtf8, Result, Err, if◌then◌else◌}
+use Rattle.std.specs.Prelude.{◌≡◌, ◌≢◌, ◌⊎◌, ℕ, ◌+◌, ◌==◌, ◌<◌, List, take, length, map, chars, slice_get, Some, unwrap_or, IsUtf8, Err, if◌then◌else◌}
 use Rattle.qrcode.specs.Code.{Code}
 use Rattle.qrcode_types.specs.declared.types.QrError.{QrError}
 use Rattle.qrcode_types.specs.declared.types.QrError.TheVariants.{UnsupportedCharacterSet}
-use Rattle.qrcode_charsets.specs.Charsets.{designator, Has, IsWritten}
+use Rattle.qrcode_charsets.specs.Charsets.{designator, Has}
 use Rattle.qrcode_charsets.specs.Shortest.{IsAt, NoneHas}
 use Rattle.qrcode_charsets.specs.declared.sets.Charset.{Charset}
 use Rattle.qrcode_charsets.specs.declared.sets.TheConstants.{CHARSETS}
 use Rattle.goqlanis_request.specs.Charsets.{IsShortestOf, IsShownOrRefused}
 use Rattle.goqlanis_buffers.specs.Answers.{refusal_of}
-use Rattle.goqlanis_buffers.specs.Calls.{Writes}
 use Rattle.goqlanis_buffers.specs.Options.{IsAsked, IsOptionsCause}
-use Rattle.goqlanis_buffers.specs.Outputs.{IsFilled}
 use Rattle.goqlanis_buffers.specs.Segments.{refusal_in}
 use Rattle.goqlanis_buffers.specs.Symbols.{IsMasked, IsMaskingCause}
 use Rattle.goqlanis_buffers.specs.declared.answers.Refusal.{Refusal}
@@ -118,26 +116,3 @@ pub record IsCodingRefusal (o : Options) (numbers utf8 : List ℕ) (room answer 
   pub cause : IsUncoded o numbers utf8 room why
   pub answered : refusal_of answer ≡ Some (refusal_reported why)
   pub reported : after ≡ place_reported why before
-
-abbrev pub number_read : ℕ → ℕ  -- the number of the set that readers take an ECI designator for: 1 was ISO 8859-1, and 27 and 170 are ASCII
-number_read n = if n == 1 then 3 else (if n == 27 then 26 else (if n == 170 then 26 else n))
-
--- the text, in UTF-8, that bytes are in the set of a designator
-pub record IsDecoded (number : ℕ) (bytes utf8 : List ℕ) : Type 0 where
-  pub set : Charset
-  pub named : number_of set ≡ number_read number
-  pub text : IsUtf8 utf8
-  pub written : IsWritten set (chars utf8) bytes
-
-abbrev pub IsUndecoded : ℕ → List ℕ → ℕ → Refusal → Type 0  -- why bytes are not decoded into a buffer of `room` bytes
-IsUndecoded number bytes room refusals.NoSuchSet = (c : Charset) → number_of c ≢ number_read number
-IsUndecoded number bytes room refusals.NotInSet = (c : Charset) × ((number_of c ≡ number_read number) × ((text : List ℕ) → ¬ IsWritten c text bytes))
-IsUndecoded number bytes room refusals.SmallBuffer = (utf8 : List ℕ) × (IsDecoded number bytes utf8 × (room < length utf8))
-IsUndecoded number bytes room refusals.OutOfMemory = ⊤
-IsUndecoded number bytes room refusal = ⊥
-
--- writes the text that bytes are in the set of a number, and returns its length
-abbrev pub WritesDecoded : ℕ → List ℕ → List ℕ → List ℕ → Result ℕ Refusal → Type 0
-WritesDecoded number bytes old new result =
-    Writes (λ new count. (utf8 : List ℕ) × (IsDecoded number bytes utf8 × (IsFilled old new utf8 × (count ≡ length utf8))))
-    (IsUndecoded number bytes (length old)) old new result

@@ -18,5 +18,6 @@ pub mod Segments
 pub mod Several
 pub mod Shades
 pub mod Symbols
+pub mod Texts
 pub mod Tints
 pub mod contents

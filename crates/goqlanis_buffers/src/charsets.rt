@@ -1,16 +1,16 @@
 //! Texts in character sets that C numbers.
 
-ghost use Rattle.std.specs.Prelude.{◌≡◌, ◌≢◌, ◌<◌, ℕ, chars, length, map, Some, IfErr, IfNone, IfOk, IfSome, OnErr};
+ghost use Rattle.std.specs.Prelude.{◌≡◌, ◌≢◌, ◌<◌, chars, length, map, Some, IfErr, IfNone, IfOk, IfSome, OnErr};
 ghost use Rattle.qrcode_charsets.specs.Shortest.{NoneHas};
 ghost use Rattle.qrcode_charsets.specs.declared.sets.Charset.{Charset};
 ghost use Rattle.goqlanis_request.specs.Charsets.{IsShortestOf};
 ghost use Rattle.goqlanis_buffers.specs.Answers.{refusal_of};
-ghost use Rattle.goqlanis_buffers.specs.Charsets.{number_of, number_read, numbers_tried, place_reported, refusal_reported, IsCodedSymbol, IsFirstUnknown, IsLacked, IsUncoded, IsUncodedIn, WritesDecoded};
+ghost use Rattle.goqlanis_buffers.specs.Charsets.{number_of, numbers_tried, place_reported, refusal_reported, IsCodedSymbol, IsFirstUnknown, IsLacked, IsUncoded, IsUncodedIn};
 ghost use Rattle.goqlanis_buffers.specs.Outputs.{IsWrittenAs};
 
 use crate::answers::Refusal;
 use crate::options::{Asked, Options, asked_by};
-use crate::symbols::{Symbol, fill, write_masked};
+use crate::symbols::{Symbol, write_masked};
 use goqlanis_request::symbol_among;
 use qrcode::QrCode;
 use qrcode::types::QrError;
@@ -175,45 +175,4 @@ fn set_numbered(number: u32) -> Option<Charset>
         return Some(Charset::Unmarked);
     }
     Charset::numbered(number)
-}
-
-/// Decodes bytes in the set with the ECI number `designator`, or in UTF-8 if it is 0. Writes the
-/// text in UTF-8 to the start of `text`, and returns its length. 1, 27 and 170 are older numbers of
-/// ISO 8859-1 and numbers of parts of UTF-8.
-///
-/// Errors, the first that applies: `NoSuchSet`, `NotInSet`, `SmallBuffer`; or `OutOfMemory`. After
-/// an error `text` is unchanged.
-pub fn decode_into(
-    alloc: Global,
-    designator: u32,
-    bytes: &[u8],
-    text: &mut [u8],
-) -> Result<usize, Refusal>
-    ensures { WritesDecoded designator bytes.now text.old text.new result }
-{
-    let Some(set) = set_numbered(number_read(designator)) else {
-        return Err(Refusal::NoSuchSet);
-    };
-    let found = match set.decode(alloc, bytes) {
-        Ok(Some(found)) => found,
-        Ok(None) => return Err(Refusal::NotInSet),
-        Err(_) => return Err(Refusal::OutOfMemory),
-    };
-    let utf8 = found.as_str().as_bytes();
-    if text.len() < utf8.len() {
-        return Err(Refusal::SmallBuffer);
-    }
-    fill(text, utf8);
-    Ok(utf8.len())
-}
-
-// The number of the set that an ECI number of readers means.
-fn number_read(designator: u32) -> u32
-    ensures { result ≡ number_read designator }
-{
-    match designator {
-        1 => 3,
-        27 | 170 => 26,
-        _ => designator,
-    }
 }

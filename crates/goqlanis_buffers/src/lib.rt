@@ -21,4 +21,5 @@ pub mod scanning;
 pub mod segments;
 pub mod several;
 pub mod symbols;
+pub mod texts;
 pub mod tints;

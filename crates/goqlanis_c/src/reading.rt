@@ -1,20 +1,21 @@
 //! Calls that decode squares of modules and pictures.
 
-ghost use Rattle.std.specs.Prelude.{◌≡◌, ◌≢◌, ◌≤◌, drop, length, IsSomeAnd};
+ghost use Rattle.std.specs.Prelude.{◌≡◌, ◌≢◌, ◌≤◌, drop, length, map, IsSomeAnd};
 ghost use Rattle.qrcode_scan.specs.Several.{IsBehind};
+ghost use Rattle.qrcode_scan.specs.Texts.{IsShownText};
 ghost use Rattle.goqlanis_buffers.specs.Answers.{refusal_of};
 ghost use Rattle.goqlanis_buffers.specs.Scanning.{IsScanCause, IsScanned};
 ghost use Rattle.goqlanis_buffers.specs.Calls.{IsReported, TellsMask, WritesAnyReading, WritesReading, WritesTextReading};
-ghost use Rattle.goqlanis_buffers.specs.Charsets.{WritesDecoded};
 ghost use Rattle.goqlanis_buffers.specs.Missing.{WritesMissed};
+ghost use Rattle.goqlanis_buffers.specs.Texts.{piece_of, WritesDecoded, WritesText};
 
 use goqlanis_buffers::answers::{Refusal, answer};
-use goqlanis_buffers::charsets::decode_into;
 use goqlanis_buffers::missing::{Missed, missed_into};
 use goqlanis_buffers::reading::{
     AnyReading, Reading, mask_of, read_any_into, read_into, read_text_into,
 };
 use goqlanis_buffers::scanning::{Code, Part, Scan, codes_of};
+use goqlanis_buffers::texts::{decode_into, text_into};
 use qrcode_scan::behind_picture;
 use std::alloc::Global;
 
@@ -72,6 +73,25 @@ pub extern "C" fn goq_read_text(
         result reading.old reading.new }
 {
     answer(read_text_into(alloc, modules, text), reading)
+}
+
+/// Writes the text that a code shows which decodes to these bytes, headers and segments, in UTF-8,
+/// to the start of `text`, and its length to `count`.
+///
+/// Returns 0, or the number of the first `Refusal` that applies: `NotInSet`, `SmallBuffer`; or of
+/// `OutOfMemory`. After an error the outputs are unchanged.
+#[unsafe(no_mangle)]
+pub extern "C" fn goq_text(
+    alloc: Global,
+    bytes: &[u8],
+    parts: &[Part],
+    text: &mut [u8],
+    count: &mut usize,
+) -> u32
+    ensures { IsReported (WritesText (IsShownText (map piece_of parts.now) bytes.now)
+        text.old text.new) result count.old count.new }
+{
+    answer(text_into(alloc, bytes, parts, text), count)
 }
 
 /// Decodes bytes in the character set with this ECI designator, or in UTF-8 if it is 0. Writes the

@@ -6,7 +6,6 @@ mod joining;
 mod pictures;
 mod reading;
 mod reports;
-mod texts;
 
 pub use checking::check;
 pub use joining::join_pictures;

@@ -2,14 +2,13 @@
 
 use crate::pictures::{picture_name, pictures_in};
 use crate::reports::{object_of, other_set, report};
-use crate::texts::text_of;
 use goqlanis_files::failure::{Failure, WARNINGS, warn_of_more};
 use goqlanis_files::streams::{MOST_PICTURE, read_file, read_standard_input, shown, write_data};
 use goqlanis_files::{refused, warning};
 use goqlanis_options::asked::Report;
 use goqlanis_options::pictures::{Pictures, STANDARD_INPUT};
 use qrcode::types::Version;
-use qrcode_scan::{Codes, Scan, Unread, read_codes};
+use qrcode_scan::{Codes, Scan, Unread, read_codes, shown_text};
 use std::alloc::Global;
 use std::process::ExitCode;
 
@@ -69,7 +68,7 @@ fn warn_of_data(rt: &HostRuntime, scan: &Scan) -> Result<(), Failure> {
         );
     }
     if let Some(set) = other_set(&scan.parts) {
-        if text_of(rt.alloc(), scan)?.is_none() {
+        if shown_text(rt.alloc(), &read.data, &scan.parts)?.is_none() {
             warning!(rt; "the data has text in {set}, which is written as its bytes");
         }
     }
@@ -78,12 +77,13 @@ fn warn_of_data(rt: &HostRuntime, scan: &Scan) -> Result<(), Failure> {
 
 // Appends the data of a code: its text if a header names a set of ISO/IEC 8859, else its bytes.
 fn push_data(data: &mut Vec<u8>, scan: &Scan) -> Result<(), Failure> {
+    let bytes = &scan.any.reading.data;
     if other_set(&scan.parts).is_some() {
-        if let Some(text) = text_of(*data.allocator(), scan)? {
+        if let Some(text) = shown_text(*data.allocator(), bytes, &scan.parts)? {
             return Ok(data.extend_from_slice(text.as_bytes())?);
         }
     }
-    Ok(data.extend_from_slice(&scan.any.reading.data)?)
+    Ok(data.extend_from_slice(bytes)?)
 }
 
 // Appends the data of a picture's only code; of several codes, or after the name of the file, each

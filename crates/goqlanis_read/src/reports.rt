@@ -1,6 +1,5 @@
 //! Reports on decoded codes, as text or JSON.
 
-use crate::texts::text_of;
 use goqlanis_files::streams::shown;
 use goqlanis_options::charsets::eci_name;
 use goqlanis_options::json::{self, push_string};
@@ -11,7 +10,7 @@ use qrcode::types::Mode;
 use qrcode_check::masks::place_of;
 use qrcode_reader::spell::{Header, Part};
 use qrcode_reader::{Position, WrongCodeword};
-use qrcode_scan::Scan;
+use qrcode_scan::{Scan, shown_text};
 use std::alloc::{AllocError, Global};
 use std::fmt;
 
@@ -233,7 +232,7 @@ fn position_text(position: Position) -> &'static str {
 fn push_data(text: &mut String, scan: &Scan) -> Result<(), AllocError> {
     let data = scan.any.reading.data.as_slice();
     text.push_str("], ")?;
-    if let Some(known) = text_of(*text.allocator(), scan)? {
+    if let Some(known) = shown_text(*text.allocator(), data, &scan.parts)? {
         text.push_str("\"text\": \"")?;
         push_string(text, known.as_str())?;
         text.push_str("\", ")?;

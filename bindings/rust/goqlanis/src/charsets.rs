@@ -103,23 +103,3 @@ impl QrCode {
         }
     }
 }
-
-// Returns the text of bytes in the set of an ECI number. 0 and 2 are code page 437, 27 is ASCII and
-// 170 a part of it: only what they share with UTF-8 is taken.
-pub(crate) fn decoded(bytes: &[u8], mut number: u32) -> Option<String> {
-    if matches!(number, 0 | 2 | 27 | 170) {
-        let differs = |it: &u8| number == 170 && b"#$@[\\]^`{|}~".contains(it);
-        if bytes.iter().any(|it| !it.is_ascii() || differs(it)) {
-            return None;
-        }
-        number = sys::GOQ_UTF_8;
-    }
-    let (mut text, mut count) = (vec![0; 3 * bytes.len()], 0);
-    // SAFETY: the lengths are those of the buffers.
-    let answer = unsafe {
-        let (given, out) = (bytes.as_ptr(), text.as_mut_ptr());
-        sys::goq_decode(given, bytes.len(), number, out, text.len(), &mut count)
-    };
-    text.truncate(count);
-    if answer == sys::GOQ_OK { String::from_utf8(text).ok() } else { None }
-}

@@ -1,5 +1,4 @@
 //! Reads squares of modules, and pictures.
-use crate::charsets::decoded;
 use crate::{Color, EcLevel, Version};
 use goqlanis_sys as sys;
 use std::fmt;
@@ -148,6 +147,19 @@ impl Part {
             },
         }
     }
+
+    // What the library's text of a code depends on: of the headers, ECI alone.
+    fn known(&self) -> sys::goq_part {
+        let (kind, number, length) = match *self {
+            Part::Numeric(length) => (sys::GOQ_NUMERIC, 0, length),
+            Part::Alphanumeric(length) => (sys::GOQ_ALPHANUMERIC, 0, length),
+            Part::Byte(length) => (sys::GOQ_BYTES, 0, length),
+            Part::Kanji(length) => (sys::GOQ_KANJI, 0, length),
+            Part::Eci(number) => (sys::GOQ_ECI, number, 0),
+            _ => (sys::GOQ_FNC1_FIRST, 0, 0),
+        };
+        sys::goq_part { kind, number, length, ..Default::default() }
+    }
 }
 
 /// A code in a picture.
@@ -176,26 +188,16 @@ impl Code {
     /// ```
     pub fn text(&self) -> Option<String> {
         let data = &self.reading.data;
-        let (mut text, mut set, mut start, mut end) = (String::new(), sys::GOQ_UTF_8, 0, 0);
-        for part in &self.parts {
-            match *part {
-                Part::Kanji(_) if set != sys::GOQ_SHIFT_JIS => return None,
-                Part::Numeric(count)
-                | Part::Alphanumeric(count)
-                | Part::Byte(count)
-                | Part::Kanji(count) => end += count,
-                Part::Eci(number) => {
-                    text += &decoded(data.get(start..end)?, set)?;
-                    (set, start) = (number, end);
-                }
-                _ => {}
-            }
-        }
-        // After FNC1 the data may be shorter than its segments.
-        if start > 0 && end != data.len() {
-            return None;
-        }
-        Some(text + &decoded(&data[start..], set)?)
+        let parts: Vec<_> = self.parts.iter().map(|it| it.known()).collect();
+        let (mut text, mut count) = (vec![0; 3 * data.len()], 0);
+        // SAFETY: the lengths are those of the buffers.
+        let answer = unsafe {
+            let (given, size) = (data.as_ptr(), data.len());
+            let (headed, items) = (parts.as_ptr(), parts.len());
+            sys::goq_text(given, size, headed, items, text.as_mut_ptr(), text.len(), &mut count)
+        };
+        text.truncate(count);
+        if answer == sys::GOQ_OK { String::from_utf8(text).ok() } else { None }
     }
 }
 
