@@ -99,9 +99,16 @@ fn refuse(
             );
         }
     }
+    let least = Choice::From(Version::Normal(1));
+    for lower in [EcLevel::Q, EcLevel::M, EcLevel::L] {
+        if symbol_among(alloc, least, sets, lower, text).is_ok() {
+            return refused!(alloc;
+                "no version holds the text at level {level:?}; level {lower:?} holds it"
+            );
+        }
+    }
     refused!(alloc;
-        "no version holds the text at level {level:?}: use a lower --level, or leave out --charset; \
-        goqlanis split splits the text over several codes"
+        "no version holds the text; without --charset, goqlanis split splits it over several codes"
     )
 }
 
