@@ -229,11 +229,13 @@ def crowded_pages_are_read(program):
         yield ran.stdout == said and ran.returncode == (not said)
 
 
-def chess_boards_take_seconds(program):
+def boards_take_seconds(program):
     """In boards of 4,096 by 4,096 pixels, with fields of one pixel and of two by one, all runs are
-    equally long. None is taken for a finder pattern, so six seconds of a processor are plenty."""
-    for row in (0x55, 0x33):
-        board = bytes([row] * 512 + [row ^ 255] * 512) * 2048
+    equally long. None is taken for a finder pattern. Of 262,144 finder patterns side by side no
+    three belong to a code. So six seconds of a processor are plenty."""
+    finder = [0xfe, 0x82, 0xba, 0xba, 0xba, 0x82, 0xfe, 0]
+    for rows in ([0x55, 0xaa], [0x33, 0xcc], finder):
+        board = b"".join(bytes([it] * 512) for it in rows) * (4096 // len(rows))
         ran = run(program, ["read"], "/", b"P4\n4096 4096\n" + board, preexec_fn=lambda:
                   resource.setrlimit(resource.RLIMIT_CPU, (6, 6)))
         yield (ran.returncode, ran.stdout) == (1, b"")
