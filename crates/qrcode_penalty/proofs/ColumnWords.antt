@@ -1,7 +1,8 @@
 -- The intermediate words of the code for columns, bit by bit.
-use Rattle.std.proofs.Common.{◌≡◌, ℕ, zero, suc, ◌+◌, ◌-◌, ◌*◌, ◌≤◌, Bool, true, false, not, ◌&&◌, ◌||◌, List, refl, ap, ap₂, ◌∙◌, arith, count_ones, if◌then◌else◌, bit_and, bit_or, bit_xor, add_assoc, slice_index_or, length, le-leb}
+use Rattle.std.proofs.Common.{◌≡◌, ℕ, zero, suc, ◌+◌, ◌-◌, ◌*◌, ◌≤◌, Bool, true, false, not, ◌&&◌, ◌||◌, List, ap, ap₂, ◌∙◌, arith, count_ones, if◌then◌else◌, bit_and, bit_or, bit_xor, add_assoc, slice_index_or, length, le-leb}
 use Rattle.std.proofs.lemmas.List.{get_or_past}
 use Rattle.std.proofs.lemmas.Nat.{or_lt}
+use Rattle.std.proofs.lemmas.Bool.Decides.{nat_tests}
 use Rattle.qrcode_penalty.specs.Rows.{is_set}
 use Rattle.qrcode_penalty.proofs.Places.{differ, has_and, has_or, has_xor, has_without, has_zero, has_above}
 use Rattle.qrcode_penalty.specs.Penalty.{sum_below, is_run, same, block_penalty_at, finder_penalty_at}
@@ -12,27 +13,7 @@ use Rattle.qrcode_penalty.proofs.Sums.{weigh_places}
 use Rattle.qrcode_penalty.proofs.Lines.{without}
 
 upper_test : (a b c d e : Bool) → not (((differ b c || differ c d) || differ d e) || differ a b) ≡ (same a a && (same a b && (same a c && (same a d && (same a e && true)))))
-upper_test true true true true true = refl
-upper_test true true true true false = refl
-upper_test true true true false true = refl
-upper_test true true true false false = refl
-upper_test true true false true e = refl
-upper_test true true false false true = refl
-upper_test true true false false false = refl
-upper_test true false true d e = refl
-upper_test true false false true e = refl
-upper_test true false false false true = refl
-upper_test true false false false false = refl
-upper_test false true true true true = refl
-upper_test false true true true false = refl
-upper_test false true true false e = refl
-upper_test false true false d e = refl
-upper_test false false true true true = refl
-upper_test false false true true false = refl
-upper_test false false true false e = refl
-upper_test false false false true e = refl
-upper_test false false false false true = refl
-upper_test false false false false false = refl
+upper_test a b c d e = grind (arith, nat_tests)
 
 -- row y as a number
 abbrev pub row : List ℕ → ℕ → ℕ

@@ -2,11 +2,12 @@
 use Rattle.std.proofs.Common.{◌≡◌, ℕ, zero, suc, ◌+◌, ◌-◌, ◌*◌, ◌/◌, ◌^◌, ◌<◌, ◌≤◌, Bool, true, false, not, ◌&&◌, ◌||◌, refl, ap, ap₂, sym, ◌∙◌, arith, count_ones, bit_and, bit_or, add_assoc, nat_le, leb-true}
 use Rattle.std.proofs.lemmas.Nat.{or_lt, and_le_r, pow_below}
 use Rattle.std.proofs.Math.Pow.{pow_mono}
+use Rattle.std.proofs.lemmas.Bool.Decides.{nat_tests}
 use Rattle.qrcode_penalty.specs.Rows.{is_set}
 use Rattle.qrcode_penalty.proofs.Places.{differ, has_and, has_or, has_xor, has_without, has_shr, has_shl, has_shl_below, has_above}
 use Rattle.qrcode_penalty.specs.Penalty.{is_finder_like, finder_penalty_at, finder_penalty, is_light_from}
 use Rattle.qrcode_penalty.proofs.Sums.{weigh_places}
-use Rattle.qrcode_penalty.proofs.Lines.{without, edges, and_false, finder_test, fits_up}
+use Rattle.qrcode_penalty.proofs.Lines.{without, edges, finder_test, fits_up}
 
 -- a line with four light places before it
 abbrev pub pad : (ℕ → Bool) → ℕ → Bool
@@ -21,34 +22,23 @@ abbrev pub four : (ℕ → Bool) → ℕ → Bool
 four f k = (f k || f (k + 1)) || (f (k + 2) || f (k + 3))
 
 four_test : (a b c d : Bool) → (not a && (not b && (not c && (not d && true)))) ≡ not ((a || b) || (c || d))
-four_test true b c d = refl
-four_test false true c d = refl
-four_test false false true d = refl
-four_test false false false true = refl
-four_test false false false false = refl
+four_test a b c d = grind (arith, nat_tests)
 
 three_test : (a b c : Bool) → (not a && (not b && (not c && true))) ≡ not ((false || a) || (b || c))
-three_test true b c = refl
-three_test false true c = refl
-three_test false false true = refl
-three_test false false false = refl
+three_test a b c = grind (arith, nat_tests)
 
 two_test : (a b : Bool) → (not a && (not b && true)) ≡ not ((false || false) || (a || b))
-two_test true b = refl
-two_test false true = refl
-two_test false false = refl
+two_test a b = grind (arith, nat_tests)
 
 one_test : (a : Bool) → (not a && true) ≡ not ((false || false) || (false || a))
 one_test true = refl
 one_test false = refl
 
 not_both : (a b : Bool) → not (a && b) ≡ (not a || not b)
-not_both true b = refl
-not_both false b = refl
+not_both a b = grind (arith, nat_tests)
 
 or_not : (a b : Bool) → (a ≡ true → b ≡ false) → (a || not b) ≡ not b
-or_not true b h = ap not (sym (h refl))
-or_not false b h = refl
+or_not a b h = grind (arith, nat_tests)
 
 pad_from : (line : ℕ → Bool) (i s : ℕ) → i ≡ s + 4 → pad line i ≡ line s
 pad_from line i s h = let e : i ≡ suc (suc (suc (suc s))) = omega arith in ap (λ k. pad line k) e
@@ -60,9 +50,7 @@ pad_four line i s h =
     (ap₂ (λ (a b : Bool). a || b) (pad_from line (i + 2) (s + 2) (omega arith)) (pad_from line (i + 3) (s + 3) (omega arith)))
 
 last_false : (a b c d e : Bool) → (((a && (b && false)) && c) && d) && e ≡ false
-last_false false b c d e = refl
-last_false true false c d e = refl
-last_false true true c d e = refl
+last_false a b c d e = grind (arith, nat_tests)
 
 module _ (line : ℕ → Bool) (n : ℕ) (outside : (j : ℕ) → n ≤ j → line j ≡ false) where
   light_at : (j : ℕ) → (nat_le n j || not (line j)) ≡ not (line j)
@@ -115,16 +103,7 @@ abbrev pub forms : ℕ → ℕ
 forms a = without (shapes a) (crowded a)
 
 or_turn : (a b c d : Bool) → ((a || b) || (c || d)) ≡ ((d || c) || (b || a))
-or_turn true b c true = refl
-or_turn true b true false = refl
-or_turn true true false false = refl
-or_turn true false false false = refl
-or_turn false true c true = refl
-or_turn false false true true = refl
-or_turn false false false true = refl
-or_turn false true true false = refl
-or_turn false true false false = refl
-or_turn false false c false = refl
+or_turn a b c d = grind (arith, nat_tests)
 
 once_at : (a k : ℕ) → is_set (a * 2 ^ 1) k ≡ pad (is_set a) (k + 3)
 once_at a zero = has_shl_below a 1 0 (omega arith)
@@ -162,25 +141,7 @@ crowded_at a (suc k) =
     (has_shr (fours a) 11 k ∙ fours_at a (k + 11) ∙ ap (four (pad (is_set a))) f)
 
 shape_test : (a b c d e f g : Bool) → ((differ a b && differ b c) && (differ e f && differ f g)) && (a && not (differ c d || differ d e)) ≡ (((a && c) && (e && g)) && d) && not (b || f)
-shape_test false b c d e f g = and_false ((differ false b && differ b c) && (differ e f && differ f g))
-shape_test true true c d e f g = sym (and_false (((true && c) && (e && g)) && d))
-shape_test true false false d e f g = refl
-shape_test true false true true true true true = refl
-shape_test true false true true true true false = refl
-shape_test true false true true true false true = refl
-shape_test true false true true true false false = refl
-shape_test true false true true false true true = refl
-shape_test true false true true false true false = refl
-shape_test true false true true false false true = refl
-shape_test true false true true false false false = refl
-shape_test true false true false true true true = refl
-shape_test true false true false true true false = refl
-shape_test true false true false true false true = refl
-shape_test true false true false true false false = refl
-shape_test true false true false false true true = refl
-shape_test true false true false false true false = refl
-shape_test true false true false false false true = refl
-shape_test true false true false false false false = refl
+shape_test a b c d e f g = grind (arith, nat_tests)
 
 shapes_at : (a k : ℕ) → is_set (shapes a) k ≡ ((((is_set a k && is_set a (k + 2)) && (is_set a (k + 4) && is_set a (k + 6))) && is_set a (k + 3)) && not (is_set a (k + 1) || is_set a (k + 5)))
 shapes_at a k = simp (has_and, has_without, has_or, has_xor, has_shr, add_assoc) (shape_test (is_set a k) (is_set a (k + 1)) (is_set a (k + 2)) (is_set a (k + 3)) (is_set a (k + 4)) (is_set a (k + 5)) (is_set a (k + 6)))

@@ -1,5 +1,6 @@
 -- The penalty of runs as the number of modules inside them: each window of five counts for its first place and the two after it.
-use Rattle.std.proofs.Common.{◌≡◌, ℕ, zero, suc, ◌+◌, ◌*◌, ◌^◌, ◌<◌, ◌≤◌, Bool, true, false, not, ◌&&◌, ◌||◌, refl, ap, ap₂, sym, ◌∙◌, arith, bit_or, if◌then◌else◌}
+use Rattle.std.proofs.Common.{◌≡◌, ℕ, zero, suc, ◌+◌, ◌*◌, ◌^◌, ◌<◌, ◌≤◌, Bool, false, not, ◌&&◌, ◌||◌, refl, ap, ap₂, sym, ◌∙◌, arith, bit_or, if◌then◌else◌}
+use Rattle.std.proofs.lemmas.Bool.Decides.{nat_tests}
 use Rattle.qrcode_penalty.specs.Rows.{is_set}
 use Rattle.qrcode_penalty.proofs.Places.{has_or, has_shl, has_shl_below}
 use Rattle.qrcode_penalty.specs.Penalty.{sum_below, count_if, same, is_run, begins_run, run_penalty_at}
@@ -19,27 +20,15 @@ abbrev pub behind : (ℕ → Bool) → ℕ → ℕ
 behind v n = count_if (before (two v) n) 1 + count_if (before v n) 1
 
 first_cost : (now : Bool) → count_if (now || false) 1 + (count_if (now || false) 1 + count_if now 1) ≡ 0 + 0 + count_if now 3
-first_cost true = refl
-first_cost false = refl
+first_cost now = grind (arith, nat_tests)
 
 second_cost : (p b c d r : Bool) → let now = d && (c && (b && p)) in let next = r && (d && (c && b)) in
     count_if (next || (now || false)) 1 + (count_if (next || now) 1 + count_if next 1) ≡ count_if (now || false) 1 + count_if now 1 + count_if next (if not p then 3 else 1)
-second_cost p b c d false = omega arith
-second_cost p b c false true = refl
-second_cost p b false true true = refl
-second_cost p false true true true = refl
-second_cost true true true true true = refl
-second_cost false true true true true = refl
+second_cost p b c d r = grind (arith, nat_tests)
 
 later_cost : (q p b c d r : Bool) → let first = c && (b && (p && q)) in let now = d && (c && (b && p)) in let next = r && (d && (c && b)) in
     count_if (next || (now || first)) 1 + (count_if (next || now) 1 + count_if next 1) ≡ count_if (now || first) 1 + count_if now 1 + count_if next (if not p then 3 else 1)
-later_cost q p b c d false = omega arith
-later_cost q p b c false true = omega arith
-later_cost q p b false true true = refl
-later_cost q p false true true true = refl
-later_cost true true true true true true = refl
-later_cost false true true true true true = refl
-later_cost q false true true true true = refl
+later_cost q p b c d r = grind (arith, nat_tests)
 
 -- the window from place k on, given which places equal the next
 abbrev window : (ℕ → Bool) → ℕ → Bool

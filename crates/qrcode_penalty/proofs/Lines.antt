@@ -1,9 +1,10 @@
 -- The intermediate words of the code for rows, bit by bit.
-use Rattle.std.proofs.Common.{◌≡◌, ℕ, zero, suc, ◌+◌, ◌-◌, ◌*◌, ◌/◌, ◌^◌, ◌<◌, ◌≤◌, Bool, true, false, not, ◌&&◌, ◌||◌, refl, ap, ap₂, sym, ◌∙◌, arith, count_ones, bit_and, bit_or, bit_xor, add_assoc}
+use Rattle.std.proofs.Common.{◌≡◌, ℕ, zero, suc, ◌+◌, ◌-◌, ◌*◌, ◌/◌, ◌^◌, ◌<◌, ◌≤◌, Bool, true, false, not, ◌&&◌, ◌||◌, ap, ap₂, sym, ◌∙◌, arith, count_ones, bit_and, bit_or, bit_xor, add_assoc}
 use Rattle.std.proofs.lemmas.Nat.{or_lt, pow-add, pow_pos}
 use Rattle.std.proofs.Math.Nat.{mul-lt-mul_of_pos_right}
 use Rattle.std.proofs.Math.Pow.{pow_mono}
 use Rattle.std.specs.Int.Count.{ones}
+use Rattle.std.proofs.lemmas.Bool.Decides.{nat_tests}
 use Rattle.qrcode_penalty.specs.Rows.{is_set}
 use Rattle.qrcode_penalty.proofs.Places.{differ, has_or, has_xor, has_without, has_shr, has_first, has_first_above, below_from_places}
 use Rattle.qrcode_penalty.specs.Penalty.{sum_below, count_if, is_run, same, run_penalty}
@@ -14,58 +15,13 @@ use Rattle.qrcode_penalty.specs.Inside.{three}
 use Rattle.qrcode_penalty.proofs.Inside.{shifted_at, inside_sum}
 
 run_test : (a b c d e : Bool) → not ((differ a b || differ b c) || (differ c d || differ d e)) ≡ (same a a && (same a b && (same a c && (same a d && (same a e && true)))))
-run_test true true true true true = refl
-run_test true true true true false = refl
-run_test true true true false e = refl
-run_test true true false d e = refl
-run_test true false c d e = refl
-run_test false false false false false = refl
-run_test false false false false true = refl
-run_test false false false true e = refl
-run_test false false true d e = refl
-run_test false true c d e = refl
-
-pub and_false : (a : Bool) → (a && false) ≡ false
-and_false true = refl
-and_false false = refl
-
--- if two tests pass, each does
-pub both_left : (a b : Bool) → (a && b) ≡ true → a ≡ true
-both_left true b h = refl
-both_left false b h = h
-
-pub both_right : (a b : Bool) → (a && b) ≡ true → b ≡ true
-both_right true b h = h
-both_right false b h = cc
+run_test a b c d e = grind (arith, nat_tests)
 
 pub finder_test : (a b c d e f g q : Bool) → ((((((a && c) && (e && g)) && d) && not (b || f)) && q)) ≡ ((a && not b && c && d && e && not f && g) && q)
-finder_test false b c d e f g q = refl
-finder_test true true c d e f g q = ap (λ x. x && q) (and_false ((c && (e && g)) && d))
-finder_test true false false d e f g q = refl
-finder_test true false true false e f g q = ap (λ x. (x && not f) && q) (and_false (e && g))
-finder_test true false true true false f g q = refl
-finder_test true false true true true true true q = refl
-finder_test true false true true true true false q = refl
-finder_test true false true true true false true q = refl
-finder_test true false true true true false false q = refl
+finder_test a b c d e f g q = grind (arith, nat_tests)
 
 block_test : (a b c d : Bool) → not (differ a c || (differ a b || differ c d)) ≡ (same a b && same a c && same a d)
-block_test true true true true = refl
-block_test true true true false = refl
-block_test true true false true = refl
-block_test true true false false = refl
-block_test true false true true = refl
-block_test true false true false = refl
-block_test true false false true = refl
-block_test true false false false = refl
-block_test false true true true = refl
-block_test false true true false = refl
-block_test false true false true = refl
-block_test false true false false = refl
-block_test false false true true = refl
-block_test false false true false = refl
-block_test false false false true = refl
-block_test false false false false = refl
+block_test a b c d = grind (arith, nat_tests)
 
 -- the intermediate words of `run_penalties`
 abbrev pub edges : ℕ → ℕ

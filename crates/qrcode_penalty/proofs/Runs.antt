@@ -16,62 +16,17 @@ no_cost r h = grind (arith, nat_tests)
 cost_more : (a b c d : Bool) (r : ℕ) (begins : Bool) → (begins ≡ true → r ≡ 1) → (begins ≡ false → 2 ≤ r) →
     count_if (not d) (run_cost (next c (next b (next a r)))) + run_cost (next d (next c (next b (next a r))))
     ≡ run_cost (next c (next b (next a r))) + count_if (d && (c && (b && a))) (if begins then 3 else 1)
-cost_more a b c false r begins one more = omega arith
-cost_more a b false true r begins one more = refl
-cost_more a false true true r begins one more = refl
-cost_more false true true true r begins one more = refl
-cost_more true true true true r true one more = let e : r ≡ 1 = one refl in rw e refl
-cost_more true true true true r false one more =
-    let h : 2 ≤ r = more refl in
-    let now : run_cost (suc (suc (suc (suc r)))) ≡ r + 2 = grind (arith, nat_tests) in
-    let before : run_cost (suc (suc (suc r))) ≡ r + 1 = grind (arith, nat_tests) in
-    omega (arith, now, before)
+cost_more a b c d r begins one more = grind (arith, nat_tests)
 
 five_same : (a b c d e : Bool) → (same a a && (same a b && (same a c && (same a d && (same a e && true))))) ≡ (same d e && (same c d && (same b c && same a b)))
-five_same true b c d e = go b c d e where
-  go : (b c d e : Bool) → (b && (c && (d && (e && true)))) ≡ (same d e && (same c d && (same b c && b)))
-  go true true true true = refl
-  go true true true false = refl
-  go true true false true = refl
-  go true true false false = refl
-  go true false true true = refl
-  go true false true false = refl
-  go true false false true = refl
-  go true false false false = refl
-  go false true true true = refl
-  go false true true false = refl
-  go false true false true = refl
-  go false true false false = refl
-  go false false true true = refl
-  go false false true false = refl
-  go false false false true = refl
-  go false false false false = refl
-five_same false b c d e = go b c d e where
-  go : (b c d e : Bool) → (not b && (not c && (not d && (not e && true)))) ≡ (same d e && (same c d && (same b c && not b)))
-  go true true true true = refl
-  go true true true false = refl
-  go true true false true = refl
-  go true true false false = refl
-  go true false true true = refl
-  go true false true false = refl
-  go true false false true = refl
-  go true false false false = refl
-  go false true true true = refl
-  go false true true false = refl
-  go false true false true = refl
-  go false true false false = refl
-  go false false true true = refl
-  go false false true false = refl
-  go false false false true = refl
-  go false false false false = refl
+five_same a b c d e = grind (arith, nat_tests)
 
 positive : (line : ℕ → Bool) (i : ℕ) → 1 ≤ run_length line i
 unfolding run_length
 positive line zero = omega arith
-positive line (suc i) = by_color (same (line i) (line (suc i))) where
-  by_color : (s : Bool) → 1 ≤ next s (run_length line i)
-  by_color true = omega arith
-  by_color false = omega arith
+positive line (suc i) = first (same (line i) (line (suc i))) (run_length line i) where
+  first : (s : Bool) (r : ℕ) → 1 ≤ next s r
+  first s r = grind (arith, nat_tests)
 
 run_length-begins : (line : ℕ → Bool) (i : ℕ) → begins_run line i ≡ true → run_length line i ≡ 1
 unfolding run_length

@@ -1,6 +1,6 @@
 use Rattle.std.proofs.Common.{◌≡◌, ◌/◌, ◌^◌, ◌==◌, ◌&&◌, true, count_ones, ap, sym, ◌∙◌, arith, bit_and}
-use Rattle.std.proofs.lemmas.Bool.{eqb-true}
-use Rattle.qrcode_penalty.proofs.Lines.{fits_up, none_left, both_left, both_right}
+use Rattle.std.proofs.lemmas.Bool.{eqb-true, and_parts}
+use Rattle.qrcode_penalty.proofs.Lines.{fits_up, none_left}
 use Rattle.qrcode_penalty.proofs.Finders.{finders_of, forms, shapes, crowded, twos, fours, twos_room, crowded_room}
 use Rattle.qrcode_penalty.proofs.rows.finder_penalties.Goals as goal
 
@@ -42,11 +42,11 @@ returns-then-is_zero-clause-value g c =
     let upper = g.R.Pair.RowPair.upper c.args.rows in
     let word_upper : g.R.Pair.RowPair.upper c.and-shapes.result ≡ shapes upper =
     simp (c.and-shapes.ensures.upper, c.and.ensures.upper, c.down-3.ensures.upper, c.without-middles.ensures.upper, c.down-2.ensures.upper, c.or.ensures.upper, c.and-turns.ensures.upper, c.down-next.ensures.upper, c.xor-edges.ensures.upper, c.down.ensures.upper) in
-    let none_upper : count_ones (forms upper) ≡ 0 = none_left (shapes upper) (crowded upper) (sym word_upper ∙ eqb-true (g.R.Pair.RowPair.upper c.and-shapes.result) 0 (both_left _ _ none)) in
+    let none_upper : count_ones (forms upper) ≡ 0 = none_left (shapes upper) (crowded upper) (sym word_upper ∙ eqb-true (g.R.Pair.RowPair.upper c.and-shapes.result) 0 (and_parts _ _ none).0) in
     let lower = g.R.Pair.RowPair.lower c.args.rows in
     let word_lower : g.R.Pair.RowPair.lower c.and-shapes.result ≡ shapes lower =
     simp (c.and-shapes.ensures.lower, c.and.ensures.lower, c.down-3.ensures.lower, c.without-middles.ensures.lower, c.down-2.ensures.lower, c.or.ensures.lower, c.and-turns.ensures.lower, c.down-next.ensures.lower, c.xor-edges.ensures.lower, c.down.ensures.lower) in
-    let none_lower : count_ones (forms lower) ≡ 0 = none_left (shapes lower) (crowded lower) (sym word_lower ∙ eqb-true (g.R.Pair.RowPair.lower c.and-shapes.result) 0 (both_right _ _ none)) in
+    let none_lower : count_ones (forms lower) ≡ 0 = none_left (shapes lower) (crowded lower) (sym word_lower ∙ eqb-true (g.R.Pair.RowPair.lower c.and-shapes.result) 0 (and_parts _ _ none).1) in
     omega (arith, none_upper, none_lower, finders_of upper c.args.width c.requires.upper_fits, finders_of lower c.args.width c.requires.lower_fits)
 
 pub overflow_mul-result : goal.overflow_mul-result
