@@ -1,10 +1,11 @@
 -- What is drawn on a new canvas and masked carries its codewords.
-use Rattle.std.proofs.Common.{◌≡◌, ℕ, zero, suc, ◌+◌, ◌-◌, ◌*◌, ◌<◌, Bool, true, false, not, ◌||◌, List, [], ◌∷◌, ◌++◌, map, length, get_or, arith, sym, ap, subst, refl, ◌∙◌, Option, Some, None, slice_get, unwrap_or, is_some, true≢false, IsTrue, IfSome, replicate, length-append}
+use Rattle.std.proofs.Common.{◌≡◌, ℕ, zero, suc, ◌+◌, ◌-◌, ◌*◌, ◌<◌, Bool, true, false, not, ◌||◌, List, [], ◌∷◌, ◌++◌, map, length, get_or, arith, sym, ap, subst, refl, ◌∙◌, Option, Some, None, slice_get, unwrap_or, is_some, IsTrue, IfSome, replicate, length-append}
 use Rattle.std.specs.List.{range_with_len, All, list_all}
 use Rattle.std.proofs.lemmas.Option.{unwrap_or-slice_get}
 use Rattle.std.proofs.lemmas.List.{length-replicate, ext_get_or, length-map, get_or-map, drop_at}
 use Rattle.std.proofs.lemmas.List.Elements.{All-filter, filter_passes, All-weaker, All-from_recursion, recursion_from_All}
 use Rattle.std.proofs.lemmas.List.FromFn.{get_or-map-range_with_len, length-map-range_with_len}
+use Rattle.std.proofs.lemmas.Bool.Decides.{nat_tests}
 use Rattle.qrcode_types.specs.Bits.{has_bit, number_bits, AreBytes}
 use Rattle.qrcode_types.specs.Colors.{is_dark, color_of}
 use Rattle.qrcode_types.specs.Versions.{side, is_valid, has_level, capacity, data_length, total_ec_length, remainder_bits}
@@ -28,7 +29,7 @@ use Rattle.qrcode_symbol.specs.Carried.{HasZeroHalf}
 use Rattle.qrcode_symbol.specs.Symbol.{bits_at, HasPatterns, Carries}
 use Rattle.qrcode_symbol.specs.declared.canvas.Module.{Module}
 use Rattle.qrcode_symbol.specs.declared.canvas.Module.TheVariants.{Empty, Masked}
-use Rattle.qrcode_symbol.proofs.MaskedSquares.{module_is}
+use Rattle.qrcode_symbol.proofs.MaskedSquares.{module_is, dark_color}
 use Rattle.qrcode_symbol.proofs.BitLists.{length_number_bits, number_bits_at}
 use Rattle.qrcode_symbol.proofs.Codewords.{codewords_drawn, length_drawn}
 use Rattle.qrcode_symbol.proofs.Filled.{drawn_at, filled_at, filled_other, free_is_empty}
@@ -39,10 +40,6 @@ colors_at : (m : List Module) (i : ℕ) → get_or (colors_of m) i Light ≡ col
 colors_at [] i = refl
 colors_at (x ∷ m) zero = refl
 colors_at (x ∷ m) (suc i) = colors_at m i
-
-dark_color : (b : Bool) → is_dark (color_of b) ≡ b
-dark_color true = refl
-dark_color false = refl
 
 -- the colour of a place after the mask
 color_is : (v : Version) (l : EcLevel) (k : MaskPattern) (m : List Module) (x y : ℕ) → x < side v → y < side v
@@ -129,21 +126,13 @@ has_patterns v l k bits valid = record {
 
 -- masking twice changes nothing; an empty module reads as 0
 turned_back : (t : Bool) (o : Option Bool) → turned_if t (is_dark (color_of_module (masked_module t (drawn_at o Empty)))) ≡ unwrap_or o false
-turned_back true None = refl
-turned_back false None = refl
-turned_back true (Some true) = refl
-turned_back true (Some false) = refl
-turned_back false (Some true) = refl
-turned_back false (Some false) = refl
+turned_back t o = grind (arith, nat_tests)
 
 neither : (p : Option Color) (f : Option ℕ) → (is_some p || is_some f) ≡ false → (p ≡ None) × (f ≡ None)
-neither None None e = (refl, refl)
-neither None (Some i) e = absurd (true≢false e)
-neither (Some c) f e = absurd (true≢false e)
+neither p f h1 = grind (arith, nat_tests)
 
 pub not_true : (b : Bool) → not b ≡ true → b ≡ false
-not_true true e = absurd (true≢false (sym e))
-not_true false e = refl
+not_true b h1 = grind (arith, nat_tests)
 
 pub free_nothing : (v : Version) (x y : ℕ) → is_functional_place v x y ≡ false → (pattern v x y ≡ None) × (format_index v x y ≡ None)
 unfolding is_functional_place

@@ -1,5 +1,5 @@
 -- Reading codewords back from the bits that were drawn for them.
-use Rattle.std.proofs.Common.{◌≡◌, ℕ, zero, suc, ◌+◌, ◌-◌, ◌*◌, ◌/◌, ◌%◌, ◌<◌, ◌≤◌, ◌^◌, Bool, true, false, cond, List, [], ◌∷◌, ◌++◌, length, map, take, drop, get_or, refl, sym, ap, ap₂, ◌∙◌, arith, subst, inl, inr, length-append, append_assoc}
+use Rattle.std.proofs.Common.{◌≡◌, ℕ, zero, suc, ◌+◌, ◌-◌, ◌*◌, ◌/◌, ◌%◌, ◌<◌, ◌≤◌, ◌^◌, Bool, false, cond, List, [], ◌∷◌, ◌++◌, length, map, take, drop, get_or, refl, sym, ap, ap₂, ◌∙◌, arith, subst, inl, inr, length-append, append_assoc}
 use Rattle.std.specs.List.{range_with_len}
 use Rattle.std.proofs.lemmas.Bool.{cases_lt, cases_Bool}
 use Rattle.std.proofs.lemmas.Bool.Decides.{nat_tests}
@@ -83,8 +83,7 @@ zeros_behind v l words e half p g = elim (cases_Bool (has_half_codeword v l)) [
 ]
 
 half_small : (t : Bool) → cond t 4 0 ≤ 4
-half_small true = omega arith
-half_small false = omega arith
+half_small t = grind (arith, nat_tests)
 
 pub length_drawn : (v : Version) (l : EcLevel) (words ec : List ℕ) → length words ≡ data_length v l → length ec ≡ total_ec_length v l → length (drawn_bits v l words ec) ≡ capacity v l + 8 * total_ec_length v l
 unfolding drawn_bits capacity

@@ -82,8 +82,7 @@ elsewhere (Micro v) word x y h k = rw (micro_index (Micro v) x y refl, decided_b
 
 -- a Normal symbol has at least 17 modules along a side
 normal_wide : (v : Version) → is_micro v ≡ false → 17 ≤ side v
-normal_wide (Normal v) n = omega arith
-normal_wide (Micro v) n = absurd (true≢false n)
+normal_wide v h1 = grind (arith, nat_tests)
 
 -- row 8 comes before the last rows
 pub above : (v : Version) {w : ℕ} (k : ℕ) → is_micro v ≡ false → w ≡ side v → k ≤ 8 → 8 < w - k

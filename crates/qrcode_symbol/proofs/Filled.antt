@@ -8,6 +8,7 @@ use Rattle.std.proofs.lemmas.List.Kept.{AllPairs-filter}
 use Rattle.std.proofs.lemmas.List.FromFn.{get_or-map-range_with_len, length-map-range_with_len}
 use Rattle.std.proofs.lemmas.Nat.{mul-add-lt}
 use Rattle.std.proofs.lemmas.Simd.{map-map}
+use Rattle.std.proofs.lemmas.Bool.Decides.{nat_tests}
 use Rattle.qrcode_types.specs.Colors.{color_of}
 use Rattle.qrcode_types.specs.Versions.{side, is_valid}
 use Rattle.qrcode_types.specs.declared.types.Version.{Version}
@@ -17,7 +18,7 @@ use Rattle.qrcode_layout.proofs.Zigzag.{walk_is_inside}
 use Rattle.qrcode_symbol.specs.Canvas.{is_empty, put_bits, empty_places, with_bits_drawn, with_patterns, blank}
 use Rattle.qrcode_symbol.specs.Filling.{place_index}
 use Rattle.qrcode_symbol.specs.declared.canvas.Module.{Module}
-use Rattle.qrcode_symbol.specs.declared.canvas.Module.TheVariants.{Empty, Masked, Unmasked}
+use Rattle.qrcode_symbol.specs.declared.canvas.Module.TheVariants.{Empty, Unmasked}
 use Rattle.qrcode_symbol.proofs.Walk.{apart}
 use Rattle.qrcode_symbol.proofs.Functional.{patterned_place, empty_module}
 
@@ -82,9 +83,7 @@ walk_inside v valid k d kl =
     (mul-add-lt (zigzag_place v k).1 (side v) (zigzag_place v k).0 (side v) at.1 at.0)
 
 is_empty_one : (m : Module) → is_empty m ≡ true → m ≡ Empty
-is_empty_one Empty e = refl
-is_empty_one (Masked c) e = absurd (true≢false (sym e))
-is_empty_one (Unmasked c) e = absurd (true≢false (sym e))
+is_empty_one m h1 = grind (arith, nat_tests)
 
 -- the i-th empty place has bit i
 pub filled_at : (v : Version) (bits : List Bool) (m : List Module) (i : ℕ) → IsTrue (is_valid v) → length m ≡ side v * side v → i < length (empty_places v m)

@@ -1,7 +1,8 @@
 -- Which places the patterns on a new canvas leave empty.
-use Rattle.std.proofs.Common.{◌≡◌, ℕ, ◌+◌, ◌*◌, ◌<◌, Bool, true, false, not, ◌||◌, length, get_or, arith, sym, ap, refl, ◌∙◌, Option, Some, None, is_some, IsTrue, ◌↔◌, slice_get}
+use Rattle.std.proofs.Common.{◌≡◌, ℕ, ◌+◌, ◌*◌, ◌<◌, Bool, true, not, ◌||◌, length, get_or, arith, ap, refl, ◌∙◌, Option, Some, None, is_some, IsTrue, ◌↔◌, slice_get}
 use Rattle.std.proofs.lemmas.Option.{slice_get-get_or}
 use Rattle.std.proofs.lemmas.Nat.{mul-add-lt}
+use Rattle.std.proofs.lemmas.Bool.Decides.{nat_tests}
 use Rattle.qrcode_types.specs.Versions.{side}
 use Rattle.qrcode_types.specs.declared.types.Version.{Version}
 use Rattle.qrcode_types.specs.declared.types.Color.{Color}
@@ -43,6 +44,4 @@ pub empty_module : (v : Version) (x y : ℕ) → is_empty (pattern_module v x y 
 unfolding is_functional_place
 empty_module v x y = by_cases (pattern v x y) (format_index v x y) where
   by_cases : (p : Option Color) (f : Option ℕ) → is_empty (elim p as (λ _. Module) [ Some c ↦ Masked c | None ↦ elim f as (λ _. Module) [ Some i ↦ Masked Light | None ↦ Empty ] ]) ≡ not (is_some p || is_some f)
-  by_cases (Some c) f = refl
-  by_cases None (Some i) = refl
-  by_cases None None = refl
+  by_cases p f = grind (arith, nat_tests)

@@ -4,6 +4,8 @@ use Rattle.std.proofs.Math.Nat.{mul-add}
 use Rattle.std.proofs.lemmas.Nat.{shr_split}
 use Rattle.std.proofs.lemmas.Nat.Bits.{bit_at_cat_low}
 use Rattle.std.specs.Int.{bit_at}
+use Rattle.std.proofs.lemmas.Bool.Decides.{nat_tests}
+use Rattle.qrcode_layout.proofs.Formats.{mask_number-lt}
 use Rattle.qrcode_penalty.specs.Rows.{is_set}
 use Rattle.qrcode_penalty.specs.Penalty.{same}
 use Rattle.qrcode_layout.specs.Masks.{turns, mask_number}
@@ -19,12 +21,10 @@ unfolding is_set
 has_mod n room k h = ap (λ x. x == 1) (sym (bit_at_cat_low (n / 2 ^ room) room (n % 2 ^ room) k h) ∙ ap (λ m. bit_at m k) (shr_split n room))
 
 and_l : (a b : Bool) → (a && b) ≡ true → a ≡ true
-and_l true b e = refl
-and_l false b e = e
+and_l a b h1 = grind (arith, nat_tests)
 
 and_r : (a b : Bool) → (a && b) ≡ true → b ≡ true
-and_r true b e = e
-and_r false b e = cc
+and_r a b h1 = grind (arith, nat_tests)
 
 same_true : (a b : Bool) → same a b ≡ true → a ≡ b
 same_true true b e = sym e
@@ -120,17 +120,7 @@ six_at p x y h l =
     same_true (is_set (slice_index_or (slice_index_or TURNED (mask_number p) []) y 0) x) (turns p x y)
     (all_holds 6 (test y) (all_holds 12 (λ y. all_below 6 (test y)) (turned_table p) y l) x h)
 
-mask_number_small : (p : MaskPattern) → mask_number p < 8
-mask_number_small Checkerboard = omega arith
-mask_number_small HorizontalLines = omega arith
-mask_number_small VerticalLines = omega arith
-mask_number_small DiagonalLines = omega arith
-mask_number_small LargeCheckerboard = omega arith
-mask_number_small Fields = omega arith
-mask_number_small Diamonds = omega arith
-mask_number_small Meadow = omega arith
-
 pub six_small : (p : MaskPattern) (y : ℕ) → y < 12 → slice_index_or (slice_index_or TURNED (mask_number p) []) y 0 < 64
 six_small p y l =
     let test = λ (n y : ℕ). nat_lt (slice_index_or (slice_index_or TURNED n []) y 0) 64 in
-    ltb-true _ _ (all_holds 12 (test (mask_number p)) (all_holds 8 (λ n. all_below 12 (test n)) small_table (mask_number p) (mask_number_small p)) y l)
+    ltb-true _ _ (all_holds 12 (test (mask_number p)) (all_holds 8 (λ n. all_below 12 (test n)) small_table (mask_number p) (mask_number-lt p)) y l)

@@ -7,15 +7,14 @@ use Rattle.std.proofs.lemmas.List.{ext_get_or, length-map}
 use Rattle.std.proofs.lemmas.List.FromFn.{get_or-map-range_with_len, length-map-range_with_len}
 use Rattle.std.proofs.lemmas.Nat.{mod-mul-add, div-mul-add, mul-add-lt, div-add-mod'}
 use Rattle.std.proofs.Math.Nat.{div-lt_iff_lt-mul}
-use Rattle.std.proofs.lemmas.Bool.Decides.{leb_tells}
+use Rattle.std.proofs.lemmas.Bool.Decides.{leb_tells, nat_tests}
 use Rattle.qrcode_types.specs.Bits.{has_bit}
 use Rattle.qrcode_types.specs.Colors.{is_dark, color_of}
 use Rattle.qrcode_types.specs.Versions.{side}
 use Rattle.qrcode_types.specs.declared.types.Version.{Version}
-use Rattle.qrcode_types.specs.declared.types.Version.TheVariants.{Normal, Micro}
 use Rattle.qrcode_types.specs.declared.types.EcLevel.{EcLevel}
 use Rattle.qrcode_types.specs.declared.types.Color.{Color}
-use Rattle.qrcode_types.specs.declared.types.Color.TheVariants.{Light, Dark}
+use Rattle.qrcode_types.specs.declared.types.Color.TheVariants.{Light}
 use Rattle.qrcode_penalty.specs.Rows.{Shows, inside, dark_in}
 use Rattle.qrcode_layout.specs.Masks.{turns, turned_if, nth_mask}
 use Rattle.qrcode_layout.specs.Words.{format_word}
@@ -31,12 +30,10 @@ use Rattle.qrcode_layout.specs.Patterns.{decided_bit}
 use Rattle.qrcode_symbol.specs.Masking.{is_dark_module, is_free, masked_dark, nth_cost, ShowsModules}
 
 pub dark_color : (b : Bool) → is_dark (color_of b) ≡ b
-dark_color true = refl
-dark_color false = refl
+dark_color b = grind (arith, nat_tests)
 
 pub color_dark : (c : Color) → color_of (is_dark c) ≡ c
-color_dark Light = refl
-color_dark Dark = refl
+color_dark c = grind (arith, nat_tests)
 
 -- a module under a mask, by the bit of the format word, the dark module and the mask at its place
 abbrev pub module_of : ℕ → Option ℕ → Option Color → Bool → Module → Module
@@ -46,10 +43,7 @@ abbrev bit_of : ℕ → Option ℕ → Option Color → Option Bool
 bit_of word o d = option_or (option_map (λ i. has_bit word (14 - i)) o) (option_map is_dark d)
 
 by_options : (word : ℕ) (o : Option ℕ) (d : Option Color) (t : Bool) (m : Module) → option_map_or (λ b. Masked (color_of b)) (bit_of word o d) (masked_module t m) ≡ module_of word o d t m
-by_options word (Some i) d t m = refl
-by_options word None (Some Light) t m = refl
-by_options word None (Some Dark) t m = refl
-by_options word None None t m = refl
+by_options word o d t m = grind (arith, nat_tests)
 
 -- a module after a mask, by what is at its place
 pub module_is : (v : Version) (word : ℕ) (k : MaskPattern) (x y : ℕ) (m : Module) → mask_module v word k x y m ≡ module_of word (format_index v x y) (dark_module v x y) (turns k x y) m
@@ -66,11 +60,7 @@ decided word None None true (Unmasked c) = sym (dark_color (not (is_dark c)))
 decided word None None false (Unmasked c) = sym (dark_color (is_dark c))
 
 always_masked : (word : ℕ) (o : Option ℕ) (d : Option Color) (t : Bool) (m : Module) → Masked (color_of_module (module_of word o d t m)) ≡ module_of word o d t m
-always_masked word (Some i) d t m = refl
-always_masked word None (Some c) t m = refl
-always_masked word None None t Empty = refl
-always_masked word None None t (Masked c) = refl
-always_masked word None None t (Unmasked c) = refl
+always_masked word o d t m = grind (arith, nat_tests)
 
 map_kept : {A B : Type 0} (f : B → B) (g : A → B) → ((x : A) → f (g x) ≡ g x) → (xs : List A) → map f (map g xs) ≡ map g xs
 map_kept f g h [] = refl
@@ -88,8 +78,7 @@ inside_same w f g h = fun_ext (λ x. fun_ext (λ y.
     ]))
 
 side_positive : (v : Version) → 0 < side v
-side_positive (Normal n) = omega arith
-side_positive (Micro n) = omega arith
+side_positive v = grind (arith, nat_tests)
 
 -- a place, by its row and column
 split : (i w : ℕ) → i ≡ i / w * w + i % w

@@ -72,8 +72,7 @@ begin_whole left begun (b ∷ bytes) half ec z some more =
     ∙ ap (λ (bits : List Bool). bits ++ bits_of ec) (whole_byte n b bytes long ∙ ap (λ (k : ℕ). number_bits 8 b ++ take k (bits_of bytes)) e)
     ∙ append_assoc (number_bits 8 b) (take (8 * length bytes - cond half 4 0) (bits_of bytes)) (bits_of ec) where
       at_most_four : (t : Bool) → cond t 4 0 ≤ 4
-      at_most_four true = omega arith
-      at_most_four false = omega arith
+      at_most_four t = grind (arith, nat_tests)
 
 no_data : (bytes : List ℕ) (n : ℕ) → length bytes ≡ 0 → take n (bits_of bytes) ≡ []
 no_data [] zero e = refl

@@ -1,11 +1,12 @@
 -- Numbers and lists of bits determine each other.
-use Rattle.std.proofs.Common.{◌≡◌, ℕ, zero, suc, ◌+◌, ◌-◌, ◌*◌, ◌^◌, ◌<◌, ◌==◌, Bool, true, false, cond, List, [], ◌∷◌, length, get_or, refl, sym, ap, ◌∙◌, arith, subst, inl, inr}
+use Rattle.std.proofs.Common.{◌≡◌, ℕ, zero, suc, ◌+◌, ◌-◌, ◌*◌, ◌^◌, ◌<◌, ◌==◌, Bool, true, false, cond, List, [], ◌∷◌, length, get_or, sym, ap, ◌∙◌, arith, subst, inl, inr}
 use Rattle.std.specs.Prelude.{fold}
 use Rattle.std.specs.Int.{bit_at}
 use Rattle.std.proofs.Math.Nat.{pow-suc}
 use Rattle.std.proofs.lemmas.Bool.{cases_eq, eqb-true, eq-eqb}
 use Rattle.std.proofs.lemmas.Nat.Bits.{bit_at_cat_low, bit_at_cat_high, same_from_bits_below, bit_at-lt}
 use Rattle.std.proofs.lemmas.List.{ext_get_or}
+use Rattle.std.proofs.lemmas.Bool.Decides.{nat_tests}
 use Rattle.qrcode_types.specs.Bits.{number_bits, number_of, has_bit}
 use Rattle.qrcode_symbol.proofs.BitLists.{length_number_bits, number_bits_at}
 
@@ -33,13 +34,11 @@ value_small (false ∷ bs) = omega (arith, value_small bs, pow-suc 2 (length bs)
 
 first_bit : (b : Bool) → bit_at (one b) 0 ≡ one b
 unfolding one
-first_bit true = refl
-first_bit false = refl
+first_bit b = grind (arith, nat_tests)
 
 one_is : (b : Bool) → (one b == 1) ≡ b
 unfolding one
-one_is true = refl
-one_is false = refl
+one_is b = grind (arith, nat_tests)
 
 value_bit : (bs : List Bool) (i : ℕ) → i < length bs → bit_at (value bs) (length bs - 1 - i) ≡ one (get_or bs i false)
 unfolding value

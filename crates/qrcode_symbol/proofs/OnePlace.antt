@@ -1,6 +1,6 @@
 -- A row with one bit set or cleared.
-use Rattle.std.proofs.Common.{◌≡◌, ◌≢◌, ℕ, suc, ◌+◌, ◌-◌, ◌^◌, Bool, true, false, not, ◌&&◌, ◌||◌, refl, ap, ap₂, ◌∙◌, arith, bit_or, bit_and, bit_xor, inl, inr}
-use Rattle.std.proofs.lemmas.Bool.Decides.{leb_tells}
+use Rattle.std.proofs.Common.{◌≡◌, ◌≢◌, ℕ, suc, ◌+◌, ◌-◌, ◌^◌, Bool, true, false, not, ◌&&◌, ◌||◌, ap, ap₂, ◌∙◌, arith, bit_or, bit_and, bit_xor, inl, inr}
+use Rattle.std.proofs.lemmas.Bool.Decides.{leb_tells, nat_tests}
 use Rattle.qrcode_penalty.specs.Rows.{is_set}
 use Rattle.qrcode_penalty.proofs.Places.{has_or, has_without, has_first, has_first_above}
 
@@ -22,20 +22,16 @@ one_other p k h =
     ]
 
 or_true : (a : Bool) → (a || true) ≡ true
-or_true true = refl
-or_true false = refl
+or_true a = grind (arith, nat_tests)
 
 or_false : (a : Bool) → (a || false) ≡ a
-or_false true = refl
-or_false false = refl
+or_false a = grind (arith, nat_tests)
 
 and_false : (a : Bool) → (a && false) ≡ false
-and_false true = refl
-and_false false = refl
+and_false a = grind (arith, nat_tests)
 
 and_true : (a : Bool) → (a && true) ≡ a
-and_true true = refl
-and_true false = refl
+and_true a = grind (arith, nat_tests)
 
 pub set_here : (n p : ℕ) → is_set (bit_or n (one p)) p ≡ true
 set_here n p = has_or n (one p) p ∙ ap (λ b. is_set n p || b) (one_at p) ∙ or_true (is_set n p)

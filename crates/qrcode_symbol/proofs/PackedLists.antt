@@ -5,13 +5,13 @@ use Rattle.std.specs.Int.{bit_at}
 use Rattle.std.proofs.lemmas.Nat.Bits.{bit_at_lowest, bit_at-suc}
 use Rattle.std.proofs.lemmas.List.{get_or-set_same, get_or-set_other, length-replicate, get_or-replicate}
 use Rattle.std.proofs.Math.ListN.{length-set}
+use Rattle.std.proofs.lemmas.Bool.Decides.{nat_tests}
 use lib.Lanes.{mask_l}
 use Rattle.qrcode_penalty.specs.Rows.{is_set}
 use Rattle.qrcode_symbol.specs.Masking.{digit, packed}
 
 pub digit_le : (b : Bool) → digit b ≤ 1
-digit_le true = omega arith
-digit_le false = omega arith
+digit_le b = grind (arith, nat_tests)
 
 pub packed_lt : {A : Type 0} (f : A → Bool) (xs : List A) (n : ℕ) → length xs ≤ n → packed f xs < 2 ^ n
 packed_lt f [] n h = pow_pos n
@@ -97,8 +97,7 @@ packed_in_room f xs room h =
     ap (λ n. n % 2 ^ room) (packed_words f xs ∙ e) ∙ mod_low 0 room (packed f xs) (packed_lt f xs room h)
 
 one_digit : (b : Bool) → (digit b == 1) ≡ b
-one_digit true = refl
-one_digit false = refl
+one_digit b = grind (arith, nat_tests)
 
 none_packed : (bytes : List ℕ) → ((k : ℕ) → k < length bytes → get_or bytes k 0 ≡ 0) → packed (λ n. n == 1) bytes ≡ 0
 none_packed [] zeros = refl

@@ -1,5 +1,5 @@
 -- Drawing the figures, each over those before it, gives the functional patterns.
-use Rattle.std.proofs.Common.{◌≡◌, ℕ, ℤ, nat_abs, nat_le, zero, suc, ◌+◌, ◌-◌, ◌*◌, ◌/◌, ◌%◌, ◌<◌, ◌≤◌, ◌≢◌, Bool, true, false, ◌||◌, List, [], ◌∷◌, ◌++◌, map, fold, length, take, set, get_or, append-nil, arith, sym, ap, ap₂, refl, ◌∙◌, Option, Some, None, is_some, cond, inl, inr, IsTrue}
+use Rattle.std.proofs.Common.{◌≡◌, ℕ, zero, suc, ◌+◌, ◌-◌, ◌*◌, ◌/◌, ◌%◌, ◌<◌, ◌≤◌, ◌≢◌, Bool, true, false, ◌||◌, List, [], ◌∷◌, ◌++◌, map, fold, length, take, set, get_or, append-nil, arith, sym, ap, ap₂, refl, ◌∙◌, Option, Some, None, is_some, cond, inl, inr}
 use Rattle.std.specs.List.{range_with_len, filter, flat_map, list_all}
 use Rattle.std.proofs.lemmas.Bool.{and_parts, cases_eq}
 use Rattle.std.proofs.lemmas.Bool.Decides.{nat_tests}
@@ -154,15 +154,11 @@ light_drawn v x y m (f ∷ fs) b all =
       go false b d e = refl
 
       turned : (r h b : Bool) → (r || (h || b)) ≡ ((h || r) || b)
-      turned true true b = refl
-      turned true false b = refl
-      turned false true b = refl
-      turned false false b = refl
+      turned r h b = grind (arith, nat_tests)
 
 format_light : (v : Version) → list_all is_light (format_figures v) ≡ true
 unfolding format_figures
-format_light (Normal v) = refl
-format_light (Micro v) = refl
+format_light v = grind (arith, nat_tests)
 
 format_drawn : (v : Version) (x y : ℕ) (m : Module) → fold (module_over v x y) m (format_figures v) ≡ elim (format_index v x y) as (λ _. Module) [ Some i ↦ Masked Light | None ↦ m ]
 format_drawn v x y m = light_drawn v x y m (format_figures v) false (format_light v) ∙ go (format_index v x y) (any_has x y (format_figures v)) (format_some v x y) where

@@ -1,10 +1,11 @@
 -- A symbol's colours under another mask are a symbol of the same bits.
-use Rattle.std.proofs.Common.{◌≡◌, ℕ, ◌+◌, ◌-◌, ◌*◌, ◌/◌, ◌%◌, ◌<◌, Bool, true, false, not, List, map, drop, length, get_or, Option, Some, None, IfSome, IsTrue, refl, sym, ap, ap₂, ◌∙◌, arith, subst}
+use Rattle.std.proofs.Common.{◌≡◌, ℕ, ◌+◌, ◌-◌, ◌*◌, ◌/◌, ◌%◌, ◌<◌, Bool, false, not, List, map, drop, length, get_or, Option, Some, None, IfSome, IsTrue, refl, sym, ap, ap₂, ◌∙◌, arith, subst}
 use Rattle.std.specs.List.{AllByRecursion, list_all}
 use Rattle.std.proofs.lemmas.List.{ext_get_or, get_or-map, length-map}
 use Rattle.std.proofs.lemmas.List.Elements.{All-weaker, All-from_recursion, recursion_from_All}
 use Rattle.std.proofs.lemmas.List.FromFn.{get_or-map-range_with_len, length-map-range_with_len}
 use Rattle.std.proofs.lemmas.Nat.{div-mul-add, mod-mul-add, mul-add-lt}
+use Rattle.std.proofs.lemmas.Bool.Decides.{nat_tests}
 use Rattle.qrcode_types.specs.Bits.{has_bit, number_bits}
 use Rattle.qrcode_types.specs.Colors.{is_dark, color_of}
 use Rattle.qrcode_types.specs.Versions.{side, is_valid, has_level, capacity, ec_length, total_ec_length}
@@ -32,14 +33,7 @@ use Rattle.qrcode_symbol.proofs.Remasking.{remask_of}
 
 -- a colour changed from the old mask to the new one, and read under the new one, gives the same bit
 turned_again : (tk tj b : Bool) → turned_if tj (is_dark (color_of (turned_if (not (same tk tj)) b))) ≡ turned_if tk b
-turned_again true true true = refl
-turned_again true true false = refl
-turned_again true false true = refl
-turned_again true false false = refl
-turned_again false true true = refl
-turned_again false true false = refl
-turned_again false false true = refl
-turned_again false false false = refl
+turned_again tk tj b = grind (arith, nat_tests)
 
 module _ (v : Version) (l : EcLevel) (k j : MaskPattern) (s : List Color) where
   -- the colour of a place, by what is there

@@ -4,7 +4,7 @@ use Rattle.std.specs.List.{range_with_len, filter, AllByRecursion}
 use Rattle.std.proofs.Math.ListN.{get_or-map}
 use Rattle.std.proofs.lemmas.List.{ext_get_or, get_or-replicate, get_or-set_same, get_or-set_other, get_or_past, length-map}
 use Rattle.std.proofs.lemmas.List.FromFn.{get_or-map-range_with_len, length-map-range_with_len}
-use Rattle.std.proofs.lemmas.Bool.Decides.{leb_tells, eqb_tells}
+use Rattle.std.proofs.lemmas.Bool.Decides.{leb_tells, eqb_tells, nat_tests}
 use Rattle.qrcode_types.specs.Bits.{has_bit}
 use Rattle.qrcode_types.specs.Colors.{is_dark, color_of}
 use Rattle.qrcode_types.specs.Versions.{side}
@@ -32,9 +32,7 @@ record IsKept (before : List Module) (i : ℕ) (m : Module) : Type 0 where
   free : is_empty (slice_index_or before i Empty) ≡ true → is_free m ≡ true
 
 empty_free : (m : Module) → is_empty m ≡ true → is_free m ≡ true
-empty_free Empty e = refl
-empty_free (Masked c) e = cc
-empty_free (Unmasked c) e = refl
+empty_free m h1 = grind (arith, nat_tests)
 
 set_free : (ms : List Module) (p : ℕ) (c : Color) → is_free (slice_index_or (slice_set ms p (Unmasked c)) p Empty) ≡ true
 set_free ms p c =
@@ -88,20 +86,10 @@ abbrev pub remask_of : ℕ → Option ℕ → Option Color → Bool → Bool →
 remask_of word o p tk tj c = elim o [ Some i ↦ color_of (has_bit word (14 - i)) | None ↦ elim p [ Some c' ↦ c | None ↦ color_of (turned_if (not (same tk tj)) (is_dark c)) ] ]
 
 turn_empty : (tk tj : Bool) → turned_if (not (same tk tj)) (is_dark (color_of tk)) ≡ tj
-turn_empty true true = refl
-turn_empty true false = refl
-turn_empty false true = refl
-turn_empty false false = refl
+turn_empty tk tj = grind (arith, nat_tests)
 
 turn_again : (tk tj b : Bool) → turned_if (not (same tk tj)) (is_dark (color_of (turned_if tk b))) ≡ turned_if tj b
-turn_again true true true = refl
-turn_again true true false = refl
-turn_again true false true = refl
-turn_again true false false = refl
-turn_again false true true = refl
-turn_again false true false = refl
-turn_again false false true = refl
-turn_again false false false = refl
+turn_again tk tj b = grind (arith, nat_tests)
 
 remask_place : (wk wj : ℕ) (o : Option ℕ) (p d : Option Color) (tk tj : Bool) (m : Module) → (p ≡ None → d ≡ None) → (is_empty (base p o) ≡ false → m ≡ base p o) → (is_empty (base p o) ≡ true → is_free m ≡ true) →
     remask_of wj o p tk tj (color_of_module (module_of wk o d tk m)) ≡ color_of_module (module_of wj o d tj m)

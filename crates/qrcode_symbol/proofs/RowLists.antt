@@ -1,7 +1,8 @@
 -- Lists of rows as lists of numbers.
-use Rattle.std.proofs.Common.{◌≡◌, ◌&&◌, ◌++◌, ℕ, true, false, refl, ap₂, bit_and, bit_xor, ◌+◌, ◌*◌, ◌^◌, ◌<◌, ◌≤◌, Bool, List, length, take, drop, slice_index_or, ap, sym, ◌∙◌, arith, subst, length-take, length-drop}
+use Rattle.std.proofs.Common.{◌≡◌, ◌&&◌, ℕ, ap₂, bit_and, bit_xor, ◌+◌, ◌*◌, ◌^◌, ◌<◌, Bool, List, length, take, drop, slice_index_or, ap, sym, ◌∙◌, arith, subst, length-take, length-drop}
 use Rattle.std.proofs.lemmas.Nat.{mul-add-lt, xor_lt, and_le_l}
 use Rattle.std.proofs.lemmas.List.{get_or-take, get_or-drop}
+use Rattle.std.proofs.lemmas.Bool.Decides.{nat_tests}
 use Rattle.qrcode_penalty.specs.Rows.{is_set, dark_in, FitsWidth}
 use Rattle.qrcode_penalty.proofs.Places.{differ, has_and, has_xor}
 use Rattle.qrcode_penalty.proofs.RowLists.{rows_fit}
@@ -34,10 +35,7 @@ module _ (test : Module → Bool) (modules : List Module) (w : ℕ) (square : le
   fits_packed e = rows_fit rows w e (λ y h. subst (λ (n : ℕ). n < 2 ^ w) (sym (are y h)) (packed_lt test (modules_of_row w modules y) w (omega (arith, length-take w (drop (y * w) modules)))))
 
 differ_turned : (t d : Bool) → differ d t ≡ turned_if t d
-differ_turned true true = refl
-differ_turned true false = refl
-differ_turned false true = refl
-differ_turned false false = refl
+differ_turned t d = grind (arith, nat_tests)
 
 -- a row whose free places are reversed by a mask
 pub turned_at : (d f m x : ℕ) (t : Bool) → is_set m x ≡ t → is_set (bit_xor d (bit_and f m)) x ≡ turned_if (is_set f x && t) (is_set d x)

@@ -1,7 +1,7 @@
 -- Rows written as colours.
-use Rattle.std.proofs.Common.{◌≡◌, ℕ, zero, suc, ◌+◌, ◌-◌, ◌*◌, ◌/◌, ◌%◌, ◌^◌, ◌<◌, ◌≤◌, List, ◌++◌, length, take, length-take, slice_index_or, refl, ap, ◌∙◌, inl, inr, arith}
+use Rattle.std.proofs.Common.{◌≡◌, ℕ, suc, ◌+◌, ◌-◌, ◌*◌, ◌/◌, ◌%◌, ◌^◌, ◌<◌, ◌≤◌, List, ◌++◌, length, take, length-take, slice_index_or, ap, ◌∙◌, inl, inr, arith}
 use Rattle.std.specs.Int.{w64, to_le_bytes}
-use Rattle.std.proofs.lemmas.Bool.Decides.{leb_tells}
+use Rattle.std.proofs.lemmas.Bool.Decides.{leb_tells, nat_tests}
 use Rattle.std.proofs.lemmas.List.{length-append, get_or_append_left, get_or-append-add, get_or-take}
 use Rattle.qrcode_types.specs.Colors.{color_of}
 use Rattle.qrcode_types.specs.declared.types.Color.{Color}
@@ -13,15 +13,7 @@ use Rattle.qrcode_symbol.proofs.MaskRows.{has_mod}
 
 -- byte k of a word
 byte_is : (n k : ℕ) → k < 8 → slice_index_or (to_le_bytes w64 n) k 0 ≡ n / 2 ^ (8 * k) % 2 ^ 8
-byte_is n zero h = omega arith
-byte_is n (suc zero) h = refl
-byte_is n (suc (suc zero)) h = refl
-byte_is n (suc (suc (suc zero))) h = refl
-byte_is n (suc (suc (suc (suc zero)))) h = refl
-byte_is n (suc (suc (suc (suc (suc zero))))) h = refl
-byte_is n (suc (suc (suc (suc (suc (suc zero)))))) h = refl
-byte_is n (suc (suc (suc (suc (suc (suc (suc zero))))))) h = refl
-byte_is n (suc (suc (suc (suc (suc (suc (suc (suc k)))))))) h = absurd (omega arith)
+byte_is n k h1 = grind (arith, nat_tests)
 
 -- a bit of a word is in one of its bytes
 pub bit_in_byte : (n x : ℕ) → x < 64 → is_set (slice_index_or (to_le_bytes w64 n) (x / 8) 0) (x % 8) ≡ is_set n x

@@ -35,6 +35,7 @@ use applying::mask_modules;
 use codewords::Codewords;
 use drawing::draw_patterns;
 use filling::draw_codewords;
+use penalties::finished;
 pub use penalties::penalty;
 use qrcode_layout::laws;
 use qrcode_layout::patterns::is_functional_place;
@@ -260,7 +261,7 @@ impl Canvas {
         ensures words_apart { FormatWordsAreApart }
     {
         let colors = self.best_colors(alloc)?;
-        let modules = masked_modules(alloc, &colors)?;
+        let modules = finished(alloc, &colors)?;
         Ok(Canvas {
             version: self.version,
             ec_level: self.ec_level,
@@ -321,14 +322,6 @@ impl Canvas {
     {
         Ok(self.modules.iter().map(|m| Color::from(*m)).collect(alloc)?)
     }
-}
-
-// Returns modules of these colours that no mask reverses.
-fn masked_modules(alloc: Global, colors: &[Color]) -> QrResult<Vec<Module>>
-    ensures value { IfOk result (λ modules. modules.items ≡ map (λ c. Masked c) colors.now) }
-    ensures memory { IsOkUnless result OutOfMemory }
-{
-    Ok(colors.iter().map(|c| Module::Masked(*c)).collect(alloc)?)
 }
 
 /// Returns the colours of a symbol with these codewords, row by row, under the first mask with the

@@ -6,20 +6,22 @@ ghost use Rattle.qrcode_layout.specs.Masks.{exists_in};
 ghost use Rattle.qrcode_symbol.specs.Canvas.{mask_module, with_mask};
 
 use super::Module;
-use super::layer::{Layer, fixed_bit};
+use super::layer::Layer;
 use qrcode_layout::figures::color_of;
 use qrcode_layout::masks::MaskPattern;
+use qrcode_layout::patterns::decided_bit;
 use qrcode_layout::words::format_word;
 use qrcode_types::types::{EcLevel, Version};
 use qrcode_types::versions::side;
 
-// Returns a module after a mask: a bit of the format word, the dark module, or the masked module.
+// Returns a module after a mask: a bit of the format word or the dark module, which no mask
+// changes, or the masked module.
 fn mask_module(layer: Layer, x: usize, y: usize, old: Module) -> Module
     requires column { x < layer.width }
     requires row { y < layer.width }
     ensures { result ≡ mask_module layer.version layer.word layer.mask x y old }
 {
-    match fixed_bit(layer, x, y) {
+    match decided_bit(layer.version, layer.width, layer.word, x, y) {
         Some(bit) => Module::Masked(color_of(bit)),
         None => old.mask(layer.mask.turns(x as i16, y as i16)),
     }

@@ -1,11 +1,9 @@
 //! A mask and its format word, for a symbol of one version.
 
-ghost use Rattle.std.specs.Prelude.{◌≡◌, ◌<◌, ◌≤◌, IsTrue};
+ghost use Rattle.std.specs.Prelude.{◌≡◌, ◌≤◌, IsTrue};
 ghost use Rattle.qrcode_types.specs.Versions.{is_valid, side};
-ghost use Rattle.qrcode_layout.specs.Patterns.{decided_bit};
 
 use qrcode_layout::masks::MaskPattern;
-use qrcode_layout::patterns::decided_bit;
 use qrcode_types::types::Version;
 
 /// A mask of a symbol, with its format word.
@@ -19,13 +17,4 @@ pub(super) struct Layer {
     pub(super) ghost wide: { width ≡ side version },
     pub(super) ghost least: { 11 ≤ width },
     pub(super) ghost small: { width ≤ 177 },
-}
-
-/// Returns the bit at this place if it belongs to the format word or is the dark module; no mask
-/// changes these.
-pub(super) fn fixed_bit(layer: Layer, x: usize, y: usize) -> Option<bool>
-    requires { x < 1000 }
-    ensures { result ≡ decided_bit layer.version layer.word x y }
-{
-    decided_bit(layer.version, layer.width, layer.word, x, y)
 }

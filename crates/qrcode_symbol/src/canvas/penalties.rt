@@ -15,14 +15,13 @@ use qrcode_types::types::{Color, Version};
 use qrcode_types::versions::side;
 use std::alloc::{AllocError, Global};
 
-// Returns colours as modules that no mask reverses.
-fn finished(alloc: Global, colors: &[Color]) -> Result<Vec<Module>, AllocError>
+/// Returns colours as modules that no mask reverses.
+///
+/// Errors: only `AllocError`, if memory runs out.
+pub(super) fn finished(alloc: Global, colors: &[Color]) -> Result<Vec<Module>, AllocError>
     ensures { IfOk result (λ modules. modules.items ≡ map Masked colors.now) }
 {
-    colors
-        .iter()
-        .map(|color| Module::Masked(*color))
-        .collect(alloc)
+    colors.iter().map(|c| Module::Masked(*c)).collect(alloc)
 }
 
 /// Returns the penalty of a packed square of this version.

@@ -8,7 +8,7 @@ use Rattle.qrcode_symbol.proofs.canvas.Canvas.apply_best_mask.Goals.{In_ok-modul
 
 -- the modules are those of the best colours
 modules_are : (c : In_ok-modules) → c.in_ok-modules.modules.items ≡ map (λ c. Masked c) c.in_ok-colors.colors.items
-modules_are c = c.in_ok-modules.ensures.value ∙ ap (map (λ c. Masked c)) c.deref.ensures.value
+modules_are c = c.in_ok-modules.ensures ∙ ap (map (λ c. Masked c)) c.deref.ensures.value
 
 pub invariant_of-result : goal.invariant_of-result
 invariant_of-result c =

@@ -1,19 +1,17 @@
-use Rattle.std.proofs.Common.{◌≡◌, ℕ, Bool, true, false, refl, ap, sym, ◌∙◌, true≢false}
+use Rattle.std.proofs.Common.{◌≡◌, ℕ, Bool, true, false, ap, sym, ◌∙◌, arith}
+use Rattle.std.proofs.lemmas.Bool.Decides.{nat_tests}
 use Rattle.qrcode_types.specs.Versions.{side, is_micro}
 use Rattle.qrcode_types.specs.declared.types.Version.{Version}
-use Rattle.qrcode_types.specs.declared.types.Version.TheVariants.{Normal, Micro}
 use Rattle.qrcode_penalty.specs.Penalty.{normal_penalty, micro_penalty}
 use Rattle.qrcode_penalty.specs.Rows.{inside}
 use Rattle.qrcode_symbol.specs.Penalties.{penalty_of}
 use Rattle.qrcode_symbol.proofs.canvas.penalties.square_penalty.Goals as goal
 
 micro_cost_of : (v : Version) (dark : ℕ → ℕ → Bool) → is_micro v ≡ true → penalty_of v dark ≡ micro_penalty (side v) dark
-micro_cost_of (Normal n) dark m = absurd (true≢false (sym m))
-micro_cost_of (Micro n) dark m = refl
+micro_cost_of v dark h1 = grind (arith, nat_tests)
 
 normal_cost_of : (v : Version) (dark : ℕ → ℕ → Bool) → is_micro v ≡ false → penalty_of v dark ≡ normal_penalty (side v) dark
-normal_cost_of (Normal n) dark m = refl
-normal_cost_of (Micro n) dark m = absurd (true≢false m)
+normal_cost_of v dark h1 = grind (arith, nat_tests)
 
 pub returns-then-is_micro-clause-shown : goal.returns-then-is_micro-clause-shown
 returns-then-is_micro-clause-shown g c = λ dark shows.

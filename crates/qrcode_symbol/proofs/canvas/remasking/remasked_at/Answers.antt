@@ -1,4 +1,5 @@
-use Rattle.std.proofs.Common.{◌≡◌, ℕ, Bool, true, false, not, Option, Some, None, is_some, ◌||◌, refl, sym, ◌∙◌, ap, true≢false}
+use Rattle.std.proofs.Common.{◌≡◌, ℕ, Bool, true, false, not, Option, Some, None, is_some, ◌||◌, refl, sym, ◌∙◌, ap, arith}
+use Rattle.std.proofs.lemmas.Bool.Decides.{nat_tests}
 use Rattle.qrcode_types.specs.Colors.{is_dark, color_of}
 use Rattle.qrcode_types.specs.declared.types.Color.{Color}
 use Rattle.qrcode_penalty.specs.Penalty.{same}
@@ -13,15 +14,11 @@ none_of None h = refl
 none_of (Some i) h = absurd (h i refl)
 
 stays : (word : ℕ) (o : Option ℕ) (p : Option Color) (tk tj : Bool) (c : Color) → o ≡ None → (is_some p || is_some o) ≡ true → c ≡ remask_of word o p tk tj c
-stays word None (Some q) tk tj c e f = refl
-stays word None None tk tj c e f = absurd (true≢false (sym f))
-stays word (Some i) p tk tj c e f = absurd cc
+stays word o p tk tj c h1 h2 = grind (arith, nat_tests)
 
 is_turned : (word : ℕ) (o : Option ℕ) (p : Option Color) (tk tj : Bool) (c : Color) → o ≡ None → (is_some p || is_some o) ≡ false
     → color_of (turned_if (not (same tk tj)) (is_dark c)) ≡ remask_of word o p tk tj c
-is_turned word None None tk tj c e f = refl
-is_turned word None (Some q) tk tj c e f = absurd (true≢false f)
-is_turned word (Some i) p tk tj c e f = absurd cc
+is_turned word o p tk tj c h1 h2 = grind (arith, nat_tests)
 
 pub returns-in-Some : goal.returns-in-Some
 unfolding remasked_at
