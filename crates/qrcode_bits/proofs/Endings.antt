@@ -4,6 +4,7 @@ use Rattle.std.specs.Prelude.{IsTrue, flat_map, nat_le}
 use Rattle.std.specs.List.{list_all, AllByRecursion}
 use Rattle.std.proofs.lemmas.Bool.{and_parts, leb-true, cases_lt}
 use Rattle.std.proofs.lemmas.List.{length-replicate, get_or_append_left, get_or-append-add}
+use Rattle.std.proofs.lemmas.Bool.Decides.{nat_tests}
 use Rattle.qrcode_types.specs.Bits.{number_bits}
 use Rattle.qrcode_types.specs.Versions.{is_valid, capacity, terminator_length}
 use Rattle.qrcode_types.specs.Modes.{mode_number, indicator, length_bits_count}
@@ -11,7 +12,6 @@ use Rattle.qrcode_types.specs.declared.types.Version.{Version}
 use Rattle.qrcode_types.specs.declared.types.Version.TheVariants.{Normal, Micro}
 use Rattle.qrcode_types.specs.declared.types.EcLevel.{EcLevel}
 use Rattle.qrcode_types.specs.declared.types.Mode.{Mode}
-use Rattle.qrcode_types.specs.declared.types.Mode.TheVariants.{Numeric, Alphanumeric, Byte, Kanji}
 use Rattle.qrcode_types.specs.Characters.{character_count}
 use Rattle.qrcode_bits.specs.Written.{Piece, written_piece, written, data_bits_in, terminated, ending, padding}
 use Rattle.qrcode_bits.specs.Spelling.{is_end, IsReadable, IsReadBack, IsReadAs, Spells, SpellsOnly}
@@ -28,16 +28,10 @@ not_zeros (suc t) (false ∷ bits) zero l h = absurd (true≢false (sym h))
 not_zeros (suc t) (false ∷ bits) (suc i) l h = not_zeros t bits i (omega arith) h
 
 normal_positive : (m : Mode) → 0 < 2 ^ mode_number m
-normal_positive Numeric = omega arith
-normal_positive Alphanumeric = omega arith
-normal_positive Byte = omega arith
-normal_positive Kanji = omega arith
+normal_positive m = grind (arith, nat_tests)
 
 micro_width : (n : ℕ) (m : Mode) → 1 ≤ n → n - 1 + length_bits_count m (Micro (pos n)) ≤ 2 * n + 1
-micro_width n Numeric h = omega arith
-micro_width n Alphanumeric h = omega arith
-micro_width n Byte h = omega arith
-micro_width n Kanji h = omega arith
+micro_width n m h1 = grind (arith, nat_tests)
 
 -- a piece with characters does not look like an end
 goes_on : (v : Version) (p : Piece) → IsTrue (is_valid v) → IsReadable v p → 0 < character_count p.mode (length p.chunk) → is_end v (written_piece v p) ≡ false

@@ -3,6 +3,7 @@ use Rattle.std.proofs.Common.{◌≡◌, ℕ, ◌+◌, ◌-◌, ◌*◌, ◌/◌
 use Rattle.std.specs.Prelude.{slice_range}
 use Rattle.std.proofs.lemmas.Bool.{and_parts}
 use Rattle.std.proofs.lemmas.List.{drop_more, drop-drop, take-append-le}
+use Rattle.std.proofs.lemmas.Bool.Decides.{nat_tests}
 use Rattle.qrcode_types.specs.Bits.{AreBytes}
 use Rattle.qrcode_types.specs.Modes.{data_bits_count}
 use Rattle.qrcode_types.specs.declared.types.Mode.{Mode}
@@ -40,28 +41,16 @@ whole_count Byte a e = omega arith
 whole_count Kanji a e = pairs_even a e
 
 some_count : (m : Mode) (a : List ℕ) → character_count m (length a) * bytes_each m ≡ length a → 0 < length a → 1 ≤ character_count m (length a)
-some_count Numeric a e some = omega arith
-some_count Alphanumeric a e some = omega arith
-some_count Byte a e some = omega arith
-some_count Kanji a e some = omega arith
+some_count m a h1 h2 = grind (arith, nat_tests)
 
 pub some_bytes : (m : Mode) → 1 ≤ bytes_each m
-some_bytes Numeric = omega arith
-some_bytes Alphanumeric = omega arith
-some_bytes Byte = omega arith
-some_bytes Kanji = omega arith
+some_bytes m = grind (arith, nat_tests)
 
 pub counted_back : (m : Mode) (n : ℕ) → character_count m (n * bytes_each m) ≡ n
-counted_back Numeric n = omega arith
-counted_back Alphanumeric n = omega arith
-counted_back Byte n = omega arith
-counted_back Kanji n = omega arith
+counted_back m n = grind (arith, nat_tests)
 
 pub less_bytes : (m : Mode) (k n : ℕ) → k ≤ n → k * bytes_each m ≤ n * bytes_each m
-less_bytes Numeric k n le = omega arith
-less_bytes Alphanumeric k n le = omega arith
-less_bytes Byte k n le = omega arith
-less_bytes Kanji k n le = omega arith
+less_bytes m k n h1 = grind (arith, nat_tests)
 
 found_from : (h : HeaderBits) (bytes : List ℕ) (place : ℕ) → place < length bytes → Begins h (drop place bytes) (costs_of h (drop place bytes)).start
     → Found h bytes place (costs_of h (drop place bytes)).start.mode

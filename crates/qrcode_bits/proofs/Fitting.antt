@@ -4,6 +4,7 @@ use Rattle.std.specs.Prelude.{slice_get, slice_range, nat_le, nat_lt, IfSome}
 use Rattle.std.specs.List.{AllByRecursion}
 use Rattle.std.specs.Option.{option_or}
 use Rattle.std.proofs.lemmas.Bool.{and_from, le-leb, lt-ltb}
+use Rattle.std.proofs.lemmas.Bool.Decides.{nat_tests}
 use Rattle.qrcode_types.specs.Versions.{is_valid, capacity}
 use Rattle.qrcode_types.specs.Modes.{has_mode, length_bits_count}
 use Rattle.qrcode_types.specs.Characters.{can_write, character_count}
@@ -50,10 +51,7 @@ readable_taken v used p r room =
     by_tests (not (has_mode v p.mode)) (not (nat_lt count (2 ^ length_bits_count p.mode v) && nat_le (used + cost_of v p.mode count) bit_limit)) (is_checked p.mode && not (can_write p.mode p.chunk))
     (ap not r.mode_exists) long (checked (is_checked p.mode) (can_write p.mode p.chunk) r.writable) where
       by_tests : (a b c : Bool) → a ≡ false → b ≡ false → c ≡ false → option_or (if a then Some UnsupportedCharacterSet else (if b then Some DataTooLong else None)) (if c then Some InvalidCharacter else None) ≡ None
-      by_tests true b c h k l = cc
-      by_tests false true c h k l = cc
-      by_tests false false true h k l = cc
-      by_tests false false false h k l = refl
+      by_tests a b c h1 h2 h3 = grind (arith, nat_tests)
 
 -- nor has the piece at any place, after those before it
 readable_at : (v : Version) (used : ℕ) (ps : List Piece) (k : ℕ) → AllByRecursion (IsReadBack v) ps → used + length (written v ps) ≤ bit_limit

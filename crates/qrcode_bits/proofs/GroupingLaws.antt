@@ -1,7 +1,8 @@
 -- `grouping` satisfies `IsGrouping`, and nothing else does.
-use Rattle.std.proofs.Common.{◌≡◌, Bool, true, false, ◌&&◌, not, List, [], ◌∷◌, ◌++◌, map, refl, ap, sym, ◌∙◌, append_assoc, true≢false}
+use Rattle.std.proofs.Common.{◌≡◌, Bool, true, false, ◌&&◌, not, List, [], ◌∷◌, ◌++◌, map, refl, ap, sym, ◌∙◌, append_assoc, arith}
 use Rattle.std.specs.Prelude.{flat_map}
 use Rattle.std.proofs.lemmas.Bool.{and_parts, and_from}
+use Rattle.std.proofs.lemmas.Bool.Decides.{nat_tests}
 use Rattle.qrcode_types.specs.declared.types.Version.{Version}
 use Rattle.qrcode_bits.specs.declared.optimize.Segment.{Segment}
 use Rattle.qrcode_bits.specs.Grouping.{joint, is_joined, Group, joint_of, is_group, ends_before, are_groups, IsGrouping, grouping_from, grouping}
@@ -70,12 +71,10 @@ grouping_is v [] = record { groups = []; cut = refl; joined = refl; holds = refl
 grouping_is v (s ∷ more) = record { groups = groups_from v s [] s more; cut = cut v s [] s more; joined = joints v s [] s more refl; holds = holds v s [] s more refl refl }
 
 when_true : (b : Bool) (x y : List Segment) → b ≡ true → elim b [ true ↦ x | false ↦ y ] ≡ x
-when_true true x y h = refl
-when_true false x y h = absurd (true≢false (sym h))
+when_true b x y h1 = grind (arith, nat_tests)
 
 pub when_false : (b : Bool) (x y : List Segment) → not b ≡ true → elim b [ true ↦ x | false ↦ y ] ≡ y
-when_false true x y h = absurd (true≢false (sym h))
-when_false false x y h = refl
+when_false b x y h1 = grind (arith, nat_tests)
 
 pub within_group : (v : Version) (a : Segment) (further rest : List Segment) → is_group v a further ≡ true → grouping_from v a (further ++ rest) ≡ grouping_from v (joint_of a further) rest
 within_group v a [] rest h = refl

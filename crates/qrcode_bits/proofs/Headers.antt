@@ -20,10 +20,7 @@ pub record HeaderFits (v : Version) (m : Mode) : Type 0 where
   pub number : IsTrue (has_mode v m) → indicator v m < 2 ^ mode_bits_count v
 
 in_micro : (n : ℕ) (m : Mode) → n ≤ 4 → length_bits_count m (Micro (pos n)) ≤ 16
-in_micro n Numeric h = omega arith
-in_micro n Alphanumeric h = omega arith
-in_micro n Byte h = omega arith
-in_micro n Kanji h = omega arith
+in_micro n m h1 = grind (arith, nat_tests)
 
 in_normal : (n : ℕ) (m : Mode) → length_bits_count m (Normal (pos n)) ≤ 16
 in_normal n Numeric = by_band-le n 10 12 14 (omega arith) (omega arith) (omega arith)

@@ -6,6 +6,7 @@ use Rattle.std.proofs.lemmas.Bool.{and_parts, and_from}
 use Rattle.std.proofs.lemmas.List.{drop_all, take_at, drop_at, drop-drop, length-drop}
 use Rattle.std.proofs.lemmas.List.Folds.{drop_split}
 use Rattle.std.proofs.lemmas.List.Sums.{sum_by-cons}
+use Rattle.std.proofs.lemmas.Bool.Decides.{nat_tests}
 use Rattle.qrcode_types.specs.Bits.{AreBytes}
 use Rattle.qrcode_types.specs.Versions.{is_valid}
 use Rattle.qrcode_types.specs.Modes.{has_mode}
@@ -84,10 +85,7 @@ module _ (set : Modes) (v : Version) (bytes : List ℕ) where
   cost_most from (s ∷ ss) to valid t =
       omega (arith, t.0, t.1.0, sum_by-cons (cost v) s ss, header_short v s.mode valid, data_small s.mode (s.end - s.begin), cost_most s.end ss to valid t.1.1) where
         data_small : (m : Mode) (n : ℕ) → data_bits m n ≤ 8 * n
-        data_small Numeric n = omega arith
-        data_small Alphanumeric n = omega arith
-        data_small Byte n = omega arith
-        data_small Kanji n = omega arith
+        data_small m n = grind (arith, nat_tests)
 
   -- if there is a cut, the counted bits are few
   pub cut_is_short : IsTrue (is_valid v) → length bytes ≤ data_limit → (ss : List Segment) → IsCutIn set v bytes ss → (costs_of (headers_of set v) bytes).start.bits < more_than_any

@@ -3,7 +3,6 @@ pub mod Automatic
 pub mod Bands
 pub mod ByteCuts
 pub mod Changed
-pub mod Chosen
 pub mod Chunks
 pub mod CutPieces
 pub mod Designators

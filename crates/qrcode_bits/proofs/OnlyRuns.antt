@@ -1,75 +1,24 @@
 -- The longest rows of tokens of one kind are the runs, and nothing else is.
 use Rattle.std.proofs.Common.{◌≡◌, ℕ, ◌+◌, ◌*◌, zero, suc, Bool, true, false, List, [], ◌∷◌, ◌++◌, refl, sym, ◌∙◌, ap, subst, arith}
 use Rattle.std.specs.Prelude.{replicate}
+use Rattle.std.proofs.lemmas.Bool.Decides.{nat_tests}
 use Rattle.qrcode_bits.specs.declared.optimize.Segment.{Segment}
 use Rattle.qrcode_bits.specs.declared.optimize.Kind.{Kind}
-use Rattle.qrcode_bits.specs.declared.optimize.Kind.TheVariants.{Pair, LoneLead, Digit, Letter, Other}
+use Rattle.qrcode_bits.specs.declared.optimize.Kind.TheVariants.{LoneLead}
 use Rattle.qrcode_bits.specs.Runs.{width, kinds, go_together, goes_on, runs_from, runs, Row, spelled, IsApart, AreMaximal, row_end, row_segments, IsRuns}
 use Rattle.qrcode_bits.proofs.RunSteps.{segment, runs_after, runs_after-more, runs_after-over, together-same}
 
 apart : (k j : Kind) → (k ≡ j → k ≡ LoneLead) → go_together k j ≡ false
-apart Pair Pair f = let e : Pair ≡ LoneLead = f refl in cc
-apart Pair LoneLead f = refl
-apart Pair Digit f = refl
-apart Pair Letter f = refl
-apart Pair Other f = refl
-apart LoneLead Pair f = refl
-apart LoneLead LoneLead f = refl
-apart LoneLead Digit f = refl
-apart LoneLead Letter f = refl
-apart LoneLead Other f = refl
-apart Digit Pair f = refl
-apart Digit LoneLead f = refl
-apart Digit Digit f = let e : Digit ≡ LoneLead = f refl in cc
-apart Digit Letter f = refl
-apart Digit Other f = refl
-apart Letter Pair f = refl
-apart Letter LoneLead f = refl
-apart Letter Digit f = refl
-apart Letter Letter f = let e : Letter ≡ LoneLead = f refl in cc
-apart Letter Other f = refl
-apart Other Pair f = refl
-apart Other LoneLead f = refl
-apart Other Digit f = refl
-apart Other Letter f = refl
-apart Other Other f = let e : Other ≡ LoneLead = f refl in cc
+apart k j f = grind (arith, nat_tests)
 
 alone : (k j : Kind) → go_together k j ≡ false → k ≡ j → k ≡ LoneLead
-alone Pair Pair e s = cc
-alone Pair LoneLead e s = cc
-alone Pair Digit e s = cc
-alone Pair Letter e s = cc
-alone Pair Other e s = cc
-alone LoneLead Pair e s = cc
-alone LoneLead LoneLead e s = refl
-alone LoneLead Digit e s = cc
-alone LoneLead Letter e s = cc
-alone LoneLead Other e s = cc
-alone Digit Pair e s = cc
-alone Digit LoneLead e s = cc
-alone Digit Digit e s = cc
-alone Digit Letter e s = cc
-alone Digit Other e s = cc
-alone Letter Pair e s = cc
-alone Letter LoneLead e s = cc
-alone Letter Digit e s = cc
-alone Letter Letter e s = cc
-alone Letter Other e s = cc
-alone Other Pair e s = cc
-alone Other LoneLead e s = cc
-alone Other Digit e s = cc
-alone Other Letter e s = cc
-alone Other Other e s = cc
+alone k j h1 h2 = grind (arith, nat_tests)
 
 not-lead : (k : Kind) → go_together k k ≡ true → k ≡ LoneLead → ⊥
 not-lead k e l = let f : go_together LoneLead LoneLead ≡ true = subst (λ i. go_together i i ≡ true) l e in cc
 
 with-itself : (k : Kind) (n : ℕ) → (k ≡ LoneLead → suc n ≡ 0) → go_together k k ≡ true
-with-itself Pair n f = refl
-with-itself LoneLead n f = absurd (let e : suc n ≡ 0 = f refl in omega arith)
-with-itself Digit n f = refl
-with-itself Letter n f = refl
-with-itself Other n f = refl
+with-itself k n f = grind (arith, nat_tests)
 
 row-passed : (k : Kind) (n begin end : ℕ) (ks : List Kind) → (k ≡ LoneLead → n ≡ 0) → runs_after k begin end (replicate n k ++ ks) ≡ runs_after k begin (end + n * width k) ks
 row-passed k zero begin end ks f = let e : end + 0 * width k ≡ end = omega arith in rw e refl

@@ -4,6 +4,7 @@ use Rattle.std.proofs.lemmas.Bool.{lt-ltb}
 use Rattle.std.specs.Prelude.{nat_lt}
 use Rattle.std.proofs.lemmas.List.{append-nil}
 use Rattle.std.proofs.Math.Seq.{take-append_seam, drop-append_seam}
+use Rattle.std.proofs.lemmas.Bool.Decides.{nat_tests}
 use Rattle.qrcode_types.specs.declared.types.Mode.{Mode}
 use Rattle.qrcode_types.specs.Bits.{AreBytes}
 use Rattle.qrcode_types.specs.Characters.{is_digit, is_alphanumeric, is_lead, is_kanji, can_write}
@@ -64,11 +65,7 @@ cuts-alone k place token rest ss w n some h =
     (token, rest, refl, refl, omega (arith, n), omega (arith, n, some), subst (λ l. can_write (mode_of k) l ≡ true) (append-nil token) (w [] (write_none (mode_of k))), h)
 
 width-some : (k : Kind) → 0 < width k
-width-some Pair = omega arith
-width-some LoneLead = omega arith
-width-some Digit = omega arith
-width-some Letter = omega arith
-width-some Other = omega arith
+width-some k = grind (arith, nat_tests)
 
 cuts-cases : (k : Kind) (place : ℕ) (token rest : List ℕ) (ss : List Segment) (on : Bool) → (on ≡ true → BeginsWith (mode_of k) ss) → Writes k token → length token ≡ width k → Cuts (place + width k) rest ss
     → Cuts place (token ++ rest) (cond on (first_from place ss) (segment k place (place + width k) ∷ ss))
@@ -123,10 +120,7 @@ kinds-tile place (k ∷ ks) =
     (subst (λ n. Tile (place + width k) (runs_from (place + width k) ks) n) (omega arith) (kinds-tile (place + width k) ks))
 
 single-width : (lead digit letter : Bool) → width (cond lead LoneLead (cond digit Digit (cond letter Letter Other))) ≡ 1
-single-width true digit letter = refl
-single-width false true letter = refl
-single-width false false true = refl
-single-width false false false = refl
+single-width lead digit letter = grind (arith, nat_tests)
 
 widths-two : (b c : ℕ) (more : List ℕ) (pair : Bool) → widths (kinds more) ≡ length more → widths (kinds (c ∷ more)) ≡ length (c ∷ more) → widths (elim pair [ true ↦ Pair ∷ kinds more | false ↦ single_kind b ∷ kinds (c ∷ more) ]) ≡ length (b ∷ c ∷ more)
 widths-two b c more true h g = omega (arith, h)

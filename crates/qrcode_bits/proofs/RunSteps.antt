@@ -1,8 +1,8 @@
 -- How runs begin, go on and end, token by token.
 use Rattle.std.proofs.Common.{◌≡◌, ℕ, ◌+◌, ◌-◌, ◌≤◌, length, arith, subst, Bool, true, false, List, [], ◌∷◌, refl, cond}
+use Rattle.std.proofs.lemmas.Bool.Decides.{nat_tests}
 use Rattle.qrcode_bits.specs.declared.optimize.Segment.{Segment}
 use Rattle.qrcode_bits.specs.declared.optimize.Kind.{Kind}
-use Rattle.qrcode_bits.specs.declared.optimize.Kind.TheVariants.{Pair, LoneLead, Digit, Letter, Other}
 use Rattle.qrcode_bits.specs.Runs.{mode_of, width, go_together, goes_on, first_from, runs_from, kinds}
 
 abbrev pub segment : Kind → ℕ → ℕ → Segment
@@ -13,31 +13,7 @@ abbrev pub runs_after : Kind → ℕ → ℕ → List Kind → List Segment
 runs_after k begin end ks = cond (goes_on k ks) (first_from begin (runs_from end ks)) (segment k begin end ∷ runs_from end ks)
 
 pub together-same : (k j : Kind) → go_together k j ≡ true → k ≡ j
-together-same Pair Pair e = refl
-together-same Digit Digit e = refl
-together-same Letter Letter e = refl
-together-same Other Other e = refl
-together-same Pair LoneLead e = cc
-together-same Pair Digit e = cc
-together-same Pair Letter e = cc
-together-same Pair Other e = cc
-together-same LoneLead Pair e = cc
-together-same LoneLead LoneLead e = cc
-together-same LoneLead Digit e = cc
-together-same LoneLead Letter e = cc
-together-same LoneLead Other e = cc
-together-same Digit Pair e = cc
-together-same Digit LoneLead e = cc
-together-same Digit Letter e = cc
-together-same Digit Other e = cc
-together-same Letter Pair e = cc
-together-same Letter LoneLead e = cc
-together-same Letter Digit e = cc
-together-same Letter Other e = cc
-together-same Other Pair e = cc
-together-same Other LoneLead e = cc
-together-same Other Digit e = cc
-together-same Other Letter e = cc
+together-same k j h1 = grind (arith, nat_tests)
 
 first-twice : (a b : ℕ) (ss : List Segment) → first_from a (first_from b ss) ≡ first_from a ss
 first-twice a b [] = refl

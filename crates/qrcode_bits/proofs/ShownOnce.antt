@@ -5,12 +5,12 @@ use Rattle.std.specs.Str.{all_scalars}
 use Rattle.std.proofs.lemmas.Bool.{and_parts, and_from}
 use Rattle.std.proofs.lemmas.List.{append_cancel_left}
 use Rattle.std.proofs.lemmas.Str.{chars-encodes, encodes-append}
+use Rattle.std.proofs.lemmas.Bool.Decides.{nat_tests}
 use Rattle.qrcode_types.specs.Bits.{number_bits}
 use Rattle.qrcode_types.specs.Modes.{mode_number}
 use Rattle.qrcode_types.specs.declared.types.Version.{Version}
 use Rattle.qrcode_types.specs.declared.types.Version.TheVariants.{Normal, Micro}
 use Rattle.qrcode_types.specs.declared.types.Mode.{Mode}
-use Rattle.qrcode_types.specs.declared.types.Mode.TheVariants.{Numeric, Alphanumeric, Byte, Kanji}
 use Rattle.qrcode_bits.specs.Manners.{front, has_front}
 use Rattle.qrcode_bits.specs.Shown.{ArePiecesShown, Shows}
 use Rattle.qrcode_bits.specs.Spelling.{is_end, IsReadAs}
@@ -41,10 +41,7 @@ pub shown_chars : (ps : List Piece) (text : List ℕ) → ArePiecesShown ps text
 shown_chars ps text h = sym (chars-encodes text (shown_scalars ps text h)) ∙ ap chars (shown_bytes ps text h)
 
 no_indicator : (m : Mode) → 7 ≡ 2 ^ mode_number m → ⊥
-no_indicator Numeric e = omega arith
-no_indicator Alphanumeric e = omega arith
-no_indicator Byte e = omega arith
-no_indicator Kanji e = omega arith
+no_indicator m h1 = grind (arith, nat_tests)
 
 no_end : (n : _) (rest : List Bool) → is_end (Normal n) (front MarkedText ++ rest) ≡ true → ⊥
 unfolding number_bits

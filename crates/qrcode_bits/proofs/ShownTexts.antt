@@ -11,7 +11,6 @@ use Rattle.qrcode_types.specs.Versions.{is_valid, capacity, terminator_length}
 use Rattle.qrcode_types.specs.Modes.{has_mode, length_bits_count}
 use Rattle.qrcode_types.specs.Characters.{is_digit, is_alphanumeric, can_write, character_count}
 use Rattle.qrcode_types.specs.declared.types.Version.{Version}
-use Rattle.qrcode_types.specs.declared.types.Version.TheVariants.{Normal, Micro}
 use Rattle.qrcode_types.specs.declared.types.EcLevel.{EcLevel}
 use Rattle.qrcode_types.specs.declared.types.Mode.{Mode}
 use Rattle.qrcode_types.specs.declared.types.Mode.TheVariants.{Numeric, Alphanumeric, Byte, Kanji}
@@ -41,8 +40,7 @@ Apart (s ∷ []) = Unit {0}
 Apart (s ∷ t ∷ ss) = (¬ AreBoth Byte s t) × Apart (t ∷ ss)
 
 byte_length : (v : Version) → 0 < length_bits_count Byte v
-byte_length (Normal n) = grind (arith, nat_tests)
-byte_length (Micro n) = omega arith
+byte_length v = grind (arith, nat_tests)
 
 is_byte : (m : Mode) → (m ≡ Byte) ⊎ (¬ (m ≡ Byte))
 is_byte Numeric = inr (λ e. cc)
@@ -179,9 +177,7 @@ text_shown v bytes ss u least =
     subst (ArePiecesShown (pieces_of bytes ss)) same s.shown
 
 text_manner : (m : Manner) → IsTrue (is_text m) → modes_of m ≡ text_modes
-text_manner Bytes e = cc
-text_manner Text e = refl
-text_manner MarkedText e = refl
+text_manner m h1 = grind (arith, nat_tests)
 
 -- in both manners of text
 pub segments_shown : (m : Manner) (v : Version) (bytes : List ℕ) (ss : List Segment) → IsTrue (is_text m) → IsUtf8 bytes → IsLeastCutIn (modes_of m) v bytes ss → ArePiecesShown (pieces_of bytes ss) (chars bytes)

@@ -2,6 +2,7 @@
 use Rattle.std.proofs.Common.{◌≡◌, ℕ, zero, suc, ◌-◌, ◌^◌, ◌<◌, Bool, List, [], ◌∷◌, ◌++◌, length, refl, sym, ap, ap₂, ◌∙◌, arith, subst, true≢false, append_assoc}
 use Rattle.std.specs.Prelude.{IsTrue, nat_abs, flat_map}
 use Rattle.std.proofs.lemmas.Bool.{ltb-true}
+use Rattle.std.proofs.lemmas.Bool.Decides.{nat_tests}
 use Rattle.qrcode_types.specs.Bits.{number_bits}
 use Rattle.qrcode_types.specs.Modes.{has_mode, mode_number, indicator, mode_bits_count, length_bits_count}
 use Rattle.qrcode_types.specs.declared.types.Version.{Version}
@@ -15,10 +16,7 @@ use Rattle.qrcode_bits.proofs.Numbers.{same_number}
 use Rattle.qrcode_bits.proofs.Chunks.{same_data}
 
 pub normal_small : (m : Mode) → 2 ^ mode_number m < 2 ^ 4
-normal_small Numeric = omega arith
-normal_small Alphanumeric = omega arith
-normal_small Byte = omega arith
-normal_small Kanji = omega arith
+normal_small m = grind (arith, nat_tests)
 
 pub indicator-small : (v : Version) (m : Mode) → IsTrue (has_mode v m) → indicator v m < 2 ^ mode_bits_count v
 indicator-small (Normal v) m h = normal_small m
@@ -33,10 +31,7 @@ mode_of_normal _ = Kanji
 
 mode_of_normal-is : (m : Mode) → mode_of_normal (2 ^ mode_number m) ≡ m
 unfolding mode_of_normal
-mode_of_normal-is Numeric = refl
-mode_of_normal-is Alphanumeric = refl
-mode_of_normal-is Byte = refl
-mode_of_normal-is Kanji = refl
+mode_of_normal-is m = grind (arith, nat_tests)
 
 mode_of_micro : ℕ → Mode
 mode_of_micro zero = Numeric
@@ -46,10 +41,7 @@ mode_of_micro _ = Kanji
 
 mode_of_micro-is : (m : Mode) → mode_of_micro (mode_number m) ≡ m
 unfolding mode_of_micro
-mode_of_micro-is Numeric = refl
-mode_of_micro-is Alphanumeric = refl
-mode_of_micro-is Byte = refl
-mode_of_micro-is Kanji = refl
+mode_of_micro-is m = grind (arith, nat_tests)
 
 -- an indicator determines its mode
 pub same_mode : (v : Version) (m n : Mode) → indicator v m ≡ indicator v n → m ≡ n

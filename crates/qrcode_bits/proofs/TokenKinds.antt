@@ -1,10 +1,11 @@
 -- Which kind of token begins at a byte.
-use Rattle.std.proofs.Common.{◌≡◌, ℕ, ◌+◌, ◌-◌, ◌^◌, ◌<◌, ◌≤◌, ◌==◌, nat_le, nat_lt, Bool, true, false, cond, ◌&&◌, ◌||◌, [], ◌∷◌, get_or, Option, Some, None, refl, sym, ap, ◌∙◌, arith, subst, true≢false, inl, inr}
+use Rattle.std.proofs.Common.{◌≡◌, ℕ, ◌+◌, ◌-◌, ◌^◌, ◌<◌, ◌≤◌, ◌==◌, nat_le, nat_lt, Bool, true, false, cond, ◌&&◌, ◌||◌, [], ◌∷◌, get_or, Option, Some, refl, sym, ap, ◌∙◌, arith, subst, true≢false, inl, inr}
 use Rattle.std.specs.Prelude.{is_some, unwrap_or, position}
 use Rattle.std.specs.List.{list_all}
 use Rattle.std.proofs.lemmas.Bool.{agree_below, agree_below_at, and_parts, or_cases, leb-true, ltb-true, eqb-true, cond-true, cond-false, cond_both, and_from, cases_Bool}
 use Rattle.std.proofs.lemmas.List.Quantifiers.{position-Some}
 use Rattle.std.proofs.lemmas.List.Sums.{AllPass-from_list_all}
+use Rattle.std.proofs.lemmas.Bool.Decides.{nat_tests}
 use Rattle.qrcode_types.proofs.Writing.{writes}
 use Rattle.qrcode_types.specs.declared.types.Mode.TheVariants.{Numeric, Alphanumeric}
 use Rattle.qrcode_types.specs.Characters.{is_between, is_digit, is_alphanumeric, alphabet, is_lead, is_kanji}
@@ -55,8 +56,7 @@ unfolding alphabet
 all_low = refl
 
 some_place : (o : Option ℕ) → is_some o ≡ true → o ≡ Some (unwrap_or o 0)
-some_place None h = cc
-some_place (Some i) h = refl
+some_place o h1 = grind (arith, nat_tests)
 
 -- an alphanumeric byte is ASCII
 pub alphanumeric_low : (b : ℕ) → is_alphanumeric b ≡ true → b < 128

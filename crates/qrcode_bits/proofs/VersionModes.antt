@@ -1,13 +1,14 @@
 -- The headers of the modes of a version.
 use Rattle.std.proofs.Common.{◌≡◌, ◌+◌, ◌<◌, ◌≤◌, nat_le, pos, negsuc, ℤ, Bool, true, ◌&&◌, IsTrue, refl, arith}
 use Rattle.std.proofs.lemmas.Bool.{agree_below, agree_below_at, and_parts, cond_both, cond-true, leb-true}
+use Rattle.std.proofs.lemmas.Bool.Decides.{nat_tests}
 use Rattle.qrcode_types.specs.Versions.{is_valid}
 use Rattle.qrcode_types.specs.Modes.{has_mode, mode_bits_count, length_bits_count}
 use Rattle.qrcode_types.specs.ModeLaws.{for_all, at_each}
 use Rattle.qrcode_types.specs.declared.types.Version.{Version}
 use Rattle.qrcode_types.specs.declared.types.Version.TheVariants.{Normal, Micro}
 use Rattle.qrcode_types.specs.declared.types.Mode.{Mode}
-use Rattle.qrcode_types.specs.declared.types.Mode.TheVariants.{Numeric, Alphanumeric, Byte, Kanji}
+use Rattle.qrcode_types.specs.declared.types.Mode.TheVariants.{Numeric}
 use Rattle.qrcode_bits.specs.ModeHeaders.{more_than_any, header}
 use Rattle.qrcode_bits.specs.LeastBits.{header_in, headers_of}
 use Rattle.qrcode_bits.specs.ModeSets.{is_among}
@@ -60,10 +61,7 @@ abbrev pub allows : Modes → Version → Mode → Bool
 allows set v m = has_mode v m && is_among set m
 
 pub header_at : (set : Modes) (v : Version) (m : Mode) → header_in (headers_of set v) m ≡ header set v m
-header_at set v Numeric = refl
-header_at set v Alphanumeric = refl
-header_at set v Byte = refl
-header_at set v Kanji = refl
+header_at set v m = grind (arith, nat_tests)
 
 pub header_is : (set : Modes) (v : Version) (m : Mode) → allows set v m ≡ true → header set v m ≡ mode_bits_count v + length_bits_count m v
 header_is set v m has = cond-true (allows set v m) (mode_bits_count v + length_bits_count m v) more_than_any has

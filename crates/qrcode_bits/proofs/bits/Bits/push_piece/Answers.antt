@@ -10,9 +10,6 @@ use Rattle.qrcode_bits.proofs.Changed.{list_of, refused, changed, starved_by, pu
 use Rattle.qrcode_bits.proofs.bits.Bits.push_piece.Goals as goal
 use Rattle.qrcode_bits.proofs.bits.Bits.push_piece.Goals.{In_ok-length}
 
-piece : In_ok-length → Piece
-piece c = record { mode = c.args.mode; chunk = c.args.bytes.now }
-
 -- the count of the piece is not refused
 counted : (c : In_ok-length) → count_refusal c.args.self.now.version (length c.args.self.now.bits) c.args.mode (character_count c.args.mode (length c.args.bytes.now)) ≡ None
 counted c = sym (ap (count_refusal c.args.self.now.version (length c.args.self.now.bits) c.args.mode) c.character_count.ensures) ∙ c.in_ok-length.ensures.value.1
