@@ -282,8 +282,7 @@ inside_row g row top bottom whole =
 
 -- taking from the empty list gives the empty list
 take-nil : (n : ℕ) → take {A = Color} n [] ≡ []
-take-nil zero = refl
-take-nil (suc n) = refl
+take-nil n = grind (arith, nat_tests)
 
 light_run : (n : ℕ) → map is_dark (replicate n Light) ≡ replicate n false
 light_run zero = refl

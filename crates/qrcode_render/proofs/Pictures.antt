@@ -74,13 +74,11 @@ cell_fits : (c m n : ℕ) → c < m → c * n + n ≤ m * n
 cell_fits c m n h = let le : (c + 1) * n ≤ m * n = mul-le-mul_right n (omega arith) in omega arith
 
 some_count : (n i : ℕ) → i < n * n → 0 < n
-some_count zero i h = absurd (omega arith)
-some_count (suc n) i h = omega arith
+some_count n i h1 = grind (arith, nat_tests)
 
 -- a picture with a pixel has a width
 pub some_side : (w h k : ℕ) → k < w * h → 0 < w
-some_side zero h k inside = omega arith
-some_side (suc w) h k inside = omega arith
+some_side w h k h1 = grind (arith, nat_tests)
 
 get_or-replicate_same : {A : Type 0} (n : ℕ) (a : A) (i : ℕ) → get_or (replicate n a) i a ≡ a
 get_or-replicate_same zero a i = refl
@@ -174,8 +172,7 @@ not_true true h = absurd (h refl)
 not_true false h = refl
 
 dark_from : (c : Color) → is_dark c ≡ true → c ≡ Dark
-dark_from Dark h = refl
-dark_from Light h = cc
+dark_from c h1 = grind (arith, nat_tests)
 
 -- the test of a pixel in a dark module
 hit_is_dark : (at : Layout) (content : List Color) (i x y : ℕ) → IsHit at content i x y → is_dark_pixel at content x y ≡ true

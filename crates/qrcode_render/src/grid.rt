@@ -15,10 +15,7 @@ use std::marker::Model;
 fn is_dark(color: Color) -> bool
     ensures { result ≡ is_dark color }
 {
-    match color {
-        Color::Light => false,
-        Color::Dark => true,
-    }
+    color == Color::Dark
 }
 
 // Writes into `marks`, from `start` on, whether each module of `line` is dark.

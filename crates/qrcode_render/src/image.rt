@@ -187,8 +187,7 @@ impl<P> ImageBuffer<P> {
     pub fn into_raw(self) -> Vec<u8>
         ensures { result ≡ self.raw }
     {
-        let ImageBuffer { raw, .. } = self;
-        raw
+        self.raw
     }
 }
 

@@ -351,7 +351,7 @@ impl<'a> Modules<'a> {
     }
 
     // Returns the modules as a grid of cells.
-    fn grid(&self) -> Grid
+    fn grid(&self) -> Grid<'a>
         ensures value { result ≡ grid_of self.now }
         ensures whole { IsSquare self.now }
     {

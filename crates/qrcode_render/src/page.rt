@@ -95,12 +95,7 @@ impl<P: Copy, E: Finish<P>> Canvas for Page<P, E> {
     }
 
     fn into_image(self) -> QrResult<E::Image> {
-        let Page {
-            cells,
-            dark,
-            light,
-            ..
-        } = self;
+        let (cells, dark, light) = (&self.cells, self.dark, self.light);
         E::image(cells.alloc(), &cells.grid(), dark, light)
     }
 }

@@ -176,24 +176,17 @@ impl<'a, P: Pixel> Renderer<'a, P> {
 
     /// Returns the modules as a grid of cells, including the quiet zone if it is on. The picture
     /// must fit, as `fits` says.
-    pub fn grid(&self) -> Grid
+    pub fn grid(&self) -> Grid<'a>
         requires { IsTrue (fits self.now) }
         ensures pixels { pixels_of result ≡ picture_of self.now }
         ensures across { all_columns result ≡ side_of self.now }
         ensures down { all_rows result ≡ side_of self.now }
     {
-        Grid::new(
-            self.content,
-            self.modules_count,
-            self.modules_count,
-            self.quiet_zone,
-            self.module_width,
-            self.module_height,
-        )
+        self.modules().grid()
     }
 
     /// Returns the modules, including the quiet zone if it is on.
-    pub fn modules(&self) -> Modules
+    pub fn modules(&self) -> Modules<'a>
         requires { IsTrue (fits self.now) }
         ensures { result ≡ square_of self.now }
     {

@@ -28,10 +28,7 @@ impl Dense1x2 {
     fn is_dark(self) -> bool
         ensures { result ≡ is_dark_half self }
     {
-        match self {
-            Dense1x2::Dark => true,
-            Dense1x2::Light => false,
-        }
+        self == Dense1x2::Dark
     }
 }
 
@@ -51,10 +48,7 @@ impl Pixel for Dense1x2 {
     }
 
     fn default_color(color: Color) -> Dense1x2 {
-        match color {
-            Color::Dark => Dense1x2::Dark,
-            Color::Light => Dense1x2::Light,
-        }
+        color.select(Dense1x2::Dark, Dense1x2::Light)
     }
 }
 
