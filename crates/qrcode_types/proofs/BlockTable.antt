@@ -4,12 +4,12 @@ use Rattle.std.proofs.lemmas.Bool.{cases_lt, agree_below, agree_below_at, and_pa
 use Rattle.std.proofs.lemmas.List.{length-replicate}
 use Rattle.std.proofs.lemmas.List.Folds.{sum_by-replicate}
 use Rattle.std.proofs.lemmas.List.Sums.{sum_by-append}
+use Rattle.std.proofs.lemmas.Bool.Decides.{nat_tests}
 use Rattle.qrcode_types.specs.Tables.{block_table, codeword_table}
 use Rattle.qrcode_types.specs.Versions.{is_valid, row_of, level_number, blocks_entry, block_lengths, has_level, data_length, total_ec_length, codeword_count, capacity}
 use Rattle.qrcode_types.specs.declared.types.Version.{Version}
 use Rattle.qrcode_types.specs.declared.types.Version.TheVariants.{Normal, Micro}
 use Rattle.qrcode_types.specs.declared.types.EcLevel.{EcLevel}
-use Rattle.qrcode_types.specs.declared.types.EcLevel.TheVariants.{L, M, Q, H}
 
 -- the table's entry at a row and a level
 entry_at : ℕ → ℕ → (ℕ × ℕ × ℕ × ℕ)
@@ -46,10 +46,7 @@ row_of-lt (Micro (pos n)) e = omega (arith, and_parts (nat_le 1 n) (nat_le n 4) 
 row_of-lt (Micro (negsuc n)) e = cc
 
 pub level_number-lt : (l : EcLevel) → level_number l < 4
-level_number-lt L = omega arith
-level_number-lt M = omega arith
-level_number-lt Q = omega arith
-level_number-lt H = omega arith
+level_number-lt l = grind (arith, nat_tests)
 
 -- the test passes at each level of the first `rows` rows
 abbrev passes : (ℕ → ℕ → Bool) → ℕ → Bool

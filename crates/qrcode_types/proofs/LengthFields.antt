@@ -1,6 +1,7 @@
 -- If a symbol has room for some number of characters, that number fits the length field.
 use Rattle.std.proofs.Common.{◌≡◌, ℕ, zero, suc, ◌+◌, ◌^◌, ◌<◌, ◌≤◌, nat_le, nat_lt, pos, negsuc, Bool, true, ◌&&◌, IsTrue, refl, inl, inr, arith}
 use Rattle.std.proofs.lemmas.Bool.{agree_below, agree_below_at, and_parts, cases_lt, leb-true, ltb-true}
+use Rattle.std.proofs.lemmas.Bool.Decides.{nat_tests}
 use Rattle.qrcode_types.specs.Tables.{block_table}
 use Rattle.qrcode_types.specs.Versions.{is_valid, blocks_entry, block_lengths, data_length, capacity}
 use Rattle.qrcode_types.specs.Modes.{mode_bits_count, length_bits_count, data_bits_count, CountsFit}
@@ -10,7 +11,6 @@ use Rattle.qrcode_types.specs.declared.types.Version.TheVariants.{Normal, Micro}
 use Rattle.qrcode_types.specs.declared.types.EcLevel.{EcLevel}
 use Rattle.qrcode_types.specs.declared.types.EcLevel.TheVariants.{L, M, Q, H}
 use Rattle.qrcode_types.specs.declared.types.Mode.{Mode}
-use Rattle.qrcode_types.specs.declared.types.Mode.TheVariants.{Numeric, Alphanumeric, Byte, Kanji}
 
 -- a symbol has no room for the smallest number of characters that does not fit the length field
 abbrev is_enough : Version → EcLevel → Mode → Bool
@@ -50,10 +50,7 @@ enough (Micro (negsuc n)) l m e = cc
 
 -- more characters take no fewer bits
 data_bits_count-le : (m : Mode) (a b : ℕ) → a ≤ b → data_bits_count m a ≤ data_bits_count m b
-data_bits_count-le Numeric a b le = omega arith
-data_bits_count-le Alphanumeric a b le = omega arith
-data_bits_count-le Byte a b le = omega arith
-data_bits_count-le Kanji a b le = omega arith
+data_bits_count-le m a b h1 = grind (arith, nat_tests)
 
 pub counts_fit : (m : Mode) (v : Version) → IsTrue (is_valid v) → CountsFit m v
 counts_fit m v valid = record {

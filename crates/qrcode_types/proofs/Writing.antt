@@ -2,11 +2,12 @@
 use Rattle.std.proofs.Common.{◌≡◌, ℕ, suc, ◌/◌, ◌<◌, nat_le, true, not, ◌||◌, IsTrue, List, [], ◌∷◌, get_or, refl, inl, inr, arith}
 use Rattle.std.specs.List.{list_all}
 use Rattle.std.proofs.lemmas.Bool.{agree_below_at, and_parts, and_from, or_cases, both_ways, not-true, leb-true, lt-ltb}
+use Rattle.std.proofs.lemmas.Bool.Decides.{nat_tests}
 use Rattle.qrcode_types.specs.Bits.{AreBytes}
 use Rattle.qrcode_types.specs.Characters.{is_digit, is_alphanumeric, alphabet, can_write, bytes_each, character_count}
 use Rattle.qrcode_types.specs.Modes.{is_at_most}
 use Rattle.qrcode_types.specs.declared.types.Mode.{Mode}
-use Rattle.qrcode_types.specs.declared.types.Mode.TheVariants.{Numeric, Alphanumeric, Byte, Kanji}
+use Rattle.qrcode_types.specs.declared.types.Mode.TheVariants.{Byte}
 
 digit_is_alphanumeric : (b : ℕ) → is_digit b ≡ true → is_alphanumeric b ≡ true
 unfolding is_alphanumeric alphabet
@@ -31,23 +32,8 @@ bytes_are_written [] e = refl
 bytes_are_written (b ∷ bytes) e = and_from _ _ (lt-ltb b 256 e.0) (bytes_are_written bytes e.1)
 
 pub writes : (m n : Mode) → IsTrue (is_at_most m n) → (bytes : List ℕ) → AreBytes bytes → IsTrue (can_write m bytes) → IsTrue (can_write n bytes)
-writes Numeric Alphanumeric e bytes are written = digits_are_alphanumeric bytes written
-writes m Byte e bytes are written = bytes_are_written bytes are
-writes Numeric Numeric e bytes are written = written
-writes Alphanumeric Alphanumeric e bytes are written = written
-writes Kanji Kanji e bytes are written = written
-writes Numeric Kanji e bytes are written = cc
-writes Alphanumeric Numeric e bytes are written = cc
-writes Alphanumeric Kanji e bytes are written = cc
-writes Byte Numeric e bytes are written = cc
-writes Byte Alphanumeric e bytes are written = cc
-writes Byte Kanji e bytes are written = cc
-writes Kanji Numeric e bytes are written = cc
-writes Kanji Alphanumeric e bytes are written = cc
+writes m n e bytes are written = grind (arith, nat_tests, digits_are_alphanumeric bytes, bytes_are_written bytes are)
 
 -- the number of characters is the number of bytes divided by the bytes of each
 pub counted : (m : Mode) (n : ℕ) → n / bytes_each m ≡ character_count m n
-counted Numeric n = omega arith
-counted Alphanumeric n = omega arith
-counted Byte n = omega arith
-counted Kanji n = refl
+counted m n = grind (arith, nat_tests)

@@ -27,10 +27,6 @@ abbrev pub has_mode : Version → Mode → Bool  -- Normal versions have all mod
 has_mode (Normal v) m = true
 has_mode (Micro v) m = nat_lt (mode_number m) (2 ^ (nat_abs v - 1))
 
--- the mode that can write everything the version's other modes can; Micro 1 has digits only, Micro 2 has no bytes
-abbrev pub widest_mode : Version → Mode
-widest_mode v = if mode_bits_count v == 0 then Numeric else (if mode_bits_count v == 1 then Alphanumeric else Byte)
-
 abbrev pub by_band : ℕ → ℕ → ℕ → ℕ → ℕ  -- a number for Normal 1 to 9, for 10 to 26, or for 27 to 40
 by_band v small middle large = if nat_le v 9 then small else (if nat_le v 26 then middle else large)
 

@@ -37,16 +37,3 @@ pub fn indicator(version: Version, mode: Mode) -> u32
         },
     }
 }
-
-/// Returns the mode of `version` that can write everything its other modes can. The version must
-/// exist.
-pub fn widest_mode(version: Version) -> Mode
-    requires { IsTrue (is_valid version) }
-    ensures { result ≡ modes.widest_mode version }
-{
-    match version.mode_bits_count() {
-        0 => Mode::Numeric,
-        1 => Mode::Alphanumeric,
-        _ => Mode::Byte,
-    }
-}

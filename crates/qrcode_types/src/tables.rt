@@ -170,12 +170,9 @@ pub fn has_half_codeword(version: Version, ec_level: EcLevel) -> bool
     requires { IsTrue (is_valid version) }
     ensures { result ≡ has_half_codeword version ec_level }
 {
-    match version {
-        Version::Normal(_) => false,
-        Version::Micro(v) => match ec_level {
-            EcLevel::L => v == 1 || v == 3,
-            EcLevel::M => v == 3,
-            EcLevel::Q | EcLevel::H => false,
-        },
+    match (version, ec_level) {
+        (Version::Micro(v), EcLevel::L) => v == 1 || v == 3,
+        (Version::Micro(v), EcLevel::M) => v == 3,
+        _ => false,
     }
 }

@@ -118,10 +118,7 @@ impl Not for Color {
     ghost not_gives = { λ c other. (other ≡ opposite c) × (opposite other ≡ c) };
 
     fn not(self) -> Color {
-        match self {
-            Color::Light => Color::Dark,
-            Color::Dark => Color::Light,
-        }
+        self.select(Color::Light, Color::Dark)
     }
 }
 
@@ -178,10 +175,7 @@ impl Version {
     pub fn is_micro(self) -> bool
         ensures { result ≡ is_micro self }
     {
-        match self {
-            Version::Normal(_) => false,
-            Version::Micro(_) => true,
-        }
+        matches!(self, Version::Micro(_))
     }
 
     /// Returns whether this version exists and has the level.
