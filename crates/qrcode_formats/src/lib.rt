@@ -228,10 +228,7 @@ fn numbered_among(rows: &[Row], number: u32) -> Option<Format>
 fn is_number(known: Option<u32>, number: u32) -> bool
     ensures { result ≡ is_number known number }
 {
-    match known {
-        Some(known) => known == number,
-        None => false,
-    }
+    known.is_some_and(|known| known == number)
 }
 
 /// Returns the format with this name, ignoring case.
@@ -276,8 +273,5 @@ fn ending_among(rows: &[Row], ending: &str) -> Option<Format>
 fn is_known(known: Option<&str>, name: &str) -> bool
     ensures { result ≡ is_known (option_map (λ text. text.now) known.entry) name.now }
 {
-    match known {
-        Some(known) => known.eq_ignore_ascii_case(name),
-        None => false,
-    }
+    known.is_some_and(|known| known.eq_ignore_ascii_case(name))
 }
