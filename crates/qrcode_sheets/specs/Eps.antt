@@ -64,10 +64,6 @@ eps_rect left top width height text = text ++ eps_box left top width height
 abbrev pub eps_end : List ℕ
 eps_end = codes "showpage\n%%EOF\n"
 
--- the picture of modules in a dark and a light colour
-abbrev pub eps_text : Layout → List Color → eps.Color → eps.Color → List ℕ
-eps_text at content dark light = drawn eps_rect at content (eps_start (pixels_across at) (pixels_down at) dark light) ++ eps_end
-
 -- the text before the first dark rectangle: a pixel is a point, unless pixels to an inch are given
 abbrev pub eps_front : Option ℕ → ℕ → ℕ → eps.Color → eps.Color → List ℕ
 eps_front None = eps_start

@@ -75,16 +75,9 @@ impl<'a> Inset<'a> {
         if !self.place.has(x, y) {
             return None;
         }
-        let column = scaled(
-            (x - self.place.left as usize) as u32,
-            self.place.width,
-            self.across,
-        );
-        let row = scaled(
-            (y - self.place.top as usize) as u32,
-            self.place.height,
-            self.down,
-        );
+        let (left, top) = (self.place.left as usize, self.place.top as usize);
+        let column = scaled((x - left) as u32, self.place.width, self.across);
+        let row = scaled((y - top) as u32, self.place.height, self.down);
         let place = row as usize * self.across as usize + column as usize;
         self.pixels.get(place).copied()
     }

@@ -15,8 +15,9 @@ use crate::pbm::Bit;
 use crate::pdf::Extras;
 use crate::shades::png_file;
 use crate::sheet::{Ink, Overlay, Sheet};
+use crate::svg_path::{Path, framed};
 use crate::terminal::coloured;
-use crate::{eps, escpos, pdf, pgm, ppm, svg_path, tspl, xbm, zpl};
+use crate::{eps, escpos, pdf, pgm, ppm, tspl, xbm, zpl};
 use qrcode_formats::{Colours, Format, Middle};
 use qrcode_png::with_density;
 use qrcode_render::image::Luma;
@@ -54,10 +55,7 @@ pub fn draw(alloc: Global, format: Format, sheet: &Sheet<'_, '_, '_>) -> Result<
     if !takes_overlay(format, sheet.over) {
         return Err(DrawError::NoOverlay);
     }
-    match file_of(alloc, format, sheet) {
-        Ok(file) => Ok(file),
-        Err(_) => Err(DrawError::OutOfMemory),
-    }
+    file_of(alloc, format, sheet).map_err(|_| DrawError::OutOfMemory)
 }
 
 /// Whether a format has colours of parts, or there are none.
@@ -120,12 +118,8 @@ fn bits<F: Packing>(alloc: Global, sheet: &Sheet<'_, '_, '_>) -> QrResult<Vec<u8
         (picture (sheet_of sheet.now).at sheet.now.modules.now)) }
     ensures memory { IsOkUnless result OutOfMemory }
 {
-    drawn(
-        alloc,
-        sheet,
-        Dot::<F>::of(Bit::Black),
-        Dot::<F>::of(Bit::White),
-    )
+    let (dark, light) = (Dot::<F>::of(Bit::Black), Dot::<F>::of(Bit::White));
+    drawn(alloc, sheet, dark, light)
 }
 
 // Draws the modules of a sheet with these values for dark and light, exchanged if it is inverted.
@@ -221,11 +215,8 @@ fn path(alloc: Global, sheet: &Sheet<'_, '_, '_>) -> QrResult<Vec<u8>>
     ensures memory { IsOkUnless result OutOfMemory }
 {
     let over = over(alloc, Format::SvgPath, sheet)?;
-    let (dark, light) = (
-        svg_path::Path(sheet.dark.name),
-        svg_path::Path(sheet.light.name),
-    );
-    svg_path::framed(alloc, &renderer(sheet, dark, light), &sheet.frame, &over)
+    let (dark, light) = (Path(sheet.dark.name), Path(sheet.light.name));
+    framed(alloc, &renderer(sheet, dark, light), &sheet.frame, &over)
 }
 
 // ZPL II, with the picture at the sheet's place on the label.
@@ -264,12 +255,10 @@ fn pdf_file(alloc: Global, sheet: &Sheet<'_, '_, '_>) -> QrResult<Vec<u8>>
 {
     let over = over(alloc, Format::Pdf, sheet)?;
     let (dark, light) = (pdf::Color(rgb(sheet.dark)), pdf::Color(rgb(sheet.light)));
-    let title = sheet.frame.title;
-    let dots = sheet.dots.unwrap_or(72).max(1);
     let extras = Extras {
-        dots,
+        dots: sheet.dots.unwrap_or(72).max(1),
         over: &over,
-        title,
+        title: sheet.frame.title,
     };
     pdf::with_extras(alloc, &renderer(sheet, dark, light), extras)
 }
