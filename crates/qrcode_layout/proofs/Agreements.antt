@@ -1,7 +1,7 @@
 -- Where figures overlap they agree, and no figure of a pattern overlaps a place of the format word: computed for each version.
-use Rattle.std.proofs.Common.{◌≡◌, ℕ, zero, suc, ◌+◌, ◌-◌, ◌*◌, ◌<◌, ◌≤◌, nat_abs, nat_le, Bool, true, false, ◌&&◌, ◌||◌, not, pos, negsuc, List, [], ◌∷◌, ◌++◌, fold, length, get_or, Option, Some, None, is_some, arith, refl, sym, ap, subst, ◌∙◌, IsTrue, inl, inr, ◌⊎◌, true≢false, if◌then◌else◌, cond}
+use Rattle.std.proofs.Common.{◌≡◌, ℕ, zero, suc, ◌+◌, ◌-◌, ◌*◌, ◌<◌, ◌≤◌, nat_abs, nat_le, Bool, true, false, ◌||◌, List, [], ◌∷◌, ◌++◌, fold, length, get_or, Option, Some, None, is_some, arith, refl, sym, ap, subst, ◌∙◌, IsTrue, true≢false, cond}
 use Rattle.std.specs.Bool.{beq}
-use Rattle.std.specs.List.{list_all, list_any, Contains}
+use Rattle.std.specs.List.{list_all}
 use Rattle.std.specs.Prelude.{IfSome}
 use Rattle.std.proofs.lemmas.Bool.{and_parts}
 use Rattle.std.proofs.lemmas.Bool.Decides.{nat_tests}
@@ -123,8 +123,7 @@ none_meets (f ∷ fs) gs x y apart at = let parts = and_parts _ _ apart in go (h
   go false e h here later = later h
 
 none_from : (p : Option Color) → is_some p ≡ false → p ≡ None
-none_from None e = refl
-none_from (Some c) e = absurd (cc)
+none_from p h1 = grind (arith, nat_tests)
 
 pub format_places_are_no_patterns : FormatPlacesAreNoPatterns
 format_places_are_no_patterns v x y i valid e =
@@ -173,10 +172,7 @@ agree_at v f g x y same at other =
       meeting false rest meets none is e = e
 
       equal : (a b : Bool) → beq a b ≡ true → a ≡ b
-      equal true true e = refl
-      equal true false e = absurd (cc)
-      equal false true e = absurd (cc)
-      equal false false e = refl
+      equal a b h1 = grind (arith, nat_tests)
 
 -- a figure that agrees with all others gives its places their colours
 drawn_last : (v : Version) (f : Figure) (fs : List Figure) (below : Option Color) (x y : ℕ) → list_all (agree v f) fs ≡ true → has f x y ≡ true → below ≡ Some (color_of (is_dark_in v f x y))

@@ -1,10 +1,8 @@
 -- Which places the figures cover.
-use Rattle.std.proofs.Common.{◌≡◌, ℕ, zero, suc, ℤ, ◌+◌, ◌*◌, ◌<◌, ◌≤◌, nat_abs, nat_le, Bool, IsTrue, true, false, cond, not, ◌&&◌, ◌||◌, List, [], ◌∷◌, ◌++◌, map, take, length, get_or, Option, Some, None, is_some, arith, refl, sym, ap, ap₂, ◌∙◌, fold, if◌then◌else◌}
+use Rattle.std.proofs.Common.{◌≡◌, ℕ, zero, suc, ◌+◌, ◌*◌, ◌<◌, ◌≤◌, nat_abs, Bool, IsTrue, true, false, cond, not, ◌&&◌, ◌||◌, List, [], ◌∷◌, ◌++◌, map, length, get_or, Option, Some, None, is_some, arith, refl, sym, ap, ap₂, ◌∙◌, fold, if◌then◌else◌}
 use Rattle.std.specs.List.{list_any, filter, flat_map}
 use Rattle.std.proofs.lemmas.Bool.{or_left, or_right}
 use Rattle.std.proofs.lemmas.Bool.Decides.{nat_tests}
-use Rattle.std.proofs.lemmas.Grind.{flat_map-append}
-use Rattle.std.proofs.lemmas.List.{take_more, append-nil}
 use Rattle.std.proofs.lemmas.List.Folds.{list_any-append}
 use Rattle.qrcode_types.specs.Versions.{side, is_micro}
 use Rattle.qrcode_types.specs.declared.types.Version.{Version}
@@ -13,7 +11,7 @@ use Rattle.qrcode_types.specs.declared.types.Color.{Color}
 use Rattle.qrcode_layout.specs.declared.figures.Figure.{Figure}
 use Rattle.qrcode_layout.specs.Figures.{has, figures, format_figures, normal_figures, normal_format_figures, micro_figures, micro_format_figures, version_figures, alignment, alignments, is_corner_centre, is_centre_inside, fits}
 use Rattle.qrcode_layout.specs.Patterns.{drawn_over, pattern, format_index, is_functional_place}
-use Rattle.qrcode_layout.proofs.FormatPlaces.{normal_cases, micro_cases, normal_index, micro_index}
+use Rattle.qrcode_layout.proofs.FormatPlaces.{normal_index, micro_index}
 
 -- one of the figures covers the place
 abbrev pub any_has : ℕ → ℕ → List Figure → Bool
@@ -31,8 +29,7 @@ pub pattern_some : (v : Version) (x y : ℕ) → is_some (pattern v x y) ≡ any
 unfolding pattern
 pattern_some v x y = drawn_some v x y None (figures v) ∙ or_none (any_has x y (figures v)) where
   or_none : (b : Bool) → (b || false) ≡ b
-  or_none true = refl
-  or_none false = refl
+  or_none b = grind (arith, nat_tests)
 
 pub format_some : (v : Version) (x y : ℕ) → is_some (format_index v x y) ≡ any_has x y (format_figures v)
 unfolding format_figures
@@ -46,10 +43,7 @@ functional_is v x y =
     ∙ turned (any_has x y (figures v)) (any_has x y (format_figures v))
     ∙ sym (list_any-append (λ f. has f x y) (format_figures v) (figures v)) where
       turned : (a b : Bool) → (a || b) ≡ (b || a)
-      turned true true = refl
-      turned true false = refl
-      turned false true = refl
-      turned false false = refl
+      turned a b = grind (arith, nat_tests)
 
 -- a figure that fits is inside
 pub fits_across : (v : Version) (f : Figure) → IsTrue (fits v f) → f.left + f.across ≤ side v

@@ -70,8 +70,7 @@ in_copies test (f ∷ fs) r hit whole =
       go None a rest = rest a
 
 or_none : (b : Bool) → (b || false) ≡ true → b ≡ true
-or_none true h = refl
-or_none false h = absurd (cc)
+or_none b h1 = grind (arith, nat_tests)
 
 -- a place of a copy has the bit of that copy
 

@@ -1,6 +1,7 @@
 -- Level and mask by the five bits that name them.
 use Rattle.std.proofs.Common.{◌≡◌, ℕ, ◌+◌, ◌-◌, ◌*◌, ◌≤◌, ◌<◌, ◌==◌, nat_le, nat_lt, pos, negsuc, Bool, true, false, not, ◌&&◌, refl, sym, arith, true≢false, IsTrue, ◌||◌, inl, inr}
 use Rattle.std.proofs.lemmas.Bool.{and_parts, or_cases, both_ways, ltb-true, leb-true, not-true}
+use Rattle.std.proofs.lemmas.Bool.Decides.{nat_tests}
 use Rattle.qrcode_types.specs.Tables.{block_table}
 use Rattle.qrcode_types.specs.Versions.{level_number, has_level, is_valid, blocks_entry}
 use Rattle.qrcode_types.specs.declared.types.Version.{Version}
@@ -10,24 +11,13 @@ use Rattle.qrcode_types.specs.declared.types.EcLevel.TheVariants.{L, M, Q, H}
 use Rattle.qrcode_layout.specs.Words.{level_bits, format_bits}
 use Rattle.qrcode_layout.specs.Masks.{mask_number, micro_mask_number, exists_in}
 use Rattle.qrcode_layout.specs.declared.masks.MaskPattern.{MaskPattern}
-use Rattle.qrcode_layout.specs.declared.masks.MaskPattern.TheVariants.{Checkerboard, HorizontalLines, VerticalLines, DiagonalLines, LargeCheckerboard, Fields, Diamonds, Meadow}
 use Rattle.qrcode_layout.proofs.Below.{passes_below, below}
 
 pub level_bits-lt : (l : EcLevel) → level_bits l < 4
-level_bits-lt L = omega arith
-level_bits-lt M = omega arith
-level_bits-lt Q = omega arith
-level_bits-lt H = omega arith
+level_bits-lt l = grind (arith, nat_tests)
 
 pub mask_number-lt : (k : MaskPattern) → mask_number k < 8
-mask_number-lt Checkerboard = omega arith
-mask_number-lt HorizontalLines = omega arith
-mask_number-lt VerticalLines = omega arith
-mask_number-lt DiagonalLines = omega arith
-mask_number-lt LargeCheckerboard = omega arith
-mask_number-lt Fields = omega arith
-mask_number-lt Diamonds = omega arith
-mask_number-lt Meadow = omega arith
+mask_number-lt k = grind (arith, nat_tests)
 
 pub valid_of : (v : Version) (l : EcLevel) → IsTrue (has_level v l) → IsTrue (is_valid v)
 valid_of v l h = (and_parts (is_valid v) (not ((blocks_entry v l).0 == 0)) h).0

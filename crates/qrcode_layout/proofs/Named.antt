@@ -1,5 +1,6 @@
 -- The five bits of a format word determine what it names.
 use Rattle.std.proofs.Common.{◌≡◌, ℕ, zero, suc, ◌+◌, ◌-◌, ◌*◌, pos, negsuc, refl, sym, ap, ◌∙◌, arith, IsTrue}
+use Rattle.std.proofs.lemmas.Bool.Decides.{nat_tests}
 use Rattle.qrcode_types.specs.Tables.{block_table}
 use Rattle.qrcode_types.specs.Versions.{is_micro, level_number, blocks_entry, has_level}
 use Rattle.qrcode_types.specs.declared.types.Version.{Version}
@@ -20,10 +21,7 @@ level_of_bits _ = Q
 
 level_of_bits-is : (l : EcLevel) → level_of_bits (level_bits l) ≡ l
 unfolding level_of_bits
-level_of_bits-is L = refl
-level_of_bits-is M = refl
-level_of_bits-is Q = refl
-level_of_bits-is H = refl
+level_of_bits-is l = grind (arith, nat_tests)
 
 -- the version and the level of Micro with this number
 pair_of : ℕ → ℕ × EcLevel

@@ -1,6 +1,7 @@
 -- Sums of a function over the numbers below a bound.
-use Rattle.std.proofs.Common.{◌≡◌, ℕ, zero, suc, ◌+◌, ◌-◌, ◌*◌, ◌<◌, Bool, true, false, cond, List, ◌∷◌, map, length, arith, refl, ap, ap₂, ◌∙◌, zero-add}
+use Rattle.std.proofs.Common.{◌≡◌, ℕ, zero, suc, ◌+◌, ◌-◌, ◌*◌, ◌<◌, Bool, cond, List, ◌∷◌, map, length, arith, refl, ap, ap₂, ◌∙◌, zero-add}
 use Rattle.std.specs.List.{range_with_len, filter}
+use Rattle.std.proofs.lemmas.Bool.Decides.{nat_tests}
 
 -- f 0 + f 1 + .. + f (n - 1)
 unfoldable pub total : ℕ → (ℕ → ℕ) → ℕ
@@ -67,8 +68,7 @@ abbrev pub bit : Bool → ℕ
 bit b = cond b 1 0
 
 kept_one : {X : Type 0} (b : Bool) (x : X) (xs : List X) → length (cond b (x ∷ xs) xs) ≡ bit b + length xs
-kept_one true x xs = omega arith
-kept_one false x xs = omega arith
+kept_one b x xs = grind (arith, nat_tests)
 
 -- how many elements of a list made from a function pass
 pub kept_total : {X : Type 0} (p : X → Bool) (f : ℕ → X) (a n : ℕ) → length (filter p (map f (range_with_len a n))) ≡ total n (λ i. bit (p (f (a + i))))

@@ -25,8 +25,7 @@ half (Micro v) = nat_abs v + 4
 
 pub side_odd : (v : Version) → side v ≡ 2 * half v + 1
 unfolding half
-side_odd (Normal v) = omega arith
-side_odd (Micro v) = omega arith
+side_odd v = grind (arith, nat_tests)
 
 pub place_is : (v : Version) (t : ℕ)
     → zigzag_place v t ≡ (right_column v (t / (2 * side v)) - t % (2 * side v) % 2, row (side v) (t / (2 * side v)) (t % (2 * side v)))
@@ -53,8 +52,7 @@ same_column (Normal v) h p q a b odd pw qw a2 b2 e = (grind (arith, nat_tests), 
 same_column (Micro v) h p q a b odd pw qw a2 b2 e = (omega arith, omega arith)
 
 right_column_le : (v : Version) (p : ℕ) → right_column v p ≤ side v - 1 - 2 * p
-right_column_le (Normal v) p = grind (arith, nat_tests)
-right_column_le (Micro v) p = omega arith
+right_column_le v p = grind (arith, nat_tests)
 
 row_lt : (w p r : ℕ) → r < 2 * w → row w p r < w
 unfolding row

@@ -26,16 +26,14 @@ pub fn checkerboard(x: i16, y: i16) -> bool
 pub fn horizontal_lines(_x: i16, y: i16) -> bool
     ensures { result ≡ turns_at HorizontalLines _x y }
 {
-    let y = size(y);
-    y % 2 == 0
+    size(y) % 2 == 0
 }
 
 /// Returns whether `MaskPattern::VerticalLines` reverses the module.
 pub fn vertical_lines(x: i16, _y: i16) -> bool
     ensures { result ≡ turns_at VerticalLines x _y }
 {
-    let x = size(x);
-    x % 3 == 0
+    size(x) % 3 == 0
 }
 
 /// Returns whether `MaskPattern::DiagonalLines` reverses the module.
