@@ -1,10 +1,11 @@
 -- Codewords of bits, drawn with patterns and a format word, are a symbol of the bits.
-use Rattle.std.proofs.Common.{◌≡◌, ℕ, zero, suc, ◌+◌, ◌-◌, ◌*◌, ◌%◌, ◌<◌, ◌≤◌, Bool, true, false, true≢false, cond, IsTrue, List, [], ◌∷◌, ◌++◌, length, take, get_or, replicate, slice_index, refl, sym, ap, ◌∙◌, arith, subst, inl, inr, length-append}
+use Rattle.std.proofs.Common.{◌≡◌, ℕ, zero, suc, ◌+◌, ◌-◌, ◌*◌, ◌%◌, ◌<◌, ◌≤◌, Bool, false, true≢false, cond, IsTrue, List, [], ◌∷◌, ◌++◌, length, take, get_or, replicate, slice_index, refl, sym, ap, ◌∙◌, arith, subst, inl, inr, length-append}
 use Rattle.std.specs.Int.{bit_at}
 use Rattle.std.specs.List.{AllByRecursion}
 use Rattle.std.proofs.lemmas.Bool.{cases_eq, eq-eqb}
 use Rattle.std.proofs.lemmas.List.{length-replicate, take_at, get_or_append_left, get_or-append-add}
 use Rattle.std.proofs.lemmas.Nat.Bits.{bit_at-lt}
+use Rattle.std.proofs.lemmas.Bool.Decides.{nat_tests}
 use Rattle.qrcode_types.specs.Bits.{AreBytes, bits_of, has_bit, number_bits}
 use Rattle.qrcode_types.specs.Versions.{capacity, data_length, ec_length, total_ec_length, has_half_codeword, has_level}
 use Rattle.qrcode_types.specs.declared.types.Version.{Version}
@@ -81,8 +82,7 @@ length-bits_of [] = refl
 length-bits_of (b ∷ raw) = omega (arith, length-append (number_bits 8 b) (bits_of raw), length-number_bits 8 b, length-bits_of raw)
 
 half_at_most : (b : Bool) → cond {A = ℕ} b 4 0 ≤ 4
-half_at_most true = omega arith
-half_at_most false = omega arith
+half_at_most b = grind (arith, nat_tests)
 
 -- bits that fill a symbol fill its data bytes
 pub filled_bytes : (v : Version) (l : EcLevel) (bits : List Bool) (rest : ℕ) (raw : List ℕ) → length bits ≡ capacity v l → rest < 8 → bits_of raw ≡ bits ++ replicate rest false → length raw ≡ data_length v l

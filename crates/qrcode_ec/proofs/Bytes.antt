@@ -10,10 +10,6 @@ pub bytes_append : (xs ys : List ℕ) → AreBytes xs → AreBytes ys → AreByt
 bytes_append [] ys a b = b
 bytes_append (x ∷ xs) ys a b = (a.0, bytes_append xs ys a.1 b)
 
-pub bytes_front : (xs ys : List ℕ) → AreBytes (xs ++ ys) → AreBytes xs
-bytes_front [] ys b = tt
-bytes_front (x ∷ xs) ys b = (b.0, bytes_front xs ys b.1)
-
 pub take_bytes : (n : ℕ) (xs : List ℕ) → AreBytes xs → AreBytes (take n xs)
 take_bytes zero xs b = tt
 take_bytes (suc n) [] b = tt

@@ -2,6 +2,7 @@
 use Rattle.std.proofs.Common.{◌≡◌, ℕ, zero, suc, ◌+◌, ◌*◌, ◌<◌, ◌≤◌, ◌⊎◌, inl, inr, refl, sym, ap, ap₂, ◌∙◌, arith, subst, Bool, true, false, eqb, cond, List, [], ◌∷◌, ◌++◌, length}
 use Rattle.std.proofs.lemmas.Bool.{eq-eqb, eqb-true}
 use Rattle.std.specs.Int.Bits.{bit_xor, xor_self, xor_lt}
+use Rattle.std.proofs.lemmas.Bool.Decides.{nat_tests}
 use Rattle.qrcode_types.specs.Bits.{AreBytes}
 use Rattle.qrcode_ec.specs.Field.{product, power}
 use Rattle.qrcode_ec.specs.Codes.{syndrome, Vanishes, distance, HasDistanceAbove}
@@ -22,8 +23,7 @@ weight_none c cs e = ap (λ x. weight (x ∷ cs)) e
 
 weight_one : (c : ℕ) (cs : List ℕ) → 0 < c → weight (c ∷ cs) ≡ suc (weight cs)
 unfolding weight
-weight_one zero cs h = absurd (omega arith)
-weight_one (suc c) cs h = refl
+weight_one c cs h1 = grind (arith, nat_tests)
 
 -- ---- removing one term: each other term is multiplied by the difference between its place and that one's
 weigh : ℕ → List ℕ → List ℕ
@@ -198,8 +198,7 @@ pub distance_above : (n : ℕ) (xs : List ℕ) → AreBytes xs → length xs ≤
 distance_above n xs a l v other b k w d = sym (same_within n xs other a b (sym k) l (λ i below. v i below ∙ sym (w i below)) d)
 
 cond_le : (b : Bool) → cond b 0 1 ≤ 1
-cond_le true = omega arith
-cond_le false = omega arith
+cond_le b = grind (arith, nat_tests)
 
 distance_le : (xs ys : List ℕ) → distance xs ys ≤ length xs
 distance_le [] ys = omega arith

@@ -1,8 +1,8 @@
 -- Blocks taken back out of interleaved codewords.
-use Rattle.std.proofs.Common.{◌≡◌, ℕ, zero, suc, ◌+◌, ◌*◌, ◌-◌, ◌<◌, ◌≤◌, nat_le, cond, Bool, true, false, List, ◌++◌, length, map, take, drop, get_or, replicate, inl, inr, refl, subst, sym, ap, ap₂, ◌∙◌, append_assoc, length-append, arith}
+use Rattle.std.proofs.Common.{◌≡◌, ℕ, zero, suc, ◌+◌, ◌*◌, ◌-◌, ◌<◌, ◌≤◌, nat_le, cond, Bool, List, ◌++◌, length, map, take, drop, get_or, replicate, inl, inr, refl, subst, sym, ap, ap₂, ◌∙◌, append_assoc, length-append, arith}
 use Rattle.std.specs.List.{range_with_len, flat_map, slice_range, AllByRecursion}
 use Rattle.std.proofs.lemmas.Bool.{cases_lt}
-use Rattle.std.proofs.lemmas.Bool.Decides.{leb_tells}
+use Rattle.std.proofs.lemmas.Bool.Decides.{leb_tells, nat_tests}
 use Rattle.std.proofs.lemmas.Nat.{mul-add-lt}
 use Rattle.std.proofs.lemmas.List.{get_or_append_left, get_or-append-add, take_all, take_at, drop_all, append-nil, ext_get_or}
 use Rattle.std.proofs.lemmas.List.Folds.{drop_split}
@@ -189,8 +189,7 @@ unfolding data_block
 block_bytes b bytes k all = take_bytes (start_of b k + length_of b k - start_of b k) (drop (start_of b k) bytes) (drop_bytes (start_of b k) bytes all)
 
 bit_le : (t : Bool) → cond t 1 0 ≤ 1
-bit_le true = omega arith
-bit_le false = omega arith
+bit_le t = grind (arith, nat_tests)
 
 length-block_with : (b : Blocks) (bytes : List ℕ) (k : ℕ) (ec : List ℕ) → k < count_of b → length bytes ≡ data_length_of b
     → length (data_block b bytes k ++ ec_block b ec k) ≤ 255

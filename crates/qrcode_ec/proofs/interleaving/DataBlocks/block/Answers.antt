@@ -1,5 +1,6 @@
-use Rattle.std.proofs.Common.{◌≡◌, ℕ, ◌+◌, ◌*◌, nat_le, Bool, true, false, cond, refl, ap, ap₂, ◌∙◌, arith, length}
+use Rattle.std.proofs.Common.{◌≡◌, ℕ, ◌+◌, ◌*◌, nat_le, Bool, cond, ap, ap₂, ◌∙◌, arith, length}
 use Rattle.std.specs.List.{slice_range}
+use Rattle.std.proofs.lemmas.Bool.Decides.{nat_tests}
 use mir.Val.{bool_byte}
 use Rattle.qrcode_types.specs.declared.tables.Blocks.{Blocks}
 use Rattle.qrcode_ec.specs.Interleaving.{data_block, length_of}
@@ -7,8 +8,7 @@ use Rattle.qrcode_ec.proofs.Parts.{block_fits, length-data_block}
 use Rattle.qrcode_ec.proofs.interleaving.DataBlocks.block.Goals as goal
 
 bit_as_number : (b : Bool) → bool_byte b ≡ cond b 1 0
-bit_as_number true = refl
-bit_as_number false = refl
+bit_as_number b = grind (arith, nat_tests)
 
 one_more : (blocks : Blocks) (b more : ℕ) → more ≡ bool_byte (nat_le blocks.short_blocks b) → blocks.short_length + more ≡ length_of blocks b
 one_more blocks b more is = ap (λ n. blocks.short_length + n) (is ∙ bit_as_number (nat_le blocks.short_blocks b))
