@@ -1,6 +1,6 @@
 -- No segments of the rest take fewer bits than are counted for it.
-use Rattle.std.proofs.Common.{◌≡◌, ℕ, ◌+◌, ◌<◌, ◌≤◌, nat_lt, ◌&&◌, not, Bool, true, false, List, [], ◌∷◌, ◌++◌, length, refl, sym, ap, arith, true≢false, length-append, le_trans}
-use Rattle.std.proofs.lemmas.Bool.{and_parts, cond_both, ltb-true}
+use Rattle.std.proofs.Common.{◌≡◌, ℕ, ◌+◌, ◌<◌, ◌≤◌, ◌&&◌, not, Bool, true, false, List, [], ◌∷◌, ◌++◌, length, sym, ap, arith, true≢false, length-append, le_trans}
+use Rattle.std.proofs.lemmas.Bool.{and_parts, not-true}
 use Rattle.std.proofs.lemmas.Bool.Decides.{nat_tests}
 use Rattle.qrcode_types.specs.Modes.{data_bits_count}
 use Rattle.qrcode_types.specs.declared.types.Mode.{Mode}
@@ -27,20 +27,16 @@ fewest h rest = (costs_of h rest).start.bits
 
 -- the better of two takes at most the bits of either
 ends_here : (w : Way) (t : Bool) (other : Way) → (goes_or w t other).bits ≤ w.bits
-ends_here w false other = omega arith
-ends_here w true other = cond_both (nat_lt other.bits w.bits) other w (λ (x : Way). x.bits ≤ w.bits) (λ e. let l = ltb-true other.bits w.bits e in omega (arith, l)) (λ e. omega arith)
+ends_here w t other = grind (arith, nat_tests)
 
 goes_there : (w : Way) (t : Bool) (other : Way) → t ≡ true → (goes_or w t other).bits ≤ other.bits
-goes_there w false other e = absurd (true≢false (sym e))
-goes_there w true other e = cond_both (nat_lt other.bits w.bits) other w (λ (x : Way). x.bits ≤ other.bits) (λ e. omega arith) (λ e. grind (arith, nat_tests))
+goes_there w t other e = grind (arith, nat_tests)
 
 better_first : (s : Start) (t : Bool) (other : Start) → (better s t other).bits ≤ s.bits
-better_first s false other = omega arith
-better_first s true other = cond_both (nat_lt other.bits s.bits) other s (λ (x : Start). x.bits ≤ s.bits) (λ e. let l = ltb-true other.bits s.bits e in omega (arith, l)) (λ e. omega arith)
+better_first s t other = grind (arith, nat_tests)
 
 better_second : (s : Start) (t : Bool) (other : Start) → t ≡ true → (better s t other).bits ≤ other.bits
-better_second s false other e = absurd (true≢false (sym e))
-better_second s true other e = cond_both (nat_lt other.bits s.bits) other s (λ (x : Start). x.bits ≤ other.bits) (λ e. omega arith) (λ e. grind (arith, nat_tests))
+better_second s t other e = grind (arith, nat_tests)
 
 -- an open segment may end
 pub may_end : (h : Headers) (rest : List ℕ) (m : Mode) (n : ℕ) → (left (costs_of h rest) m n).bits ≤ fewest h rest
@@ -57,14 +53,7 @@ after_end h rest m n false = may_end h rest m n
 
 -- a segment can go on with each byte that its mode can write
 pub can_go : (m : Mode) (b : ℕ) → has_characters m b ≡ true → goes_with m b ≡ true
-can_go Numeric b is = is
-can_go Alphanumeric b is = is
-can_go Byte b is = refl
-can_go Kanji b is = absurd (true≢false (sym is))
-
-not_end : (t : Bool) → not t ≡ true → t ≡ false
-not_end true is = absurd (true≢false (sym is))
-not_end false is = refl
+can_go m b is = grind (arith, nat_tests)
 
 -- the characters of one more byte
 pub length-more : (m : Mode) (b : ℕ) (chunk : List ℕ) → length (characters m (b ∷ chunk)) ≡ count_for m b + length (characters m chunk)
@@ -92,7 +81,7 @@ adds_least h m b (c ∷ chunk) rest n way more a can =
       arith,
       a.adds,
       ap (λ (w : Way). w.bits) a.is,
-      ap (λ t. (after (costs_of h (bytes ++ rest)) m count t).bits) (not_end (must_end m b c) both.0),
+      ap (λ t. (after (costs_of h (bytes ++ rest)) m count t).bits) (not-true (must_end m b c) both.0),
       more count both.1,
       ap (data_bits_count m) e,
     )
@@ -128,10 +117,7 @@ start_least h b follows next m can =
 
 -- no characters take no bits
 pub none_before : (m : Mode) → data_bits_count m 0 ≡ 0
-none_before Numeric = refl
-none_before Alphanumeric = refl
-none_before Byte = refl
-none_before Kanji = refl
+none_before m = grind (arith, nat_tests)
 
 -- nor does a segment before the rest take fewer bits than are counted
 pub segment_least : (h : Headers) (m : Mode) (chunk rest : List ℕ) → 0 < length chunk → can_stand m chunk ≡ true

@@ -2,7 +2,6 @@ mod Reading
 pub mod Bounds
 pub mod Cuts
 pub mod MarkedElements
-pub mod Gaps
 pub mod Marks
 pub mod Pieces
 pub mod Reached

@@ -5,13 +5,13 @@ use Rattle.std.specs.List.{AllByRecursion}
 use Rattle.std.proofs.lemmas.Int.{to_z_pos}
 use Rattle.std.proofs.lemmas.List.{take_all, take-append-le, drop-append-le, length-drop}
 use Rattle.std.proofs.Math.Seq.{drop-append_seam}
+use Rattle.std.proofs.lemmas.Bool.Decides.{nat_tests}
 use Rattle.qrcode_types.specs.Characters.{can_write}
 use Rattle.qrcode_types.specs.Modes.{has_mode, data_bits_count}
 use Rattle.qrcode_types.specs.Versions.{capacity}
 use Rattle.qrcode_types.specs.declared.types.EcLevel.{EcLevel}
 use Rattle.qrcode_types.specs.declared.types.Version.{Version}
 use Rattle.qrcode_types.specs.declared.types.Mode.{Mode}
-use Rattle.qrcode_types.specs.declared.types.Mode.TheVariants.{Numeric, Alphanumeric, Byte, Kanji}
 use Rattle.qrcode_types.specs.declared.types.Version.TheVariants.{Normal}
 use Rattle.qrcode_bits.specs.Cuts.{IsCut}
 use Rattle.qrcode_bits.specs.Segments.{Tile, AreInside, total_cost}
@@ -25,7 +25,7 @@ use Rattle.qrcode_gs1.specs.symbol.Cuts.{IsMarkedCut, AreCharacters, marked_cost
 use Rattle.qrcode_gs1.specs.symbol.Symbols.{HoldsMarked}
 use Rattle.qrcode_gs1.specs.declared.symbol.Position.{Position}
 use Rattle.qrcode_gs1.proofs.Cuts.{AreStanding, cost_first, segment_costs}
-use Rattle.qrcode_gs1.proofs.Shown.{by_byte, characters_written, chunk_shown}
+use Rattle.qrcode_gs1.proofs.Shown.{characters_written, chunk_shown}
 
 all_modes_in : (n : ℕ) (ss : List Segment) → AllByRecursion (λ s. IsTrue (has_mode (Normal (pos n)) s.mode)) ss
 all_modes_in n [] = tt
@@ -103,10 +103,7 @@ characters_more bytes ss s w ranges are some =
     }
 
 some_for : (m : Mode) (b : ℕ) → 0 < length (characters_for m b)
-some_for Numeric b = omega arith
-some_for Alphanumeric b = by_byte (λ n chunk. 0 < length chunk) (omega arith) (omega arith) b (λ plain none. omega arith)
-some_for Byte b = omega arith
-some_for Kanji b = omega arith
+some_for m b = grind (arith, nat_tests)
 
 -- there are at least as many characters as bytes
 pub characters_some : (m : Mode) (bytes : List ℕ) → length bytes ≤ length (characters m bytes)
@@ -125,10 +122,7 @@ tiles_inside n from (s ∷ ss) t = ((omega (arith, t.1.0), tile_le s.end ss n t.
 
 -- a character takes at least three bits
 least_bits : (m : Mode) (n : ℕ) → 3 * n ≤ data_bits_count m n
-least_bits Numeric n = omega arith
-least_bits Alphanumeric n = omega arith
-least_bits Byte n = omega arith
-least_bits Kanji n = omega arith
+least_bits m n = grind (arith, nat_tests)
 
 cost_long : (v : Version) (bytes : List ℕ) (from : ℕ) (ss : List Segment) → Tile from ss (length bytes) → AreStanding bytes ss → 3 * length bytes ≤ 3 * from + marked_cost v bytes ss
 cost_long v bytes from [] t are = omega (arith, t)

@@ -1,12 +1,13 @@
 -- Some segments take as many bits as are counted for the rest.
-use Rattle.std.proofs.Common.{◌≡◌, ℕ, ◌+◌, ◌-◌, ◌<◌, ◌≤◌, ◌==◌, nat_lt, ◌&&◌, not, Bool, true, false, List, [], ◌∷◌, ◌++◌, length, take, drop, refl, sym, ap, ap₂, ◌∙◌, arith, true≢false, subst, length-append, ◌⊎◌, inl, inr}
+use Rattle.std.proofs.Common.{◌≡◌, ℕ, ◌+◌, ◌-◌, ◌<◌, ◌≤◌, ◌&&◌, not, Bool, true, false, List, [], ◌∷◌, ◌++◌, length, take, drop, refl, sym, ap, ap₂, ◌∙◌, arith, subst, length-append, ◌⊎◌, inl, inr}
 use Rattle.std.specs.Prelude.{slice_range}
-use Rattle.std.proofs.lemmas.Bool.{and_from, cond_both, lt-ltb}
+use Rattle.std.proofs.lemmas.Bool.{and_from, cases_Bool}
 use Rattle.std.proofs.lemmas.List.{take_at, drop_at, drop-drop, drop_more, length-drop}
+use Rattle.std.proofs.lemmas.Bool.Decides.{nat_tests}
 use Rattle.qrcode_types.specs.Bits.{AreBytes}
 use Rattle.qrcode_types.specs.Modes.{data_bits_count}
 use Rattle.qrcode_types.specs.declared.types.Mode.{Mode}
-use Rattle.qrcode_types.specs.declared.types.Mode.TheVariants.{Numeric, Alphanumeric, Byte, Kanji}
+use Rattle.qrcode_types.specs.declared.types.Mode.TheVariants.{Numeric, Alphanumeric, Byte}
 use Rattle.qrcode_bits.specs.Tokens.{first_byte}
 use Rattle.qrcode_bits.proofs.SegmentRanges.{all-drop}
 use Rattle.qrcode_gs1.specs.symbol.Characters.{characters, has_characters, must_end, can_stand}
@@ -14,7 +15,7 @@ use Rattle.qrcode_gs1.specs.symbol.Fewest.{behind, ends, goes_or, better, with_h
 use Rattle.qrcode_gs1.specs.declared.symbol.costs.Headers.{Headers}
 use Rattle.qrcode_gs1.specs.declared.symbol.costs.Start.{Start}
 use Rattle.qrcode_gs1.specs.declared.symbol.costs.Way.{Way}
-use Rattle.qrcode_gs1.proofs.Steps.{left, after, goes_with, count_for, Adds, stepped, begun, begun_adds, tested, left_at_end}
+use Rattle.qrcode_gs1.proofs.Steps.{left, after, goes_with, count_for, Adds, stepped, begun, begun_adds, left_at_end}
 use Rattle.qrcode_gs1.proofs.Bounds.{header_of, fewest, length-more, none_before}
 
 -- a way after an open segment of n characters: a chunk with which the segment goes on, and a rest, take its bits
@@ -28,29 +29,20 @@ pub record Parts (h : Headers) (m : Mode) (n : ℕ) (bytes : List ℕ) (way : Wa
 
 -- the better of two is one of them
 way_or : (w : Way) (t : Bool) (other : Way) → (goes_or w t other ≡ w) ⊎ ((goes_or w t other ≡ other) × (t ≡ true))
-way_or w false other = inl refl
-way_or w true other = cond_both (nat_lt other.bits w.bits) other w (λ (x : Way). (x ≡ w) ⊎ ((x ≡ other) × (true ≡ true))) (λ e. inr (refl, refl)) (λ e. inl refl)
+way_or w t other = grind (arith, nat_tests)
 
 start_or : (s : Start) (t : Bool) (other : Start) → (better s t other ≡ s) ⊎ ((better s t other ≡ other) × (t ≡ true))
-start_or s false other = inl refl
-start_or s true other = cond_both (nat_lt other.bits s.bits) other s (λ (x : Start). (x ≡ s) ⊎ ((x ≡ other) × (true ≡ true))) (λ e. inr (refl, refl)) (λ e. inl refl)
+start_or s t other = grind (arith, nat_tests)
 
 has_from : (m : Mode) (b : ℕ) → b < 256 → goes_with m b ≡ true → has_characters m b ≡ true
-has_from Numeric b byte can = can
-has_from Alphanumeric b byte can = can
-has_from Byte b byte can = lt-ltb b 256 byte
-has_from Kanji b byte can = absurd (true≢false (sym can))
+has_from m b byte can = grind (arith, nat_tests)
 
 none_both : (t : Bool) → (t && false) ≡ false
-none_both true = refl
-none_both false = refl
+none_both t = grind (arith, nat_tests)
 
 -- a segment may end at the end of the data
 last_ends : (m : Mode) (b : ℕ) → must_end m b 0 ≡ false
-last_ends Numeric b = refl
-last_ends Alphanumeric b = none_both (b == 29)
-last_ends Byte b = refl
-last_ends Kanji b = refl
+last_ends m b = grind (arith, nat_tests)
 
 stands_with : (m : Mode) (b : ℕ) (chunk : List ℕ) → has_characters m b ≡ true → must_end m b (first_byte chunk) ≡ false → can_stand m chunk ≡ true → can_stand m (b ∷ chunk) ≡ true
 stands_with m b chunk has goes stands =
@@ -67,7 +59,7 @@ parts_on h m n b bytes way has a p =
     let next = costs_of h bytes in
     let count = n + count_for m b in
     let follows = first_byte bytes in
-    elim (tested (must_end m b follows)) [
+    elim (cases_Bool (must_end m b follows)) [
       | inl end ↦
           let is : way ≡ behind a.bits (ends next.start) = a.is ∙ ap (λ t. behind a.bits (after next m count t)) end in
           let e : count ≡ n + length (characters m (b ∷ [])) = omega (arith, length-more m b []) in (

@@ -8,6 +8,7 @@ use Rattle.std.proofs.lemmas.Bool.Decides.{nat_tests}
 use Rattle.std.proofs.lemmas.List.{length-append, take-append-le}
 use Rattle.std.proofs.lemmas.List.Folds.{list_all-append}
 use Rattle.std.proofs.Math.Seq.{take-append_seam, drop-append_seam}
+use Rattle.std.proofs.lemmas.Bool.{and_parts, eqb-true, not-true}
 use Rattle.qrcode_gs1.specs.declared.errors.Gs1Error.{Gs1Error}
 use Rattle.qrcode_gs1.specs.declared.errors.Gs1Error.TheVariants.{OutOfMemory}
 use Rattle.qrcode_gs1.specs.declared.errors.Cause.{Cause}
@@ -15,11 +16,6 @@ use Rattle.qrcode_gs1.specs.declared.errors.Cause.TheVariants.{Length, Character
 use Rattle.qrcode_gs1.specs.Elements.{Item, number_of, prefix_of, digit_count, fixed_length, is_fixed, separator, element_string, before_separator, behind_separator, first_element, item_of, read_items, read_elements, are_apart}
 use Rattle.qrcode_gs1.specs.Refusals.{is_digit, is_character, is_identifier, numbered_rule, is_checked, is_dated, is_date, cause_by, cause_found, cause_of, refusal_or, refusal_from, checked, Answers}
 use Rattle.qrcode_gs1.specs.Table.{Rule, rules}
-
--- two tests that both hold
-both : (a b : Bool) → (a && b) ≡ true → (a ≡ true) × (b ≡ true)
-both true b is = (refl, is)
-both false b is = cc
 
 -- bytes without a separator
 abbrev is_plain : List ℕ → Bool
@@ -35,16 +31,8 @@ character_is_plain b is = grind (arith, nat_tests)
 all_plain : (p : ℕ → Bool) → ((b : ℕ) → p b ≡ true → not (b == 29) ≡ true) → (bytes : List ℕ) → list_all p bytes ≡ true → is_plain bytes ≡ true
 all_plain p each [] is = refl
 all_plain p each (b ∷ bytes) is =
-    let parts = both (p b) (list_all p bytes) is in
+    let parts = and_parts (p b) (list_all p bytes) is in
     rw (each b parts.0) (all_plain p each bytes parts.1)
-
--- numbers that pass the test are equal
-equal : (a b : ℕ) → (a == b) ≡ true → a ≡ b
-equal a b is = grind (arith, nat_tests)
-
-denied : (a : Bool) → not a ≡ true → a ≡ false
-denied true is = cc
-denied false is = refl
 
 -- what holds for an element that is not wrong
 record Whole (item : Item) : Type 0 where
@@ -53,14 +41,12 @@ record Whole (item : Item) : Type 0 where
   plain : is_plain (item.0 ++ item.1) ≡ true
 
 tests_pass : (a b c d : Bool) → (if not a then Some Length else (if not b then Some Character else (if not c then Some CheckDigit else (if d then Some Range else None)))) ≡ None → (a ≡ true) × (b ≡ true)
-tests_pass false b c d is = cc
-tests_pass true false c d is = cc
-tests_pass true true c d is = (refl, refl)
+tests_pass a b c d h = grind (arith, nat_tests)
 
 value_passes : (rule : Rule) (item : Item) → cause_by rule item ≡ None → ((not (is_fixed item.0) || (length item.0 + length item.1 == fixed_length (prefix_of item.0))) ≡ true) × (is_plain item.1 ≡ true)
 value_passes rule item is =
     let tests = tests_pass _ _ (is_checked (take rule.3 item.1)) (is_dated item.0 && not (is_date item.1)) is in
-    ((both _ _ tests.0).1, all_plain is_character character_is_plain item.1 (both _ _ tests.1).0)
+    ((and_parts _ _ tests.0).1, all_plain is_character character_is_plain item.1 (and_parts _ _ tests.1).0)
 
 rule_passes : (known : Bool) (rule : Option Rule) (item : Item) → cause_found (if known then rule else None) item ≡ None → (known ≡ true) × (((not (is_fixed item.0) || (length item.0 + length item.1 == fixed_length (prefix_of item.0))) ≡ true) × (is_plain item.1 ≡ true))
 rule_passes false rule item is = cc
@@ -70,9 +56,9 @@ rule_passes true (Some rule) item is = (refl, value_passes rule item is)
 whole : (item : Item) → cause_of item ≡ None → Whole item
 whole item is =
     let tests = rule_passes (is_identifier item.0) (numbered_rule rules (number_of item.0)) item is in
-    let known = both (length item.0 == digit_count (prefix_of item.0)) (list_all is_digit item.0) tests.0 in
+    let known = and_parts (length item.0 == digit_count (prefix_of item.0)) (list_all is_digit item.0) tests.0 in
     record {
-      long = equal _ _ known.0;
+      long = eqb-true _ _ known.0;
       predefined = tests.1.0;
       plain = list_all-append (λ b. not (b == 29)) item.0 item.1 ∙ ap₂ (λ a b. a && b) (all_plain is_digit digit_is_plain item.0 known.1) tests.1.1;
     }
@@ -93,9 +79,7 @@ all_whole i (item ∷ items) is =
 
 -- an identifier has at least two digits
 two_at_least : (a b : Bool) → 2 ≤ (if a then 3 else (if b then 4 else 2))
-two_at_least true b = omega arith
-two_at_least false true = omega arith
-two_at_least false false = omega arith
+two_at_least a b = grind (arith, nat_tests)
 
 digit_count_least : (p : ℕ) → 2 ≤ digit_count p
 unfolding digit_count
@@ -114,17 +98,17 @@ prefix_more bytes later least = ap number_of (take-append-le 2 bytes later least
 before_plain : (bytes later : List ℕ) → is_plain bytes ≡ true → before_separator (bytes ++ later) ≡ bytes ++ before_separator later
 before_plain [] later is = refl
 before_plain (b ∷ bytes) later is =
-    let parts = both (not (b == 29)) (is_plain bytes) is in
-    rw (denied _ parts.0) (ap (λ xs. b ∷ xs) (before_plain bytes later parts.1))
+    let parts = and_parts (not (b == 29)) (is_plain bytes) is in
+    rw (not-true _ parts.0) (ap (λ xs. b ∷ xs) (before_plain bytes later parts.1))
 
 starts_plain : (bytes later : List ℕ) → is_plain bytes ≡ true → 2 ≤ length bytes → behind_separator (bytes ++ later) ≡ bytes ++ later
 starts_plain [] later is least = let no : ⊥ = omega (arith, least) in absurd no
-starts_plain (b ∷ bytes) later is least = rw (denied _ (both (not (b == 29)) (is_plain bytes) is).0) refl
+starts_plain (b ∷ bytes) later is least = rw (not-true _ (and_parts (not (b == 29)) (is_plain bytes) is).0) refl
 
 -- the first element is cut off
 cut : (fixed : Bool) (n : ℕ) (bytes later : List ℕ) → (not fixed || (length bytes == n)) ≡ true → is_plain bytes ≡ true → (fixed ≡ false → before_separator later ≡ []) → (if fixed then take n (bytes ++ later) else before_separator (bytes ++ later)) ≡ bytes
 cut true n bytes later is plain ends =
-    ap (λ k. take k (bytes ++ later)) (sym (equal (length bytes) n is)) ∙ take-append_seam bytes later
+    ap (λ k. take k (bytes ++ later)) (sym (eqb-true (length bytes) n is)) ∙ take-append_seam bytes later
 cut false n bytes later is plain ends =
     before_plain bytes later plain ∙ ap (λ xs. bytes ++ xs) (ends refl) ∙ append-nil bytes
 
@@ -193,14 +177,14 @@ read_back items is =
 apart_join : (xs ys : List ℕ) → is_plain xs ≡ true → are_apart ys ≡ true → are_apart (xs ++ ys) ≡ true
 apart_join [] ys plain apart = apart
 apart_join (x ∷ []) [] plain apart = refl
-apart_join (x ∷ []) (y ∷ ys) plain apart = rw (denied _ (both (not (x == 29)) true plain).0) apart
+apart_join (x ∷ []) (y ∷ ys) plain apart = rw (not-true _ (and_parts (not (x == 29)) true plain).0) apart
 apart_join (x ∷ z ∷ xs) ys plain apart =
-    let parts = both (not (x == 29)) (is_plain (z ∷ xs)) plain in
-    rw (denied _ parts.0) (apart_join (z ∷ xs) ys parts.1 apart)
+    let parts = and_parts (not (x == 29)) (is_plain (z ∷ xs)) plain in
+    rw (not-true _ parts.0) (apart_join (z ∷ xs) ys parts.1 apart)
 
 apart_separator : (xs later : List ℕ) → is_plain xs ≡ true → 2 ≤ length xs → are_apart (xs ++ later) ≡ true → are_apart (29 ∷ (xs ++ later)) ≡ true
 apart_separator [] later plain least apart = let no : ⊥ = omega (arith, least) in absurd no
-apart_separator (x ∷ xs) later plain least apart = rw (denied _ (both (not (x == 29)) (is_plain xs) plain).0) apart
+apart_separator (x ∷ xs) later plain least apart = rw (not-true _ (and_parts (not (x == 29)) (is_plain xs) plain).0) apart
 
 apart_behind : (unfixed : Bool) (items : List Item) → AllWhole items → are_apart (separator unfixed items ++ element_string items) ≡ true
 apart_behind unfixed [] are = refl
@@ -217,8 +201,7 @@ apart (item ∷ items) is = apart_behind false (item ∷ items) (all_whole 0 (it
 
 -- a check that passes finds nothing wrong
 pub checked_none : (refusal : Option Gs1Error) (r : Result (Unit {0}) Gs1Error) (x : Unit {0}) → r ≡ checked refusal → r ≡ Ok x → refusal ≡ None
-checked_none None r x is ok = refl
-checked_none (Some e) r x is ok = cc
+checked_none refusal r x h k = grind (arith, nat_tests)
 
 -- bytes that are written if nothing is wrong
 pub answered : (refusal : Option Gs1Error) (r : Result (Vec ℕ Global) Gs1Error) (bytes : List ℕ) (P : List ℕ → Type 0) → refusal ≡ None → IfOk r (λ v. v.items ≡ bytes) → IsOkUnless r OutOfMemory → P bytes → Answers refusal r P

@@ -1,13 +1,12 @@
 -- A mode can write the characters of a segment, and a reader gets the bytes back from them.
 use Rattle.std.proofs.Common.{◌≡◌, ℕ, ◌==◌, ◌&&◌, ◌||◌, not, Bool, true, false, List, [], ◌∷◌, ◌++◌, refl, sym, ap, ap₂, subst, ◌∙◌, true≢false, inl, inr, if◌then◌else◌}
-use Rattle.std.proofs.lemmas.Bool.{and_parts, and_from}
+use Rattle.std.proofs.lemmas.Bool.{and_parts, and_from, not-true, cases_Bool, eqb-true}
 use Rattle.qrcode_types.specs.Characters.{alphabet, is_alphanumeric, can_write}
 use Rattle.qrcode_types.specs.declared.types.Mode.{Mode}
 use Rattle.qrcode_types.specs.declared.types.Mode.TheVariants.{Numeric, Alphanumeric, Byte, Kanji}
 use Rattle.qrcode_bits.specs.Tokens.{first_byte}
 use Rattle.qrcode_bits.proofs.SegmentRanges.{write_both, write_none}
 use Rattle.qrcode_gs1.specs.symbol.Characters.{characters_for, characters, has_characters, must_end, can_stand, undoubled, shown_in}
-use Rattle.qrcode_gs1.proofs.Steps.{equal, tested}
 
 percent_is : is_alphanumeric 37 ≡ true
 unfolding is_alphanumeric alphabet
@@ -27,10 +26,10 @@ other_for b separator percent = ap₂ (λ (s t : Bool). if s then 37 ∷ [] else
 
 -- the cases of a byte in Alphanumeric mode
 pub by_byte : (P : ℕ → List ℕ → Type 0) → P 29 (37 ∷ []) → P 37 (37 ∷ 37 ∷ []) → (b : ℕ) → ((b == 29) ≡ false → (b == 37) ≡ false → P b (b ∷ [])) → P b (characters_for Alphanumeric b)
-by_byte P separator percent b other = elim (tested (b == 29)) [
-  | inl is ↦ subst (λ n. P n (characters_for Alphanumeric n)) (sym (equal b 29 is)) separator
-  | inr plain ↦ elim (tested (b == 37)) [
-    | inl is ↦ subst (λ n. P n (characters_for Alphanumeric n)) (sym (equal b 37 is)) percent
+by_byte P separator percent b other = elim (cases_Bool (b == 29)) [
+  | inl is ↦ subst (λ n. P n (characters_for Alphanumeric n)) (sym (eqb-true b 29 is)) separator
+  | inr plain ↦ elim (cases_Bool (b == 37)) [
+    | inl is ↦ subst (λ n. P n (characters_for Alphanumeric n)) (sym (eqb-true b 37 is)) percent
     | inr none ↦ subst (P b) (sym (other_for b plain none)) (other plain none)
   ]
 ]
@@ -63,10 +62,6 @@ separator_first : (more : List ℕ) → (first_byte more == 37) ≡ false → un
 separator_first [] other = refl
 separator_first (y ∷ ys) other = ap (λ (t : Bool). if t then 37 ∷ undoubled ys else 29 ∷ undoubled (y ∷ ys)) other
 
-denied : (a : Bool) → not a ≡ true → a ≡ false
-denied true is = absurd (true≢false (sym is))
-denied false is = refl
-
 left_no : (a b : Bool) → (a || b) ≡ false → a ≡ false
 left_no true b is = absurd (true≢false is)
 left_no false b is = refl
@@ -85,7 +80,7 @@ letters_shown (b ∷ bytes) can =
     let parts = and_parts (has_characters Alphanumeric b) (not (must_end Alphanumeric b (first_byte bytes)) && can_stand Alphanumeric bytes) can in
     let both = and_parts (not (must_end Alphanumeric b (first_byte bytes))) (can_stand Alphanumeric bytes) parts.1 in
     by_byte (λ n chunk. must_end Alphanumeric n (first_byte bytes) ≡ false → undoubled (chunk ++ more) ≡ n ∷ undoubled more)
-    (λ goes. separator_first more (behind_separator bytes goes)) (λ goes. refl) b (λ plain none goes. other_first b more none) (denied _ both.0)
+    (λ goes. separator_first more (behind_separator bytes goes)) (λ goes. refl) b (λ plain none goes. other_first b more none) (not-true _ both.0)
     ∙ ap (λ ys. b ∷ ys) (letters_shown bytes both.1)
 
 same_bytes : (m : Mode) → ((b : ℕ) → characters_for m b ≡ b ∷ []) → (bytes : List ℕ) → characters m bytes ≡ bytes

@@ -1,6 +1,6 @@
 -- How an open segment goes on with a byte, by how many characters it has.
-use Rattle.std.proofs.Common.{◌≡◌, ℕ, zero, suc, ◌+◌, ◌%◌, ◌==◌, Bool, true, false, [], ◌∷◌, length, refl, sym, ap, ap₂, ◌∙◌, arith, true≢false, ◌⊎◌, inl, inr, if◌then◌else◌}
-use Rattle.std.proofs.lemmas.Bool.{and_parts}
+use Rattle.std.proofs.Common.{◌≡◌, ℕ, zero, suc, ◌+◌, ◌%◌, ◌==◌, Bool, true, false, [], ◌∷◌, length, refl, sym, ap, ap₂, ◌∙◌, arith, ◌⊎◌, inl, inr, if◌then◌else◌}
+use Rattle.std.proofs.lemmas.Bool.{and_parts, cases_Bool, eqb-true}
 use Rattle.std.proofs.lemmas.Bool.Decides.{nat_tests}
 use Rattle.qrcode_types.specs.Modes.{data_bits_count}
 use Rattle.qrcode_types.specs.declared.types.Mode.{Mode}
@@ -10,14 +10,6 @@ use Rattle.qrcode_gs1.specs.symbol.Fewest.{behind, ends, goes_or, even_on, best_
 use Rattle.qrcode_gs1.specs.declared.symbol.costs.Costs.{Costs}
 use Rattle.qrcode_gs1.specs.declared.symbol.costs.Headers.{Headers}
 use Rattle.qrcode_gs1.specs.declared.symbol.costs.Way.{Way}
-
--- numbers that pass the test are equal
-pub equal : (a b : ℕ) → (a == b) ≡ true → a ≡ b
-equal a b is = grind (arith, nat_tests)
-
-pub tested : (b : Bool) → (b ≡ true) ⊎ (b ≡ false)
-tested true = inl refl
-tested false = inr refl
 
 abbrev pub by_three : ℕ → Way → Way → Way → Way
 by_three zero a b c = a
@@ -66,16 +58,14 @@ pub record Stepped (h : Headers) (b follows : ℕ) (next : Costs) (m : Mode) (n 
 one_letter : (b : ℕ) → (b == 37) ≡ false → count_for Alphanumeric b ≡ 1
 one_letter b other = by_test (b == 29) (b == 37) other where
   by_test : (s t : Bool) → t ≡ false → length (if s then 37 ∷ [] else (if t then 37 ∷ 37 ∷ [] else b ∷ [])) ≡ 1
-  by_test true t other = refl
-  by_test false true other = absurd (true≢false other)
-  by_test false false other = refl
+  by_test s t h = grind (arith, nat_tests)
 
 two_letters : (b : ℕ) → (b == 37) ≡ true → count_for Alphanumeric b ≡ 2
-two_letters b is = ap (λ (k : ℕ). count_for Alphanumeric k) (equal b 37 is)
+two_letters b is = ap (λ (k : ℕ). count_for Alphanumeric k) (eqb-true b 37 is)
 
 -- a separator that must end a segment is one character
 ended_letter : (b follows : ℕ) → must_end Alphanumeric b follows ≡ true → count_for Alphanumeric b ≡ 1
-ended_letter b follows is = ap (λ (k : ℕ). count_for Alphanumeric k) (equal b 29 (and_parts (b == 29) _ is).0)
+ended_letter b follows is = ap (λ (k : ℕ). count_for Alphanumeric k) (eqb-true b 29 (and_parts (b == 29) _ is).0)
 
 letters_add : (n b follows : ℕ) (next : Costs) (one : ℕ) (first second : Way) → first ≡ left next Alphanumeric (n + 1) → second ≡ left next Alphanumeric (n + 2)
     → data_bits_count Alphanumeric n + one ≡ data_bits_count Alphanumeric (n + 1) → data_bits_count Alphanumeric n + 11 ≡ data_bits_count Alphanumeric (n + 2)
@@ -85,13 +75,13 @@ letters_add n b follows next one first second is_first is_second single double =
     let way : Bool → Bool → Way = λ s t. if s then behind one (ends next.start) else (if t then behind 11 second else behind one first) in
     let D : ℕ → ℕ = λ k. data_bits_count Alphanumeric (n + k) in
     let count = count_for Alphanumeric b in
-    elim (tested m) [
+    elim (cases_Bool m) [
       | inl end ↦ record {
         bits = one;
         adds = single ∙ ap D (sym (ended_letter b follows end));
         is = ap (λ s. way s (b == 37)) end ∙ ap (λ s. behind one (after next Alphanumeric (n + count) s)) (sym end);
       }
-      | inr no_end ↦ elim (tested (b == 37)) [
+      | inr no_end ↦ elim (cases_Bool (b == 37)) [
         | inl percent ↦ record {
           bits = 11;
           adds = double ∙ ap D (sym (two_letters b percent));
@@ -122,8 +112,7 @@ left_at_end Numeric n =
 left_at_end Alphanumeric n =
     let of : ℕ → Way = λ k. by_two k (ends end_start) (ends end_start) in
     elim (two n) [ inl e ↦ ap of e | inr e ↦ ap of e ]
-left_at_end Byte n = refl
-left_at_end Kanji n = refl
+left_at_end m n = grind (arith, nat_tests)
 
 pub stepped : (h : Headers) (b follows : ℕ) (next : Costs) (m : Mode) (n : ℕ) → Stepped h b follows next m n
 stepped h b follows next Numeric n =

@@ -14,7 +14,6 @@ use errors::SymbolResult;
 pub use indicators::indicator_of;
 use qrcode::QrCode;
 use qrcode::types::{EcLevel, QrResult};
-pub use separators::are_apart;
 use std::alloc::Global;
 
 mod characters;
@@ -26,7 +25,6 @@ mod indicators;
 pub mod laws;
 mod least;
 mod mark;
-mod separators;
 
 /// The position of FNC1.
 #[derive(Copy, Clone, PartialEq, Eq, Debug)]

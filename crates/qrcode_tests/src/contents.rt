@@ -6,7 +6,6 @@ use qrcode_append::errors::JoinError::{self, Missing, Parity, Stranger, Twice};
 use qrcode_append::{Part, join};
 use qrcode_contents::errors::{Cause, ContentError, Field};
 use qrcode_gs1::errors::{Cause as ElementCause, Gs1Error};
-use qrcode_gs1::symbol::are_apart;
 use qrcode_gs1::symbol::errors::SymbolError;
 use qrcode_reader::correct::Damaged;
 use std::alloc::Global;
@@ -67,13 +66,6 @@ impl Row for Joining {
 #[test]
 fn parts_are_joined(rt: HostRuntime) {
     check(&rt, rt.alloc(), &ROWS);
-}
-
-#[test]
-fn separators_stand_apart_or_not(rt: HostRuntime) {
-    assert!(rt; are_apart(b"") && are_apart(b"\x1d") && are_apart(b"\x1da\x1d"));
-    assert!(rt; are_apart(b"AA1234BBB112text text text text\r"));
-    assert!(rt; !are_apart(b"\x1d\x1d") && !are_apart(b"a\x1d\x1db"));
 }
 
 // Whether `error` is displayed as `text`.
