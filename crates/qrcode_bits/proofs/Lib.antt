@@ -1,4 +1,5 @@
 pub mod AppendHeaders
+pub mod ApartCuts
 pub mod Automatic
 pub mod Bands
 pub mod ByteCuts

@@ -1,21 +1,19 @@
 -- The segments of a text in a least cut are shown as the text.
-use Rattle.std.proofs.Common.{◌≡◌, ◌⊎◌, ℕ, zero, suc, ◌+◌, ◌-◌, ◌≤◌, ◌<◌, Bool, true, not, nat_le, List, [], ◌∷◌, ◌++◌, length, drop, get_or, length-append, append_assoc, refl, sym, ap, subst, ◌∙◌, arith, inl, inr, IsTrue}
+use Rattle.std.proofs.Common.{◌≡◌, ℕ, zero, suc, ◌+◌, ◌-◌, ◌≤◌, ◌<◌, Bool, true, not, nat_le, List, [], ◌∷◌, ◌++◌, length, drop, get_or, length-append, append_assoc, refl, sym, ap, subst, ◌∙◌, arith, inl, inr, IsTrue}
 use Rattle.std.specs.Prelude.{slice_range, chars, IsUtf8, IsCharBoundary}
 use Rattle.std.specs.List.{list_all}
 use Rattle.std.proofs.lemmas.Bool.{and_parts, leb-true}
 use Rattle.std.proofs.lemmas.Bool.Decides.{nat_tests}
 use Rattle.std.proofs.lemmas.List.{get_or-drop, get_or-take}
-use Rattle.std.proofs.lemmas.List.Sums.{sum_by-cons}
 use Rattle.std.proofs.lemmas.Str.{IsUtf8-between, IsCharBoundary-start, IsCharBoundary-end, IsCharBoundary-before_ascii, IsCharBoundary-after_ascii}
 use Rattle.qrcode_types.specs.Versions.{is_valid, capacity, terminator_length}
-use Rattle.qrcode_types.specs.Modes.{has_mode, length_bits_count}
-use Rattle.qrcode_types.specs.Characters.{is_digit, is_alphanumeric, can_write, character_count}
+use Rattle.qrcode_types.specs.Characters.{is_digit, is_alphanumeric, can_write}
 use Rattle.qrcode_types.specs.declared.types.Version.{Version}
 use Rattle.qrcode_types.specs.declared.types.EcLevel.{EcLevel}
 use Rattle.qrcode_types.specs.declared.types.Mode.{Mode}
 use Rattle.qrcode_types.specs.declared.types.Mode.TheVariants.{Numeric, Alphanumeric, Byte, Kanji}
-use Rattle.qrcode_bits.specs.Segments.{Tile, cost_of, cost, total_cost}
-use Rattle.qrcode_bits.specs.Cuts.{IsCutIn, IsLeastCutIn}
+use Rattle.qrcode_bits.specs.Segments.{Tile, total_cost}
+use Rattle.qrcode_bits.specs.Cuts.{IsLeastCutIn}
 use Rattle.qrcode_bits.specs.ModeSets.{is_among, text_modes}
 use Rattle.qrcode_bits.specs.Manners.{is_text, modes_of, front, has_front}
 use Rattle.qrcode_bits.specs.Shown.{ArePiecesShown, IsFront, Shows, ShowsOnly}
@@ -23,30 +21,13 @@ use Rattle.qrcode_bits.specs.Written.{pieces_of, written, terminated, ending}
 use Rattle.qrcode_bits.specs.declared.bits.manner.Manner.{Manner}
 use Rattle.qrcode_bits.specs.declared.bits.manner.Manner.TheVariants.{Bytes, Text, MarkedText}
 use Rattle.qrcode_bits.specs.declared.optimize.Segment.{Segment}
-use Rattle.qrcode_bits.proofs.LeastCuts.{HaveModes, AreAmong, AreWritable}
-use Rattle.qrcode_bits.proofs.SegmentRanges.{tile_le, write_both}
-use Rattle.qrcode_bits.proofs.CutPieces.{split_range, cut_joined, cut_pieces, length-written}
+use Rattle.qrcode_bits.proofs.ApartCuts.{Apart, is_byte, apart_rest, least_apart}
+use Rattle.qrcode_bits.proofs.LeastCuts.{AreAmong, AreWritable}
+use Rattle.qrcode_bits.proofs.SegmentRanges.{tile_le}
+use Rattle.qrcode_bits.proofs.CutPieces.{cut_joined, cut_pieces, length-written}
 use Rattle.qrcode_bits.proofs.TokenKinds.{alphanumeric_low}
 use Rattle.qrcode_bits.proofs.ShownOnce.{shown_chars, one_shown}
 use Rattle.qrcode_bits.proofs.Endings.{terminated-ending, ending-is_end, read_as}
-
-abbrev AreBoth : Mode → Segment → Segment → Type 0
-AreBoth m s t = (s.mode ≡ m) × (t.mode ≡ m)
-
--- no two Byte segments are neighbours
-abbrev Apart : List Segment → Type 0
-Apart [] = Unit {0}
-Apart (s ∷ []) = Unit {0}
-Apart (s ∷ t ∷ ss) = (¬ AreBoth Byte s t) × Apart (t ∷ ss)
-
-byte_length : (v : Version) → 0 < length_bits_count Byte v
-byte_length v = grind (arith, nat_tests)
-
-is_byte : (m : Mode) → (m ≡ Byte) ⊎ (¬ (m ≡ Byte))
-is_byte Numeric = inr (λ e. cc)
-is_byte Alphanumeric = inr (λ e. cc)
-is_byte Byte = inl refl
-is_byte Kanji = inr (λ e. cc)
 
 -- the bytes of the narrow modes are ASCII
 all_low : (p : ℕ → Bool) (bytes : List ℕ) (i : ℕ) → ((b : ℕ) → p b ≡ true → b < 128) → list_all p bytes ≡ true → get_or bytes i 0 < 128
@@ -62,10 +43,6 @@ narrow_low Numeric bytes i among not w = all_low is_digit bytes i digit_low w
 narrow_low Alphanumeric bytes i among not w = all_low is_alphanumeric bytes i alphanumeric_low w
 narrow_low Byte bytes i among not w = absurd (not refl)
 narrow_low Kanji bytes i among not w = cc
-
-apart_rest : (s : Segment) (ss : List Segment) → Apart (s ∷ ss) → Apart ss
-apart_rest s [] apart = tt
-apart_rest s (u ∷ ss) apart = apart.1
 
 module _ (v : Version) (bytes : List ℕ) where
   -- a byte of a narrow segment is ASCII
@@ -93,67 +70,6 @@ module _ (v : Version) (bytes : List ℕ) where
         ]
   ]
 
-  -- segments between the same places that take fewer bits
-  record Shorter (from : ℕ) (ss : List Segment) (to : ℕ) : Type 0 where
-    segments : List Segment
-    tiles : Tile from segments to
-    modes : HaveModes v segments
-    among : AreAmong text_modes segments
-    writable : AreWritable bytes segments
-    fewer : total_cost v segments < total_cost v ss
-
-  -- two neighbouring Byte segments as one take fewer bits
-  joined : (from : ℕ) (s u : Segment) (ss : List Segment) (to : ℕ) → to ≤ length bytes → Tile from (s ∷ u ∷ ss) to → HaveModes v (s ∷ u ∷ ss) → AreAmong text_modes (s ∷ u ∷ ss) → AreWritable bytes (s ∷ u ∷ ss)
-      → s.mode ≡ Byte → u.mode ≡ Byte → Shorter from (s ∷ u ∷ ss) to
-  joined from s u ss to in_ t h a w first second =
-      let after = t.1.1 in
-      let both : Segment = record { mode = Byte; begin = s.begin; end = u.end } in
-      let w' : can_write Byte (slice_range bytes s.begin s.end) ≡ true = subst (λ m. can_write m (slice_range bytes s.begin s.end) ≡ true) first w.0 in
-      let x' : can_write Byte (slice_range bytes s.end u.end) ≡ true = subst (λ b. can_write Byte (slice_range bytes b u.end) ≡ true) after.0 (subst (λ m. can_write m (slice_range bytes u.begin u.end) ≡ true) second w.1.0) in
-      let whole = split_range bytes s.begin s.end u.end (omega (arith, t.1.0)) (omega (arith, after.0, after.1.0)) in
-      let cost_first : cost v s ≡ cost_of v Byte (s.end - s.begin) = ap (λ m. cost_of v m (character_count m (s.end - s.begin))) first in
-      let cost_second : cost v u ≡ cost_of v Byte (u.end - u.begin) = ap (λ m. cost_of v m (character_count m (u.end - u.begin))) second in
-      record {
-        segments = both ∷ ss;
-        tiles = (t.0, (omega (arith, t.1.0, after.0, after.1.0), after.1.1));
-        modes = (subst (λ m. IsTrue (has_mode v m)) first h.0, h.1.1);
-        among = (refl, a.1.1);
-        writable = (subst (λ c. can_write Byte c ≡ true) whole (write_both Byte (slice_range bytes s.begin s.end) (slice_range bytes s.end u.end) w' x'), w.1.1);
-        fewer = omega (arith, cost_first, cost_second, sum_by-cons (cost v) s (u ∷ ss), sum_by-cons (cost v) u ss, sum_by-cons (cost v) both ss, byte_length v, t.1.0, after.0, after.1.0);
-      }
-
-  apart_or : (from : ℕ) (ss : List Segment) (to : ℕ) → to ≤ length bytes → Tile from ss to → HaveModes v ss → AreAmong text_modes ss → AreWritable bytes ss → Apart ss ⊎ Shorter from ss to
-  apart_or from [] to in_ t h a w = inl tt
-  apart_or from (s ∷ []) to in_ t h a w = inl tt
-  apart_or from (s ∷ u ∷ ss) to in_ t h a w = elim (apart_or s.end (u ∷ ss) to in_ t.1.1 h.1 a.1 w.1) [
-    | inr less ↦
-        inr (record {
-          segments = s ∷ less.segments;
-          tiles = (t.0, (t.1.0, less.tiles));
-          modes = (h.0, less.modes);
-          among = (a.0, less.among);
-          writable = (w.0, less.writable);
-          fewer = omega (arith, less.fewer, sum_by-cons (cost v) s less.segments, sum_by-cons (cost v) s (u ∷ ss));
-        })
-    | inl apart ↦ elim (is_byte s.mode) [
-      | inr other ↦ inl (λ both. other both.0, apart)
-      | inl first ↦ elim (is_byte u.mode) [
-        | inr other ↦ inl (λ both. other both.1, apart)
-        | inl second ↦ inr (joined from s u ss to in_ t h a w first second)
-      ]
-    ]
-  ]
-
-  least_apart : (ss : List Segment) → IsLeastCutIn text_modes v bytes ss → Apart ss
-  least_apart ss least =
-      let cut = least.reached in
-      elim (apart_or 0 ss (length bytes) (omega arith) cut.cut.tiles cut.cut.modes cut.among cut.cut.writable) [
-        | inl apart ↦ apart
-        | inr less ↦
-            let other : IsCutIn text_modes v bytes less.segments = record { cut = record { tiles = less.tiles; modes = less.modes; writable = less.writable }; among = less.among } in
-            absurd (omega (arith, less.fewer, least.least less.segments other))
-      ]
-
   -- how the segments from a place on are shown
   record ShownFrom (from : ℕ) (ss : List Segment) : Type 0 where
     text : List ℕ
@@ -172,7 +88,7 @@ module _ (v : Version) (bytes : List ℕ) where
 text_shown : (v : Version) (bytes : List ℕ) (ss : List Segment) → IsUtf8 bytes → IsLeastCutIn text_modes v bytes ss → ArePiecesShown (pieces_of bytes ss) (chars bytes)
 text_shown v bytes ss u least =
     let cut = least.reached in
-    let s = shown_from v bytes 0 ss u (IsCharBoundary-start bytes u) cut.cut.tiles cut.among cut.cut.writable (least_apart v bytes ss least) in
+    let s = shown_from v bytes 0 ss u (IsCharBoundary-start bytes u) cut.cut.tiles cut.among cut.cut.writable (least_apart text_modes refl v bytes ss least) in
     let same : s.text ≡ chars bytes = shown_chars (pieces_of bytes ss) s.text s.shown ∙ ap chars (cut_joined v bytes ss cut.cut) in
     subst (ArePiecesShown (pieces_of bytes ss)) same s.shown
 

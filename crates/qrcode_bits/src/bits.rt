@@ -37,7 +37,7 @@ mod stream;
 mod text;
 mod written;
 
-pub use automatic::{encode_auto, encode_boosted, encode_from, encode_in};
+pub use automatic::{encode_auto, encode_boosted, encode_from, encode_in, highest_level};
 use ending::push_ending;
 pub use manner::Manner;
 pub use optimal::DATA_LIMIT;

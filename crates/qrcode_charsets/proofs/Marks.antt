@@ -1,7 +1,8 @@
 -- The designators of sets.
 use Rattle.std.proofs.Common.{◌≡◌, ◌⊎◌, ℕ, ◌+◌, ◌-◌, ◌≤◌, ◌==◌, false, [], ◌∷◌, ◌++◌, length, IsTrue, Some, None, refl, sym, ap, ◌∙◌, arith, inl, inr, length-append}
 use Rattle.std.specs.Prelude.{slice_index_or, not, nat_le, if◌then◌else◌}
-use Rattle.std.proofs.lemmas.Bool.{cond-true, le-leb, not-true, true≢false}
+use Rattle.std.proofs.lemmas.Bool.{cond-true, le-leb, true≢false}
+use Rattle.std.proofs.lemmas.Bool.Decides.{nat_tests}
 use Rattle.qrcode_types.specs.Bits.{number_bits}
 use Rattle.qrcode_types.specs.Versions.{is_micro}
 use Rattle.qrcode_types.specs.declared.types.Version.{Version}
@@ -22,25 +23,7 @@ page_of : ℕ → Page
 page_of n = slice_index_or (Latin1 ∷ Latin2 ∷ Latin3 ∷ Latin4 ∷ Cyrillic ∷ Arabic ∷ Greek ∷ Hebrew ∷ Latin5 ∷ Latin6 ∷ Thai ∷ Latin1 ∷ Latin7 ∷ Latin8 ∷ Latin9 ∷ Latin10 ∷ Latin1 ∷ Latin1 ∷ Windows1250 ∷ Windows1251 ∷ Windows1252 ∷ Windows1256 ∷ []) (n - 3) Latin1
 
 page_small : (p : Page) → page_designator p ≤ 24
-page_small Latin1 = omega arith
-page_small Latin2 = omega arith
-page_small Latin3 = omega arith
-page_small Latin4 = omega arith
-page_small Cyrillic = omega arith
-page_small Arabic = omega arith
-page_small Greek = omega arith
-page_small Hebrew = omega arith
-page_small Latin5 = omega arith
-page_small Latin6 = omega arith
-page_small Thai = omega arith
-page_small Latin7 = omega arith
-page_small Latin8 = omega arith
-page_small Latin9 = omega arith
-page_small Latin10 = omega arith
-page_small Windows1250 = omega arith
-page_small Windows1251 = omega arith
-page_small Windows1252 = omega arith
-page_small Windows1256 = omega arith
+page_small p = grind (arith, nat_tests)
 
 -- a set has a designator of one byte, and the version an ECI, or neither
 pub record IsMarked (c : Charset) : Type 0 where
@@ -61,25 +44,7 @@ set_of n = if n == 20 then ShiftJis else (if n == 26 then Utf8 else OneByte (pag
 
 page_set : (p : Page) → set_of (page_designator p) ≡ OneByte p
 unfolding page_of set_of
-page_set Latin1 = refl
-page_set Latin2 = refl
-page_set Latin3 = refl
-page_set Latin4 = refl
-page_set Cyrillic = refl
-page_set Arabic = refl
-page_set Greek = refl
-page_set Hebrew = refl
-page_set Latin5 = refl
-page_set Latin6 = refl
-page_set Thai = refl
-page_set Latin7 = refl
-page_set Latin8 = refl
-page_set Latin9 = refl
-page_set Latin10 = refl
-page_set Windows1250 = refl
-page_set Windows1251 = refl
-page_set Windows1252 = refl
-page_set Windows1256 = refl
+page_set p = grind (arith, nat_tests)
 
 set_is : (c : Charset) (n : ℕ) → designator c ≡ Some n → set_of n ≡ c
 unfolding page_of set_of
@@ -114,10 +79,7 @@ length_some ShiftJis n e = sym (length-front ShiftJis (record { number = 20; is 
 length_some (OneByte p) n e = sym (length-front (OneByte p) (record { number = page_designator p; is = refl; small = omega (arith, page_small p); normal = λ v. refl }))
 
 marked_normal : (c : Charset) (v : Version) (n : ℕ) → Some n ≡ designator c → IsTrue (has_front v c) → is_micro v ≡ false
-marked_normal Unmarked v n e h = cc
-marked_normal Utf8 v n e h = not-true (is_micro v) h
-marked_normal ShiftJis v n e h = not-true (is_micro v) h
-marked_normal (OneByte p) v n e h = not-true (is_micro v) h
+marked_normal c v n h k = grind (arith, nat_tests)
 
 -- a designator is accepted if it has room
 taken : (v : Version) (used n : ℕ) → is_micro v ≡ false → n ≤ 127 → length (number_bits 4 7 ++ eci_bits n) ≡ 12 → used + 12 ≤ bit_limit → eci_refusal v used n ≡ None

@@ -2,20 +2,19 @@
 use Rattle.std.proofs.Common.{◌≡◌, ◌⊎◌, ℕ, ◌+◌, ◌-◌, ◌<◌, ◌≤◌, ◌==◌, nat_le, nat_lt, Bool, true, false, ◌||◌, List, [], ◌∷◌, ◌++◌, length, length-append, Option, Some, None, refl, sym, ap, ap₂, subst, ◌∙◌, arith, inl, inr}
 use Rattle.std.specs.Prelude.{map, encode_utf8, encode_utf8_all, if◌then◌else◌}
 use Rattle.std.specs.Char.{len_utf8}
-use Rattle.std.proofs.lemmas.Bool.{cases_lt, lt-ltb, le-ltb, lt-leb, le-leb, leb-true, and_parts, cond-true, cond-false}
+use Rattle.std.proofs.lemmas.Bool.{cases_lt, lt-ltb, le-ltb, lt-leb, le-leb, leb-true, and_parts, cond-true, cond-false, cases_Bool}
 use Rattle.std.proofs.lemmas.Str.{length-encode, len_utf8_bounds}
+use Rattle.std.proofs.lemmas.Bool.Decides.{nat_tests}
 use Rattle.qrcode_types.specs.Characters.{is_between, is_lead}
 use Rattle.qrcode_charsets.specs.ShiftJis.{single_character, pair_character, shift_jis_characters}
 use Rattle.qrcode_charsets.proofs.PairTable.{pair_of, cell_of, pairs_apart}
 
 -- ---- codes of one byte
 if_none : (t : Bool) (b c : ℕ) → (if t then None else Some b) ≡ Some c → c ≡ b
-if_none true b c e = cc
-if_none false b c e = cc
+if_none t b c h = grind (arith, nat_tests)
 
 if_some : (t : Bool) (b c : ℕ) → (if t then Some b else None) ≡ Some c → (t ≡ true) × (c ≡ b)
-if_some true b c e = (refl, cc)
-if_some false b c e = cc
+if_some t b c h = grind (arith, nat_tests)
 
 abbrev pub IsSingle : ℕ → ℕ → Type 0
 IsSingle b c = ((b < 128) × (c ≡ b)) ⊎ ((0xA1 ≤ b) × (b ≤ 0xDF) × (c ≡ b + 0xFEC0))
@@ -39,12 +38,10 @@ pub single_plain : (b c : ℕ) → single_character b ≡ Some c → is_lead b �
 single_plain b c e = elim (single_is b c e) [ inl low ↦ plain_low b (omega (arith, low.0)) | inr high ↦ plain_high b (omega (arith, high.0)) (omega (arith, high.1)) ]
 
 singles_apart : (a b x : ℕ) → single_character a ≡ Some x → single_character b ≡ Some x → a ≡ b
-singles_apart a b x e f = by_kind (single_is a x e) (single_is b x f) where
-  by_kind : IsSingle a x → IsSingle b x → a ≡ b
-  by_kind (inl p) (inl q) = omega (arith, p.1, q.1)
-  by_kind (inl p) (inr q) = omega (arith, p.0, p.1, q.2)
-  by_kind (inr p) (inl q) = omega (arith, q.0, q.1, p.2)
-  by_kind (inr p) (inr q) = omega (arith, p.2, q.2)
+singles_apart a b x e f =
+    let p = single_is a x e in
+    let q = single_is b x f in
+    grind (arith, p, q)
 
 -- what a character of a pair is
 pub record IsOfPair (b c x : ℕ) : Type 0 where
@@ -68,12 +65,10 @@ pub high_of : (b c x : ℕ) → pair_character b c ≡ Some x → 128 ≤ x
 high_of b c x e = elim ((pair_is b c x e).range) [ inl low ↦ low.0 | inr more ↦ elim more [ inl middle ↦ omega (arith, middle.0) | inr high ↦ omega (arith, high.0) ] ]
 
 not_both : (a b c x : ℕ) → single_character a ≡ Some x → pair_character b c ≡ Some x → ⊥
-not_both a b c x e f = by_kind (single_is a x e) ((pair_is b c x f).range) where
-  by_kind : IsSingle a x → ((128 ≤ x) × (x ≤ 0xD7FF)) ⊎ (((0xE000 ≤ x) × (x ≤ 0xFF60)) ⊎ ((0xFFA0 ≤ x) × (x ≤ 0xFFFF))) → ⊥
-  by_kind (inl p) r = omega (arith, p.0, p.1, high_of b c x f)
-  by_kind (inr p) (inl q) = omega (arith, p.0, p.2, q.1)
-  by_kind (inr p) (inr (inl q)) = omega (arith, p.0, p.2, q.1)
-  by_kind (inr p) (inr (inr q)) = omega (arith, p.1, p.2, q.0)
+not_both a b c x e f =
+    let p = single_is a x e in
+    let q = (pair_is b c x f).range in
+    grind (arith, p, q)
 
 -- ---- the first code
 pub single_first : (b : ℕ) (more : List ℕ) → is_lead b ≡ false → shift_jis_characters (b ∷ more) ≡ single_character b ∷ shift_jis_characters more
@@ -88,17 +83,13 @@ pub data IsFirst (bytes : List ℕ) (x : ℕ) (rest : List (Option ℕ)) : Type 
   Single : (b : ℕ) (more : List ℕ) (joined : bytes ≡ b ∷ more) (own : single_character b ≡ Some x) (after : shift_jis_characters more ≡ rest) → IsFirst bytes x rest
   Pair : (b c : ℕ) (more : List ℕ) (joined : bytes ≡ b ∷ c ∷ more) (lead : is_lead b ≡ true) (own : pair_character b c ≡ Some x) (after : shift_jis_characters more ≡ rest) → IsFirst bytes x rest
 
-bool_cases : (t : Bool) → (t ≡ true) ⊎ (t ≡ false)
-bool_cases true = inl refl
-bool_cases false = inr refl
-
 pub first_code : (bytes : List ℕ) (x : ℕ) (rest : List (Option ℕ)) → shift_jis_characters bytes ≡ Some x ∷ rest → IsFirst bytes x rest
 first_code [] x rest e = cc
 first_code (b ∷ []) x rest e =
     let own : single_character b ≡ Some x = cc in
     let after : [] ≡ rest = cc in
     Single b [] refl own after
-first_code (b ∷ c ∷ more) x rest e = elim (bool_cases (is_lead b)) [
+first_code (b ∷ c ∷ more) x rest e = elim (cases_Bool (is_lead b)) [
   | inl lead ↦
       let whole : pair_character b c ∷ shift_jis_characters more ≡ Some x ∷ rest = sym (pair_first b c more lead) ∙ e in
       let own : pair_character b c ≡ Some x = cc in
@@ -114,7 +105,7 @@ first_code (b ∷ c ∷ more) x rest e = elim (bool_cases (is_lead b)) [
 pub none_left : (bytes : List ℕ) → shift_jis_characters bytes ≡ [] → bytes ≡ []
 none_left [] e = refl
 none_left (b ∷ []) e = cc
-none_left (b ∷ c ∷ more) e = elim (bool_cases (is_lead b)) [
+none_left (b ∷ c ∷ more) e = elim (cases_Bool (is_lead b)) [
   | inl lead ↦ let whole : pair_character b c ∷ shift_jis_characters more ≡ [] = sym (pair_first b c more lead) ∙ e in cc
   | inr plain ↦ let whole : single_character b ∷ shift_jis_characters (c ∷ more) ≡ [] = sym (single_first b (c ∷ more) plain) ∙ e in cc
 ]
@@ -170,10 +161,7 @@ codes_apart (x ∷ a) b bytes e = by_code (λ more h. codes_apart a b more h) (f
       )
 
 wide : (x : ℕ) → 128 ≤ x → 2 ≤ len_utf8 x
-wide x h = elim (cases_lt x 0x800) [
-  | inl low ↦ rw (le-ltb x 0x80 h, lt-ltb x 0x800 low) (omega arith)
-  | inr high ↦ elim (cases_lt x 0x1_0000) [ inl low ↦ rw (le-ltb x 0x80 h, le-ltb x 0x800 high, lt-ltb x 0x1_0000 low) (omega arith) | inr top ↦ rw (le-ltb x 0x80 h, le-ltb x 0x800 high, le-ltb x 0x1_0000 top) (omega arith) ]
-]
+wide x h = grind (arith, nat_tests)
 
 -- a text has at most as many characters as bytes, and not more bytes than in UTF-8
 pub code_lengths : (text bytes : List ℕ) → AreCodes text bytes → (length text ≤ length bytes) × (length bytes ≤ length (encode_utf8_all text))
@@ -203,7 +191,7 @@ no_code x single pair bytes e = elim (first_code bytes x [] e) [
 pub no_mark : (x : ℕ) → (x ≡ 0x5C) ⊎ (x ≡ 0x7E) → (bytes : List ℕ) → ¬ (shift_jis_characters bytes ≡ Some x ∷ [])
 no_mark x is = no_code x (λ b own. no_single b own (single_is b x own)) (λ b c lead own. omega (arith, high_of b c x own, small)) where
   small : x < 128
-  small = elim is [ inl e ↦ omega (arith, e) | inr e ↦ omega (arith, e) ]
+  small = grind (arith, is)
 
   no_single : (b : ℕ) → single_character b ≡ Some x → IsSingle b x → ⊥
   no_single b own (inl p) = elim is [
@@ -222,7 +210,3 @@ no_gap [] [] rest e = cc
 no_gap [] (c ∷ text) rest e = cc
 no_gap (x ∷ xs) [] rest e = cc
 no_gap (x ∷ xs) (c ∷ text) rest e = let more : map Some xs ++ (None ∷ rest) ≡ map Some text = cc in no_gap xs text rest more
-
--- a half-width character
-pub wide_single : (b x : ℕ) → 0xA1 ≤ b → b ≤ 0xDF → x ≡ b + 0xFEC0 → single_character b ≡ Some x
-wide_single b x low most is = rw (le-ltb b 128 (omega (arith, low)), le-leb 0xA1 b low, le-leb b 0xDF most) (ap Some (sym is))

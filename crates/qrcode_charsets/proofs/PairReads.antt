@@ -15,11 +15,11 @@ use Rattle.qrcode_charsets.proofs.PairCodes.{IsFirst, first_code, single_is, pai
 use Rattle.qrcode_charsets.proofs.Writings.{chars_push}
 
 -- what is found of a character that takes no single byte
-pub pair_found : (x number : ℕ) (r : Option Code) → number ≡ x → 128 ≤ x → ¬ ((0xFF61 ≤ x) × (x ≤ 0xFF9F))
-    → MatchOption r ((b c : ℕ) → IsTrue (is_lead b) → ¬ (pair_character b c ≡ Some number)) (λ code. shift_jis_characters (code_bytes code) ≡ Some number ∷ [])
+pub pair_found : (x : ℕ) (r : Option Code) → 128 ≤ x → ¬ ((0xFF61 ≤ x) × (x ≤ 0xFF9F))
+    → MatchOption r ((b c : ℕ) → IsTrue (is_lead b) → ¬ (pair_character b c ≡ Some x)) (λ code. shift_jis_characters (code_bytes code) ≡ Some x ∷ [])
     → MatchOption r (¬ Has ShiftJis (x ∷ [])) (λ code. IsWritten ShiftJis (x ∷ []) (code_bytes code))
-pair_found x n None e high wide h = λ has. no_code x (no_single x high wide) (λ b c lead own. h b c lead (own ∙ ap Some (sym e))) has.0 has.1
-pair_found x n (Some code) e high wide h = h ∙ ap (λ (y : ℕ). Some y ∷ []) e
+pair_found x None high wide h = λ has. no_code x (no_single x high wide) h has.0 has.1
+pair_found x (Some code) high wide h = h
 
 high_scalar : (x : ℕ) → 0xE000 ≤ x → x ≤ 0xFFFF → IsScalar x
 high_scalar x h k = rw (le-ltb x 0xD800 (omega (arith, h)), le-leb 0xE000 x h, lt-ltb x 0x11_0000 (omega (arith, k))) refl

@@ -1,8 +1,6 @@
 -- No two pairs of Shift JIS have the same character.
 use Rattle.std.proofs.Common.{◌≡◌, ◌⊎◌, ℕ, zero, suc, ◌+◌, ◌-◌, ◌*◌, ◌%◌, ◌<◌, ◌≤◌, ◌==◌, nat_le, nat_lt, Bool, true, false, ◌&&◌, ◌||◌, not, List, [], ◌∷◌, length, get_or, Option, Some, None, refl, sym, ap, subst, ◌∙◌, arith, inl, inr}
 use Rattle.std.specs.Prelude.{slice_index_or, if◌then◌else◌}
-use Rattle.std.specs.Char.{IsScalar, InScalarRange}
-use Rattle.std.specs.Option.{SomeIff, IsSome}
 use Rattle.std.proofs.lemmas.Bool.{and_parts, or_cases, not-true, both_ways, eqb-true, eq-eqb, ne_eqb, leb-true, cases_lt, cases_eq, lt-ltb, le-ltb, cond-true, cond-false}
 use Rattle.std.proofs.lemmas.List.{get_or_past}
 use Rattle.qrcode_types.specs.Characters.{is_between, is_lead}
@@ -185,19 +183,6 @@ none_beyond b c lead past = elim (none_or (pair_character b c)) [
       ])
 ]
 
-some_is : (r : Option ℕ) (u : ℕ) → SomeIff r (IsScalar u) u → IsSome r → r ≡ Some u
-some_is (Some x) u value some = ap Some value.1
-some_is None u value some = cc
-
 -- what is read from a cell is the character of the pair
-pub pair_read : (b c code number : ℕ) (r : Option ℕ) → 0x40 ≤ c → code ≡ pair_cell b c → ¬ (code ≡ 0) → number ≡ code
-    → SomeIff r (IsScalar number) number → (InScalarRange number → IsSome r) → r ≡ pair_character b c
-pair_read b c code number r trail cell some same value succeeds =
-    let some' : ¬ (pair_cell b c ≡ 0) = λ none. some (cell ∙ none) in
-    let f = cell_of b (c - 0x40) some' in
-    let at : number ≡ pair_cell b c = same ∙ cell in
-    let range : InScalarRange number = elim f.range [
-      | inl low ↦ inl (omega (arith, at, low.1))
-      | inr more ↦ elim more [ inl middle ↦ inr (omega (arith, at, middle.0), omega (arith, at, middle.1)) | inr high ↦ inr (omega (arith, at, high.0), omega (arith, at, high.1)) ]
-    ] in
-    some_is r number value (succeeds range) ∙ ap Some at ∙ sym (made b c trail some')
+pub pair_read : (b c x : ℕ) → 0x40 ≤ c → x ≡ pair_cell b c → ¬ (x ≡ 0) → Some x ≡ pair_character b c
+pair_read b c x trail cell some = ap Some cell ∙ sym (made b c trail (λ none. some (cell ∙ none)))

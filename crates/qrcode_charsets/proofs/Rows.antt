@@ -1,9 +1,8 @@
 -- Each set of one byte gives a character to one byte at most.
 use Rattle.std.proofs.Common.{◌≡◌, ◌⊎◌, ℕ, zero, suc, ◌-◌, ◌<◌, ◌≤◌, ◌==◌, nat_le, nat_lt, Bool, true, ◌&&◌, ◌||◌, not, List, [], ◌∷◌, length, get_or, Option, Some, None, refl, sym, ap, ◌∙◌, arith, inl, inr}
 use Rattle.std.specs.Prelude.{slice_index_or}
-use Rattle.std.specs.Char.{IsScalar, InScalarRange}
+use Rattle.std.specs.Char.{IsScalar}
 use Rattle.std.specs.List.{list_all}
-use Rattle.std.specs.Option.{SomeIff, IsSome}
 use Rattle.std.proofs.lemmas.Bool.{and_parts, or_cases, not-true, both_ways, eqb-true, eq-eqb, ne_eqb, leb-true, ltb-true, cases_lt, cases_eq, lt-ltb, le-ltb, cond-true, cond-false}
 use Rattle.std.proofs.Math.Utf8.{low_scalar}
 use Rattle.std.proofs.lemmas.List.{get_or_past}
@@ -138,17 +137,9 @@ no_byte p c high none b e = elim (has_character p b c e) [
   ]
 ]
 
-some_is : (r : Option ℕ) (u : ℕ) → SomeIff r (IsScalar u) u → IsSome r → r ≡ Some u
-some_is (Some x) u value some = ap Some value.1
-some_is None u value some = cc
-
 -- what is read from a cell is the character of the byte
-pub character_read : (p : Page) (b code number : ℕ) (r : Option ℕ) → 128 ≤ b → code ≡ get_or (characters p) (b - 128) 0 → ¬ (code ≡ 0) → number ≡ code
-    → SomeIff r (IsScalar number) number → (InScalarRange number → IsSome r) → r ≡ character p b
-character_read p b code number r high cell some same value succeeds =
-    let some' : ¬ (get_or (characters p) (b - 128) 0 ≡ 0) = λ none. some (cell ∙ none) in
-    let small : number < 0xD800 = omega (arith, same, cell, (cell_bounds p (b - 128) some').1) in
-    some_is r number value (succeeds (inl small)) ∙ ap Some (same ∙ cell) ∙ sym (above p b high some')
+pub character_read : (p : Page) (b c : ℕ) → 128 ≤ b → c ≡ get_or (characters p) (b - 128) 0 → ¬ (c ≡ 0) → Some c ≡ character p b
+character_read p b c high cell some = ap Some cell ∙ sym (above p b high (λ none. some (cell ∙ none)))
 
 -- a character of a byte is one of Unicode
 pub character_scalar : (p : Page) (b c : ℕ) → character p b ≡ Some c → IsScalar c

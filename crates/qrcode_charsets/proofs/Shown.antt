@@ -2,6 +2,7 @@
 use Rattle.std.proofs.Common.{◌≡◌, ◌^◌, ℕ, Bool, true, List, [], ◌∷◌, ◌++◌, Some, sym, ap, subst, ◌∙◌, arith, inl, inr, true≢false, append_assoc}
 use Rattle.std.specs.Prelude.{not}
 use Rattle.std.proofs.lemmas.List.{append_cancel_left}
+use Rattle.std.proofs.lemmas.Bool.Decides.{nat_tests}
 use Rattle.qrcode_types.specs.Bits.{number_bits}
 use Rattle.qrcode_types.specs.Modes.{mode_number}
 use Rattle.qrcode_types.specs.Versions.{is_micro}
@@ -10,7 +11,6 @@ use Rattle.qrcode_types.specs.declared.types.EcLevel.{EcLevel}
 use Rattle.qrcode_types.specs.declared.types.Version.{Version}
 use Rattle.qrcode_types.specs.declared.types.Version.TheVariants.{Normal, Micro}
 use Rattle.qrcode_types.specs.declared.types.Mode.{Mode}
-use Rattle.qrcode_types.specs.declared.types.Mode.TheVariants.{Numeric, Alphanumeric, Byte, Kanji}
 use Rattle.qrcode_symbol.specs.Reading.{ReadsBits}
 use Rattle.qrcode_bits.specs.Spelling.{is_end, IsReadAs}
 use Rattle.qrcode_bits.specs.Written.{Piece}
@@ -39,10 +39,7 @@ shown_modes c [] text h = tt
 shown_modes c (p ∷ ps) text h = (h.2.1.0.mode, shown_modes c ps h.1 h.2.1.1)
 
 no_indicator : (m : Mode) → 7 ≡ 2 ^ mode_number m → ⊥
-no_indicator Numeric e = omega arith
-no_indicator Alphanumeric e = omega arith
-no_indicator Byte e = omega arith
-no_indicator Kanji e = omega arith
+no_indicator m h = grind (arith, nat_tests)
 
 no_end : (n : _) (rest : List Bool) → is_end (Normal n) (number_bits 4 7 ++ rest) ≡ true → ⊥
 unfolding number_bits

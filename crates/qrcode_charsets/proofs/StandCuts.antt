@@ -1,27 +1,25 @@
 -- The shortest segments of bytes that stand in for Shift JIS divide no code.
-use Rattle.std.proofs.Common.{◌≡◌, ◌⊎◌, ℕ, zero, suc, ◌+◌, ◌-◌, ◌<◌, ◌≤◌, Bool, true, ◌&&◌, List, [], ◌∷◌, ◌++◌, length, take, drop, length-append, append_assoc, Option, Some, Result, Ok, Err, IfOk, IfErr, IsTrue, refl, sym, ap, ap₂, subst, ◌∙◌, arith, inl, inr, true≢false}
+use Rattle.std.proofs.Common.{◌≡◌, ◌⊎◌, ℕ, zero, suc, ◌+◌, ◌-◌, ◌≤◌, Bool, true, ◌&&◌, List, [], ◌∷◌, ◌++◌, length, take, drop, length-append, append_assoc, Option, Some, Result, Ok, Err, IfOk, IfErr, IsTrue, refl, sym, ap, ap₂, subst, ◌∙◌, arith, inl, inr, true≢false}
 use Rattle.std.specs.Prelude.{map, slice_range, IsOkUnless}
 use Rattle.std.specs.List.{list_all}
 use Rattle.std.proofs.lemmas.Bool.{and_parts}
 use Rattle.std.proofs.lemmas.Bool.Decides.{nat_tests}
 use Rattle.std.proofs.lemmas.List.{take_at, drop_at, drop-drop, length-drop, drop_all, take_all}
-use Rattle.std.proofs.lemmas.List.Sums.{sum_by-cons}
-use Rattle.qrcode_types.specs.Characters.{is_digit, is_alphanumeric, is_lead, is_kanji, are_kanji, can_write, character_count}
-use Rattle.qrcode_types.specs.Modes.{has_mode, length_bits_count}
+use Rattle.qrcode_types.specs.Characters.{is_digit, is_alphanumeric, is_lead, is_kanji, are_kanji, can_write}
+use Rattle.qrcode_types.specs.Modes.{has_mode}
 use Rattle.qrcode_types.specs.declared.types.Mode.{Mode}
 use Rattle.qrcode_types.specs.declared.types.Mode.TheVariants.{Numeric, Alphanumeric, Byte, Kanji}
 use Rattle.qrcode_types.specs.declared.types.QrError.{QrError}
 use Rattle.qrcode_types.specs.declared.types.QrError.TheVariants.{UnsupportedCharacterSet, OutOfMemory}
 use Rattle.qrcode_types.specs.declared.types.Version.{Version}
-use Rattle.qrcode_types.specs.declared.types.Version.TheVariants.{Normal, Micro}
 use Rattle.qrcode_bits.specs.Cuts.{IsCutIn, IsLeastCutIn, NeedsCut}
 use Rattle.qrcode_bits.specs.ModeSets.{all_modes}
-use Rattle.qrcode_bits.specs.Segments.{Tile, cost_of, cost, total_cost}
+use Rattle.qrcode_bits.specs.Segments.{Tile}
 use Rattle.qrcode_bits.specs.Written.{pieces_of}
 use Rattle.qrcode_bits.specs.declared.optimize.Segment.{Segment}
-use Rattle.qrcode_bits.proofs.CutPieces.{split_range}
-use Rattle.qrcode_bits.proofs.LeastCuts.{HaveModes, AreAmong, AreWritable}
-use Rattle.qrcode_bits.proofs.SegmentRanges.{tile_le, write_both}
+use Rattle.qrcode_bits.proofs.ApartCuts.{Apart, is_byte, apart_rest, least_apart}
+use Rattle.qrcode_bits.proofs.LeastCuts.{AreWritable}
+use Rattle.qrcode_bits.proofs.SegmentRanges.{tile_le}
 use Rattle.qrcode_charsets.specs.Charsets.{IsWritten}
 use Rattle.qrcode_charsets.specs.Fronts.{has_front}
 use Rattle.qrcode_charsets.specs.Laid.{IsBestCut}
@@ -30,91 +28,6 @@ use Rattle.qrcode_charsets.specs.Shown.{ArePiecesShown}
 use Rattle.qrcode_charsets.specs.declared.sets.Charset.TheVariants.{ShiftJis}
 use Rattle.qrcode_charsets.proofs.PairCodes.{AreCodes, IsFirst, first_code, none_left, single_first, pair_first, single_plain}
 use Rattle.qrcode_charsets.proofs.StandIns.{stand_single, stand_pair, stand_both, stand_length, write_same, all_among, no_pairs, digit_high, letter_high, bytes_same}
-
--- ---- no two segments in Byte mode are neighbours
-abbrev AreBoth : Segment → Segment → Type 0
-AreBoth s t = (s.mode ≡ Byte) × (t.mode ≡ Byte)
-
-abbrev Apart : List Segment → Type 0
-Apart [] = Unit {0}
-Apart (s ∷ []) = Unit {0}
-Apart (s ∷ t ∷ ss) = (¬ AreBoth s t) × Apart (t ∷ ss)
-
-apart_rest : (s : Segment) (ss : List Segment) → Apart (s ∷ ss) → Apart ss
-apart_rest s [] apart = tt
-apart_rest s (u ∷ ss) apart = apart.1
-
--- a length field of Byte mode has bits
-byte_room : (v : Version) → 0 < length_bits_count Byte v
-byte_room (Normal n) = grind (arith, nat_tests)
-byte_room (Micro n) = omega arith
-
-is_byte : (m : Mode) → (m ≡ Byte) ⊎ (¬ (m ≡ Byte))
-is_byte Numeric = inr (λ e. cc)
-is_byte Alphanumeric = inr (λ e. cc)
-is_byte Byte = inl refl
-is_byte Kanji = inr (λ e. cc)
-
-module _ (v : Version) (bytes : List ℕ) where
-  record Shorter (from : ℕ) (ss : List Segment) (to : ℕ) : Type 0 where
-    segments : List Segment
-    tiles : Tile from segments to
-    modes : HaveModes v segments
-    writable : AreWritable bytes segments
-    fewer : total_cost v segments < total_cost v ss
-
-  -- two neighbouring Byte segments as one take fewer bits
-  joined : (from : ℕ) (s u : Segment) (ss : List Segment) (to : ℕ) → Tile from (s ∷ u ∷ ss) to → HaveModes v (s ∷ u ∷ ss) → AreWritable bytes (s ∷ u ∷ ss) → s.mode ≡ Byte → u.mode ≡ Byte → Shorter from (s ∷ u ∷ ss) to
-  joined from s u ss to t h w first second =
-      let after = t.1.1 in
-      let both : Segment = record { mode = Byte; begin = s.begin; end = u.end } in
-      let w' : can_write Byte (slice_range bytes s.begin s.end) ≡ true = subst (λ m. can_write m (slice_range bytes s.begin s.end) ≡ true) first w.0 in
-      let x' : can_write Byte (slice_range bytes s.end u.end) ≡ true = subst (λ b. can_write Byte (slice_range bytes b u.end) ≡ true) after.0 (subst (λ m. can_write m (slice_range bytes u.begin u.end) ≡ true) second w.1.0) in
-      let whole = split_range bytes s.begin s.end u.end (omega (arith, t.1.0)) (omega (arith, after.0, after.1.0)) in
-      let cost_first : cost v s ≡ cost_of v Byte (s.end - s.begin) = ap (λ m. cost_of v m (character_count m (s.end - s.begin))) first in
-      let cost_second : cost v u ≡ cost_of v Byte (u.end - u.begin) = ap (λ m. cost_of v m (character_count m (u.end - u.begin))) second in
-      record {
-        segments = both ∷ ss;
-        tiles = (t.0, (omega (arith, t.1.0, after.0, after.1.0), after.1.1));
-        modes = (subst (λ m. IsTrue (has_mode v m)) first h.0, h.1.1);
-        writable = (subst (λ c. can_write Byte c ≡ true) whole (write_both Byte (slice_range bytes s.begin s.end) (slice_range bytes s.end u.end) w' x'), w.1.1);
-        fewer = omega (arith, cost_first, cost_second, sum_by-cons (cost v) s (u ∷ ss), sum_by-cons (cost v) u ss, sum_by-cons (cost v) both ss, byte_room v, t.1.0, after.0, after.1.0);
-      }
-
-  apart_or : (from : ℕ) (ss : List Segment) (to : ℕ) → Tile from ss to → HaveModes v ss → AreWritable bytes ss → Apart ss ⊎ Shorter from ss to
-  apart_or from [] to t h w = inl tt
-  apart_or from (s ∷ []) to t h w = inl tt
-  apart_or from (s ∷ u ∷ ss) to t h w = elim (apart_or s.end (u ∷ ss) to t.1.1 h.1 w.1) [
-    | inr less ↦
-        inr (record {
-          segments = s ∷ less.segments;
-          tiles = (t.0, (t.1.0, less.tiles));
-          modes = (h.0, less.modes);
-          writable = (w.0, less.writable);
-          fewer = omega (arith, less.fewer, sum_by-cons (cost v) s less.segments, sum_by-cons (cost v) s (u ∷ ss));
-        })
-    | inl apart ↦ elim (is_byte s.mode) [
-      | inr other ↦ inl (λ both. other both.0, apart)
-      | inl first ↦ elim (is_byte u.mode) [
-        | inr other ↦ inl (λ both. other both.1, apart)
-        | inl second ↦ inr (joined from s u ss to t h w first second)
-      ]
-    ]
-  ]
-
-  are_among : (ss : List Segment) → AreAmong all_modes ss
-  are_among [] = tt
-  are_among (s ∷ ss) = (all_among s.mode, are_among ss)
-
-  least_apart : (ss : List Segment) → IsLeastCutIn all_modes v bytes ss → Apart ss
-  least_apart ss least =
-      let cut = least.reached.cut in
-      elim (apart_or 0 ss (length bytes) cut.tiles cut.modes cut.writable) [
-        | inl apart ↦ apart
-        | inr less ↦
-            let other : IsCutIn all_modes v bytes less.segments = record { cut = record { tiles = less.tiles; modes = less.modes; writable = less.writable }; among = are_among less.segments } in
-            absurd (omega (arith, less.fewer, least.least less.segments other))
-      ]
 
 -- ---- where the first bytes of a text end
 record IsSplit (text bytes : List ℕ) (n : ℕ) : Type 0 where
@@ -234,10 +147,7 @@ begins Byte vs byte w = byte refl
 begins Kanji vs byte w = true≢false (sym w ∙ no_pairs 0xFC vs refl)
 
 is_kanji_mode : (m : Mode) → (m ≡ Kanji) ⊎ (¬ (m ≡ Kanji))
-is_kanji_mode Numeric = inr (λ e. cc)
-is_kanji_mode Alphanumeric = inr (λ e. cc)
-is_kanji_mode Byte = inr (λ e. cc)
-is_kanji_mode Kanji = inl refl
+is_kanji_mode m = grind (arith, nat_tests)
 
 -- ---- segments of the text
 record IsWalked (bytes text : List ℕ) (ss : List Segment) : Type 0 where
@@ -319,7 +229,7 @@ pub stand_in_best : (v : Version) (text bytes : List ℕ) (ss : List Segment) �
 stand_in_best v text bytes ss w least =
     let cut = least.reached.cut in
     let tiles = subst (Tile 0 ss) (stand_length text bytes w) cut.tiles in
-    let walked = λ (other : List ℕ) (is : AreCodes other bytes). walk bytes 0 ss other is refl tiles cut.writable (least_apart v (stand_in bytes) ss least) in
+    let walked = λ (other : List ℕ) (is : AreCodes other bytes). walk bytes 0 ss other is refl tiles cut.writable (least_apart all_modes refl v (stand_in bytes) ss least) in
     record {
       cut = record { tiles = tiles; modes = cut.modes; writable = (walked text w).writable };
       laid = least.reached;
@@ -339,8 +249,7 @@ as_one [] = []
 as_one (b ∷ bytes) = record { mode = Byte; begin = 0; end = length (b ∷ bytes) } ∷ []
 
 has_byte_mode : (v : Version) → IsTrue (has_front v ShiftJis) → IsTrue (has_mode v Byte)
-has_byte_mode (Normal n) h = refl
-has_byte_mode (Micro n) h = cc
+has_byte_mode v h = grind (arith, nat_tests)
 
 memory_only : {A : Type 0} (r : Result A QrError) → IsOkUnless r OutOfMemory → IfErr r (λ e. (e ≡ UnsupportedCharacterSet) ⊎ (e ≡ OutOfMemory))
 memory_only (Ok x) h = tt

@@ -4,6 +4,7 @@ use Rattle.std.specs.Prelude.{map}
 use Rattle.std.specs.List.{AllByRecursion, list_all}
 use Rattle.std.proofs.lemmas.Bool.{cases_lt, lt-ltb, lt-leb, le-leb, ne_eqb, cond-true, cond-false}
 use Rattle.std.proofs.lemmas.List.{drop_all}
+use Rattle.std.proofs.lemmas.Bool.Decides.{nat_tests}
 use Rattle.qrcode_types.specs.Characters.{is_between, is_digit, is_alphanumeric, is_lead, is_kanji, are_kanji, can_write, character_count}
 use Rattle.qrcode_types.specs.Modes.{length_bits_count}
 use Rattle.qrcode_types.specs.declared.types.Mode.{Mode}
@@ -95,8 +96,7 @@ bytes_same (x ∷ text) xs e = by_code (λ more h. bytes_same text more h) (firs
   small b h = lt-ltb b 256 h
 
   single_small : (b : ℕ) → IsSingle b x → b < 256
-  single_small b (inl p) = omega (arith, p.0)
-  single_small b (inr p) = omega (arith, p.1)
+  single_small b h = grind (arith, nat_tests)
 
   lead_small : (b : ℕ) → is_lead b ≡ true → b < 256
   lead_small b lead = elim (lead_range b lead) [ inl low ↦ omega (arith, low.1) | inr high ↦ omega (arith, high.1) ]
@@ -184,10 +184,7 @@ record AreStood (v : Version) (text : List ℕ) (ps : List Piece) : Type 0 where
   length : length (written v (map stand_piece ps)) ≡ length (written v ps)
 
 pub all_among : (m : Mode) → is_among all_modes m ≡ true
-all_among Numeric = refl
-all_among Alphanumeric = refl
-all_among Byte = refl
-all_among Kanji = refl
+all_among m = grind (arith, nat_tests)
 
 stood : (v : Version) (text : List ℕ) (ps : List Piece) → AllByRecursion (IsReadable v) ps → ArePiecesShown ShiftJis ps text → AreStood v text ps
 unfolding stand_piece

@@ -6,47 +6,48 @@ ghost use Rattle.qrcode_charsets.specs.declared.sets.Charset.{Charset};
 
 use crate::table::CHARACTERS;
 
-/// A character set of one byte for each character. The first 128 are those of ASCII.
+/// A character set of one byte for each character, with its ECI designator. The first 128
+/// characters are those of ASCII.
 #[derive(PartialEq, Eq, Debug, Copy, Clone)]
 pub enum Page {
     /// ISO/IEC 8859-1: Latin alphabet No. 1, for Western Europe.
-    Latin1,
+    Latin1 = 3,
     /// ISO/IEC 8859-2: Latin alphabet No. 2, for Central Europe.
-    Latin2,
+    Latin2 = 4,
     /// ISO/IEC 8859-3: Latin alphabet No. 3, for Southern Europe.
-    Latin3,
+    Latin3 = 5,
     /// ISO/IEC 8859-4: Latin alphabet No. 4, for Northern Europe.
-    Latin4,
+    Latin4 = 6,
     /// ISO/IEC 8859-5: the Latin and Cyrillic alphabets.
-    Cyrillic,
+    Cyrillic = 7,
     /// ISO/IEC 8859-6: the Latin and Arabic alphabets.
-    Arabic,
+    Arabic = 8,
     /// ISO/IEC 8859-7: the Latin and Greek alphabets.
-    Greek,
+    Greek = 9,
     /// ISO/IEC 8859-8: the Latin and Hebrew alphabets.
-    Hebrew,
+    Hebrew = 10,
     /// ISO/IEC 8859-9: Latin alphabet No. 5, for Turkish.
-    Latin5,
+    Latin5 = 11,
     /// ISO/IEC 8859-10: Latin alphabet No. 6, for Northern Europe.
-    Latin6,
+    Latin6 = 12,
     /// ISO/IEC 8859-11: the Latin and Thai alphabets.
-    Thai,
+    Thai = 13,
     /// ISO/IEC 8859-13: Latin alphabet No. 7, for the Baltic.
-    Latin7,
+    Latin7 = 15,
     /// ISO/IEC 8859-14: Latin alphabet No. 8, for Celtic languages.
-    Latin8,
+    Latin8 = 16,
     /// ISO/IEC 8859-15: Latin alphabet No. 9, ISO/IEC 8859-1 with the euro sign.
-    Latin9,
+    Latin9 = 17,
     /// ISO/IEC 8859-16: Latin alphabet No. 10, for South-Eastern Europe.
-    Latin10,
+    Latin10 = 18,
     /// Windows-1250: for Central Europe.
-    Windows1250,
+    Windows1250 = 21,
     /// Windows-1251: the Latin and Cyrillic alphabets.
-    Windows1251,
+    Windows1251 = 22,
     /// Windows-1252: for Western Europe.
-    Windows1252,
+    Windows1252 = 23,
     /// Windows-1256: the Latin and Arabic alphabets.
-    Windows1256,
+    Windows1256 = 24,
 }
 
 /// How a text is encoded, and whether an ECI designator tells a reader so.
@@ -131,27 +132,7 @@ impl Page {
         ensures at_least { 3 ≤ result }
         ensures at_most { result ≤ 24 }
     {
-        match self {
-            Page::Latin1 => 3,
-            Page::Latin2 => 4,
-            Page::Latin3 => 5,
-            Page::Latin4 => 6,
-            Page::Cyrillic => 7,
-            Page::Arabic => 8,
-            Page::Greek => 9,
-            Page::Hebrew => 10,
-            Page::Latin5 => 11,
-            Page::Latin6 => 12,
-            Page::Thai => 13,
-            Page::Latin7 => 15,
-            Page::Latin8 => 16,
-            Page::Latin9 => 17,
-            Page::Latin10 => 18,
-            Page::Windows1250 => 21,
-            Page::Windows1251 => 22,
-            Page::Windows1252 => 23,
-            Page::Windows1256 => 24,
-        }
+        self as u32
     }
 
     /// Returns the character of `byte`, or `None` if it has none.
@@ -162,12 +143,11 @@ impl Page {
             return Some(char::from(byte));
         }
         let column = usize::from(byte);
-        let code = self.cell(column - 128);
-        if code == 0 {
+        let character = self.cell(column - 128);
+        if character == '\0' {
             return None;
         }
-        let number = u32::from(code);
-        char::from_u32(number)
+        Some(character)
     }
 
     /// Returns the byte of `character`, or `None` if the set lacks the character.
@@ -176,20 +156,19 @@ impl Page {
             ((byte : ℕ) → charsets.character self byte ≢ Some character)
             (λ byte. charsets.character self byte ≡ Some character) }
     {
-        let code = u32::from(character);
-        if code < 128 {
-            return Some(code as u8);
+        if character < '\u{80}' {
+            return Some(character as u8);
         }
         for place in 0..128 {
-            if u32::from(self.cell(place)) == code {
+            if self.cell(place) == character {
                 return Some(128 + place as u8);
             }
         }
         None
     }
 
-    // Returns the character of the byte 128 + `place`, or 0 if it has none.
-    fn cell(self, place: usize) -> u16
+    // Returns the character of the byte 128 + `place`, or U+0000 if it has none.
+    fn cell(self, place: usize) -> char
         requires { place < 128 }
         ensures { result ≡ slice_index (charsets.characters self) place }
     {

@@ -19,62 +19,47 @@ pub(crate) fn code(character: char) -> Option<Code>
     ensures { MatchOption result (¬ Has ShiftJis (character ∷ []))
         (λ code. IsWritten ShiftJis (character ∷ []) (code_bytes code)) }
 {
-    let number = u32::from(character);
-    if number == 0x5c || number == 0x7e {
+    if character == '\\' || character == '~' {
         return None;
     }
-    if number < 128 {
-        return Some(Code::One(number as u8));
+    if character < '\u{80}' {
+        return Some(Code::One(character as u8));
     }
-    match half_width_byte(number) {
-        Some(byte) => Some(Code::One(byte)),
-        None => pair_of(number),
+    match character {
+        '\u{ff61}'..='\u{ff9f}' => Some(Code::One((u32::from(character) - 0xfec0) as u8)),
+        _ => pair_of(character),
     }
 }
 
-// Returns the byte of the half-width character with this number, if it is one.
-fn half_width_byte(number: u32) -> Option<u8>
-    ensures { MatchOption result (¬ ((0xFF61 ≤ number) × (number ≤ 0xFF9F)))
-        (λ b. (0xA1 ≤ b) × ((b ≤ 0xDF) × (number ≡ b + 0xFEC0))) }
-{
-    if number < 0xff61 {
-        return None;
-    }
-    if number > 0xff9f {
-        return None;
-    }
-    Some((number - 0xfec0) as u8)
-}
-
-// Returns the two bytes of the character with this number, which is not 0, if they are its code.
-fn pair_of(number: u32) -> Option<Code>
-    requires { number ≢ 0 }
+// Returns the two bytes of `character`, which is not U+0000, if they are its code.
+fn pair_of(character: char) -> Option<Code>
+    requires { character ≢ 0 }
     ensures { MatchOption result
-        ((b c : ℕ) → IsTrue (is_lead b) → pairs.pair_character b c ≢ Some number)
-        (λ code. shift_jis_characters (code_bytes code) ≡ Some number ∷ []) }
+        ((b c : ℕ) → IsTrue (is_lead b) → pairs.pair_character b c ≢ Some character)
+        (λ code. shift_jis_characters (code_bytes code) ≡ Some character ∷ []) }
 {
     for lead in 0x81..0xeb_u8 {
-        if let Some(trail) = trail_of(lead, number) {
+        if let Some(trail) = trail_of(lead, character) {
             return Some(Code::Two(u16::from_be_bytes([lead, trail])));
         }
     }
     None
 }
 
-// Returns the second byte of the character with this number, which is not 0, after the byte `lead`.
-fn trail_of(lead: u8, number: u32) -> Option<u8>
+// Returns the second byte of `character`, which is not U+0000, after the byte `lead`.
+fn trail_of(lead: u8, character: char) -> Option<u8>
     requires at_least { 0x81 ≤ lead }
     requires at_most { lead ≤ 0xEA }
-    requires some { number ≢ 0 }
+    requires some { character ≢ 0 }
     ensures { MatchOption result
-        ((c : ℕ) → IsTrue (is_lead lead) → pairs.pair_character lead c ≢ Some number)
-        (λ c. IsTrue (is_lead lead) × (pairs.pair_character lead c ≡ Some number)) }
+        ((c : ℕ) → IsTrue (is_lead lead) → pairs.pair_character lead c ≢ Some character)
+        (λ c. IsTrue (is_lead lead) × (pairs.pair_character lead c ≡ Some character)) }
 {
     if !is_lead(lead) {
         return None;
     }
     for place in 0..189 {
-        if u32::from(cell(lead, place)) == number {
+        if cell(lead, place) == character {
             return Some(0x40 + place as u8);
         }
     }
@@ -82,7 +67,7 @@ fn trail_of(lead: u8, number: u32) -> Option<u8>
 }
 
 // Returns the cell at `place` of the row of `lead`.
-fn cell(lead: u8, place: usize) -> u16
+fn cell(lead: u8, place: usize) -> char
     requires lead { IsTrue (is_lead lead) }
     requires at_most { lead ≤ 0xEA }
     requires inside { place < 189 }
@@ -152,12 +137,11 @@ fn pair_character(lead: u8, trail: u8) -> Option<char>
         return None;
     }
     let place = usize::from(trail);
-    let code = cell(lead, place - 0x40);
-    if code == 0 {
+    let character = cell(lead, place - 0x40);
+    if character == '\0' {
         return None;
     }
-    let number = u32::from(code);
-    char::from_u32(number)
+    Some(character)
 }
 
 // Returns bytes in which segments are found in place of `bytes`: 0x81 0xfc for each code of two

@@ -8,6 +8,7 @@ ghost use Rattle.qrcode_charsets.specs.Shortest.{CanShow, IsShortestBoosted, IsS
 use crate::sets::Charset;
 use qrcode::QrCode;
 use qrcode::types::{EcLevel, QrResult, Version};
+use qrcode_bits::bits::highest_level;
 use std::alloc::Global;
 
 mod choice;
@@ -56,7 +57,7 @@ pub fn shortest_boosted(
     ensures refusals { NeedsText sets.now from ec_level text.now result }
 {
     let (version, measured) = choice::choose(alloc, text, sets, from, ec_level)?;
-    let highest = choice::highest_level(version, measured.used, ec_level);
+    let highest = highest_level(version, measured.used, ec_level);
     drawing::symbol_of(alloc, measured, version, highest)
 }
 

@@ -116,8 +116,8 @@ pub fn encode_in(
     encode_chosen(alloc, bytes, manner, ec_level, chosen)
 }
 
-// Returns the highest level at which the version holds `used` bits, as it does at `ec_level`.
-fn highest_level(version: Version, used: usize, ec_level: EcLevel) -> EcLevel
+/// Returns the highest level at which the version holds `used` bits, as it does at `ec_level`.
+pub fn highest_level(version: Version, used: usize, ec_level: EcLevel) -> EcLevel
     requires exists { IsTrue (has_level version ec_level) }
     requires room { used ≤ capacity version ec_level }
     ensures exists { IsTrue (has_level version result) }

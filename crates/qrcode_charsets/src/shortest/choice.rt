@@ -1,8 +1,7 @@
 //! Chooses the version and the set of a text.
 
-ghost use Rattle.std.specs.Prelude.{◌≡◌, ◌<◌, ◌≤◌, ◌↔◌, chars, IfOk, IfErr, IsOkUnless, IsTrue, IsFalse};
-ghost use Rattle.qrcode_types.specs.Versions.{is_valid, has_level, level_number, capacity};
-ghost use Rattle.qrcode_types.specs.declared.types.EcLevel.{EcLevel};
+ghost use Rattle.std.specs.Prelude.{◌≡◌, ◌≤◌, chars, IfOk, IfErr, IsOkUnless, IsTrue, IsFalse};
+ghost use Rattle.qrcode_types.specs.Versions.{is_valid};
 ghost use Rattle.qrcode_types.specs.declared.types.QrError.TheVariants.{OutOfMemory};
 ghost use Rattle.qrcode_bits.specs.Manners as manners;
 ghost use Rattle.qrcode_charsets.specs.Given.{IsRefusedIn};
@@ -122,38 +121,5 @@ fn version_at(place: usize) -> Version
         Version::Micro(place as i16)
     } else {
         Version::Normal(place as i16 - 4)
-    }
-}
-
-// Returns the highest level at which the version holds `used` bits, as it does at `ec_level`.
-pub(super) fn highest_level(version: Version, used: usize, ec_level: EcLevel) -> EcLevel
-    requires exists { IsTrue (has_level version ec_level) }
-    requires room { used ≤ capacity version ec_level }
-    ensures exists { IsTrue (has_level version result) }
-    ensures room { used ≤ capacity version result }
-    ensures at_least { level_number ec_level ≤ level_number result }
-    ensures highest { (level : EcLevel) → level_number result < level_number level
-        → IsTrue (has_level version level) → capacity version level < used }
-{
-    if holds(version, used, EcLevel::H) {
-        return EcLevel::H;
-    }
-    if ec_level.number() < 2 && holds(version, used, EcLevel::Q) {
-        return EcLevel::Q;
-    }
-    if ec_level.number() < 1 && holds(version, used, EcLevel::M) {
-        return EcLevel::M;
-    }
-    ec_level
-}
-
-// Returns whether the version has the level and holds `used` bits at it.
-fn holds(version: Version, used: usize, ec_level: EcLevel) -> bool
-    ensures { IsTrue result
-        ↔ (IsTrue (has_level version ec_level) × (used ≤ capacity version ec_level)) }
-{
-    match tables::capacity(version, ec_level) {
-        Some(room) => used <= room,
-        None => false,
     }
 }

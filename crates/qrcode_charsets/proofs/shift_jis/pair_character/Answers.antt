@@ -1,6 +1,6 @@
 use Rattle.std.proofs.Common.{◌≡◌, ◌-◌, ap, ◌∙◌, arith, inl, inr}
 use Rattle.std.specs.Prelude.{slice_index}
-use Rattle.qrcode_charsets.specs.ShiftJis.{pair_row, pair_cell}
+use Rattle.qrcode_charsets.specs.ShiftJis.{pair_row}
 use Rattle.qrcode_charsets.proofs.PairTable.{none_beyond, pair_read}
 use Rattle.qrcode_charsets.proofs.shift_jis.pair_character.Goals as goal
 
@@ -16,5 +16,4 @@ returns c =
     let b = c.args.lead in
     let t = c.args.trail in
     let place : c.from-place.result - 0x40 ≡ t - 0x40 = omega arith in
-    let cell : c.cell-code.result ≡ pair_cell b t = c.cell-code.ensures ∙ ap (slice_index (pair_row b)) place in
-    pair_read b t c.cell-code.result c.from-number.result c.from_u32.result (omega arith) cell c.if-code-eq0.false (omega arith) c.from_u32.ensures.value c.from_u32.ensures.succeeds
+    pair_read b t c.cell-character.result (omega arith) (c.cell-character.ensures ∙ ap (slice_index (pair_row b)) place) c.if-character-eq0.false

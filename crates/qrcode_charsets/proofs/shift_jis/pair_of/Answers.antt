@@ -8,5 +8,5 @@ returns c = λ b d lead is.
     let small : b ≤ 0xEB = elim (lead_range b lead) [ inl low ↦ omega (arith, low.1) | inr high ↦ high.1 ] in
     elim (cases_lt b 0xEB) [
       | inl below ↦ c.loop-lead.invariant b d (omega (arith, below, c.loop-lead-test.false)) lead is
-      | inr top ↦ no_row b d c.args.number is (omega (arith, small, top))
+      | inr top ↦ no_row b d c.args.character is (omega (arith, small, top))
     ]
