@@ -1,5 +1,5 @@
 -- The fewest symbols in a range of versions.
-use Rattle.std.proofs.Common.{◌≡◌, ℕ, ◌-◌, ◌<◌, ◌≤◌, pos, List, length, refl, sym, ap, subst, arith, inl, inr, Option, Some, None, w16, to_z, IsTrue}
+use Rattle.std.proofs.Common.{◌≡◌, ◌⊎◌, ℕ, ◌-◌, ◌<◌, ◌≤◌, pos, List, length, refl, sym, ap, subst, arith, inl, inr, Option, Some, None, w16, to_z, IsTrue}
 use Rattle.std.specs.Prelude.{MatchOption}
 use Rattle.std.proofs.lemmas.Bool.{cases_lt}
 use Rattle.std.proofs.lemmas.Int.{to_z_pos}
@@ -7,6 +7,7 @@ use Rattle.qrcode_types.specs.Versions.{has_level}
 use Rattle.qrcode_types.specs.declared.types.Version.TheVariants.{Normal}
 use Rattle.qrcode_types.specs.declared.types.EcLevel.{EcLevel}
 use Rattle.qrcode_types.specs.declared.types.QrError.{QrError}
+use Rattle.qrcode_types.specs.declared.types.QrError.TheVariants.{DataTooLong, OutOfMemory}
 use Rattle.qrcode_bits.specs.StructuredAppend.{parity}
 use Rattle.qrcode_bits.specs.declared.bits.manner.Manner.{Manner}
 use Rattle.qrcode_bits.proofs.Bands.{normal_level, normal_number}
@@ -16,7 +17,7 @@ use Rattle.qrcode_append.specs.Fewest.{IsAmong, IsLeastAmong, AreCounted, AreFew
 use Rattle.qrcode_append.specs.Reading.{EachAt}
 use Rattle.qrcode_append.specs.Symbols.{HoldSeveral, IsPartSymbol, AreRefused}
 use Rattle.qrcode_append.specs.declared.choice.Versions.{Versions}
-use Rattle.qrcode_append.proofs.Parts.{parted_of, several_of}
+use Rattle.qrcode_append.proofs.Parts.{parted_of}
 
 -- a version by its number
 pub version_is : (n : ℕ) → n ≤ 40 → Normal (to_z w16 n) ≡ Normal (pos n)
@@ -47,18 +48,16 @@ counted_of m vs l bytes count number codes least is symbols =
     record { counted = is; number = number; least_version = least; symbols = parted_of m (Normal (pos number)) l bytes count codes least.holds is own }
 
 -- and they are the fewest, if no smaller count of any version holds the data
-pub fewest_of : (m : Manner) (vs : Versions) (l : EcLevel) (bytes : List ℕ) (count number : ℕ) (codes : List Code) → IsLeastAmong m vs l bytes count number
-    → ((k n : ℕ) → k < count → IsAmong vs n → ¬ HoldSeveral m (Normal (pos n)) l bytes k) → length codes ≡ count
-    → EachAt (λ place. IsPartSymbol m (Normal (to_z w16 number)) l place (count - 1) (parity bytes) (part m bytes count place)) codes → AreFewest m vs l bytes codes
-fewest_of m vs l bytes count number codes least none is symbols =
-    let v = Normal (pos number) in
-    let own : EachAt (λ place. IsPartSymbol m v l place (count - 1) (parity bytes) (part m bytes count place)) codes =
-    subst (λ u. EachAt (λ place. IsPartSymbol m u l place (count - 1) (parity bytes) (part m bytes count place)) codes) (version_is number (normal_number number l least.holds.exists).1) symbols in
+pub fewest_of : (m : Manner) (vs : Versions) (l : EcLevel) (bytes : List ℕ) (count : ℕ) (codes : List Code) → AreCounted m vs l bytes count codes
+    → ((k n : ℕ) → k < count → IsAmong vs n → ¬ HoldSeveral m (Normal (pos n)) l bytes k) → AreFewest m vs l bytes codes
+fewest_of m vs l bytes count codes made none =
+    let fewest : (n k : ℕ) → IsAmong vs n → HoldSeveral m (Normal (pos n)) l bytes k → length codes ≤ k = λ n k among held.
+    elim (cases_lt k count) [ inl below ↦ absurd (none k n below among held) | inr above ↦ omega (arith, above, made.counted) ] in
     record {
-      number = number;
-      least_version = subst (λ k. IsLeastAmong m vs l bytes k number) (sym is) least;
-      fewest = λ n k among held. elim (cases_lt k count) [ inl below ↦ absurd (none k n below among held) | inr above ↦ omega (arith, above, is) ];
-      symbols = several_of m v l bytes count codes least.holds (λ k below held. none k number below least.among held) is own;
+      number = made.number;
+      least_version = subst (λ k. IsLeastAmong m vs l bytes k made.number) (sym made.counted) made.least_version;
+      fewest = fewest;
+      symbols = record { parted = made.symbols; fewest = λ k held. fewest made.number k made.least_version.among held };
     }
 
 -- if the search for `count` symbols returns a number, it is the smallest
@@ -69,6 +68,11 @@ least_held m vs l bytes count n o is found = subst (λ o. MatchOption o ((n : �
 pub none_held : (m : Manner) (vs : Versions) (l : EcLevel) (bytes : List ℕ) (count : ℕ) (o : Option ℕ) → o ≡ None
     → MatchOption o ((n : ℕ) → IsAmong vs n → ¬ HoldSeveral m (Normal (pos n)) l bytes count) (IsLeastAmong m vs l bytes count) → (n : ℕ) → IsAmong vs n → ¬ HoldSeveral m (Normal (pos n)) l bytes count
 none_held m vs l bytes count o is found = subst (λ o. MatchOption o ((n : ℕ) → IsAmong vs n → ¬ HoldSeveral m (Normal (pos n)) l bytes count) (IsLeastAmong m vs l bytes count)) is found
+
+-- a call for a number of symbols that fails as too long says so of it
+pub none_counted : {P : Type 0} (e : QrError) → e ≡ DataTooLong → (e ≡ OutOfMemory) ⊎ ((e ≡ DataTooLong) × P) → P
+none_counted e is (inl memory) = cc
+none_counted e is (inr counted) = counted.1
 
 -- why a range of one version does not hold the data
 pub one_refused : (m : Manner) (n : ℕ) (l : EcLevel) (bytes : List ℕ) (e : QrError) → AreNotHeld m (record { least = n; greatest = n }) l bytes e → AreRefused m (Normal (pos n)) l bytes e

@@ -1,7 +1,6 @@
 -- The list of bits of a part, and its symbol.
-use Rattle.std.proofs.Common.{◌≡◌, ℕ, suc, ◌+◌, ◌-◌, ◌*◌, ◌<◌, ◌≤◌, ◌++◌, Bool, false, List, [], ◌∷◌, length, refl, sym, ap, subst, ◌∙◌, arith, inl, inr, Some, None, Result, Ok, Err, IfOk, IsTrue, length-append, append_assoc, if◌then◌else◌}
+use Rattle.std.proofs.Common.{◌≡◌, ℕ, suc, ◌+◌, ◌-◌, ◌*◌, ◌<◌, ◌≤◌, ◌++◌, Bool, false, List, [], ◌∷◌, length, refl, sym, ap, subst, ◌∙◌, arith, inl, Some, None, Result, Ok, Err, IfOk, IsTrue, length-append, append_assoc, if◌then◌else◌}
 use Rattle.std.specs.Prelude.{chars, IsUtf8}
-use Rattle.std.proofs.lemmas.Bool.{cases_lt}
 use Rattle.std.proofs.lemmas.List.{append_cancel_left}
 use Rattle.std.proofs.lemmas.List.Sums.{count_by-le-length}
 use Rattle.qrcode_types.specs.Characters.{is_digit}
@@ -34,7 +33,7 @@ use Rattle.qrcode.specs.Reading.{EncodesBits}
 use Rattle.qrcode.proofs.Readings.{bits_are_read_one_way}
 use Rattle.qrcode_append.specs.Division.{part}
 use Rattle.qrcode_append.specs.Reading.{EachAt, ShowsPartOnly}
-use Rattle.qrcode_append.specs.Symbols.{front_length, PartFits, HoldSeveral, IsPartList, IsPartSymbol, AreParted, AreSeveral}
+use Rattle.qrcode_append.specs.Symbols.{front_length, PartFits, HoldSeveral, IsPartList, IsPartSymbol, AreParted}
 use Rattle.qrcode_append.proofs.Borders.{parts_joined, part_text}
 use Rattle.qrcode_append.proofs.Fronts.{length-header, length-front}
 use Rattle.qrcode_append.proofs.Together.{together}
@@ -150,14 +149,6 @@ parted_of m v l bytes count codes held is symbols =
       read = λ squares same each. together m bytes (length codes) squares some same each;
       characters = λ text u place inside. part_text m bytes (length codes) place text u inside;
     }
-
--- and of the smallest such count
-pub several_of : (m : Manner) (v : Version) (l : EcLevel) (bytes : List ℕ) (count : ℕ) (codes : List Code) → HoldSeveral m v l bytes count → ((n : ℕ) → n < count → ¬ HoldSeveral m v l bytes n)
-    → length codes ≡ count → EachAt (λ place. IsPartSymbol m v l place (count - 1) (parity bytes) (part m bytes count place)) codes → AreSeveral m v l bytes codes
-several_of m v l bytes count codes held none is symbols = record {
-  parted = parted_of m v l bytes count codes held is symbols;
-  fewest = λ n other. elim (cases_lt n count) [ inl below ↦ absurd (none n below other) | inr above ↦ omega (arith, above, is) ];
-}
 
 pub pair_ok : {T : Type 0} {P Q R : T → Type 0} (r : Result T QrError) → ((x : T) → P x → Q x → R x) → IfOk r P → IfOk r Q → IfOk r R
 pair_ok (Ok x) f p q = f x p q

@@ -9,6 +9,7 @@ use Rattle.std.proofs.lemmas.Option.{none-some}
 use Rattle.std.proofs.lemmas.List.{append-nil, take-append-drop}
 use Rattle.std.proofs.lemmas.List.Elements.{filter-append}
 use Rattle.std.proofs.lemmas.List.Filters.{length-filter_more}
+use Rattle.std.proofs.lemmas.Bool.{eqb-true}
 use Rattle.qrcode_bits.specs.StructuredAppend.{parity}
 use Rattle.qrcode_append.specs.declared.errors.JoinError.{JoinError}
 use Rattle.qrcode_append.specs.declared.errors.JoinError.TheVariants.{Stranger, Missing, Twice, Parity, OutOfMemory}
@@ -41,10 +42,6 @@ two_at parts i k d inside one is =
     let long = length-append (parts_at (take (i + 1) parts) k) (parts_at (drop (i + 1) parts) k) in
     omega (arith, more, here, one, all, parted, long)
 
--- an equation that a test decides
-equal : (a b : ℕ) → (a == b) ≡ true → a ≡ b
-equal a b is = grind (arith, nat_tests)
-
 -- what holds of all parts holds of those with one place
 all_at : (Q : Part → Type 0) (k : ℕ) (parts : List Part) → AllByRecursion Q parts → AllByRecursion (λ p. Q p × ((p.place == k) ≡ true)) (parts_at parts k)
 all_at Q k [] a = tt
@@ -58,7 +55,7 @@ all_at Q k (p ∷ parts) a = by_test (all_at Q k parts a.1) (p.place == k) refl 
 only_at : (bytes : List ℕ) (count : ℕ) (part : ℕ → List ℕ) (k : ℕ) (ps : List Part) → length ps ≡ 1 → AllByRecursion (λ p. IsShare bytes count part p × ((p.place == k) ≡ true)) ps
     → flat_map (λ p. p.bytes.now) ps ≡ part k
 only_at bytes count part k [] one a = absurd (omega (arith, one))
-only_at bytes count part k (p ∷ []) one a = append-nil p.bytes.now ∙ a.0.0.own ∙ ap part (equal p.place k a.0.1)
+only_at bytes count part k (p ∷ []) one a = append-nil p.bytes.now ∙ a.0.0.own ∙ ap part (eqb-true p.place k a.0.1)
 only_at bytes count part k (p ∷ q ∷ ps) one a = absurd (omega (arith, one))
 
 -- two functions that agree on a range

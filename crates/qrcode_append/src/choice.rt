@@ -73,13 +73,9 @@ pub fn encode_among(
         return Err(QrError::DataTooLong);
     }
     for count in 1..17 {
-        if let Some(number) = least_number(alloc, bytes, manner, versions, ec_level, count)? {
-            let wanted = Wanted {
-                manner,
-                version: Version::Normal(number as i16),
-                ec_level,
-            };
-            return symbols(alloc, bytes, wanted, count);
+        match encode_counted(alloc, bytes, manner, versions, ec_level, count) {
+            Err(QrError::DataTooLong) => {}
+            made => return made,
         }
     }
     Err(QrError::DataTooLong)
