@@ -1,8 +1,9 @@
 -- Texts of values that pass their checks.
-use Rattle.std.proofs.Common.{◌≡◌, ℕ, List, Option, Some, None, Result, Ok, Err, [], ◌∷◌, Bool, true, false, nat_lt, length, if◌then◌else◌, inl, inr, subst, sym, refl}
+use Rattle.std.proofs.Common.{◌≡◌, ℕ, List, Option, Some, None, Result, Ok, Err, [], ◌∷◌, Bool, true, false, nat_lt, length, if◌then◌else◌, inl, inr, subst, sym, refl, arith}
 use Rattle.std.specs.Prelude.{string_bytes, IfOk, OnOk, IsOkUnless}
 use Rattle.std.specs.declared.string.String.{String}
 use Rattle.std.specs.declared.alloc.Global.{Global}
+use Rattle.std.proofs.lemmas.Bool.Decides.{nat_tests}
 use Rattle.qrcode_contents.specs.declared.fields.errors.Field.{Field}
 use Rattle.qrcode_contents.specs.declared.fields.errors.Cause.{Cause}
 use Rattle.qrcode_contents.specs.declared.fields.errors.ContentError.{ContentError}
@@ -11,8 +12,7 @@ use Rattle.qrcode_contents.specs.fields.Refusals.{Answers, checked, refused_if, 
 
 -- a check that passes has no error
 pub checked_none : (refusal : Option ContentError) (r : Result (Unit {0}) ContentError) (x : Unit {0}) → r ≡ checked refusal → r ≡ Ok x → refusal ≡ None
-checked_none None r x is ok = refl
-checked_none (Some e) r x is ok = cc
+checked_none refusal r x h k = grind (arith, nat_tests)
 
 -- a text that is written if a check passes
 pub answered : (refusal : Option ContentError) (check : Result (Unit {0}) ContentError) (x : Unit {0}) → check ≡ checked refusal → check ≡ Ok x → (r : Result (String Global) ContentError) (text : List ℕ) (P : List ℕ → Type 0) → IfOk r (λ t. string_bytes t ≡ text) → IsOkUnless r OutOfMemory → (refusal ≡ None → P text) → Answers refusal r P

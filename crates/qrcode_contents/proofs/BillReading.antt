@@ -9,7 +9,6 @@ use Rattle.qrcode_contents.specs.declared.fields.errors.ContentError.{ContentErr
 use Rattle.qrcode_contents.specs.declared.fields.errors.Field.TheVariants.{Iban, Name, Street, Number, PostalCode, City, Country, Amount, Reference, Message}
 use Rattle.qrcode_contents.specs.declared.fields.errors.Cause.TheVariants.{Character, Range}
 use Rattle.qrcode_contents.specs.declared.bill.Currency.{Currency}
-use Rattle.qrcode_contents.specs.declared.bill.Currency.TheVariants.{Franc, Euro}
 use Rattle.qrcode_contents.specs.fields.Amounts.{amount_text}
 use Rattle.qrcode_contents.specs.Bill.{Addressee, Invoice, has_disallowed, is_creditor_reference, reference_kind, text_checks, text_refusal, of_debtor, named_refusal, is_nobody, party_refusal, debtor_refusal, is_out_of_range, account_checks, account_refusal, message_checks, message_refusal, bill_checks, bill_refusal, currency_name, address_kind, address_lines, unused_lines, amount_line, end_lines, bill_lines, bill_text, read_cents, read_currency, invoice_in, read_bill}
 use Rattle.qrcode_contents.specs.fields.Characters.{is_control}
@@ -19,64 +18,39 @@ use Rattle.qrcode_contents.specs.fields.Refusals.{checked, first_refusal}
 use Rattle.qrcode_contents.proofs.AmountReading.{amount_read, amount_short, HasNoFeed-amount}
 use Rattle.qrcode_contents.proofs.Answering.{checked_none}
 use Rattle.qrcode_contents.proofs.EntryReading.{neither}
-use Rattle.qrcode_contents.proofs.LineReading.{HasNoFeed, HaveNoFeeds, HasNoFeed-from_control, lines_read}
+use Rattle.qrcode_contents.proofs.LineReading.{HasNoFeed, HaveNoFeeds, HaveNoFeeds-append, HasNoFeed-from_control, lines_read}
 use Rattle.qrcode_contents.proofs.Passing.{all_pass, test_passes}
 
 -- a text with only allowed characters has no line feed
 said : (text : List ℕ) → has_disallowed text ≡ false → HasNoFeed text
 said text is = HasNoFeed-from_control text (neither (list_any is_control text) _ is).0
 
--- an address whose lines have no line feeds
-record AreLines (p : Addressee) : Type 0 where
-  name : HasNoFeed p.name
-  street : HasNoFeed p.street
-  number : HasNoFeed p.number
-  code : HasNoFeed p.code
-  city : HasNoFeed p.city
-  country : HasNoFeed p.country
-
-address_said : (p : Addressee) → text_refusal p ≡ None → AreLines p
-unfolding text_refusal
-address_said p is =
-    let none = all_pass (text_checks p) is in
-    record {
-      name = said p.name (test_passes (has_disallowed p.name) Name Character none.0);
-      street = said p.street (test_passes (has_disallowed p.street) Street Character none.1.0);
-      number = said p.number (test_passes (has_disallowed p.number) Number Character none.1.1.0);
-      code = said p.code (test_passes (has_disallowed p.code) PostalCode Character none.1.1.1.0);
-      city = said p.city (test_passes (has_disallowed p.city) City Character none.1.1.1.1.0);
-      country = said p.country (test_passes (has_disallowed p.country) Country Character none.1.1.1.1.1.0);
-    }
-
 not_of_debtor : (o : Option ContentError) → option_map of_debtor o ≡ None → o ≡ None
-not_of_debtor None is = refl
-not_of_debtor (Some e) is = cc
+not_of_debtor o h = grind (arith, nat_tests)
 
 kind_plain : (p : Addressee) (nobody : Bool) → is_nobody p ≡ nobody → HasNoFeed (address_kind p)
-kind_plain p true is = rw is refl
-kind_plain p false is = rw is refl
+kind_plain p nobody h = grind (arith, nat_tests)
+
+-- the lines of an address whose texts pass have no line feeds
+address_plain : (p : Addressee) → text_refusal p ≡ None → HaveNoFeeds (address_lines p)
+unfolding text_refusal
+address_plain p is =
+    let none = all_pass (text_checks p) is in (kind_plain p (is_nobody p) refl, (said p.name (test_passes (has_disallowed p.name) Name Character none.0), (said p.street (test_passes (has_disallowed p.street) Street Character none.1.0), (said p.number (test_passes (has_disallowed p.number) Number Character none.1.1.0), (said p.code (test_passes (has_disallowed p.code) PostalCode Character none.1.1.1.0), (said p.city (test_passes (has_disallowed p.city) City Character none.1.1.1.1.0), (said p.country (test_passes (has_disallowed p.country) Country Character none.1.1.1.1.1.0), tt)))))))
 
 kind_named : (p : Addressee) (nobody : Bool) → is_nobody p ≡ nobody → bytes_eq (address_kind p) (address_kind p) ≡ true
-kind_named p true is = rw is refl
-kind_named p false is = rw is refl
+kind_named p nobody h = grind (arith, nat_tests)
 
 reference_plain : (r : List ℕ) (a b : Bool) → is_filled r ≡ a → is_creditor_reference r ≡ b → HasNoFeed (reference_kind r)
-reference_plain r false b is kind = rw is refl
-reference_plain r true true is kind = rw (is, kind) refl
-reference_plain r true false is kind = rw (is, kind) refl
+reference_plain r a b h k = grind (arith, nat_tests)
 
 reference_named : (r : List ℕ) (a b : Bool) → is_filled r ≡ a → is_creditor_reference r ≡ b → bytes_eq (reference_kind r) (reference_kind r) ≡ true
-reference_named r false b is kind = rw is refl
-reference_named r true true is kind = rw (is, kind) refl
-reference_named r true false is kind = rw (is, kind) refl
+reference_named r a b h k = grind (arith, nat_tests)
 
 currency_plain : (c : Currency) → HasNoFeed (currency_name c)
-currency_plain Franc = refl
-currency_plain Euro = refl
+currency_plain c = grind (arith, nat_tests)
 
 currency_read : (c : Currency) → read_currency (currency_name c) ≡ Some c
-currency_read Franc = refl
-currency_read Euro = refl
+currency_read c = grind (arith, nat_tests)
 
 pub amount_below : (n : ℕ) → (nat_lt n 1 || nat_lt 99999999999 n) ≡ false → n < 2 ^ 64
 amount_below n is =
@@ -112,8 +86,8 @@ cents_read (Some n) is =
 record AreBillLines (b : Invoice) : Type 0 where
   iban : HasNoFeed b.iban
   cents : is_out_of_range b.cents ≡ false
-  creditor : AreLines b.creditor
-  debtor : AreLines b.debtor
+  creditor : HaveNoFeeds (address_lines b.creditor)
+  debtor : HaveNoFeeds (address_lines b.debtor)
   reference : HasNoFeed b.reference
   message : HasNoFeed b.message
 
@@ -127,8 +101,8 @@ bill_said b is =
     record {
       iban = said b.iban (test_passes (has_disallowed b.iban) Iban Character account.0);
       cents = test_passes (is_out_of_range b.cents) Amount Range account.1.1.1.1.1.1.0;
-      creditor = address_said b.creditor none.1.0;
-      debtor = address_said b.debtor debtor.0;
+      creditor = address_plain b.creditor none.1.0;
+      debtor = address_plain b.debtor debtor.0;
       reference = said b.reference (test_passes (has_disallowed b.reference) Reference Character message.0);
       message = said b.message (test_passes (has_disallowed b.message) Message Character message.1.0);
     }
@@ -142,92 +116,11 @@ tail_of b =
 -- no line of the text has a line feed
 lines_plain : (b : Invoice) → AreBillLines b → HaveNoFeeds (bill_lines b)
 lines_plain b are =
-    let c = are.creditor in
-    let d = are.debtor in
-    let kind = kind_plain b.creditor (is_nobody b.creditor) refl in
-    let debtor_kind = kind_plain b.debtor (is_nobody b.debtor) refl in
-    let reference = reference_plain b.reference (is_filled b.reference) (is_creditor_reference b.reference) refl refl in (
-      refl,
-      (
-        refl,
-        (
-          refl,
-          (
-            are.iban,
-            (
-              kind,
-              (
-                c.name,
-                (
-                  c.street,
-                  (
-                    c.number,
-                    (
-                      c.code,
-                      (
-                        c.city,
-                        (
-                          c.country,
-                          (
-                            refl,
-                            (
-                              refl,
-                              (
-                                refl,
-                                (
-                                  refl,
-                                  (
-                                    refl,
-                                    (
-                                      refl,
-                                      (
-                                        refl,
-                                        (
-                                          amount_plain b.cents are.cents,
-                                          (
-                                            currency_plain b.currency,
-                                            (
-                                              debtor_kind,
-                                              (
-                                                d.name,
-                                                (
-                                                  d.street,
-                                                  (
-                                                    d.number,
-                                                    (
-                                                      d.code,
-                                                      (
-                                                        d.city,
-                                                        (
-                                                          d.country,
-                                                          (reference, (are.reference, (are.message, (refl, tt)))),
-                                                        ),
-                                                      ),
-                                                    ),
-                                                  ),
-                                                ),
-                                              ),
-                                            ),
-                                          ),
-                                        ),
-                                      ),
-                                    ),
-                                  ),
-                                ),
-                              ),
-                            ),
-                          ),
-                        ),
-                      ),
-                    ),
-                  ),
-                ),
-              ),
-            ),
-          ),
-        ),
-      ),
-    )
+    let reference = reference_plain b.reference (is_filled b.reference) (is_creditor_reference b.reference) refl refl in
+    let ends : HaveNoFeeds (end_lines b) = (reference, (are.reference, (are.message, (refl, tt)))) in
+    let later = amount_line b.cents ∷ currency_name b.currency ∷ (address_lines b.debtor ++ end_lines b) in
+    let plain : HaveNoFeeds later = (amount_plain b.cents are.cents, (currency_plain b.currency, HaveNoFeeds-append (address_lines b.debtor) (end_lines b) are.debtor ends)) in
+    (refl, (refl, (refl, (are.iban, HaveNoFeeds-append (address_lines b.creditor) (unused_lines ++ later) are.creditor (refl, (refl, (refl, (refl, (refl, (refl, (refl, plain)))))))))))
 
 -- the lines give the bill
 lines_say : (b : Invoice) → AreBillLines b → invoice_in (line_at (bill_lines b)) ≡ Some b

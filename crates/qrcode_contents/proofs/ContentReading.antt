@@ -1,10 +1,11 @@
 -- Content lines are read back.
-use Rattle.std.proofs.Common.{◌≡◌, ℕ, zero, suc, nat_lt, ◌+◌, ◌==◌, ◌||◌, not, List, [], ◌∷◌, ◌++◌, Bool, true, false, map, filter, refl, ap, ap₂, ◌∙◌, append_assoc, All, if◌then◌else◌}
+use Rattle.std.proofs.Common.{◌≡◌, ℕ, zero, suc, nat_lt, ◌+◌, ◌==◌, ◌||◌, not, List, [], ◌∷◌, ◌++◌, Bool, true, false, map, filter, refl, ap, ap₂, ◌∙◌, append_assoc, All, if◌then◌else◌, arith}
 use Rattle.std.specs.Prelude.{slice_index_or}
 use Rattle.std.specs.Str.{bytes_eq, continuation_len}
 use Rattle.std.specs.List.{list_any, slice_split}
 use Rattle.std.proofs.lemmas.List.Elements.{All-nil, All-cons}
 use Rattle.std.proofs.lemmas.List.Splits.{slice_split_at}
+use Rattle.std.proofs.lemmas.Bool.Decides.{nat_tests}
 use Rattle.qrcode_contents.specs.fields.ContentLines.{fold_break, next_column, folded_from, line_text, content_text, unfolded, read_content}
 use Rattle.qrcode_contents.specs.fields.Entries.{Entry, single, is_filled, filled, value_of}
 use Rattle.qrcode_contents.specs.fields.EntryTests.{are_distinct}
@@ -22,8 +23,7 @@ kept_octet b (x ∷ y ∷ rest) is = rw is refl
 
 break_dropped : (column width : ℕ) (rest : List ℕ) (long : Bool) → nat_lt 75 (column + width) ≡ long → unfolded (fold_break column width ++ rest) ≡ unfolded rest
 unfolding unfolded
-break_dropped column width rest true is = rw is refl
-break_dropped column width rest false is = rw is refl
+break_dropped column width rest long h = grind (arith, nat_tests)
 
 -- a folded line is unfolded
 unfolded-folded : (left column : ℕ) (bytes rest : List ℕ) → HasNo 13 bytes → unfolded (folded_from left column bytes ++ rest) ≡ bytes ++ unfolded rest

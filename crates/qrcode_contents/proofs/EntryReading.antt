@@ -3,7 +3,7 @@ use Rattle.std.proofs.Common.{◌≡◌, ℕ, zero, suc, ◌==◌, ◌&&◌, ◌
 use Rattle.std.specs.List.{list_any, flat_map}
 use Rattle.std.specs.Str.{bytes_eq}
 use Rattle.std.specs.Cmp.Lexicographic.{same_text}
-use Rattle.std.proofs.lemmas.Bool.{eq-eqb, cond-true, cond-false}
+use Rattle.std.proofs.lemmas.Bool.{eq-eqb, cond-true, cond-false, and_parts, not-true}
 use Rattle.std.proofs.lemmas.Bool.Decides.{nat_tests}
 use Rattle.std.specs.Option.{option_map, option_and_then}
 use Rattle.qrcode_contents.specs.declared.fields.escapes.Escapes.{Escapes}
@@ -22,30 +22,18 @@ marked_text-empty key parts is = rw is refl
 marked_text-filled : (key : List ℕ) (parts : List (List ℕ)) → list_any is_filled parts ≡ true → marked_text (key, parts) ≡ entry_text Marks 44 (key, parts) ++ 59 ∷ []
 marked_text-filled key parts is = rw is refl
 
--- if `a && b` holds, both do
-pub both : (a b : Bool) → (a && b) ≡ true → (a ≡ true) × (b ≡ true)
-both true b is = (refl, is)
-both false b is = cc
-
--- if `not a` holds, a fails
-pub denied : (a : Bool) → not a ≡ true → a ≡ false
-denied true is = cc
-denied false is = refl
-
 -- if `not a` fails, a holds
 pub holds : (a : Bool) → not a ≡ false → a ≡ true
-holds true is = refl
-holds false is = cc
+holds a h = grind (arith, nat_tests)
 
 -- if a holds but not `a && b`, b fails
 pub second_fails : (a b : Bool) → a ≡ true → (a && b) ≡ false → b ≡ false
 second_fails true b is none = none
 second_fails false b is none = cc
 
--- if `a || b` fails, both do
+-- if `a || b` fails, and_parts do
 pub neither : (a b : Bool) → (a || b) ≡ false → (a ≡ false) × (b ≡ false)
-neither true b is = cc
-neither false b is = (refl, is)
+neither a b h = grind (arith, nat_tests)
 
 -- the bytes have no c
 abbrev pub HasNo : ℕ → List ℕ → Type 0
@@ -86,10 +74,10 @@ record EndsNothing (b : ℕ) : Type 0 where
 
 ends_nothing : (b : ℕ) (key : List ℕ) → is_key (b ∷ key) ≡ true → EndsNothing b × (is_key key ≡ true)
 ends_nothing b key is =
-    let parts = both (not (b == 92) && not (b == 58) && not (b == 59)) _ is in
-    let marks = both (not (b == 92) && not (b == 58)) _ parts.0 in
-    let first = both (not (b == 92)) _ marks.0 in
-    (record { no_backslash = denied _ first.0; no_colon = denied _ first.1; no_semicolon = denied _ marks.1 }, parts.1)
+    let parts = and_parts (not (b == 92) && not (b == 58) && not (b == 59)) _ is in
+    let marks = and_parts (not (b == 92) && not (b == 58)) _ parts.0 in
+    let first = and_parts (not (b == 92)) _ marks.0 in
+    (record { no_backslash = not-true _ first.0; no_colon = not-true _ first.1; no_semicolon = not-true _ marks.1 }, parts.1)
 
 -- the parts after the first end at the semicolon
 IsPiece-later : (parts : List (List ℕ)) → IsPiece 59 (flat_map (λ later. 44 ∷ escaped Marks later) parts)
@@ -154,12 +142,12 @@ entry_or_not key part parts entries false is key_is later =
 pub entries_read : (entries : List Entry) → are_entries entries ≡ true → read_until_empty (pieces 59 (flat_map marked_text entries ++ 59 ∷ [])) ≡ Some (filled entries)
 entries_read [] are = ap read_until_empty ((IsPiece-nil 59 semicolon_escaped).before [])
 entries_read ((key, []) ∷ entries) are =
-    let tests = both (is_key key && false) _ are in
-    let no_part = (both (is_key key) false tests.0).1 in
+    let tests = and_parts (is_key key && false) _ are in
+    let no_part = (and_parts (is_key key) false tests.0).1 in
     cc
 entries_read ((key, part ∷ parts) ∷ entries) are =
-    let tests = both (is_key key && true) _ are in
-    let key_is = (both (is_key key) true tests.0).0 in
+    let tests = and_parts (is_key key && true) _ are in
+    let key_is = (and_parts (is_key key) true tests.0).0 in
     entry_or_not key part parts entries (list_any is_filled (part ∷ parts)) refl key_is (entries_read entries tests.1)
 
 -- the bytes after a start
@@ -201,5 +189,5 @@ part_or_not key i entry entries false false says is others later = rw (says, is)
 pub part_of-filled : (key : List ℕ) (i : ℕ) (entries : List Entry) → are_distinct entries ≡ true → part_of key i (filled entries) ≡ part_of key i entries
 part_of-filled key i [] are = refl
 part_of-filled key i (entry ∷ entries) are =
-    let tests = both _ _ are in
-    part_or_not key i entry entries _ _ refl refl (denied _ tests.0) (part_of-filled key i entries tests.1)
+    let tests = and_parts _ _ are in
+    part_or_not key i entry entries _ _ refl refl (not-true _ tests.0) (part_of-filled key i entries tests.1)

@@ -6,7 +6,6 @@ use Rattle.std.proofs.lemmas.List.Concat.{flat_map-append}
 use Rattle.std.proofs.lemmas.List.Elements.{All-head, All-tail, All-from_get_or}
 use Rattle.std.proofs.lemmas.Str.{encode_ascii, encodes-append, inside_one}
 use Rattle.qrcode_contents.specs.declared.fields.escapes.Escapes.{Escapes}
-use Rattle.qrcode_contents.specs.declared.fields.escapes.Escapes.TheVariants.{Marks, Lines}
 use Rattle.qrcode_contents.specs.fields.Escapes.{letter_of, with_letter, escaped}
 
 -- two texts are escaped one after the other
@@ -16,8 +15,7 @@ escaped-append e xs ys = flat_map-append (λ b. with_letter b (letter_of e b)) x
 
 -- a byte outside ASCII needs no escape
 no_letter : (e : Escapes) (b : ℕ) → 128 ≤ b → letter_of e b ≡ None
-no_letter Marks b high = grind (arith, nat_tests)
-no_letter Lines b high = grind (arith, nat_tests)
+no_letter e b h = grind (arith, nat_tests)
 
 escaped_high : (e : Escapes) (bs : List ℕ) → All (λ b. 128 ≤ b) bs → escaped e bs ≡ bs
 unfolding escaped

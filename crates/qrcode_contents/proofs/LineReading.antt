@@ -28,6 +28,10 @@ HaveNoFeeds-take zero lines have = tt
 HaveNoFeeds-take (suc n) [] have = tt
 HaveNoFeeds-take (suc n) (line ∷ lines) have = (have.0, HaveNoFeeds-take n lines have.1)
 
+pub HaveNoFeeds-append : (lines others : List (List ℕ)) → HaveNoFeeds lines → HaveNoFeeds others → HaveNoFeeds (lines ++ others)
+HaveNoFeeds-append [] others have more = more
+HaveNoFeeds-append (line ∷ lines) others have more = (have.0, HaveNoFeeds-append lines others have.1 more)
+
 no_feed : (b : ℕ) → is_control b ≡ false → is_feed b ≡ false
 no_feed b is = grind (arith, nat_tests)
 

@@ -6,6 +6,7 @@ use Rattle.std.proofs.lemmas.Bool.Decides.{nat_tests}
 use Rattle.std.proofs.lemmas.List.Elements.{All-nil, All-cons}
 use Rattle.std.proofs.lemmas.List.Folds.{list_any-append}
 use Rattle.std.proofs.lemmas.List.Splits.{slice_split_none, slice_split_at}
+use Rattle.std.proofs.lemmas.Bool.{and_parts}
 use Rattle.qrcode_contents.specs.declared.fields.links.Part.{Part}
 use Rattle.qrcode_contents.specs.declared.fields.links.Part.TheVariants.{Path, Addresses, Value}
 use Rattle.qrcode_contents.specs.fields.Characters.{is_control, is_other_control, before}
@@ -13,7 +14,7 @@ use Rattle.qrcode_contents.specs.fields.Entries.{Entry, single, is_filled, fille
 use Rattle.qrcode_contents.specs.fields.EntryTests.{are_distinct}
 use Rattle.qrcode_contents.specs.fields.Links.{part_byte, part_text, Parameter, parameter_text, query_text, read_parameter, value_in}
 use Rattle.qrcode_contents.specs.fields.Percents.{is_unreserved, hex_digit, encoded_byte, decoded}
-use Rattle.qrcode_contents.proofs.EntryReading.{HasNo, before-at, after-at, before-none, after-none, both, neither, part_of-filled}
+use Rattle.qrcode_contents.proofs.EntryReading.{HasNo, before-at, after-at, before-none, after-none, neither, part_of-filled}
 use Rattle.qrcode_contents.proofs.PercentReading.{decoded_byte, kept_byte}
 
 pub HasNo-append : (c : ℕ) (xs ys : List ℕ) → HasNo c xs → HasNo c ys → HasNo c (xs ++ ys)
@@ -234,7 +235,7 @@ none_of p q implies (b ∷ bytes) is =
 pub all_without : (p q : ℕ → Bool) → ((b : ℕ) → p b ≡ true → q b ≡ false) → (bytes : List ℕ) → list_all p bytes ≡ true → list_any q bytes ≡ false
 all_without p q implies [] are = refl
 all_without p q implies (b ∷ bytes) are =
-    let parts = both (p b) (list_all p bytes) are in
+    let parts = and_parts (p b) (list_all p bytes) are in
     ap₂ (λ x y. x || y) (implies b parts.0) (all_without p q implies bytes parts.1)
 
 control_no_return : (b : ℕ) → is_control b ≡ false → (b == 13) ≡ false

@@ -9,9 +9,7 @@ use Rattle.qrcode_contents.specs.declared.fields.links.Part.TheVariants.{Path}
 use Rattle.qrcode_contents.specs.declared.one_time.Factor.{Factor}
 use Rattle.qrcode_contents.specs.declared.one_time.Factor.TheVariants.{Time, Counter}
 use Rattle.qrcode_contents.specs.declared.one_time.Algorithm.{Algorithm}
-use Rattle.qrcode_contents.specs.declared.one_time.Algorithm.TheVariants.{Sha1, Sha256, Sha512}
 use Rattle.qrcode_contents.specs.declared.one_time.Digits.{Digits}
-use Rattle.qrcode_contents.specs.declared.one_time.Digits.TheVariants.{Six, Eight}
 use Rattle.qrcode_contents.specs.fields.Characters.{is_base32, is_control, before}
 use Rattle.qrcode_contents.specs.fields.Decimals.{read_decimal}
 use Rattle.qrcode_contents.specs.fields.Entries.{is_filled}
@@ -26,22 +24,16 @@ use Rattle.qrcode_contents.proofs.Passing.{all_pass, test_passes}
 use Rattle.qrcode_contents.proofs.PercentReading.{kept_byte}
 
 algorithm_read : (a : Algorithm) → read_algorithm (algorithm_value a) ≡ Some a
-algorithm_read Sha1 = refl
-algorithm_read Sha256 = refl
-algorithm_read Sha512 = refl
+algorithm_read a = grind (arith, nat_tests)
 
 algorithm_plain : (a : Algorithm) → HasNo 13 (algorithm_value a)
-algorithm_plain Sha1 = refl
-algorithm_plain Sha256 = refl
-algorithm_plain Sha512 = refl
+algorithm_plain a = grind (arith, nat_tests)
 
 digits_read : (d : Digits) → read_digits (digits_text d) ≡ Some d
-digits_read Six = refl
-digits_read Eight = refl
+digits_read d = grind (arith, nat_tests)
 
 digits_plain : (d : Digits) → HasNo 13 (digits_text d)
-digits_plain Six = refl
-digits_plain Eight = refl
+digits_plain d = grind (arith, nat_tests)
 
 -- digits have no carriage return
 pub decimal_plain : (n : ℕ) → n < 2 ^ 64 → HasNo 13 (decimal n)
@@ -76,8 +68,7 @@ unspaced [] is = refl
 unspaced (b ∷ account) is = unspaced_by b account (b == 32) refl is
 
 or_true : (b : Bool) → (b || true) ≡ true
-or_true true = refl
-or_true false = refl
+or_true b = grind (arith, nat_tests)
 
 has_colon : (xs ys : List ℕ) → list_any is_colon (xs ++ 58 ∷ ys) ≡ true
 has_colon [] ys = refl

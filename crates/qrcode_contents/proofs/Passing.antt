@@ -1,5 +1,6 @@
 -- Checks that pass.
-use Rattle.std.proofs.Common.{◌≡◌, Bool, true, false, List, [], ◌∷◌, Option, Some, None, refl}
+use Rattle.std.proofs.Common.{◌≡◌, Bool, false, List, [], ◌∷◌, Option, Some, None, refl, arith}
+use Rattle.std.proofs.lemmas.Bool.Decides.{nat_tests}
 use Rattle.qrcode_contents.specs.declared.fields.errors.ContentError.{ContentError}
 use Rattle.qrcode_contents.specs.declared.fields.errors.Field.{Field}
 use Rattle.qrcode_contents.specs.declared.fields.errors.Cause.{Cause}
@@ -22,5 +23,4 @@ all_pass (check ∷ checks) is = let first = passes check checks is in (first.0,
 
 -- if a check passes, its test fails
 pub test_passes : (test : Bool) (field : Field) (cause : Cause) → refused_if test field cause ≡ None → test ≡ false
-test_passes true field cause is = cc
-test_passes false field cause is = refl
+test_passes test field cause h = grind (arith, nat_tests)

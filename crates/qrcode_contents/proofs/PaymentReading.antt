@@ -7,7 +7,6 @@ use Rattle.qrcode_contents.specs.declared.fields.errors.Field.{Field}
 use Rattle.qrcode_contents.specs.declared.fields.errors.Field.TheVariants.{Bic, Name, Iban, Amount, Purpose, Reference, Message, Information}
 use Rattle.qrcode_contents.specs.declared.fields.errors.Cause.TheVariants.{ControlCharacter, Range}
 use Rattle.qrcode_contents.specs.declared.payment.PaymentVersion.{PaymentVersion}
-use Rattle.qrcode_contents.specs.declared.payment.PaymentVersion.TheVariants.{One, Two}
 use Rattle.qrcode_contents.specs.fields.Amounts.{amount_text, read_amount}
 use Rattle.qrcode_contents.specs.fields.Characters.{is_control, control_refusal}
 use Rattle.qrcode_contents.specs.fields.Entries.{is_filled, behind}
@@ -49,8 +48,7 @@ controls_pass (field ∷ fields) is =
     (HasNoFeed-from_control field.1 (test_passes (list_any is_control field.1) field.0 ControlCharacter parts.0), controls_pass fields parts.1)
 
 version_none : (v : PaymentVersion) → HasNoFeed (version_name v)
-version_none One = refl
-version_none Two = refl
+version_none v = grind (arith, nat_tests)
 
 -- no line of the text has a line feed
 lines_have_none : (t : Transfer) → t.cents < 2 ^ 64 → control_checks t ≡ None → HaveNoFeeds (payment_lines t)
@@ -75,8 +73,7 @@ same_transfer : (t : Transfer) (purpose reference message information : List ℕ
 same_transfer t purpose reference message information p r m i = rw (p, r, m, i) refl
 
 named : (v : PaymentVersion) → named_version (version_name v) ≡ Some v
-named One = refl
-named Two = refl
+named v = grind (arith, nat_tests)
 
 -- the lines give the transfer
 lines_say : (t : Transfer) → t.cents < 2 ^ 64 → transfer_of (line_at (payment_lines t)) ≡ Some t

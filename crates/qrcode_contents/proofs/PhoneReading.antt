@@ -3,13 +3,14 @@ use Rattle.std.proofs.Common.{◌≡◌, ℕ, ◌==◌, ◌&&◌, not, drop, Lis
 use Rattle.std.specs.List.{list_all, list_any}
 use Rattle.std.specs.Option.{option_map}
 use Rattle.std.proofs.lemmas.Bool.Decides.{nat_tests}
+use Rattle.std.proofs.lemmas.Bool.{and_parts}
 use Rattle.qrcode_contents.specs.declared.fields.errors.Field.TheVariants.{Phone}
 use Rattle.qrcode_contents.specs.declared.fields.errors.Cause.TheVariants.{Character}
 use Rattle.qrcode_contents.specs.fields.Characters.{is_dialled, before}
 use Rattle.qrcode_contents.specs.fields.Entries.{behind, is_filled}
 use Rattle.qrcode_contents.specs.fields.Percents.{encoded, decoded}
 use Rattle.qrcode_contents.specs.Phone.{is_number, is_no_number, phone_checks, phone_refusal, message_text, read_message}
-use Rattle.qrcode_contents.proofs.EntryReading.{both, holds, second_fails, before-at, after-at}
+use Rattle.qrcode_contents.proofs.EntryReading.{holds, second_fails, before-at, after-at}
 use Rattle.qrcode_contents.proofs.LinkReading.{all_without}
 use Rattle.qrcode_contents.proofs.Passing.{all_pass, test_passes}
 
@@ -22,7 +23,7 @@ all_dialled [] is = refl
 all_dialled (b ∷ text) is =
     let some : is_filled (b ∷ text) ≡ true = grind (arith, nat_tests) in
     let number = holds (is_number (b ∷ text)) (second_fails (is_filled (b ∷ text)) (not (is_number (b ∷ text))) some is) in
-    (both (list_all is_dialled (b ∷ text)) _ (both (list_all is_dialled (b ∷ text) && not (list_any (λ x. x == 43) (drop 1 (b ∷ text)))) _ number).0).0
+    (and_parts (list_all is_dialled (b ∷ text)) _ (and_parts (list_all is_dialled (b ∷ text) && not (list_any (λ x. x == 43) (drop 1 (b ∷ text)))) _ number).0).0
 
 dialled : (number : List ℕ) → phone_refusal number ≡ None → list_all is_dialled number ≡ true
 unfolding phone_refusal

@@ -4,28 +4,23 @@ use Rattle.std.specs.List.{onto_first}
 use Rattle.std.proofs.lemmas.Bool.{eq-eqb}
 use Rattle.std.proofs.lemmas.Bool.Decides.{nat_tests}
 use Rattle.qrcode_contents.specs.declared.fields.escapes.Escapes.{Escapes}
-use Rattle.qrcode_contents.specs.declared.fields.escapes.Escapes.TheVariants.{Marks, Lines}
 use Rattle.qrcode_contents.specs.fields.Escapes.{letter_of, meant_by, with_letter, escaped, unescaped, unescaped_from, pieces, pieces_from}
 
 -- a byte that needs no escape is no backslash
 alone_no_backslash : (e : Escapes) (b : ℕ) → letter_of e b ≡ None → (b == 92) ≡ false
-alone_no_backslash Marks b alone = grind (arith, nat_tests)
-alone_no_backslash Lines b alone = grind (arith, nat_tests)
+alone_no_backslash e b h = grind (arith, nat_tests)
 
 -- a byte that needs no escape is no semicolon
 alone_no_semicolon : (e : Escapes) (b : ℕ) → letter_of e b ≡ None → (b == 59) ≡ false
-alone_no_semicolon Marks b alone = grind (arith, nat_tests)
-alone_no_semicolon Lines b alone = grind (arith, nat_tests)
+alone_no_semicolon e b h = grind (arith, nat_tests)
 
 -- a byte that needs no escape is no comma
 alone_no_comma : (e : Escapes) (b : ℕ) → letter_of e b ≡ None → (b == 44) ≡ false
-alone_no_comma Marks b alone = grind (arith, nat_tests)
-alone_no_comma Lines b alone = grind (arith, nat_tests)
+alone_no_comma e b h = grind (arith, nat_tests)
 
 -- a letter after a backslash means its byte
 letter_means : (e : Escapes) (b letter : ℕ) → letter_of e b ≡ Some letter → meant_by e letter ≡ b
-letter_means Marks b letter is = grind (arith, nat_tests)
-letter_means Lines b letter is = grind (arith, nat_tests)
+letter_means e b letter h = grind (arith, nat_tests)
 
 unescaped_byte : (e : Escapes) (b : ℕ) (o : Option ℕ) → letter_of e b ≡ o → (bs : List ℕ) → unescaped e (with_letter b o ++ bs) ≡ b ∷ unescaped e bs
 unfolding unescaped_from

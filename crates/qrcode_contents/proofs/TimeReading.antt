@@ -1,5 +1,5 @@
 -- Days and moments are read back.
-use Rattle.std.proofs.Common.{◌≡◌, ℕ, nat_lt, nat_le, ◌+◌, ◌*◌, ◌/◌, ◌%◌, ◌<◌, ◌≤◌, ◌==◌, ◌&&◌, ◌||◌, List, [], ◌∷◌, ◌++◌, Bool, true, false, not, filter, Option, None, Some, if◌then◌else◌, refl, ap, ap₂, ◌∙◌, sym, subst, arith}
+use Rattle.std.proofs.Common.{◌≡◌, ℕ, ◌+◌, ◌*◌, ◌/◌, ◌%◌, ◌<◌, ◌≤◌, ◌==◌, List, [], ◌∷◌, ◌++◌, true, false, not, filter, Option, None, Some, if◌then◌else◌, refl, ap, ap₂, ◌∙◌, sym, subst, arith}
 use Rattle.std.specs.Str.Parse.{digits_value}
 use Rattle.std.proofs.lemmas.Bool.Decides.{nat_tests}
 use Rattle.std.proofs.lemmas.Fmt.{decimal_digit}
@@ -7,10 +7,10 @@ use Rattle.std.proofs.lemmas.Int.Digits.{digits_value_push}
 use Rattle.qrcode_contents.specs.fields.Entries.{is_filled, read_or_none}
 use Rattle.qrcode_contents.proofs.ContentParts.{IsPlain, plain_nothing}
 use Rattle.qrcode_contents.proofs.DigitReading.{AreDigits, AreDigits-two, value_of_digit}
-use Rattle.qrcode_contents.proofs.EntryReading.{both, holds}
+use Rattle.qrcode_contents.proofs.EntryReading.{holds}
 use Rattle.qrcode_contents.specs.declared.times.Day.{Day}
 use Rattle.qrcode_contents.specs.declared.times.Moment.{Moment}
-use Rattle.qrcode_contents.specs.Times.{is_leap, days_in, is_day, wrong_day, is_moment, pair_text, day_text, date_text, said_or_none, moment_text, day_in, moment_in, read_day, read_date, read_moment}
+use Rattle.qrcode_contents.specs.Times.{days_in, is_day, wrong_day, is_moment, pair_text, day_text, date_text, said_or_none, moment_text, day_in, moment_in, read_day, read_date, read_moment}
 
 -- a number below 100 has two digits
 pub pair_digits : (n : ℕ) → n < 100 → pair_text n ≡ (48 + n / 10) ∷ (48 + n % 10) ∷ []
@@ -25,13 +25,7 @@ pair_read n small =
     ∙ omega arith
 
 days_at_most : (year month : ℕ) → days_in year month ≤ 31
-days_at_most year month = by_tests (month == 2) (is_leap year) (month == 4 || month == 6 || month == 9 || month == 11)
-  where
-    by_tests : (second leap short : Bool) → (if second then (if leap then 29 else 28) else (if short then 30 else 31)) ≤ 31
-    by_tests true true short = omega arith
-    by_tests true false short = omega arith
-    by_tests false leap true = omega arith
-    by_tests false leap false = omega arith
+days_at_most year month = grind (arith, nat_tests)
 
 -- the numbers of a day fit their digits
 record IsSmall (d : Day) : Type 0 where
@@ -41,12 +35,8 @@ record IsSmall (d : Day) : Type 0 where
 
 small_day : (d : Day) → is_day d ≡ true → IsSmall d
 small_day d is =
-    let last = both (nat_lt d.year 10000 && nat_lt 0 d.month && nat_lt d.month 13 && nat_lt 0 d.day) (nat_le d.day (days_in d.year d.month)) is in
     let most = days_at_most d.year d.month in
-    let first = both (nat_lt d.year 10000 && nat_lt 0 d.month && nat_lt d.month 13) (nat_lt 0 d.day) last.0 in
-    let months = both (nat_lt d.year 10000 && nat_lt 0 d.month) (nat_lt d.month 13) first.0 in
-    let years = both (nat_lt d.year 10000) (nat_lt 0 d.month) months.0 in
-    record { year = grind (arith, nat_tests, years.0); month = grind (arith, nat_tests, months.1); day = grind (arith, nat_tests, last.1, most) }
+    record { year = grind (arith, nat_tests, is); month = grind (arith, nat_tests, is); day = grind (arith, nat_tests, is, most) }
 
 -- two digits, before other bytes
 abbrev pair_then : ℕ → List ℕ → List ℕ
@@ -111,14 +101,12 @@ record IsShort (m : Moment) : Type 0 where
 
 short_moment : (m : Moment) → is_moment m ≡ true → IsShort m
 short_moment m is =
-    let last = both (is_day m.day && nat_lt m.hour 24 && nat_lt m.minute 60) (nat_lt m.second 61) is in
-    let minutes = both (is_day m.day && nat_lt m.hour 24) (nat_lt m.minute 60) last.0 in
-    let hours = both (is_day m.day) (nat_lt m.hour 24) minutes.0 in
+    let valid : is_day m.day ≡ true = grind (arith, nat_tests, is) in
     record {
-      day = small_day m.day hours.0;
-      hour = grind (arith, nat_tests, hours.1);
-      minute = grind (arith, nat_tests, minutes.1);
-      second = grind (arith, nat_tests, last.1);
+      day = small_day m.day valid;
+      hour = grind (arith, nat_tests, is);
+      minute = grind (arith, nat_tests, is);
+      second = grind (arith, nat_tests, is);
     }
 
 moment_written : (m : Moment) → IsShort m → moment_text m ≡ moment_digits m

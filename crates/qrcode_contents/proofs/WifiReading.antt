@@ -1,8 +1,8 @@
 -- The text of a network is read back.
-use Rattle.std.proofs.Common.{◌≡◌, ℕ, List, Bool, true, false, Some, codes, refl, ap, ◌∙◌}
+use Rattle.std.proofs.Common.{◌≡◌, ℕ, List, Bool, true, Some, codes, refl, ap, ◌∙◌, arith}
 use Rattle.std.specs.Option.{option_and_then}
+use Rattle.std.proofs.lemmas.Bool.Decides.{nat_tests}
 use Rattle.qrcode_contents.specs.declared.wifi.Security.{Security}
-use Rattle.qrcode_contents.specs.declared.wifi.Security.TheVariants.{Open, Wep, Wpa, Wpa3}
 use Rattle.qrcode_contents.specs.fields.Entries.{Entry, filled}
 use Rattle.qrcode_contents.specs.fields.EntryTests.{are_distinct}
 use Rattle.qrcode_contents.specs.Wifi.{Network, wifi_entries, wifi_text, network_of, read_wifi}
@@ -13,14 +13,7 @@ network_of-filled es are =
     rw (part_of-filled (codes "T") 0 es are, part_of-filled (codes "S") 0 es are, part_of-filled (codes "P") 0 es are, part_of-filled (codes "H") 0 es are) refl
 
 network_said : (security : Security) (ssid password : List ℕ) (hidden : Bool) → let n : Network = record { security = security; ssid = ssid; password = password; hidden = hidden } in network_of (wifi_entries n) ≡ Some n
-network_said Open ssid password true = refl
-network_said Open ssid password false = refl
-network_said Wep ssid password true = refl
-network_said Wep ssid password false = refl
-network_said Wpa ssid password true = refl
-network_said Wpa ssid password false = refl
-network_said Wpa3 ssid password true = refl
-network_said Wpa3 ssid password false = refl
+network_said security ssid password hidden = grind (arith, nat_tests)
 
 -- reading the text gives back the fields
 pub wifi_read : (n : Network) → read_wifi (wifi_text n) ≡ Some n

@@ -2,7 +2,7 @@
 -- addresses and random keys.
 use Rattle.std.specs.Prelude.{◌≡◌, ℕ, nat_lt, nat_le, ◌+◌, ◌-◌, ◌*◌, ◌%◌, ◌==◌, ◌&&◌, ◌||◌, not, Bool, true, false, List, [], ◌∷◌, length, drop, slice_index_or, codes, if◌then◌else◌, refl}
 use Rattle.std.specs.List.{list_all, starts_with}
-use Rattle.qrcode_contents.specs.fields.Characters.{is_capital_or_digit, is_digit}
+use Rattle.qrcode_contents.specs.fields.Characters.{is_capital_or_digit, is_digit, matches_form}
 use Rattle.qrcode_contents.specs.Upi.{is_address}
 
 -- the values of characters, each by its weight, added up; the value of a character is its code less that of 0, so that digits are their own
@@ -60,17 +60,8 @@ is_telephone text =
     nat_lt 3 (length text) && slice_index_or text 0 0 == 43 && not (slice_index_or text 1 0 == 48) && list_all is_digit (drop 1 text)
     && (if is_brazilian text then not (slice_index_or text 3 0 == 48) && (length text == 13 || length text == 14) else nat_le (length text) 16)
 
-abbrev pub is_placed : ℕ → ℕ → Bool  -- a hexadecimal digit in lower case, or at a hyphen's place a hyphen
-is_placed place b = if place == 45 then b == 45 else is_digit b || (nat_lt 96 b && nat_lt b 103)
-
-abbrev pub has_form : List ℕ → List ℕ → Bool  -- the bytes match the form
-has_form [] [] = true
-has_form [] (b ∷ bytes) = false
-has_form (place ∷ form) [] = false
-has_form (place ∷ form) (b ∷ bytes) = is_placed place b && has_form form bytes
-
 abbrev pub is_random : List ℕ → Bool  -- a random key (RFC 4122): 32 hexadecimal digits, in groups with hyphens between them
-is_random text = has_form (codes "xxxxxxxx-xxxx-xxxx-xxxx-xxxxxxxxxxxx") text
+is_random text = matches_form (codes "hhhhhhhh-hhhh-hhhh-hhhh-hhhhhhhhhhhh") text
 
 abbrev pub is_key : List ℕ → Bool  -- the form of a key
 is_key text = is_person text || is_business text || is_telephone text || is_address text || is_random text

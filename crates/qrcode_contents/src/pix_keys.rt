@@ -1,9 +1,9 @@
 //! Keys of Pix: CPF and CNPJ numbers, telephone numbers, e-mail addresses and random keys.
 
 ghost use Rattle.std.specs.Prelude.{◌≡◌, ◌%◌};
-ghost use Rattle.qrcode_contents.specs.PixKeys.{check_digit, has_form, has_tax_digits, has_wrong_digits, is_business, is_key, is_person, is_placed, is_random, is_telephone, weighted_sum};
+ghost use Rattle.qrcode_contents.specs.PixKeys.{check_digit, has_tax_digits, has_wrong_digits, is_business, is_key, is_person, is_random, is_telephone, weighted_sum};
 
-use crate::fields::characters::{are_capitals_or_digits, are_digits};
+use crate::fields::characters::{are_capitals_or_digits, are_digits, matches_form};
 use crate::upi::is_address;
 
 // The weights of the second check digit of a CPF; those of the first are one place later.
@@ -90,40 +90,11 @@ fn is_telephone(text: &str) -> bool
     }
 }
 
-// Whether a byte is a hexadecimal digit in lower case, or at a hyphen's place a hyphen.
-fn is_placed(place: u8, byte: u8) -> bool
-    ensures { result ≡ is_placed place byte }
-{
-    if place == b'-' {
-        return byte == b'-';
-    }
-    matches!(byte, b'0'..=b'9' | b'a'..=b'f')
-}
-
-// Whether bytes match `form`: a hyphen for each hyphen, else a hexadecimal digit.
-fn has_form(form: &[u8], bytes: &[u8]) -> bool
-    ensures { result ≡ has_form form.now bytes.now }
-{
-    let mut places = form;
-    let mut rest = bytes;
-    while let [place, later @ ..] = places {
-        let [byte, more @ ..] = rest else {
-            return false;
-        };
-        if !is_placed(*place, *byte) {
-            return false;
-        }
-        places = later;
-        rest = more;
-    }
-    rest.is_empty()
-}
-
 // Whether a text is a random key: 32 hexadecimal digits, in groups with hyphens between them.
 fn is_random(text: &str) -> bool
     ensures { result ≡ is_random text.now }
 {
-    has_form(b"xxxxxxxx-xxxx-xxxx-xxxx-xxxxxxxxxxxx", text.as_bytes())
+    matches_form(b"hhhhhhhh-hhhh-hhhh-hhhh-hhhhhhhhhhhh", text.as_bytes())
 }
 
 /// Returns whether `text` has the form of a key.

@@ -1,11 +1,10 @@
 -- Counting days and minutes across the ends of months and years.
-use Rattle.std.proofs.Common.{◌≡◌, ℕ, zero, suc, nat_lt, nat_le, ◌+◌, ◌-◌, ◌*◌, ◌/◌, ◌%◌, ◌<◌, ◌≤◌, ◌==◌, ◌&&◌, Bool, true, false, Some, if◌then◌else◌, refl, ap, ◌∙◌, sym, subst, arith}
+use Rattle.std.proofs.Common.{◌≡◌, ℕ, zero, suc, nat_lt, ◌+◌, ◌-◌, ◌*◌, ◌/◌, ◌%◌, ◌<◌, ◌≤◌, ◌==◌, Bool, true, false, Some, if◌then◌else◌, refl, ap, ◌∙◌, sym, subst, arith}
 use Rattle.std.specs.Prelude.{IfSome}
 use Rattle.std.proofs.lemmas.Bool.Decides.{nat_tests}
 use Rattle.qrcode_contents.specs.declared.times.Day.{Day}
 use Rattle.qrcode_contents.specs.declared.times.Moment.{Moment}
 use Rattle.qrcode_contents.specs.Times.{is_leap, days_in, is_day, is_moment}
-use Rattle.qrcode_contents.proofs.EntryReading.{both}
 use Rattle.qrcode_payloads.specs.Times.{days_before, days_through, day_count, minute_count, day_after, day_before, clock_minutes, with_minutes}
 
 -- a day that exists
@@ -17,23 +16,17 @@ record IsReal (d : Day) : Type 0 where
   last : d.day ≤ days_in d.year d.month
 
 real : (d : Day) → is_day d ≡ true → IsReal d
-real d is =
-    let days = both (nat_lt d.year 10000 && nat_lt 0 d.month && nat_lt d.month 13 && nat_lt 0 d.day) (nat_le d.day (days_in d.year d.month)) is in
-    let firsts = both (nat_lt d.year 10000 && nat_lt 0 d.month && nat_lt d.month 13) (nat_lt 0 d.day) days.0 in
-    let months = both (nat_lt d.year 10000 && nat_lt 0 d.month) (nat_lt d.month 13) firsts.0 in
-    let years = both (nat_lt d.year 10000) (nat_lt 0 d.month) months.0 in
-    record {
-      year = grind (arith, nat_tests, years.0);
-      january = grind (arith, nat_tests, years.1);
-      december = grind (arith, nat_tests, months.1);
-      first = grind (arith, nat_tests, firsts.1);
-      last = grind (arith, nat_tests, days.1);
-    }
+real d is = record {
+  year = grind (arith, nat_tests, is);
+  january = grind (arith, nat_tests, is);
+  december = grind (arith, nat_tests, is);
+  first = grind (arith, nat_tests, is);
+  last = grind (arith, nat_tests, is);
+}
 
 year_by : (year : ℕ) (leap : Bool) → is_leap year ≡ leap → days_through year 11 + 31 ≡ (if is_leap year then 366 else 365)
 unfolding days_through
-year_by year true is = rw is refl
-year_by year false is = rw is refl
+year_by year leap h = grind (arith, nat_tests)
 
 -- the months of a year have as many days as the year
 next_year : (year : ℕ) → days_before (year + 1) ≡ days_before year + (days_through year 11 + 31)
@@ -111,11 +104,7 @@ record IsRealMoment (m : Moment) : Type 0 where
   clock : clock_minutes m < 1440
 
 real_moment : (m : Moment) → is_moment m ≡ true → IsRealMoment m
-real_moment m is =
-    let seconds = both (is_day m.day && nat_lt m.hour 24 && nat_lt m.minute 60) (nat_lt m.second 61) is in
-    let minutes = both (is_day m.day && nat_lt m.hour 24) (nat_lt m.minute 60) seconds.0 in
-    let hours = both (is_day m.day) (nat_lt m.hour 24) minutes.0 in
-    record { day = hours.0; clock = grind (arith, nat_tests, hours.1, minutes.1) }
+real_moment m is = record { day = grind (arith, nat_tests, is); clock = grind (arith, nat_tests, is) }
 
 clock_kept : (n : ℕ) → n < 1440 → n / 60 % 24 * 60 + n % 60 ≡ n
 clock_kept n small = omega (arith, small)

@@ -35,8 +35,7 @@ taken false r x y is some = cc
 
 -- None comes from a test that fails
 pub not_taken : (test : Bool) (r : Option ℕ) (x : ℕ) → r ≡ (if test then Some x else None) → r ≡ None → test ≡ false
-not_taken true r x is none = cc
-not_taken false r x is none = refl
+not_taken test r x h k = grind (arith, nat_tests)
 
 -- digits and one more digit are digits
 pub digits_more : (digits : List ℕ) (i : ℕ) → i < length digits → list_all is_digit (take i digits) ≡ true → is_digit (get_or digits i 0) ≡ true → list_all is_digit (take (i + 1) digits) ≡ true

@@ -1,10 +1,10 @@
 -- Values without the spaces, hyphens and the like that people write between their characters.
-use Rattle.std.specs.Prelude.{◌≡◌, ℕ, ◌==◌, ◌&&◌, ◌||◌, ◌-◌, not, Bool, true, false, List, [], ◌∷◌, ◌++◌, Option, Some, None, chars, codes, drop, encode_utf8_all, eqb, length, take, if◌then◌else◌, refl}
+use Rattle.std.specs.Prelude.{◌≡◌, ℕ, ◌==◌, ◌&&◌, ◌||◌, ◌-◌, not, Bool, true, false, List, ◌++◌, Option, Some, None, chars, codes, drop, encode_utf8_all, eqb, length, take, if◌then◌else◌, refl}
 use Rattle.std.specs.List.{after_first, before_first, filter_map, list_all, list_any, starts_with}
 use Rattle.std.specs.Char.{to_ascii_lowercase, to_ascii_uppercase}
 use Rattle.std.specs.Str.{trim}
 use Rattle.qrcode_contents.specs.Phone.{is_number}
-use Rattle.qrcode_contents.specs.fields.Characters.{is_capital_or_digit, is_digit}
+use Rattle.qrcode_contents.specs.fields.Characters.{is_capital_or_digit, is_digit, matches_form}
 use Rattle.qrcode_contents.specs.fields.Entries.{is_empty}
 use Rattle.qrcode_payloads.specs.declared.plain.Cleaning.{Cleaning}
 use Rattle.qrcode_payloads.specs.declared.plain.Cleaning.TheVariants.{Spaces, Digits, Amount, Groups, Degrees, Person, Time, Clock, Key, Address}
@@ -46,20 +46,10 @@ plain cleaning text = encode_utf8_all (filter_map (kept cleaning) (chars text))
 abbrev pub is_byte : ℕ → ℕ → Bool  -- this byte
 is_byte c b = b == c
 
--- a byte that matches one of a form: a digit matches d, a plus or minus sign matches s, any other only itself
-abbrev pub is_placed : ℕ → ℕ → Bool
-is_placed place b = if place == 100 then is_digit b else (if place == 115 then b == 43 || b == 45 else b == place)
-
-abbrev pub has_form : List ℕ → List ℕ → Bool  -- the bytes match the form, e.g. dd:dd for a time of day
-has_form [] [] = true
-has_form [] (b ∷ bytes) = false
-has_form (place ∷ form) [] = false
-has_form (place ∷ form) (b ∷ bytes) = is_placed place b && has_form form bytes
-
 -- a country code: one to three digits after + or 00
 unfoldable pub is_code : List ℕ → Bool
 is_code text =
-    has_form (codes "+d") text || has_form (codes "+dd") text || has_form (codes "+ddd") text || has_form (codes "00d") text || has_form (codes "00dd") text || has_form (codes "00ddd") text
+    matches_form (codes "+d") text || matches_form (codes "+dd") text || matches_form (codes "+ddd") text || matches_form (codes "00d") text || matches_form (codes "00dd") text || matches_form (codes "00ddd") text
 
 -- such a code, perhaps with a hyphen after it
 unfoldable pub is_country : List ℕ → Bool
@@ -68,7 +58,7 @@ is_country text = is_code (before_first (is_byte 45) text) && is_empty (after_fi
 -- the country codes of Italy, San Marino and the Vatican, where a 0 at the start of a number is dialled from abroad too (ITU-T E.164, national numbering plans)
 unfoldable pub dials_zero : List ℕ → Bool
 dials_zero code =
-    has_form (codes "+39") code || has_form (codes "+378") code || has_form (codes "+379") code || has_form (codes "0039") code || has_form (codes "00378") code || has_form (codes "00379") code
+    matches_form (codes "+39") code || matches_form (codes "+378") code || matches_form (codes "+379") code || matches_form (codes "0039") code || matches_form (codes "00378") code || matches_form (codes "00379") code
 
 -- a country code, and the 0 of a (0) after it where that is dialled
 unfoldable pub with_zero : List ℕ → List ℕ

@@ -4,10 +4,10 @@ use Rattle.std.specs.List.{after_first, before_first, list_all}
 use Rattle.std.specs.Option.{option_map, option_and_then}
 use Rattle.qrcode_contents.specs.declared.times.Day.{Day}
 use Rattle.qrcode_contents.specs.declared.times.Moment.{Moment}
-use Rattle.qrcode_contents.specs.fields.Characters.{is_digit}
+use Rattle.qrcode_contents.specs.fields.Characters.{is_digit, matches_form}
 use Rattle.qrcode_contents.specs.Times.{is_leap, days_in, is_moment}
 use Rattle.qrcode_contents.specs.fields.Entries.{is_empty, is_filled}
-use Rattle.qrcode_payloads.specs.Plain.{has_form, is_byte, plain}
+use Rattle.qrcode_payloads.specs.Plain.{is_byte, plain}
 use Rattle.qrcode_payloads.specs.declared.plain.Cleaning.TheVariants as cleaning
 use Rattle.qrcode_payloads.specs.Numbers.{scaled_value, at_most_u64}
 
@@ -106,12 +106,12 @@ moment_of day time = if is_utc time then local_said day (before_first (is_byte 9
 
 -- a day such as 1997-07-14 without its hyphens; any other text unchanged
 unfoldable pub plain_day : List ℕ → List ℕ
-plain_day text = if has_form (codes "dddd-dd-dd") text then plain cleaning.Digits text else text
+plain_day text = if matches_form (codes "dddd-dd-dd") text then plain cleaning.Digits text else text
 
 -- a time, perhaps with Z or a zone, that has colons where ISO 8601 has them; the zone may lack its colon
 unfoldable pub has_colons : List ℕ → Bool
 has_colons time =
-    has_form (codes "dd:dd") time || has_form (codes "dd:dd:dd") time || has_form (codes "dd:ddZ") time || has_form (codes "dd:dd:ddZ") time || has_form (codes "dd:ddsdd:dd") time || has_form (codes "dd:dd:ddsdd:dd") time || has_form (codes "dd:ddsdddd") time || has_form (codes "dd:dd:ddsdddd") time
+    matches_form (codes "dd:dd") time || matches_form (codes "dd:dd:dd") time || matches_form (codes "dd:ddZ") time || matches_form (codes "dd:dd:ddZ") time || matches_form (codes "dd:ddsdd:dd") time || matches_form (codes "dd:dd:ddsdd:dd") time || matches_form (codes "dd:ddsdddd") time || matches_form (codes "dd:dd:ddsdddd") time
 
 -- such a time without its colons; any other text unchanged
 unfoldable pub plain_clock : List ℕ → List ℕ

@@ -2,9 +2,11 @@
 
 ghost use Rattle.std.specs.Prelude.{◌≡◌, IfOk, string_bytes};
 ghost use Rattle.std.specs.List.{list_all, list_any};
-ghost use Rattle.qrcode_payloads.specs.Plain.{is_removed, as_written, kept, plain, is_placed, has_form, is_code, is_country, dials_zero, with_zero, without_zero, phone_number, phone_digits, is_key_number, is_local, pix_key, is_byte, without_padding};
+ghost use Rattle.qrcode_payloads.specs.Plain.{is_removed, as_written, kept, plain, is_code, is_country, dials_zero, with_zero, without_zero, phone_number, phone_digits, is_key_number, is_local, pix_key, is_byte, without_padding};
 
-use qrcode_contents::fields::characters::{are_capitals_or_digits, are_digits, parts};
+use qrcode_contents::fields::characters::{
+    are_capitals_or_digits, are_digits, matches_form, parts,
+};
 use qrcode_contents::phone::is_number;
 use std::alloc::{AllocError, Global};
 
@@ -87,49 +89,17 @@ pub(crate) fn plain(alloc: Global, text: &str, cleaning: Cleaning) -> Result<Str
         .collect(alloc)
 }
 
-// Whether a byte matches one of a form: a digit matches `d`, `+` or `-` matches `s`, any other only
-// itself.
-fn is_placed(place: u8, byte: u8) -> bool
-    ensures { result ≡ is_placed place byte }
-{
-    match place {
-        b'd' => byte.is_ascii_digit(),
-        b's' => matches!(byte, b'+' | b'-'),
-        _ => byte == place,
-    }
-}
-
-/// Returns whether `bytes` match `form`: a digit for each `d`, `+` or `-` for each `s`, and
-/// otherwise the same bytes.
-pub(crate) fn has_form(form: &[u8], bytes: &[u8]) -> bool
-    ensures { result ≡ has_form form.now bytes.now }
-{
-    let mut places = form;
-    let mut rest = bytes;
-    while let [place, later @ ..] = places {
-        let [byte, more @ ..] = rest else {
-            return false;
-        };
-        if !is_placed(*place, *byte) {
-            return false;
-        }
-        places = later;
-        rest = more;
-    }
-    rest.is_empty()
-}
-
 // Whether bytes are a country code: one to three digits after `+` or `00`.
 #[tactic(auto, unfolding(crate::specs::Plain::is_code))]
 fn is_code(bytes: &[u8]) -> bool
     ensures { result ≡ is_code bytes.now }
 {
-    has_form(b"+d", bytes)
-        || has_form(b"+dd", bytes)
-        || has_form(b"+ddd", bytes)
-        || has_form(b"00d", bytes)
-        || has_form(b"00dd", bytes)
-        || has_form(b"00ddd", bytes)
+    matches_form(b"+d", bytes)
+        || matches_form(b"+dd", bytes)
+        || matches_form(b"+ddd", bytes)
+        || matches_form(b"00d", bytes)
+        || matches_form(b"00dd", bytes)
+        || matches_form(b"00ddd", bytes)
 }
 
 // Whether a text is such a country code, perhaps with a hyphen after it.
@@ -147,12 +117,12 @@ fn is_country(text: &str) -> bool
 fn dials_zero(bytes: &[u8]) -> bool
     ensures { result ≡ dials_zero bytes.now }
 {
-    has_form(b"+39", bytes)
-        || has_form(b"+378", bytes)
-        || has_form(b"+379", bytes)
-        || has_form(b"0039", bytes)
-        || has_form(b"00378", bytes)
-        || has_form(b"00379", bytes)
+    matches_form(b"+39", bytes)
+        || matches_form(b"+378", bytes)
+        || matches_form(b"+379", bytes)
+        || matches_form(b"0039", bytes)
+        || matches_form(b"00378", bytes)
+        || matches_form(b"00379", bytes)
 }
 
 // The country code, and the 0 of a `(0)` after it if that is dialled.

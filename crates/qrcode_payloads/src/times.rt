@@ -5,8 +5,8 @@ ghost use Rattle.qrcode_payloads.specs.Times.{day_numbered, number_of, day_said,
 ghost use Rattle.qrcode_contents.specs.Times.{is_moment};
 
 use crate::numbers::decimal;
-use crate::plain::{Cleaning, has_form, plain};
-use qrcode_contents::fields::characters::{are_digits, parts};
+use crate::plain::{Cleaning, plain};
+use qrcode_contents::fields::characters::{are_digits, matches_form, parts};
 use qrcode_contents::times::{Day, Moment, days_in};
 use std::alloc::{AllocError, Global};
 
@@ -229,7 +229,7 @@ pub(crate) fn is_local(text: &str) -> bool
 pub(crate) fn plain_day(alloc: Global, text: &str) -> Result<String, AllocError>
     ensures { IfOk result (λ value. string_bytes value ≡ plain_day text.now) }
 {
-    if has_form(b"dddd-dd-dd", text.as_bytes()) {
+    if matches_form(b"dddd-dd-dd", text.as_bytes()) {
         return plain(alloc, text, Cleaning::Digits);
     }
     String::from_str(alloc, text)
@@ -241,14 +241,14 @@ pub(crate) fn plain_day(alloc: Global, text: &str) -> Result<String, AllocError>
 fn has_colons(time: &[u8]) -> bool
     ensures { result ≡ has_colons time.now }
 {
-    has_form(b"dd:dd", time)
-        || has_form(b"dd:dd:dd", time)
-        || has_form(b"dd:ddZ", time)
-        || has_form(b"dd:dd:ddZ", time)
-        || has_form(b"dd:ddsdd:dd", time)
-        || has_form(b"dd:dd:ddsdd:dd", time)
-        || has_form(b"dd:ddsdddd", time)
-        || has_form(b"dd:dd:ddsdddd", time)
+    matches_form(b"dd:dd", time)
+        || matches_form(b"dd:dd:dd", time)
+        || matches_form(b"dd:ddZ", time)
+        || matches_form(b"dd:dd:ddZ", time)
+        || matches_form(b"dd:ddsdd:dd", time)
+        || matches_form(b"dd:dd:ddsdd:dd", time)
+        || matches_form(b"dd:ddsdddd", time)
+        || matches_form(b"dd:dd:ddsdddd", time)
 }
 
 // Returns such a time without its colons; any other text unchanged.

@@ -1,5 +1,5 @@
 -- Tests of the characters in a field.
-use Rattle.std.specs.Prelude.{ℕ, nat_lt, ◌==◌, count_by, ◌&&◌, ◌||◌, not, Bool, List, [], ◌∷◌, map, Option, if◌then◌else◌}
+use Rattle.std.specs.Prelude.{ℕ, nat_lt, ◌==◌, count_by, ◌&&◌, ◌||◌, not, Bool, true, false, List, [], ◌∷◌, map, Option, if◌then◌else◌}
 use Rattle.std.specs.List.{list_all, list_any, slice_split}
 use Rattle.qrcode_contents.specs.declared.fields.errors.ContentError.{ContentError}
 use Rattle.qrcode_contents.specs.declared.fields.errors.Field.{Field}
@@ -49,6 +49,18 @@ before c (b ∷ rest) = if b == c then [] else b ∷ before c rest
 abbrev pub after : ℕ → List ℕ → List ℕ  -- the bytes after the first byte c; none if there is none
 after c [] = []
 after c (b ∷ rest) = if b == c then rest else after c rest
+
+-- a byte that matches one of a form: a digit matches d, a hexadecimal digit in lower case h, a plus or minus sign s, any other only itself
+abbrev pub is_placed : ℕ → ℕ → Bool
+is_placed place b =
+    if place == 100 then is_digit b else (if place == 104 then is_digit b || (nat_lt 96 b && nat_lt b 103)
+    else (if place == 115 then b == 43 || b == 45 else b == place))
+
+abbrev pub matches_form : List ℕ → List ℕ → Bool  -- the bytes match the form, e.g. dd:dd for a time of day
+matches_form [] [] = true
+matches_form [] (b ∷ bytes) = false
+matches_form (place ∷ form) [] = false
+matches_form (place ∷ form) (b ∷ bytes) = is_placed place b && matches_form form bytes
 
 abbrev pub control_refusal : List (Field × List ℕ) → Option ContentError  -- the error of the first field with a control character
 control_refusal fields =

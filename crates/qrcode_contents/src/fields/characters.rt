@@ -3,7 +3,7 @@
 ghost use Rattle.std.specs.Prelude.{◌≡◌, ◌<◌, ◌==◌, length};
 ghost use Rattle.std.specs.List.{after_first, before_first, list_all, list_any};
 ghost use Rattle.std.specs.Str.{chars};
-ghost use Rattle.qrcode_contents.specs.fields.Characters.{are_addresses, has_one_at, is_address, is_base32, is_beside_address, is_capital, is_capital_or_digit, is_control, is_dialled, is_digit, is_other_control, is_unicode_break};
+ghost use Rattle.qrcode_contents.specs.fields.Characters.{are_addresses, has_one_at, is_address, is_base32, is_beside_address, is_capital, is_capital_or_digit, is_control, is_dialled, is_digit, is_other_control, is_unicode_break, is_placed, matches_form};
 
 /// Returns whether all bytes are letters A to Z.
 pub fn are_capitals(bytes: &[u8]) -> bool
@@ -123,4 +123,37 @@ pub fn character_count(text: &str) -> usize
     ensures { result ≡ length (chars text.now) }
 {
     text.chars().count()
+}
+
+// Whether a byte matches one of a form: a digit matches `d`, a hexadecimal digit in lower case `h`,
+// `+` or `-` matches `s`, any other only itself.
+fn is_placed(place: u8, byte: u8) -> bool
+    ensures { result ≡ is_placed place byte }
+{
+    match place {
+        b'd' => byte.is_ascii_digit(),
+        b'h' => matches!(byte, b'0'..=b'9' | b'a'..=b'f'),
+        b's' => matches!(byte, b'+' | b'-'),
+        _ => byte == place,
+    }
+}
+
+/// Returns whether `bytes` match `form`: a digit for each `d`, a hexadecimal digit in lower case for
+/// each `h`, `+` or `-` for each `s`, and otherwise the same bytes.
+pub fn matches_form(form: &[u8], bytes: &[u8]) -> bool
+    ensures { result ≡ matches_form form.now bytes.now }
+{
+    let mut places = form;
+    let mut rest = bytes;
+    while let [place, later @ ..] = places {
+        let [byte, more @ ..] = rest else {
+            return false;
+        };
+        if !is_placed(*place, *byte) {
+            return false;
+        }
+        places = later;
+        rest = more;
+    }
+    rest.is_empty()
 }

@@ -43,8 +43,7 @@ account_are p fits =
     (refl, omega arith, (refl, at_most (length p.key) 77 fits.key_short (omega arith), (refl, description_short (length p.key) p.description fits.description, tt)))
 
 key_size : (p : PixFields) (described : Bool) (size : ℕ) → is_filled p.description ≡ described → nat_lt 77 (length p.key) ≡ false → (described && nat_lt (73 - length p.key) (length p.description)) ≡ false → size ≡ (if described then 4 + length p.description + 0 else 0) → 18 + (4 + length p.key + size) < 100
-key_size p true size is short beside value = grind (arith, nat_tests)
-key_size p false size is short beside value = grind (arith, nat_tests)
+key_size p described size h k i j = grind (arith, nat_tests)
 
 described_size : (text : List ℕ) (described : Bool) → is_filled text ≡ described → length text < 100 → length (objects_text ((codes "02", text) ∷ [])) ≡ (if described then 4 + length text + 0 else 0)
 described_size text true is small = length_filled (codes "02") text [] refl small is ∙ ap (λ n. 4 + length text + n) no_length
@@ -121,27 +120,10 @@ more_short p short =
     omega (arith, few, size, none)
 
 objects_are : (p : PixFields) → AreSaid p → AreObjects (pix_objects p)
-objects_are p said = (
-  refl,
-  omega arith,
-  (
-    refl,
-    account_short p said.fits,
-    (
-      refl,
-      omega arith,
-      (
-        refl,
-        omega arith,
-        (
-          refl,
-          cents_short p.cents said.cents,
-          (refl, omega arith, (refl, said.name, (refl, said.city, (refl, more_short p said.reference_short, tt)))),
-        ),
-      ),
-    ),
-  ),
-)
+objects_are p said =
+    let receiver : AreObjects ((codes "58", codes "BR") ∷ (codes "59", p.name) ∷ (codes "60", p.city) ∷ (codes "62", objects_text (more_objects p)) ∷ []) =
+    (refl, omega arith, (refl, said.name, (refl, said.city, (refl, more_short p said.reference_short, tt)))) in
+    (refl, omega arith, (refl, account_short p said.fits, (refl, omega arith, (refl, omega arith, (refl, cents_short p.cents said.cents, receiver)))))
 
 -- entries whose parts are all empty may be left out
 pix_in-filled : (es : List Entry) → are_distinct es ≡ true → pix_in (filled es) ≡ option_and_then (λ account. option_and_then (pix_with (filled es) account) (read_objects (value_of (codes "62") es))) (read_objects (value_of (codes "26") es))

@@ -1,4 +1,4 @@
-use Rattle.std.proofs.Common.{◌≡◌, ℕ, ◌+◌, ◌<◌, ◌==◌, ◌&&◌, not, List, [], ◌∷◌, ◌++◌, Bool, true, false, Option, Some, None, length, get_or, codes, refl, ap, ◌∙◌, subst, arith}
+use Rattle.std.proofs.Common.{◌≡◌, ℕ, ◌+◌, ◌<◌, ◌==◌, ◌&&◌, not, List, [], ◌∷◌, ◌++◌, Bool, true, false, Option, Some, None, length, get_or, codes, refl, ap, ◌∙◌, arith}
 use Rattle.std.specs.List.{after_first}
 use Rattle.std.specs.Option.{option_and_then}
 use Rattle.std.proofs.lemmas.Bool.Decides.{nat_tests}
@@ -47,59 +47,41 @@ phone_length (b ∷ rest) ten first = let same : b ≡ 48 = grind (arith, nat_te
 read-filled : (es : List Entry) → are_distinct es ≡ true → read_payee (filled es) ≡ read_payee es
 read-filled es are = rw (part_of-filled (codes "01") 0 es are, part_of-filled (codes "02") 0 es are, part_of-filled (codes "03") 0 es are) refl
 
+says_with : (payee tag value : List ℕ) → length tag ≡ 2 → are_distinct (entries_of (account_with tag value)) ≡ true → length value < 20 → is_filled value ≡ true
+    → read_payee (entries_of (account_with tag value)) ≡ Some payee → Says payee (account_with tag value)
+says_with payee tag value two are few some told = record {
+  are = (refl, omega arith, (two, omega (arith, few), tt));
+  short = account_short tag value two few some;
+  named = part_of-filled (codes "00") 0 (entries_of (account_with tag value)) are;
+  told = read-filled (entries_of (account_with tag value)) are ∙ told;
+}
+
 phone_says : (payee : List ℕ) → length payee ≡ 10 → (get_or payee 0 0 == 48) ≡ true → Says payee (account_with (codes "01") (codes "0066" ++ after_first is_zero payee))
 phone_says payee ten first =
     let value = codes "0066" ++ after_first is_zero payee in
     let few = phone_length payee ten first in
     let some : is_filled value ≡ true = grind (arith, nat_tests) in
-    let es = entries_of (account_with (codes "01") value) in
-    record {
-      are = (refl, omega arith, (refl, omega (arith, few), tt));
-      short = account_short (codes "01") value refl few some;
-      named = part_of-filled (codes "00") 0 es refl;
-      told = read-filled es refl ∙ rw some (ap Some (zero_first payee ten first));
-    }
+    says_with payee (codes "01") value refl refl few some (rw some (ap Some (zero_first payee ten first)))
 
 identity_says : (payee : List ℕ) → length payee ≡ 13 → Says payee (account_with (codes "02") payee)
 identity_says payee size =
     let some : is_filled payee ≡ true = grind (arith, nat_tests) in
-    let es = entries_of (account_with (codes "02") payee) in
-    record {
-      are = (refl, omega arith, (refl, omega (arith, size), tt));
-      short = account_short (codes "02") payee refl (omega (arith, size)) some;
-      named = part_of-filled (codes "00") 0 es refl;
-      told = read-filled es refl ∙ rw some refl;
-    }
+    says_with payee (codes "02") payee refl refl (omega (arith, size)) some (rw some refl)
 
 wallet_says : (payee : List ℕ) → length payee ≡ 15 → Says payee (account_with (codes "03") payee)
 wallet_says payee size =
     let some : is_filled payee ≡ true = grind (arith, nat_tests) in
-    let es = entries_of (account_with (codes "03") payee) in
-    record {
-      are = (refl, omega arith, (refl, omega (arith, size), tt));
-      short = account_short (codes "03") payee refl (omega (arith, size)) some;
-      named = part_of-filled (codes "00") 0 es refl;
-      told = read-filled es refl;
-    }
+    says_with payee (codes "03") payee refl refl (omega (arith, size)) some refl
 
 size_is : (payee : List ℕ) (n : ℕ) → (length payee == n) ≡ true → length payee ≡ n
 size_is payee n is = grind (arith, nat_tests)
 
-by_phone : (payee : List ℕ) → is_phone payee ≡ true → account_with (codes "01") (codes "0066" ++ after_first is_zero payee) ≡ payee_objects payee
-by_phone payee is = rw is refl
-
-by_identity : (payee : List ℕ) → is_phone payee ≡ false → is_identity payee ≡ true → account_with (codes "02") payee ≡ payee_objects payee
-by_identity payee other is = rw (other, is) refl
-
-by_wallet : (payee : List ℕ) → is_phone payee ≡ false → is_identity payee ≡ false → account_with (codes "03") payee ≡ payee_objects payee
-by_wallet payee other unlike = rw (other, unlike) refl
-
 account_by : (payee : List ℕ) (phone identity wallet : Bool) → is_phone payee ≡ phone → is_identity payee ≡ identity → is_wallet payee ≡ wallet → (not phone && not identity && not wallet) ≡ false → (phone && not (get_or payee 0 0 == 48)) ≡ false → Says payee (payee_objects payee)
 account_by payee true identity wallet p i w one first =
     let zero : (get_or payee 0 0 == 48) ≡ true = grind (arith, nat_tests) in
-    subst (Says payee) (by_phone payee p) (phone_says payee (size_is payee 10 p) zero)
-account_by payee false true wallet p i w one first = subst (Says payee) (by_identity payee p i) (identity_says payee (size_is payee 13 i))
-account_by payee false false true p i w one first = subst (Says payee) (by_wallet payee p i) (wallet_says payee (size_is payee 15 w))
+    rw p (phone_says payee (size_is payee 10 p) zero)
+account_by payee false true wallet p i w one first = rw (p, i) (identity_says payee (size_is payee 13 i))
+account_by payee false false true p i w one first = rw (p, i) (wallet_says payee (size_is payee 15 w))
 account_by payee false false false p i w one first = cc
 
 -- what holds of a payment that passes all checks
@@ -119,8 +101,7 @@ promptpay_said p is =
     }
 
 initiation_short : (cents : Option ℕ) → length (initiation cents) < 100
-initiation_short None = omega arith
-initiation_short (Some n) = omega arith
+initiation_short cents = grind (arith, nat_tests)
 
 objects_are : (p : PromptPayFields) → AreSaid p → AreObjects (promptpay_objects p)
 objects_are p said =

@@ -3,6 +3,7 @@ use Rattle.std.specs.List.{list_all, list_any}
 use Rattle.std.specs.Option.{option_map}
 use Rattle.std.specs.Str.{bytes_eq}
 use Rattle.std.proofs.lemmas.Bool.Decides.{nat_tests}
+use Rattle.std.proofs.lemmas.Bool.{and_parts}
 use Rattle.qrcode_contents.specs.declared.fields.errors.Field.TheVariants.{Amount, Category, Name, Note, Payee, Reference}
 use Rattle.qrcode_contents.specs.declared.fields.errors.Cause.TheVariants.{Character, ControlCharacter, Range}
 use Rattle.qrcode_contents.specs.Bill.{amount_line, is_out_of_range, read_cents}
@@ -14,7 +15,7 @@ use Rattle.qrcode_contents.specs.fields.EntryTests.{are_distinct}
 use Rattle.qrcode_contents.specs.fields.Links.{read_parameter, value_in}
 use Rattle.qrcode_contents.specs.fields.Percents.{decoded}
 use Rattle.qrcode_contents.proofs.BillReading.{amount_below, cents_read}
-use Rattle.qrcode_contents.proofs.EntryReading.{both, second_fails, part_of-filled, HasNo, holds}
+use Rattle.qrcode_contents.proofs.EntryReading.{second_fails, part_of-filled, HasNo, holds}
 use Rattle.qrcode_contents.proofs.LinkReading.{HasNo-append, AreParameters, entries_of, is_kept, kept_first, later_read, no_return, all_without, read_pieces, and_text}
 use Rattle.qrcode_contents.proofs.OneTimeReading.{decimal_plain}
 use Rattle.qrcode_contents.proofs.Passing.{all_pass, test_passes}
@@ -35,7 +36,7 @@ address_read : (bytes : List ℕ) → list_all is_address_byte bytes ≡ true �
 unfolding decoded
 address_read [] are = refl
 address_read (b ∷ bytes) are =
-    let parts = both (is_address_byte b) (list_all is_address_byte bytes) are in
+    let parts = and_parts (is_address_byte b) (list_all is_address_byte bytes) are in
     let is = is_itself b parts.0 in
     ap (filter is_kept) (kept_byte b bytes is.no_percent) ∙ kept_first b (decoded bytes) is.no_return ∙ ap (λ xs. b ∷ xs) (address_read bytes parts.1)
 
@@ -47,7 +48,7 @@ category_plain [] is = refl
 category_plain (b ∷ bytes) is =
     let some : is_filled (b ∷ bytes) ≡ true = grind (arith, nat_tests) in
     let denied = second_fails (is_filled (b ∷ bytes)) (not (is_category (b ∷ bytes))) some is in
-    all_without is_digit (λ x. x == 13) digit_no_return (b ∷ bytes) (both (length (b ∷ bytes) == 4) (list_all is_digit (b ∷ bytes)) (holds (is_category (b ∷ bytes)) denied)).1
+    all_without is_digit (λ x. x == 13) digit_no_return (b ∷ bytes) (and_parts (length (b ∷ bytes) == 4) (list_all is_digit (b ∷ bytes)) (holds (is_category (b ∷ bytes)) denied)).1
 
 amount_plain : (cents : Option ℕ) → is_out_of_range cents ≡ false → HasNo 13 (amount_line cents)
 unfolding amount_text
