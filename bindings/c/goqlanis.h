@@ -6,9 +6,9 @@
 
    Answers: a call returns GOQ_OK after writing all its outputs, or else what is wrong. The comment
    of each call lists its errors in order ("Errors: .."), and the call returns the first one that
-   applies; GOQ_OUT_OF_MEMORY may come instead of those that take memory to find out. After an error
-   all outputs are unchanged, except `place`: calls that have it write there which field, element,
-   square, part or block is wrong.
+   applies. Each call may return GOQ_OUT_OF_MEMORY, also instead of those that take memory to find
+   out. After an error all outputs are unchanged, except `place`: calls that have it write there
+   which field, element, square, part or block is wrong.
 
    Threads: the library has no variables of its own. Calls may run in any threads at once, each with
    its own buffers.
@@ -667,20 +667,20 @@ enum { GOQ_BLOCKS_MAX = 81 };
    modules are unchanged. Version, level and width go to `symbol`. Errors: GOQ_NO_SUCH_STRUCT,
    GOQ_NO_SUCH_LEVEL, GOQ_NO_SUCH_VERSION, GOQ_NO_SUCH_MANNER, GOQ_NOT_TEXT; if `options` names a
    version, GOQ_NO_MODE and GOQ_LEVEL_NOT_IN_VERSION; GOQ_NO_ROOM (also for more than 1,048,576
-   bytes), GOQ_NO_SUCH_MASK, GOQ_SMALL_BUFFER; GOQ_OUT_OF_MEMORY. */
+   bytes), GOQ_NO_SUCH_MASK, GOQ_SMALL_BUFFER. */
 goq_answer goq_encode_with(const void *data, size_t data_length, const goq_options *options,
     uint8_t *modules, size_t modules_length, goq_symbol *symbol);
 
 /* Encodes UTF-8 text in one of some character sets, in the smallest version that any of them
    allows, and there in the fewest bits. `designators` are those of the sets; without them UTF-8,
    ISO 8859 and Shift JIS are tried. `options` are those of goq_encode_with; `manner` has no effect.
-   `modules` and `symbol` are written as by goq_encode, and the set goes to `designator`. Readers that
-   follow ECI, and assume UTF-8 without it, show exactly the text. Errors: GOQ_NO_SUCH_STRUCT,
+   `modules` and `symbol` are written as by goq_encode, and the set goes to `designator`. Readers
+   that follow ECI, and assume UTF-8 without it, show exactly the text. Errors: GOQ_NO_SUCH_STRUCT,
    GOQ_NO_SUCH_LEVEL, GOQ_NO_SUCH_VERSION, GOQ_NO_SUCH_MANNER; GOQ_NO_SUCH_SET with the index of the
    designator in `place`; GOQ_NOT_TEXT; GOQ_NO_ROOM for more than 1,048,576 bytes; if each set lacks
    a character, GOQ_NOT_IN_SET with the place of the first one that the first set lacks, counted in
    characters from 0; if `options` names a version, GOQ_LEVEL_NOT_IN_VERSION and GOQ_NO_MODE (Micro
-   has no ECI); GOQ_NO_ROOM, GOQ_NO_SUCH_MASK, GOQ_SMALL_BUFFER; GOQ_OUT_OF_MEMORY. */
+   has no ECI); GOQ_NO_ROOM, GOQ_NO_SUCH_MASK, GOQ_SMALL_BUFFER. */
 goq_answer goq_encode_charset(const void *text, size_t text_length, const uint32_t *designators,
     size_t designators_length, const goq_options *options, uint8_t *modules, size_t modules_length,
     goq_symbol *symbol, uint32_t *designator, size_t *place);
@@ -690,7 +690,7 @@ goq_answer goq_encode_charset(const void *text, size_t text_length, const uint32
    them, and their number goes to `count`. A single symbol has no structured append header. Errors:
    GOQ_NO_SUCH_STRUCT, GOQ_NO_SUCH_LEVEL, GOQ_NO_SUCH_VERSION (also for Micro, or if the smallest
    version is above the largest), GOQ_NO_SUCH_MANNER, GOQ_NO_SUCH_NUMBER (a count above
-   GOQ_SEVERAL_MAX), GOQ_NOT_TEXT, GOQ_NO_ROOM, GOQ_SMALL_BUFFER; GOQ_OUT_OF_MEMORY. */
+   GOQ_SEVERAL_MAX), GOQ_NOT_TEXT, GOQ_NO_ROOM, GOQ_SMALL_BUFFER. */
 goq_answer goq_encode_several(const void *data, size_t data_length, const goq_several *options,
     uint8_t *modules, size_t modules_length, goq_symbol *symbol, size_t *count);
 
@@ -698,14 +698,14 @@ goq_answer goq_encode_several(const void *data, size_t data_length, const goq_se
    and `symbol` are written as by goq_encode. Errors: GOQ_NO_SUCH_LEVEL, GOQ_NO_SUCH_VERSION,
    GOQ_LEVEL_NOT_IN_VERSION; for the first segment with an error GOQ_NO_SUCH_KIND, GOQ_NOT_IN_MODE,
    GOQ_NO_MODE, GOQ_NO_SUCH_NUMBER (which GOQ_FNC1_SECOND checks before GOQ_NO_MODE), GOQ_NO_ROOM;
-   then GOQ_NO_ROOM if they do not fit together, GOQ_SMALL_BUFFER; GOQ_OUT_OF_MEMORY. */
+   then GOQ_NO_ROOM if they do not fit together, GOQ_SMALL_BUFFER. */
 goq_answer goq_encode_segments(const goq_segment *segments, size_t segments_length,
     uint32_t version, uint32_t level, uint8_t *modules, size_t modules_length, goq_symbol *symbol);
 
 /* Finds the smallest Normal version that holds `segments` at the level `level`, and writes it to
    `version`. Errors: GOQ_NO_SUCH_LEVEL; for the first segment with an error GOQ_NO_SUCH_KIND,
-   GOQ_NOT_IN_MODE, GOQ_NO_SUCH_NUMBER, unless no version has room for those before it; GOQ_NO_ROOM;
-   GOQ_OUT_OF_MEMORY. */
+   GOQ_NOT_IN_MODE, GOQ_NO_SUCH_NUMBER, unless no version has room for those before it;
+   GOQ_NO_ROOM. */
 goq_answer goq_smallest_version_of_segments(const goq_segment *segments, size_t segments_length,
     uint32_t level, uint32_t *version);
 
@@ -728,8 +728,7 @@ bool goq_is_functional(uint32_t version, uint32_t x, uint32_t y);
    65,535 pixels a side, ESC/POS at most 65,535, and the text formats for terminals and pages (half
    blocks and GOQ_ASCII) at most 4,096. Errors: GOQ_NO_SUCH_STRUCT, GOQ_NO_SUCH_FORMAT,
    GOQ_NOT_SQUARE, GOQ_NO_SUCH_SIZE, GOQ_NOT_IN_FORMAT; GOQ_NO_SUCH_SIDE, if patterns or data have
-   colours of their own and no version has so many modules a side; GOQ_SMALL_BUFFER;
-   GOQ_OUT_OF_MEMORY. */
+   colours of their own and no version has so many modules a side; GOQ_SMALL_BUFFER. */
 goq_answer goq_draw_with(const uint8_t *modules, size_t modules_length, uint32_t width,
     const goq_drawing *drawing, void *out, size_t out_length, size_t *count);
 
@@ -745,21 +744,19 @@ goq_answer goq_draw_with_length(const uint8_t *modules, size_t modules_length, u
    `reading`. Damage is corrected: in each copy of the format information up to three wrong bits, in
    each block half as many wrong codewords as it has for error correction. Symbols with headers
    (ECI, FNC1, structured append) are not read: see goq_read_text, goq_join and goq_read_picture.
-   Errors: GOQ_NO_SUCH_SIDE, GOQ_NO_FORMAT, GOQ_DAMAGED, GOQ_NOT_SPELLED, GOQ_SMALL_BUFFER;
-   GOQ_OUT_OF_MEMORY. */
+   Errors: GOQ_NO_SUCH_SIDE, GOQ_NO_FORMAT, GOQ_DAMAGED, GOQ_NOT_SPELLED, GOQ_SMALL_BUFFER. */
 goq_answer goq_read(const uint8_t *modules, size_t modules_length, void *bytes,
     size_t bytes_length, goq_reading *reading);
 
 /* Decodes like goq_read, but a square that may be rotated, mirrored or inverted: in the first of
-   the sixteen positions in which it decodes. Errors: GOQ_NOT_READ, GOQ_SMALL_BUFFER;
-   GOQ_OUT_OF_MEMORY. */
+   the sixteen positions in which it decodes. Errors: GOQ_NOT_READ, GOQ_SMALL_BUFFER. */
 goq_answer goq_read_any(const uint8_t *modules, size_t modules_length, void *bytes,
     size_t bytes_length, goq_any_reading *reading);
 
 /* Decodes a square of modules, given as to goq_read, into the UTF-8 text that readers show, such as
    that of goq_encode_text or goq_encode_marked_text. The text goes to the start of `text`, the rest
    to `reading`. Errors: GOQ_NO_SUCH_SIDE, GOQ_NO_FORMAT, GOQ_DAMAGED, GOQ_NOT_SHOWN,
-   GOQ_SMALL_BUFFER; GOQ_OUT_OF_MEMORY. */
+   GOQ_SMALL_BUFFER. */
 goq_answer goq_read_text(const uint8_t *modules, size_t modules_length, void *text,
     size_t text_length, goq_reading *reading);
 
@@ -770,7 +767,7 @@ goq_answer goq_read_text(const uint8_t *modules, size_t modules_length, void *te
    GOQ_ISO_8859_1 .. GOQ_UTF_8 and 1 (ISO 8859-1); under 0, 2 (code page 437) and 27 (ASCII) only
    bytes below 128 are text, and under 170 of these not # $ @ [ \ ] ^ ` { | } ~. Errors:
    GOQ_NOT_IN_SET if the bytes are no such text, e.g. since a set is not known, or a GOQ_KANJI
-   segment is not under GOQ_SHIFT_JIS; GOQ_SMALL_BUFFER; GOQ_OUT_OF_MEMORY. */
+   segment is not under GOQ_SHIFT_JIS; GOQ_SMALL_BUFFER. */
 goq_answer goq_text(const void *bytes, size_t bytes_length, const goq_part *parts,
     size_t parts_length, void *text, size_t text_length, size_t *count);
 
@@ -780,7 +777,7 @@ goq_answer goq_decode(const void *bytes, size_t bytes_length, uint32_t designato
     size_t text_length, size_t *count);
 
 /* Writes the number of the mask that the format information of a square names to `mask`: 0 to 7, in
-   Micro 0 to 3. Errors: GOQ_NO_SUCH_SIDE, GOQ_NO_FORMAT; GOQ_OUT_OF_MEMORY. */
+   Micro 0 to 3. Errors: GOQ_NO_SUCH_SIDE, GOQ_NO_FORMAT. */
 goq_answer goq_mask(const uint8_t *modules, size_t modules_length, uint32_t *mask);
 
 /* Returns how many bytes of a file its first picture takes, with the white space and comments
@@ -799,8 +796,7 @@ size_t goq_picture_length(const void *file, size_t file_length);
    a separator between elements is byte 29. Of more than 64 codes in a picture some may be missed.
    Errors: GOQ_NO_SUCH_STRUCT, GOQ_LARGE_PICTURE, GOQ_NOT_PICTURE, GOQ_BROKEN_PICTURE (also for a
    PNG file of more than 67,108,864 pixels), GOQ_NO_SQUARE; if a square was found but no code
-   decodes, GOQ_NO_SUCH_SIDE, GOQ_NO_FORMAT, GOQ_DAMAGED, GOQ_NOT_SPELLED; GOQ_SMALL_BUFFER;
-   GOQ_OUT_OF_MEMORY. */
+   decodes, GOQ_NO_SUCH_SIDE, GOQ_NO_FORMAT, GOQ_DAMAGED, GOQ_NOT_SPELLED; GOQ_SMALL_BUFFER. */
 goq_answer goq_read_picture(const void *picture, size_t picture_length, goq_code *codes,
     size_t codes_length, goq_part *parts, size_t parts_length, void *bytes, size_t bytes_length,
     goq_scan *scan);
@@ -808,8 +804,8 @@ goq_answer goq_read_picture(const void *picture, size_t picture_length, goq_code
 /* Tells which squares in a picture, given as to goq_read_picture, look like codes but do not
    decode, and have no pixel of a code that does. `missed` gets one item per square, and `count`
    their number. Errors: GOQ_LARGE_PICTURE, GOQ_NOT_PICTURE, GOQ_BROKEN_PICTURE, GOQ_NO_SQUARE; if
-   no code decodes, GOQ_NO_SUCH_SIDE, GOQ_NO_FORMAT, GOQ_DAMAGED, GOQ_NOT_SPELLED; GOQ_SMALL_BUFFER;
-   GOQ_OUT_OF_MEMORY. */
+   no code decodes, GOQ_NO_SUCH_SIDE, GOQ_NO_FORMAT, GOQ_DAMAGED, GOQ_NOT_SPELLED;
+   GOQ_SMALL_BUFFER. */
 goq_answer goq_missed(const void *picture, size_t picture_length, goq_missed_code *missed,
     size_t missed_length, size_t *count);
 
@@ -820,14 +816,13 @@ goq_answer goq_missed(const void *picture, size_t picture_length, goq_missed_cod
    and the picture shows a square in an even margin whose bits are not segments and a terminator,
    that square is checked. Errors: GOQ_NO_SUCH_STRUCT, GOQ_LARGE_PICTURE, GOQ_NOT_PICTURE,
    GOQ_BROKEN_PICTURE, GOQ_NO_SQUARE; if a square was found but no code decodes, GOQ_NO_SUCH_SIDE,
-   GOQ_NO_FORMAT, GOQ_DAMAGED; GOQ_SMALL_BUFFER; GOQ_OUT_OF_MEMORY. */
+   GOQ_NO_FORMAT, GOQ_DAMAGED; GOQ_SMALL_BUFFER. */
 goq_answer goq_check(const void *picture, size_t picture_length, goq_checked *checks,
     size_t checks_length, size_t *wrong, size_t wrong_length, goq_checks *counts);
 
 /* Reports where a square of modules, given as to goq_read, departs from the standard. The number of
    wrong codewords of each block goes to the start of `wrong` (GOQ_BLOCKS_MAX are always enough),
-   the rest to `check`. Errors: GOQ_NO_SUCH_SIDE, GOQ_NO_FORMAT, GOQ_DAMAGED, GOQ_SMALL_BUFFER;
-   GOQ_OUT_OF_MEMORY. */
+   the rest to `check`. Errors: GOQ_NO_SUCH_SIDE, GOQ_NO_FORMAT, GOQ_DAMAGED, GOQ_SMALL_BUFFER. */
 goq_answer goq_check_square(const uint8_t *modules, size_t modules_length, size_t *wrong,
     size_t wrong_length, goq_checked *check);
 
@@ -836,7 +831,7 @@ goq_answer goq_check_square(const uint8_t *modules, size_t modules_length, size_
    are always enough. Errors: for the first square that is not a part, GOQ_NO_SUCH_SIDE,
    GOQ_NO_FORMAT, GOQ_DAMAGED, GOQ_NOT_SPELLED, GOQ_NOT_SEVERAL; then GOQ_STRANGER; each with the
    index of the square in `place`. GOQ_MISSING or GOQ_TWICE, with the number of the part in `place`,
-   counted from 0; GOQ_PARITY, GOQ_SMALL_BUFFER; GOQ_OUT_OF_MEMORY. */
+   counted from 0; GOQ_PARITY, GOQ_SMALL_BUFFER. */
 goq_answer goq_join(const goq_square *squares, size_t squares_length, void *out,
     size_t out_length, size_t *count, size_t *place);
 
@@ -848,8 +843,8 @@ goq_answer goq_join(const goq_square *squares, size_t squares_length, void *out,
    length to `count`; encode it with goq_encode_text. Text of more than GOQ_BYTES_MAX bytes fits no
    symbol. Errors: GOQ_NO_SUCH_CONTENT; for the first field with an error GOQ_NO_SUCH_FIELD,
    GOQ_NOT_TEXT; if the format rejects a field, GOQ_FIELD_EMPTY .. GOQ_FIELD_UNUSED,
-   GOQ_FIELD_DECIMALS or GOQ_FIELD_WORD; GOQ_SMALL_BUFFER; GOQ_OUT_OF_MEMORY. If a field is wrong,
-   `place` says which; GOQ_PAYMENT_FIELDS means that a payment is too long as a whole. */
+   GOQ_FIELD_DECIMALS or GOQ_FIELD_WORD; GOQ_SMALL_BUFFER. If a field is wrong, `place` says which;
+   GOQ_PAYMENT_FIELDS means that a payment is too long as a whole. */
 goq_answer goq_content(uint32_t kind, const goq_field *fields, size_t fields_length, void *out,
     size_t out_length, size_t *count, size_t *place);
 
@@ -868,7 +863,7 @@ goq_answer goq_gs1(const goq_element *elements, size_t elements_length, void *ou
    GOQ_NO_SUCH_MANNER; with the index of the first wrong element in `place` GOQ_NOT_TEXT, else
    GOQ_NO_SUCH_IDENTIFIER, GOQ_ELEMENT_LENGTH, GOQ_FIELD_CHARACTER, GOQ_FIELD_CHECK_DIGITS,
    GOQ_FIELD_RANGE (a date); GOQ_NO_ROOM (also for Micro, which has no such symbols),
-   GOQ_NO_SUCH_MASK, GOQ_SMALL_BUFFER; GOQ_OUT_OF_MEMORY. */
+   GOQ_NO_SUCH_MASK, GOQ_SMALL_BUFFER. */
 goq_answer goq_encode_gs1(const goq_element *elements, size_t elements_length,
     const goq_options *options, uint8_t *modules, size_t modules_length, goq_symbol *symbol,
     size_t *place);
@@ -878,14 +873,14 @@ goq_answer goq_encode_gs1(const goq_element *elements, size_t elements_length,
 /* Reports what an area takes of a symbol of this version and level. How many codewords of each
    block have modules in it goes to the start of `touched` (GOQ_BLOCKS_MAX are always enough), the
    rest to `taken`. Errors: GOQ_NO_SUCH_LEVEL, GOQ_NO_SUCH_VERSION, GOQ_LEVEL_NOT_IN_VERSION,
-   GOQ_NO_SUCH_AREA (also for more than 31,329 rectangles), GOQ_SMALL_BUFFER; GOQ_OUT_OF_MEMORY. */
+   GOQ_NO_SUCH_AREA (also for more than 31,329 rectangles), GOQ_SMALL_BUFFER. */
 goq_answer goq_reserve(uint32_t version, uint32_t level, const goq_rectangle *area,
     size_t area_length, size_t *touched, size_t touched_length, goq_taken *taken);
 
 /* Finds the largest rectangle in the middle of a symbol of this version and level that may show
    anything and leaves what `wish` asks for, and writes it to `rectangle`. Both sides are odd.
    Errors: GOQ_NO_SUCH_STRUCT, GOQ_NO_SUCH_LEVEL, GOQ_NO_SUCH_VERSION, GOQ_LEVEL_NOT_IN_VERSION,
-   GOQ_NO_AREA; GOQ_OUT_OF_MEMORY. */
+   GOQ_NO_AREA. */
 goq_answer goq_largest_area(uint32_t version, uint32_t level, const goq_wish *wish,
     goq_rectangle *rectangle);
 
@@ -893,7 +888,7 @@ goq_answer goq_largest_area(uint32_t version, uint32_t level, const goq_wish *wi
    symbol decodes to the same data and headers and nothing else. `modules` is the symbol, as written
    by goq_encode. Errors: GOQ_NO_SUCH_SIDE, GOQ_NO_FORMAT, GOQ_NO_SUCH_AREA (also for more than
    31,329 rectangles), GOQ_AREA_BLOCK with the block that loses the most codewords in `place`,
-   GOQ_AREA_FORMAT; GOQ_OUT_OF_MEMORY. */
+   GOQ_AREA_FORMAT. */
 goq_answer goq_cover(uint8_t *modules, size_t modules_length, const goq_rectangle *area,
     size_t area_length, size_t *place);
 
@@ -901,7 +896,7 @@ goq_answer goq_cover(uint8_t *modules, size_t modules_length, const goq_rectangl
    and modules of patterns as `wrong` says, and no other module. `modules` is the symbol, as written
    by goq_encode; equal seeds make the same wrong. How much may be wrong goes to `promised`. Errors:
    GOQ_NO_SUCH_STRUCT, GOQ_NO_SUCH_SIDE, GOQ_NO_FORMAT, GOQ_MANY_CODEWORDS, GOQ_MANY_FORMAT_BITS,
-   GOQ_MANY_VERSION_BITS, GOQ_MANY_PATTERN_MODULES; GOQ_OUT_OF_MEMORY. */
+   GOQ_MANY_VERSION_BITS, GOQ_MANY_PATTERN_MODULES. */
 goq_answer goq_damage(uint8_t *modules, size_t modules_length, const goq_wrong *wrong,
     goq_promised *promised);
 
@@ -911,7 +906,7 @@ goq_answer goq_damage(uint8_t *modules, size_t modules_length, const goq_wrong *
 
 /* Encodes `data` like goq_encode_with, at the error correction level `level` (GOQ_L .. GOQ_H), in
    the smallest Normal version that holds it. Errors: GOQ_NO_SUCH_LEVEL, GOQ_NO_ROOM,
-   GOQ_SMALL_BUFFER, GOQ_OUT_OF_MEMORY. */
+   GOQ_SMALL_BUFFER. */
 static inline goq_answer goq_encode(const void *data, size_t data_length, uint32_t level,
     uint8_t *modules, size_t modules_length, goq_symbol *symbol)
 {
@@ -922,7 +917,7 @@ static inline goq_answer goq_encode(const void *data, size_t data_length, uint32
 
 /* Encodes `data` like goq_encode, but in the version `version` (1 to 40, or GOQ_MICRO(1 to 4)).
    Errors: GOQ_NO_SUCH_LEVEL, GOQ_NO_SUCH_VERSION, GOQ_TOO_LONG, GOQ_NO_MODE,
-   GOQ_LEVEL_NOT_IN_VERSION, GOQ_NO_ROOM, GOQ_SMALL_BUFFER; GOQ_OUT_OF_MEMORY. */
+   GOQ_LEVEL_NOT_IN_VERSION, GOQ_NO_ROOM, GOQ_SMALL_BUFFER. */
 static inline goq_answer goq_encode_in(const void *data, size_t data_length, uint32_t version,
     uint32_t level, uint8_t *modules, size_t modules_length, goq_symbol *symbol)
 {
@@ -936,8 +931,7 @@ static inline goq_answer goq_encode_in(const void *data, size_t data_length, uin
 
 /* Encodes UTF-8 text like goq_encode, but without Kanji segments: readers that take bytes for UTF-8
    show the text. For readers that guess the character set, goq_encode_marked_text says that it is
-   UTF-8. Errors: GOQ_NO_SUCH_LEVEL, GOQ_NOT_TEXT, GOQ_NO_ROOM, GOQ_SMALL_BUFFER;
-   GOQ_OUT_OF_MEMORY. */
+   UTF-8. Errors: GOQ_NO_SUCH_LEVEL, GOQ_NOT_TEXT, GOQ_NO_ROOM, GOQ_SMALL_BUFFER. */
 static inline goq_answer goq_encode_text(const void *text, size_t text_length, uint32_t level,
     uint8_t *modules, size_t modules_length, goq_symbol *symbol)
 {
@@ -959,7 +953,7 @@ static inline goq_answer goq_encode_marked_text(const void *text, size_t text_le
 }
 
 /* Finds the smallest Normal version that holds `data` at the level `level`, and writes it to
-   `version`; it encodes `data`. Errors: GOQ_NO_SUCH_LEVEL, GOQ_NO_ROOM, GOQ_OUT_OF_MEMORY. */
+   `version`; it encodes `data`. Errors: GOQ_NO_SUCH_LEVEL, GOQ_NO_ROOM. */
 static inline goq_answer goq_smallest_version(const void *data, size_t data_length,
     uint32_t level, uint32_t *version)
 {
@@ -974,7 +968,7 @@ static inline goq_answer goq_smallest_version(const void *data, size_t data_leng
 /* Draws `modules` like goq_draw_with, in black on white, in the format `format` (GOQ_HALF_BLOCKS ..
    GOQ_ASCII). `zone` is the width of the quiet zone in modules (usually 4, for Micro 2), and
    `scale` the pixels per module. Errors: GOQ_NO_SUCH_FORMAT, GOQ_NOT_SQUARE, GOQ_NO_SUCH_SIZE,
-   GOQ_SMALL_BUFFER; GOQ_OUT_OF_MEMORY. */
+   GOQ_SMALL_BUFFER. */
 static inline goq_answer goq_draw(const uint8_t *modules, size_t modules_length, uint32_t width,
     uint32_t zone, uint32_t scale, uint32_t format, void *out, size_t out_length, size_t *count)
 {
@@ -986,7 +980,7 @@ static inline goq_answer goq_draw(const uint8_t *modules, size_t modules_length,
 }
 
 /* Writes the length in bytes of the picture of goq_draw to `count`. Errors: GOQ_NO_SUCH_FORMAT,
-   GOQ_NOT_SQUARE, GOQ_NO_SUCH_SIZE; GOQ_OUT_OF_MEMORY. */
+   GOQ_NOT_SQUARE, GOQ_NO_SUCH_SIZE. */
 static inline goq_answer goq_draw_length(const uint8_t *modules, size_t modules_length,
     uint32_t width, uint32_t zone, uint32_t scale, uint32_t format, size_t *count)
 {
@@ -1006,7 +1000,7 @@ static inline uint32_t goq_smallest_scale(uint32_t dpi)
 }
 
 /* Writes to `count` how many bytes goq_read would write. Errors: GOQ_NO_SUCH_SIDE, GOQ_NO_FORMAT,
-   GOQ_DAMAGED, GOQ_NOT_SPELLED, GOQ_OUT_OF_MEMORY. */
+   GOQ_DAMAGED, GOQ_NOT_SPELLED. */
 static inline goq_answer goq_read_length(const uint8_t *modules, size_t modules_length,
     size_t *count)
 {

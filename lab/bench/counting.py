@@ -113,16 +113,12 @@ def heap_from_then_on(command):
     return max(held for _, held in one[same:]) - one[same - 1][1]
 
 
-def growth(folder):
+def greatest_step(folder):
+    """Returns the largest ratio of a module's cost to that in the version before, and where."""
     answers = (TOP / "evidence" / "answers").read_text()
     most = re.findall(r"(?m)^most normal (\d+) M: \d+ \d+ (\d+) \d+$", answers)
-    return [instructions(command_of(folder, "symbol", WORDS[:int(count)], version, 1))
-            for version, count in most]
-
-
-def greatest_step(spent):
-    """Returns the largest ratio of a module's cost to that in the version before, and where."""
-    each = [it / (4 * version + 17) ** 2 for version, it in enumerate(spent, 1)]
+    each = [instructions(command_of(folder, "symbol", WORDS[:int(count)], version, 1))
+            / (4 * int(version) + 17) ** 2 for version, count in most]
     return max((after / before, v) for v, before, after in zip(range(3, 41), each[1:], each[2:]))
 
 

@@ -1,4 +1,4 @@
-"""Tests of what goqlanis says about itself: help, version and colours; of its manual and completions."""
+"""Tests of what goqlanis says about itself: help and colours; of its manual and completions."""
 import os
 import re
 import shlex
@@ -8,17 +8,6 @@ from manuals import commands, pages
 from room import HERE, TOP, by_shell, cases, empty, piped, put, run, written
 
 PAGES = HERE / "pages"
-
-
-def one_version_is_named(program):
-    """The packages have the version of the program, from which ./install reads it."""
-    packages = ("python/goqlanis/__init__.py", "rust/goqlanis/Cargo.toml",
-                "rust/goqlanis-sys/Cargo.toml")
-    named = set()
-    for name in packages:
-        text = (TOP / "bindings" / name).read_text(encoding="utf-8")
-        named |= set(re.findall(r'^(?:__)?version(?:__)? = "(.*)"', text, re.MULTILINE))
-    return {written(program, "--version").decode()} == {f"goqlanis {it}\n" for it in named}
 
 
 def examples_of_the_help_run(program):
