@@ -85,8 +85,8 @@ def text_of(kind: str, given: Dict[str, Any]) -> str:
     assert not told
     rows = (Field * len(fields))(*(_field(*it) for it in fields))
     out, count, place = _room(), ctypes.c_size_t(), ctypes.c_size_t()
-    answer = library.goq_content(getattr(goq, kind.upper()), rows, len(rows), out, BYTES_MAX, ctypes.byref(count),
-                                 ctypes.byref(place))
+    answer = library.goq_content(getattr(goq, kind.upper()), rows, len(rows), out, BYTES_MAX,
+                                 ctypes.byref(count), ctypes.byref(place))
     _refuse(answer, fields[place.value][0] if place.value < len(fields) else "text")
     return bytes(out[:count.value]).decode()
 
@@ -150,11 +150,11 @@ def _string(elements: Any) -> Tuple[int, bytes, int]:
 def _wrong(answer: int, element: Element) -> str:
     """Says what is wrong with an element."""
     identifier, why = repr(element.identifier.decode())[1:-1], _CAUSES[answer].why
-    if answer == 42 and identifier.startswith("("):
+    if answer == goq.NO_SUCH_IDENTIFIER and identifier.startswith("("):
         return f": write {_checks.cut(identifier.strip('()'))} without brackets"
-    if answer == 42:
+    if answer == goq.NO_SUCH_IDENTIFIER:
         why = "no such identifier is known; they have two to four digits, as 01, 414 and 3103"
-    if answer == 43:
+    if answer == goq.ELEMENT_LENGTH:
         why = (f"its value has {element.value_length:,} characters; it needs "
                f"{_lengths(element.identifier)}")
     return f", ({_checks.cut(identifier)}): {why}"
@@ -163,7 +163,8 @@ def _wrong(answer: int, element: Element) -> str:
 def _lengths(identifier: bytes) -> str:
     """Says how many characters a value may have: one number, or from one to another."""
     tried = (Element(identifier, len(identifier), b"0" * count, count) for count in range(91))
-    taken = [it.value_length for it in tried if _string((Element * 1)(it))[0] != 43]
+    taken = [it.value_length for it in tried
+             if _string((Element * 1)(it))[0] != goq.ELEMENT_LENGTH]
     return " to ".join(map(str, sorted({taken[0], taken[-1]})))
 
 
@@ -188,7 +189,7 @@ def _refuse(answer: int, field: str) -> None:
     """Raises the exception for an answer of the library, unless that is success."""
     if answer in _CAUSES:
         raise _CAUSES[answer](field, _said(_CAUSES[answer], field))
-    if answer == 7:
+    if answer == goq.SMALL_BUFFER:
         raise NoRoom(f"no code holds a text of more than {BYTES_MAX:,} bytes")
     refuse(answer)
 
