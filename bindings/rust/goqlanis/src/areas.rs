@@ -3,17 +3,7 @@ use crate::QrCode;
 use goqlanis_sys as sys;
 
 /// A rectangle of modules of a symbol.
-#[derive(Clone, Copy, Debug, PartialEq, Eq, Hash)]
-pub struct Rectangle {
-    /// The left column, counted from 0.
-    pub left: usize,
-    /// The top row, counted from 0.
-    pub top: usize,
-    /// How many columns it has.
-    pub width: usize,
-    /// How many rows it has.
-    pub height: usize,
-}
+pub type Rectangle = sys::goq_rectangle;
 
 /// How much of a symbol an area takes, and what is left.
 #[derive(Clone, Debug, PartialEq, Eq)]
@@ -95,12 +85,6 @@ fn allowed(answer: u32, place: usize) -> Result<(), Excess> {
     }
 }
 
-fn given(area: &[Rectangle]) -> Vec<sys::goq_rectangle> {
-    area.iter()
-        .map(|&Rectangle { left, top, width, height }| sys::goq_rectangle { left, top, width, height })
-        .collect()
-}
-
 impl QrCode {
     /// Returns how much of the symbol an area takes, and what is left.
     ///
@@ -113,7 +97,7 @@ impl QrCode {
     /// # Ok::<(), Box<dyn std::error::Error>>(())
     /// ```
     pub fn reserve(&self, area: &[Rectangle]) -> Result<Reserve, Excess> {
-        let (area, mut taken) = (given(area), sys::goq_taken::default());
+        let mut taken = sys::goq_taken::default();
         let (version, level) = (self.version.number(), self.ec_level as u32);
         let mut touched = vec![0; sys::GOQ_BLOCKS_MAX];
         let answer = unsafe {
@@ -134,12 +118,10 @@ impl QrCode {
     /// Returns the largest rectangle in the middle that may show anything and leaves what `wish`
     /// asks for.
     pub fn largest_area(&self, wish: &Wish) -> Result<Rectangle, Excess> {
-        let (given, mut found) = (wish.given(), sys::goq_rectangle::default());
+        let (given, mut found) = (wish.given(), Rectangle::default());
         let (version, level) = (self.version.number(), self.ec_level as u32);
         let answer = unsafe { sys::goq_largest_area(version, level, &given, &mut found) };
-        allowed(answer, 0)?;
-        let sys::goq_rectangle { left, top, width, height } = found;
-        Ok(Rectangle { left, top, width, height })
+        allowed(answer, 0).map(|()| found)
     }
 
     /// Returns the symbol with a light area.
@@ -155,7 +137,7 @@ impl QrCode {
     /// # Ok::<(), Box<dyn std::error::Error>>(())
     /// ```
     pub fn with_area(&self, area: &[Rectangle]) -> Result<QrCode, Excess> {
-        let (area, mut covered, mut place) = (given(area), self.clone(), 0);
+        let (mut covered, mut place) = (self.clone(), 0);
         let answer = unsafe {
             let (modules, length) = (covered.modules.as_mut_ptr(), covered.modules.len());
             sys::goq_cover(modules, length, area.as_ptr(), area.len(), &mut place)
