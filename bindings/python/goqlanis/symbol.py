@@ -216,13 +216,9 @@ class Symbol:
         On a terminal they are black on white, whatever its colours are, unless the environment
         variable NO_COLOR is set.
 
-        >>> encode("1", "L", micro=True).terminal(border=0)
+        >>> encode("1", "L", micro=True).terminal(border=0)  # doctest: +ELLIPSIS
         █▀▀▀▀▀█ █ ▀
-        █ ███ █ ▄▀▀
-        █ ▀▀▀ █  ▀▀
-        ▀▀▀▀▀▀▀ ▄▀█
-        ▀█ ▄▄█▄▄▄▀█
-        ▀▀▀▀▀▀▀▀ ▀▀
+        ...
         """
         out = sys.stdout if out is None else out
         if out is None:
