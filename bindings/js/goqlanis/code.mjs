@@ -89,9 +89,14 @@ export class QrCode {
         return areas.largest(this, options);
     }
 
+    /** Returns this code with other modules, and what else is changed. */
+    #with(modules, more = {}) {
+        const made = new QrCode(modules, this.version, this.level, this.logo, this.charset);
+        return Object.assign(made, { isPromised: this.isPromised, ...more });
+    }
+
     withArea(area = this.largestArea()) {
-        return new QrCode(areas.covered(this, area), this.version, this.level, this.logo,
-            this.charset);
+        return this.#with(areas.covered(this, area));
     }
 
     get mostCodewords() {
@@ -100,15 +105,12 @@ export class QrCode {
 
     damaged(options = {}) {
         const { modules, is_promised: isPromised } = areas.damaged(this, options);
-        const made = new QrCode(modules, this.version, this.level, this.logo);
-        made.isPromised = this.isPromised && isPromised === 1;
-        return made;
+        return this.#with(modules, { isPromised: this.isPromised && isPromised === 1 });
     }
 
     withLogo(logo, options = {}) {
         const placed = areas.placed(this, logo, options);
-        return new QrCode(areas.covered(this, placed.area), this.version, this.level, placed,
-            this.charset);
+        return this.#with(areas.covered(this, placed.area), { logo: placed });
     }
 }
 
