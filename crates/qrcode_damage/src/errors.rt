@@ -1,13 +1,12 @@
 //! Which modules of a symbol are wrong.
 
 ghost use Rattle.std.specs.Prelude.{◌≡◌, ◌*◌, ◌<◌, length, None, IsTrue, IfOk};
-ghost use Rattle.qrcode_types.specs.Colors.{is_dark};
 ghost use Rattle.qrcode_types.specs.Versions.{is_valid, side};
-ghost use Rattle.qrcode_layout.specs.Masks.{turned_if};
 ghost use Rattle.qrcode_damage.specs.Errors.{is_set, is_version_wrong, is_format_wrong, is_pattern_wrong, is_free_wrong, wrong_in, is_wrong, opposite_if, flipped};
 
 use qrcode_layout::masks::nth_mask;
 use qrcode_layout::patterns::{format_index, is_functional_place};
+use qrcode_reader::walk::bit_of;
 use qrcode_types::types::{Color, Version};
 use qrcode_types::versions::side;
 use std::alloc::{AllocError, Global};
@@ -27,16 +26,6 @@ pub(crate) struct Errors {
     pub(crate) last_version: Vec<u8>,
     /// The modules of patterns that no word has, among all modules row by row.
     pub(crate) patterns: Vec<u8>,
-}
-
-// Returns the bit of a module, which the mask has flipped or not.
-fn bit_of(color: Color, is_turned: bool) -> bool
-    ensures { result ≡ turned_if is_turned (is_dark color) }
-{
-    match color {
-        Color::Dark => !is_turned,
-        Color::Light => is_turned,
-    }
 }
 
 // Returns whether byte `i` is not zero.

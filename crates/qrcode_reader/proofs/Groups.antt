@@ -38,6 +38,19 @@ all_of m bytes h none empty l = record {
   full = inr none;
 }
 
+group_of : (m : Mode) (front behind : List ℕ) → can_write m front ≡ true → can_write m behind ≡ true → data_bits_in m (front ++ behind) ≡ data_bits_in m front ++ data_bits_in m behind
+    → length (data_bits_in m front) ≡ group_bits m → FirstGroup m (front ++ behind)
+group_of m front behind first others bits l = record {
+  front = front;
+  behind = behind;
+  joined = refl;
+  front_writable = first;
+  behind_writable = others;
+  bits = bits;
+  at_most = omega (arith, l);
+  full = inl l;
+}
+
 first_group : (m : Mode) (bytes : List ℕ) → can_write m bytes ≡ true → FirstGroup m bytes
 first_group Numeric [] h = all_of Numeric [] h refl refl (omega arith)
 first_group Numeric (a ∷ []) h = all_of Numeric (a ∷ []) h refl refl (omega (arith, length-data Numeric (a ∷ [])))
@@ -46,62 +59,23 @@ first_group Numeric (a ∷ b ∷ c ∷ more) h =
     let pa = and_parts (is_digit a) (list_all is_digit (b ∷ c ∷ more)) h in
     let pb = and_parts (is_digit b) (list_all is_digit (c ∷ more)) pa.1 in
     let pc = and_parts (is_digit c) (list_all is_digit more) pb.1 in
-    let l : length (data_bits_in Numeric (a ∷ b ∷ c ∷ [])) ≡ 10 = omega (arith, length-data Numeric (a ∷ b ∷ c ∷ [])) in
-    record {
-      front = a ∷ b ∷ c ∷ [];
-      behind = more;
-      joined = refl;
-      front_writable = ap₂ (λ x y. x && y) pa.0 (ap₂ (λ x y. x && y) pb.0 (ap (λ x. x && true) pc.0));
-      behind_writable = pc.1;
-      bits = ap (λ r. r ++ numeric_bits more) (sym (append-nil (number_bits 10 (100 * (a - 48) + 10 * (b - 48) + (c - 48)))));
-      at_most = omega (arith, l);
-      full = inl l;
-    }
+    group_of Numeric (a ∷ b ∷ c ∷ []) more (ap₂ (λ x y. x && y) pa.0 (ap₂ (λ x y. x && y) pb.0 (ap (λ x. x && true) pc.0))) pc.1
+    (ap (λ r. r ++ numeric_bits more) (sym (append-nil (number_bits 10 (100 * (a - 48) + 10 * (b - 48) + (c - 48)))))) (omega (arith, length-data Numeric (a ∷ b ∷ c ∷ [])))
 first_group Alphanumeric [] h = all_of Alphanumeric [] h refl refl (omega arith)
 first_group Alphanumeric (a ∷ []) h = all_of Alphanumeric (a ∷ []) h refl refl (omega (arith, length-data Alphanumeric (a ∷ [])))
 first_group Alphanumeric (a ∷ b ∷ more) h =
     let pa = and_parts (is_alphanumeric a) (list_all is_alphanumeric (b ∷ more)) h in
     let pb = and_parts (is_alphanumeric b) (list_all is_alphanumeric more) pa.1 in
-    let l : length (data_bits_in Alphanumeric (a ∷ b ∷ [])) ≡ 11 = omega (arith, length-data Alphanumeric (a ∷ b ∷ [])) in
-    record {
-      front = a ∷ b ∷ [];
-      behind = more;
-      joined = refl;
-      front_writable = ap₂ (λ x y. x && y) pa.0 (ap (λ x. x && true) pb.0);
-      behind_writable = pb.1;
-      bits = ap (λ r. r ++ alphanumeric_bits more) (sym (append-nil (number_bits 11 (45 * alphanumeric_number a + alphanumeric_number b))));
-      at_most = omega (arith, l);
-      full = inl l;
-    }
+    group_of Alphanumeric (a ∷ b ∷ []) more (ap₂ (λ x y. x && y) pa.0 (ap (λ x. x && true) pb.0)) pb.1 (ap (λ r. r ++ alphanumeric_bits more) (sym (append-nil (number_bits 11 (45 * alphanumeric_number a + alphanumeric_number b))))) (omega (arith, length-data Alphanumeric (a ∷ b ∷ [])))
 first_group Byte [] h = all_of Byte [] h refl refl (omega arith)
 first_group Byte (a ∷ more) h =
     let pa = and_parts (nat_lt a 256) (list_all (λ b. nat_lt b 256) more) h in
-    let l : length (data_bits_in Byte (a ∷ [])) ≡ 8 = omega (arith, length-data Byte (a ∷ [])) in
-    record {
-      front = a ∷ [];
-      behind = more;
-      joined = refl;
-      front_writable = ap (λ x. x && true) pa.0;
-      behind_writable = pa.1;
-      bits = ap (λ r. r ++ flat_map (number_bits 8) more) (sym (append-nil (number_bits 8 a)));
-      at_most = omega (arith, l);
-      full = inl l;
-    }
+    group_of Byte (a ∷ []) more (ap (λ x. x && true) pa.0) pa.1 (ap (λ r. r ++ flat_map (number_bits 8) more) (sym (append-nil (number_bits 8 a)))) (omega (arith, length-data Byte (a ∷ [])))
 first_group Kanji [] h = all_of Kanji [] h refl refl (omega arith)
 first_group Kanji (a ∷ []) h = absurd (true≢false (sym h))
 first_group Kanji (a ∷ b ∷ more) h =
     let pa = and_parts (is_kanji a b) (are_kanji more) h in
-    let l : length (data_bits_in Kanji (a ∷ b ∷ [])) ≡ 13 = omega (arith, length-data Kanji (a ∷ b ∷ [])) in
-    record {
-      front = a ∷ b ∷ [];
-      behind = more;
-      joined = refl;
-      front_writable = ap (λ x. x && true) pa.0;
-      behind_writable = pa.1;
-      bits = ap (λ r. r ++ kanji_bits more) (sym (append-nil (number_bits 13 (kanji_number a b))));
-      at_most = omega (arith, l);
-      full = inl l;
-    }
+    group_of Kanji (a ∷ b ∷ []) more (ap (λ x. x && true) pa.0) pa.1 (ap (λ r. r ++ kanji_bits more) (sym (append-nil (number_bits 13 (kanji_number a b))))) (omega (arith, length-data Kanji (a ∷ b ∷ [])))
 
 -- bytes split like their bits: into those of one group and the rest
 pub record Splits (m : Mode) (group behind : List Bool) (bytes : List ℕ) : Type 0 where

@@ -16,10 +16,7 @@ fn difference(a: Color, b: Color) -> usize
     ensures value { result ≡ difference a b }
     ensures at_most { result ≤ 1 }
 {
-    match (a, b) {
-        (Color::Dark, Color::Dark) | (Color::Light, Color::Light) => 0,
-        _ => 1,
-    }
+    usize::from(a != b)
 }
 
 // Returns 1 if the module of the figure in this row and column has the wrong colour, else 0.

@@ -31,11 +31,7 @@ fn difference(bit: bool, word: u16, place: usize) -> usize
     ensures value { result ≡ bit_distance (bit ∷ []) (has_bit word place ∷ []) }
     ensures at_most { result ≤ 1 }
 {
-    if bit == ((word >> place) % 2 == 1) {
-        0
-    } else {
-        1
-    }
+    usize::from(bit != ((word >> place) % 2 == 1))
 }
 
 /// Counts the places in which `bits` differ from the lowest bits of `word`, as many as there are
@@ -91,10 +87,8 @@ fn is_dark_at(version: Version, modules: &[Color], place: (usize, usize)) -> boo
     requires row { place.1 < 1000 }
     ensures { result ≡ is_dark (color_at version modules.now place.0 place.1) }
 {
-    match modules.get(place.1 * side(version) + place.0) {
-        Some(Color::Dark) => true,
-        _ => false,
-    }
+    let color = modules.get(place.1 * side(version) + place.0);
+    matches!(color, Some(Color::Dark))
 }
 
 /// Returns the bits of a copy of the format word, highest first. Modules that are missing count as

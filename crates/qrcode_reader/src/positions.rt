@@ -85,10 +85,7 @@ fn place_in_square(position: Position, side: usize, x: usize, y: usize) -> (usiz
 fn seen_color(is_inverted: bool, color: Color) -> Color
     ensures { result ≡ seen_color is_inverted color }
 {
-    match (color, is_inverted) {
-        (Color::Dark, false) | (Color::Light, true) => Color::Dark,
-        (Color::Light, false) | (Color::Dark, true) => Color::Light,
-    }
+    if is_inverted { !color } else { color }
 }
 
 /// Returns the upright symbol that lies in `position` in `modules`, a square of `side` by `side`;

@@ -6,7 +6,7 @@ ghost use Rattle.qrcode_reader.specs.declared.refusals.Unread.TheVariants.{OutOf
 ghost use Rattle.qrcode_reader.specs.declared.refusals.UnreadText.TheVariants.{NoBits};
 
 use crate::spell::{Unshown, Unspelled};
-use std::alloc::{AllocError, AllocFailed};
+use std::alloc::AllocError;
 use std::error::Error;
 use std::fmt;
 
@@ -46,14 +46,6 @@ impl From<AllocError> for Unread {
     ghost from_gives = { λ _ e. e ≡ OutOfMemory };
 
     fn from(_error: AllocError) -> Unread {
-        Unread::OutOfMemory
-    }
-}
-
-impl<T: Drop> From<AllocFailed<T>> for Unread {
-    ghost from_gives = { λ _ e. e ≡ OutOfMemory };
-
-    fn from(_error: AllocFailed<T>) -> Unread {
         Unread::OutOfMemory
     }
 }

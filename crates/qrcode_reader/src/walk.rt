@@ -30,9 +30,9 @@ fn patterned(alloc: Global, version: Version) -> Result<Canvas, AllocError>
     }
 }
 
-// Returns the bit of a module, which the mask has flipped or not.
+/// Returns the bit of a module, which the mask has flipped or not.
 #[inline(always)]
-fn bit_of(color: Color, is_turned: bool) -> bool
+pub fn bit_of(color: Color, is_turned: bool) -> bool
     ensures { result ≡ turned_if is_turned (is_dark color) }
 {
     match color {

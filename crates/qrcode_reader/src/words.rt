@@ -14,22 +14,14 @@ fn front(bits: &[bool], count: usize) -> &[bool]
     ensures value { result.now ≡ take count bits.now }
     ensures at_most { length result.now ≤ count }
 {
-    if count < bits.len() {
-        bits.split_at(count).0
-    } else {
-        bits
-    }
+    bits.get(..count).unwrap_or(bits)
 }
 
 /// Returns the bits after the first `count`; none if there are fewer.
 pub fn behind(bits: &[bool], count: usize) -> &[bool]
     ensures { result.now ≡ drop count bits.now }
 {
-    if count < bits.len() {
-        bits.split_at(count).1
-    } else {
-        &[]
-    }
+    bits.get(count..).unwrap_or(&[])
 }
 
 // Returns the bit at `place` as a number; zero after the end.
@@ -37,11 +29,7 @@ fn bit(bits: &[bool], place: usize) -> u8
     ensures value { result ≡ (if slice_index_or bits.now place false then 1 else 0) }
     ensures at_most { result ≤ 1 }
 {
-    if place < bits.len() && bits[place] {
-        1
-    } else {
-        0
-    }
+    u8::from(place < bits.len() && bits[place])
 }
 
 // Returns byte `i`, with zeros after the end.

@@ -78,3 +78,7 @@ IsSegment (Bytes m n) = Unit {0}
 pub record AppendsPart (v : Version) (bits : List Bool) (old new : List ℕ) (result : Result (Part × Bor (List Bool)) Unspelled) : Type 0 where
   pub taken : IfOk result (λ found. (chunk : List ℕ) × BeginsWithPart v found.0 bits chunk found.1.now × (new ≡ old ++ chunk))
   pub refused : IfErr result (λ e. (e ≡ OutOfMemory) ⊎ ((e ≡ NotSpelled) × ((p : Part) (chunk : List ℕ) (rest : List Bool) → ¬ BeginsWithPart v p bits chunk rest)))
+
+abbrev pub byte_count : Part → ℕ  -- how many of the bytes belong to the part
+byte_count (Front h) = 0
+byte_count (Bytes m n) = n

@@ -38,12 +38,7 @@ pub(crate) fn is_zero(bytes: &[u8]) -> bool
     ensures { IsTrue result
         ↔ ((j : ℕ) → j < length bytes.now → slice_index bytes.now j ≡ 0) }
 {
-    for byte in bytes {
-        if *byte != 0 {
-            return false;
-        }
-    }
-    true
+    bytes.iter().all(|byte| *byte == 0)
 }
 
 // Returns the value of `block`, as a polynomial, at the `i`-th power of 2.

@@ -26,24 +26,9 @@ fn push_digits(bytes: &mut Vec<u8>, group: &[bool]) -> Result<(), Unspelled>
         b'0' + (number % 10) as u8,
     ];
     match group.len() {
-        10 => {
-            if number >= 1000 {
-                return Err(Unspelled::NotSpelled);
-            }
-            bytes.extend_from_slice(&digits)?;
-        }
-        7 => {
-            if number >= 100 {
-                return Err(Unspelled::NotSpelled);
-            }
-            bytes.extend_from_slice(&digits[1..])?;
-        }
-        4 => {
-            if number >= 10 {
-                return Err(Unspelled::NotSpelled);
-            }
-            bytes.extend_from_slice(&digits[2..])?;
-        }
+        10 if number < 1000 => bytes.extend_from_slice(&digits)?,
+        7 if number < 100 => bytes.extend_from_slice(&digits[1..])?,
+        4 if number < 10 => bytes.extend_from_slice(&digits[2..])?,
         _ => return Err(Unspelled::NotSpelled),
     }
     Ok(())
@@ -66,18 +51,10 @@ fn push_letters(bytes: &mut Vec<u8>, group: &[bool]) -> Result<(), Unspelled>
 {
     let number = number_of(group);
     match group.len() {
-        11 => {
-            if number >= 45 * 45 {
-                return Err(Unspelled::NotSpelled);
-            }
+        11 if number < 45 * 45 => {
             bytes.extend_from_slice(&[letter(number / 45), letter(number % 45)])?;
         }
-        6 => {
-            if number >= 45 {
-                return Err(Unspelled::NotSpelled);
-            }
-            bytes.push(letter(number))?;
-        }
+        6 if number < 45 => bytes.push(letter(number))?,
         _ => return Err(Unspelled::NotSpelled),
     }
     Ok(())

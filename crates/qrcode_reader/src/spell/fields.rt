@@ -25,11 +25,7 @@ pub(crate) fn front(bits: &[bool], count: usize) -> Option<(&[bool], &[bool])>
         × (bits.now ≡ parts.0.now ++ parts.1.now)) }
     ensures too_short { IfNone result (length bits.now < count) }
 {
-    if count <= bits.len() {
-        Some(bits.split_at(count))
-    } else {
-        None
-    }
+    bits.split_at_checked(count)
 }
 
 // Splits off the first `count` bits, as a number; `None` if there are fewer.

@@ -4,7 +4,7 @@ ghost use Rattle.std.specs.Prelude.{◌≡◌, ◌≤◌, ◌⊎◌, ℕ, List, 
 ghost use Rattle.std.specs.List.{AllByRecursion};
 ghost use Rattle.qrcode_types.specs.Versions.{is_valid};
 ghost use Rattle.qrcode_bits.specs.Spelling.{Spells};
-ghost use Rattle.qrcode_reader.specs.spell.Parts.{AreParts, IsBehindParts, HaveNoParts, IsSegment, AppendsPart};
+ghost use Rattle.qrcode_reader.specs.spell.Parts.{byte_count, AreParts, IsBehindParts, HaveNoParts, IsSegment, AppendsPart};
 ghost use Rattle.qrcode_reader.specs.declared.spell.parts.Part.{Part};
 ghost use Rattle.qrcode_reader.specs.declared.spell.refusals.Unspelled.TheVariants.{NotSpelled, OutOfMemory};
 
@@ -21,6 +21,18 @@ pub enum Part {
     Front(Header),
     /// A segment: its mode and how many bytes it has.
     Bytes(Mode, usize),
+}
+
+impl Part {
+    /// Returns how many bytes it has: none if it is a header.
+    pub fn byte_count(self) -> usize
+        ensures { result ≡ byte_count self }
+    {
+        match self {
+            Part::Front(_) => 0,
+            Part::Bytes(_, count) => count,
+        }
+    }
 }
 
 /// The headers and segments of a symbol.
