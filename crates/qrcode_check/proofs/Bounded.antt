@@ -10,9 +10,8 @@ use Rattle.qrcode_bits.specs.Written.{written_piece}
 use Rattle.qrcode_bits.proofs.Lengths.{length-piece}
 use Rattle.qrcode_reader.specs.declared.spell.parts.Part.{Part}
 use Rattle.qrcode_reader.specs.declared.spell.parts.Part.TheVariants.{Front, Bytes}
-use Rattle.qrcode_reader.specs.spell.Parts.{BeginsWithPart, AreParts}
+use Rattle.qrcode_reader.specs.spell.Parts.{BeginsWithPart, AreParts, byte_count}
 use Rattle.qrcode_reader.proofs.Parted.{part_shortens}
-use Rattle.qrcode_check.specs.Guesses.{byte_count}
 
 data_long : (m : Mode) (n : ℕ) → n ≤ 2 * data_bits_count m (character_count m n) + 1
 data_long Numeric n = omega arith

@@ -10,9 +10,12 @@ use Rattle.qrcode_types.specs.declared.types.EcLevel.{EcLevel}
 use Rattle.qrcode_types.specs.Colors.{is_dark}
 use Rattle.qrcode_layout.specs.declared.masks.MaskPattern.{MaskPattern}
 use Rattle.qrcode_penalty.specs.Penalty.{sum_below, count_if, is_finder_like}
+use Rattle.qrcode_symbol.specs.Penalties.{penalty}
 use Rattle.qrcode_reader.specs.Positions.{seen}
 use Rattle.qrcode_reader.specs.declared.positions.Position.TheVariants.{Transposed}
 use Rattle.qrcode_check.specs.Masks.{penalties, place_of, stepped_penalty, IsRank}
+use Rattle.qrcode_check.specs.declared.masks.Penalty.{Penalty}
+use Rattle.qrcode_check.specs.declared.masks.Penalty.TheVariants.{Own, Stepped, By}
 use Rattle.qrcode_check.specs.declared.masks.Rank.{Rank}
 use Rattle.qrcode_check.specs.declared.forms.FormReading.{FormReading}
 
@@ -66,6 +69,11 @@ narrow_inside = reading false false
 abbrev pub read_penalty : FormReading → Version → List Color → ℕ
 read_penalty r (Normal n) s = stepped_penalty (Normal n) s - forms own_reading (side (Normal n)) s + forms r (side (Normal n)) s
 read_penalty r (Micro n) s = stepped_penalty (Micro n) s
+
+abbrev pub counted : Penalty → Version → List Color → ℕ  -- the penalty that is counted so
+counted Own = penalty
+counted Stepped = stepped_penalty
+counted (By r) = read_penalty r
 
 -- the rank of the mask of a square by this penalty
 abbrev pub IsReadRank : FormReading → Version → EcLevel → MaskPattern → List Color → Rank → Type 0

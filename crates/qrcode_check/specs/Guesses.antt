@@ -6,6 +6,7 @@ use Rattle.qrcode_types.specs.declared.types.Mode.TheVariants.{Numeric, Alphanum
 use Rattle.qrcode_reader.specs.declared.spell.headers.Header.TheVariants.{Eci, Fnc1First, Fnc1Second, StructuredAppend}
 use Rattle.qrcode_reader.specs.declared.spell.parts.Part.{Part}
 use Rattle.qrcode_reader.specs.declared.spell.parts.Part.TheVariants.{Front, Bytes}
+use Rattle.qrcode_reader.specs.spell.Parts.{byte_count}
 use Rattle.qrcode_check.specs.declared.guesses.Guesses.{Guesses}
 
 abbrev pub is_byte : Mode → Bool  -- the mode Byte
@@ -20,10 +21,6 @@ is_eci (Front Fnc1First) = false
 is_eci (Front (Fnc1Second n)) = false
 is_eci (Front (StructuredAppend place last parity)) = false
 is_eci (Bytes m n) = false
-
-abbrev pub byte_count : Part → ℕ  -- how many bytes a part has
-byte_count (Front h) = 0
-byte_count (Bytes m n) = n
 
 abbrev pub has_bytes : Part → Bool  -- a Byte segment
 has_bytes (Front h) = false

@@ -11,8 +11,9 @@ ghost use Rattle.qrcode_check.specs.Masks.{place_of};
 
 use crate::correction::{allowed_in_block, unused_correction, wrong_codewords};
 use crate::ending::{Ending, ending_behind};
+use crate::forms::reading;
 use crate::guesses::{Guesses, guesses_in};
-use crate::masks::{Rank, place_of, ranks, read_ranks};
+use crate::masks::{Penalty, Rank, place_of, rank_by};
 use crate::modules::{WrongModules, wrong_modules};
 use crate::segments::{Taken, bits_taken};
 use qrcode_layout::masks::MaskPattern;
@@ -146,8 +147,9 @@ pub fn check_square(alloc: Global, modules: &[Color]) -> Result<Check, Unread>
     let wrong = wrong_codewords(alloc, version, ec_level, &read.wrong)?;
     let allowed = allowed_in_block(version, ec_level);
     let unused = unused_correction(allowed, &wrong);
-    let (own, stepped) = ranks(alloc, version, ec_level, mask, modules)?;
-    let (narrow, inside, narrow_inside) = read_ranks(alloc, version, ec_level, mask, modules)?;
+    let narrow = reading(true, false);
+    let inside = reading(false, true);
+    let both = reading(false, false);
     Ok(Check {
         version,
         ec_level,
@@ -156,11 +158,11 @@ pub fn check_square(alloc: Global, modules: &[Color]) -> Result<Check, Unread>
         allowed,
         unused,
         modules: wrong_modules(alloc, version, ec_level, mask, modules)?,
-        own,
-        stepped,
-        narrow,
-        inside,
-        narrow_inside,
+        own: rank_by(alloc, Penalty::Own, version, ec_level, mask, modules)?,
+        stepped: rank_by(alloc, Penalty::Stepped, version, ec_level, mask, modules)?,
+        narrow: rank_by(alloc, Penalty::By(narrow), version, ec_level, mask, modules)?,
+        inside: rank_by(alloc, Penalty::By(inside), version, ec_level, mask, modules)?,
+        narrow_inside: rank_by(alloc, Penalty::By(both), version, ec_level, mask, modules)?,
         content: content_of(alloc, version, &read.bits)?,
     })
 }

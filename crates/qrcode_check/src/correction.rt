@@ -24,13 +24,7 @@ pub enum Grade {
 fn wrong_in_block(wrong: &[WrongCodeword], block: usize) -> usize
     ensures { result ≡ wrong_in_block wrong.now block }
 {
-    let mut count = 0;
-    for each in wrong {
-        if each.block == block {
-            count += 1;
-        }
-    }
-    count
+    wrong.iter().filter(|each| each.block == block).count()
 }
 
 /// Returns how many of the `wrong` codewords are in each block of `version` at `ec_level`.

@@ -2,7 +2,7 @@
 
 ghost use Rattle.std.specs.Prelude.{◌≡◌, ◌↔◌, ◌&&◌, nat_le, IsTrue, IsUtf8};
 ghost use Rattle.std.specs.List.{list_any};
-ghost use Rattle.qrcode_check.specs.Guesses.{is_eci, byte_count, has_bytes, AreGuesses};
+ghost use Rattle.qrcode_check.specs.Guesses.{is_eci, has_bytes, AreGuesses};
 
 use qrcode_reader::spell::{Header, Part};
 use qrcode_types::types::Mode;
@@ -24,16 +24,6 @@ fn is_eci(part: Part) -> bool
     matches!(part, Part::Front(Header::Eci(_)))
 }
 
-// Returns how many bytes a part has.
-fn byte_count(part: Part) -> usize
-    ensures { result ≡ byte_count part }
-{
-    match part {
-        Part::Front(_) => 0,
-        Part::Bytes(_, count) => count,
-    }
-}
-
 // Returns whether a part is a Byte segment.
 fn has_bytes(part: Part) -> bool
     ensures { result ≡ has_bytes part }
@@ -52,19 +42,13 @@ fn is_any_above(bytes: &[u8]) -> bool
 fn is_guessed(part: Part, chunk: &[u8]) -> bool
     ensures { result ≡ (has_bytes part && list_any (nat_le 128) chunk.now) }
 {
-    if has_bytes(part) {
-        return is_any_above(chunk);
-    }
-    false
+    has_bytes(part) && is_any_above(chunk)
 }
 
 fn is_utf8(bytes: &[u8]) -> bool
     ensures { IsTrue result ↔ IsUtf8 bytes.now }
 {
-    match str::from_utf8(bytes) {
-        Ok(_) => true,
-        Err(_) => false,
-    }
+    str::from_utf8(bytes).is_ok()
 }
 
 /// Finds the segments whose character set a reader has to guess. `parts` are all headers and
@@ -79,7 +63,7 @@ pub fn guesses_in(parts: &[Part], bytes: &[u8]) -> Guesses
         if is_eci(*part) {
             return Guesses { segments, are_utf8 };
         }
-        let (chunk, behind) = rest.split_at(byte_count(*part).min(rest.len()));
+        let (chunk, behind) = rest.split_at(part.byte_count().min(rest.len()));
         if is_guessed(*part, chunk) {
             segments += 1;
             are_utf8 = are_utf8 & is_utf8(chunk);

@@ -5,13 +5,12 @@ ghost use Rattle.qrcode_types.specs.Versions.{is_valid, has_level, side};
 ghost use Rattle.qrcode_layout.specs.Masks.{mask_count, exists_in};
 ghost use Rattle.qrcode_penalty.specs.Penalty.{dark_count, dark_count_in};
 ghost use Rattle.qrcode_symbol.specs.Penalties.{penalty, is_dark_at, remasked};
-ghost use Rattle.qrcode_check.specs.Forms.{IsReadRank, inside, narrow, narrow_inside, read_penalty};
+ghost use Rattle.qrcode_check.specs.Forms.{counted};
 ghost use Rattle.qrcode_check.specs.Masks.{stepped_balance, stepped_penalty, penalties, place_of, IsRank};
 
-use crate::forms::{FormReading, read_penalty, reading};
+use crate::forms::{FormReading, read_penalty};
 use qrcode_layout::masks::{MaskPattern, mask_count, nth_mask};
-pub use qrcode_symbol::canvas::penalty;
-use qrcode_symbol::canvas::remask;
+use qrcode_symbol::canvas::{penalty, remask};
 use qrcode_types::types::{Color, EcLevel, Version};
 use qrcode_types::versions::side;
 use std::alloc::{AllocError, Global};
@@ -24,6 +23,17 @@ pub struct Rank {
     pub lower: usize,
     /// How many masks with a lower number have the same penalty.
     pub equal: usize,
+}
+
+/// How the penalty of a mask is counted.
+#[derive(Debug, PartialEq, Eq, Copy, Clone)]
+pub enum Penalty {
+    /// As `QrCode` does.
+    Own,
+    /// As the standard does, whose balance goes in steps of 5 %.
+    Stepped,
+    /// Likewise, by this reading of what looks like a finder pattern.
+    By(FormReading),
 }
 
 // Counts the dark modules of row `y`.
@@ -105,64 +115,10 @@ pub fn place_of(version: Version, mask: MaskPattern) -> usize
     }
 }
 
-// Returns the penalties of a square under the mask `other`: that of `QrCode`, and the standard's.
-fn penalties_under(
+// Returns the penalty of a square under the mask `other`.
+fn penalty_under(
     alloc: Global,
-    version: Version,
-    ec_level: EcLevel,
-    mask: MaskPattern,
-    modules: &[Color],
-    other: MaskPattern,
-) -> Result<(usize, usize), AllocError>
-    requires exists { IsTrue (has_level version ec_level) }
-    requires mask_exists { IsTrue (exists_in version other) }
-    requires square { length modules.now ≡ side version * side version }
-    ensures own { IfOk result (λ found.
-        found.0 ≡ penalty version (remasked version ec_level mask other modules.now)) }
-    ensures stepped { IfOk result (λ found.
-        found.1 ≡ stepped_penalty version (remasked version ec_level mask other modules.now)) }
-{
-    let mut turned = Vec::from_slice(alloc, modules)?;
-    remask(version, ec_level, mask, other, &mut turned);
-    let own = penalty(alloc, version, &turned)?;
-    Ok((own as usize, stepped_penalty(version, &turned, own)))
-}
-
-/// Ranks the mask of a square among all masks of its version: by the penalty of `QrCode`, and by
-/// the standard's, whose balance goes in steps of 5 %.
-///
-/// Errors: only `AllocError`, if memory runs out.
-pub fn ranks(
-    alloc: Global,
-    version: Version,
-    ec_level: EcLevel,
-    mask: MaskPattern,
-    modules: &[Color],
-) -> Result<(Rank, Rank), AllocError>
-    requires exists { IsTrue (has_level version ec_level) }
-    requires mask_exists { IsTrue (exists_in version mask) }
-    requires square { length modules.now ≡ side version * side version }
-    ensures own { IfOk result (λ ranks. IsRank
-        (penalties penalty version ec_level mask modules.now) (place_of version mask) ranks.0) }
-    ensures stepped { IfOk result (λ ranks. IsRank
-        (penalties stepped_penalty version ec_level mask modules.now) (place_of version mask) ranks.1) }
-{
-    let mut own = Vec::new(alloc);
-    let mut stepped = Vec::new(alloc);
-    for number in 0..mask_count(version) {
-        let other = nth_mask(version, number);
-        let (first, second) = penalties_under(alloc, version, ec_level, mask, modules, other)?;
-        own.push(first)?;
-        stepped.push(second)?;
-    }
-    let place = place_of(version, mask);
-    Ok((rank_at(&own, place), rank_at(&stepped, place)))
-}
-
-// Returns the standard's penalty of a square under the mask `other`, by this `reading`.
-fn read_penalty_under(
-    alloc: Global,
-    reading: FormReading,
+    by: Penalty,
     version: Version,
     ec_level: EcLevel,
     mask: MaskPattern,
@@ -173,21 +129,25 @@ fn read_penalty_under(
     requires mask_exists { IsTrue (exists_in version other) }
     requires square { length modules.now ≡ side version * side version }
     ensures { IfOk result (λ found.
-        found ≡ read_penalty reading version (remasked version ec_level mask other modules.now)) }
+        found ≡ counted by version (remasked version ec_level mask other modules.now)) }
 {
     let mut turned = Vec::from_slice(alloc, modules)?;
     remask(version, ec_level, mask, other, &mut turned);
     let own = penalty(alloc, version, &turned)?;
     let stepped = stepped_penalty(version, &turned, own);
-    read_penalty(alloc, reading, version, &turned, stepped)
+    match by {
+        Penalty::Own => Ok(own as usize),
+        Penalty::Stepped => Ok(stepped),
+        Penalty::By(reading) => read_penalty(alloc, reading, version, &turned, stepped),
+    }
 }
 
-/// Ranks the mask of a square by the standard's penalty in this `reading`.
+/// Ranks the mask of a square among all masks of its version, by the penalty that is counted so.
 ///
 /// Errors: only `AllocError`, if memory runs out.
-pub fn rank_read(
+pub fn rank_by(
     alloc: Global,
-    reading: FormReading,
+    by: Penalty,
     version: Version,
     ec_level: EcLevel,
     mask: MaskPattern,
@@ -196,44 +156,14 @@ pub fn rank_read(
     requires exists { IsTrue (has_level version ec_level) }
     requires mask_exists { IsTrue (exists_in version mask) }
     requires square { length modules.now ≡ side version * side version }
-    ensures { IfOk result (IsReadRank reading version ec_level mask modules.now) }
+    ensures { IfOk result (IsRank (penalties (counted by) version ec_level mask modules.now)
+        (place_of version mask)) }
 {
     let mut numbers = Vec::new(alloc);
     for number in 0..mask_count(version) {
         let other = nth_mask(version, number);
-        let read = read_penalty_under(alloc, reading, version, ec_level, mask, modules, other)?;
-        numbers.push(read)?;
+        let one = penalty_under(alloc, by, version, ec_level, mask, modules, other)?;
+        numbers.push(one)?;
     }
     Ok(rank_at(&numbers, place_of(version, mask)))
-}
-
-/// Ranks the mask of a square by the standard's penalty in the other readings: forms with short
-/// ends alone, light places inside the symbol alone, and both.
-///
-/// Errors: only `AllocError`, if memory runs out.
-pub fn read_ranks(
-    alloc: Global,
-    version: Version,
-    ec_level: EcLevel,
-    mask: MaskPattern,
-    modules: &[Color],
-) -> Result<(Rank, Rank, Rank), AllocError>
-    requires exists { IsTrue (has_level version ec_level) }
-    requires mask_exists { IsTrue (exists_in version mask) }
-    requires square { length modules.now ≡ side version * side version }
-    ensures narrow { IfOk result (λ ranks. IsReadRank
-        narrow version ec_level mask modules.now ranks.0) }
-    ensures inside { IfOk result (λ ranks. IsReadRank
-        inside version ec_level mask modules.now ranks.1) }
-    ensures narrow_inside { IfOk result (λ ranks. IsReadRank
-        narrow_inside version ec_level mask modules.now ranks.2) }
-{
-    let narrow = reading(true, false);
-    let inside = reading(false, true);
-    let both = reading(false, false);
-    Ok((
-        rank_read(alloc, narrow, version, ec_level, mask, modules)?,
-        rank_read(alloc, inside, version, ec_level, mask, modules)?,
-        rank_read(alloc, both, version, ec_level, mask, modules)?,
-    ))
 }

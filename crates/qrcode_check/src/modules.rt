@@ -118,13 +118,7 @@ fn wrong_format(version: Version, ec_level: EcLevel, mask: MaskPattern, modules:
 pub(crate) fn ones(bits: &[bool]) -> usize
     ensures { result ≡ count_by (λ b. b) bits.now }
 {
-    let mut count = 0;
-    for bit in bits {
-        if *bit {
-            count += 1;
-        }
-    }
-    count
+    bits.iter().filter(|bit| **bit).count()
 }
 
 // Counts the remainder bits that are ones.

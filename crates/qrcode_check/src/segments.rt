@@ -5,7 +5,7 @@ ghost use Rattle.std.specs.List.{AllByRecursion, list_all, list_any};
 ghost use Rattle.qrcode_types.specs.Versions.{is_valid};
 ghost use Rattle.qrcode_bits.specs.Cuts.{IsCutIn};
 ghost use Rattle.qrcode_bits.specs.declared.optimize.Segment.{Segment};
-ghost use Rattle.qrcode_check.specs.Guesses.{byte_count};
+ghost use Rattle.qrcode_reader.specs.spell.Parts.{byte_count};
 ghost use Rattle.qrcode_check.specs.Segments.{part_bits, taken, is_kanji_part, is_segment, is_plain_header, modes_of, are_comparable, IsLeastLengthIn, AreTaken, NotComparable};
 
 use qrcode_bits::optimize::{Modes, least_segments_in, total_encoded_len};

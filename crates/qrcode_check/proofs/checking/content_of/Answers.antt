@@ -2,7 +2,8 @@ use Rattle.std.proofs.Common.{◌≤◌, ℕ, List, length, sym, ap, subst, arit
 use Rattle.std.specs.Prelude.{IfSome, IfNone}
 use Rattle.std.specs.List.{AllByRecursion}
 use Rattle.qrcode_reader.specs.declared.spell.parts.Part.{Part}
-use Rattle.qrcode_check.specs.Guesses.{byte_count, AreGuesses}
+use Rattle.qrcode_reader.specs.spell.Parts.{byte_count}
+use Rattle.qrcode_check.specs.Guesses.{AreGuesses}
 use Rattle.qrcode_check.specs.Segments.{AreTaken, NotComparable}
 use Rattle.qrcode_check.proofs.Bounded.{few_parts, few_bytes, short_parts}
 use Rattle.qrcode_check.proofs.checking.content_of.Goals as goal
