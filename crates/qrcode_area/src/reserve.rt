@@ -216,9 +216,6 @@ pub fn may_show_anything(
         ↔ ((other : List Color) → AgreesOutside version (covers area.now) symbol other
         → IsDamaged version ec_level mask symbol other)) }
 {
-    Ok(
-        reserve_in(alloc, version, ec_level, area)?
-            .excess()
-            .is_none(),
-    )
+    let reserve = reserve_in(alloc, version, ec_level, area)?;
+    Ok(reserve.excess().is_none())
 }
