@@ -79,7 +79,7 @@ fn push_checks(
         Err(Unread::OutOfMemory) => return Err(Failure::OutOfMemory),
         Err(error) => return refused!(rt.alloc(); "cannot check {name}: {error}"),
     };
-    if found.codes.has_more {
+    if found.codes.has_faults {
         warn_of_more(rt, WARNINGS, name)?;
     }
     let is_whole = warn_of_missed(rt, &found.codes);

@@ -176,7 +176,7 @@ fn push_codes(
     let alloc = rt.alloc();
     match read_codes(alloc, picture) {
         Ok(codes) => {
-            if codes.has_more {
+            if codes.has_faults {
                 warn_of_more(rt, WARNINGS, name)?;
             }
             warn_of_missed(rt, &codes);

@@ -16,9 +16,9 @@ use Rattle.qrcode_reader.specs.declared.correction.WrongCodeword.{WrongCodeword}
 use Rattle.qrcode_reader.specs.declared.positions.Position.{Position}
 use Rattle.qrcode_reader.specs.declared.spell.parts.Part.{Part}
 use Rattle.qrcode_reader.specs.declared.spell.parts.Part.TheVariants.{Front, Bytes}
-use Rattle.qrcode_reader.specs.spell.Parts.{AreParts}
+use Rattle.qrcode_reader.specs.spell.Parts.{AreParts, byte_count}
 use Rattle.qrcode_reader.proofs.Parted.{part_of, spelled_parts}
-use Rattle.qrcode_scan.specs.HandedOn.{byte_count, is_fnc1, part_on, handed_on}
+use Rattle.qrcode_scan.specs.HandedOn.{is_fnc1, part_on, handed_on}
 use Rattle.qrcode_scan.specs.Scans.{headers_in}
 
 -- one more part is passed on

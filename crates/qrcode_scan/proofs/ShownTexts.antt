@@ -20,33 +20,12 @@ pub begins : (all : List Part) (bytes : List ℕ) → IsAlong all bytes None 0 a
 begins all bytes = record { whole = λ more h. h; rest = λ shown h. (shown, h) }
 
 module _ {all : List Part} {bytes : List ℕ} {n : Option ℕ} {count : ℕ} {own text : List ℕ} where
-  pub unreadable : {parts : List Part} {m : Mode} {k : ℕ} → IsAlong all bytes n count (Bytes m k ∷ parts) own text → is_readable m n ≡ false → (shown : List ℕ) → ¬ IsShownText all bytes shown
-  unreadable along not shown h = true≢false (sym (along.rest shown h).1.0 ∙ not)
-
-  pub after_bytes : {parts : List Part} {m : Mode} {k : ℕ} → IsAlong all bytes n count (Bytes m k ∷ parts) own text → is_readable m n ≡ true → IsAlong all bytes n (min (count + k) (2 ^ 64 - 1)) parts own text
-  after_bytes along is = record { whole = λ more h. along.whole more (is, h); rest = λ shown h. let r = along.rest shown h in (r.0, r.1.1) }
-
   pub after_run : {parts : List Part} {e : ℕ} (first : List ℕ) → IsAlong all bytes n count (Front (Eci e) ∷ parts) own text → count ≤ length own → IsTextUnder n first (take count own)
       → IsAlong all bytes (Some e) 0 parts (drop count own) (text ++ first)
   after_run first along inside is = record {
     whole = λ more h. subst (IsShownText all bytes) (sym (append_assoc text first more)) (along.whole (first ++ more) (first, more, refl, inside, is, h));
     rest = λ shown h. let r = along.rest shown h in (r.1.1, r.1.5);
   }
-
-  pub short_run : {parts : List Part} {e : ℕ} → IsAlong all bytes n count (Front (Eci e) ∷ parts) own text → length own < count → (shown : List ℕ) → ¬ IsShownText all bytes shown
-  short_run along short shown h = omega (arith, short, (along.rest shown h).1.3)
-
-  pub no_run : {parts : List Part} {e : ℕ} → IsAlong all bytes n count (Front (Eci e) ∷ parts) own text → ((more : List ℕ) → ¬ IsTextUnder n more (take count own)) → (shown : List ℕ) → ¬ IsShownText all bytes shown
-  no_run along none shown h = let r = along.rest shown h in none r.1.0 r.1.4
-
-  pub after_end : (last : List ℕ) → IsAlong all bytes n count [] own text → (length own ≡ length bytes) ⊎ (count ≡ length own) → IsTextUnder n last own → IsShownText all bytes (text ++ last)
-  after_end last along fits is = along.whole last (fits, is)
-
-  pub short_end : IsAlong all bytes n count [] own text → ¬ (length own ≡ length bytes) → ¬ (count ≡ length own) → (shown : List ℕ) → ¬ IsShownText all bytes shown
-  short_end along other short shown h = elim (along.rest shown h).1.0 [ inl e ↦ other e | inr e ↦ short e ]
-
-  pub no_end : IsAlong all bytes n count [] own text → ((more : List ℕ) → ¬ IsTextUnder n more own) → (shown : List ℕ) → ¬ IsShownText all bytes shown
-  no_end along none shown h = let r = along.rest shown h in none r.0 r.1.1
 
 pub first_part : (xs : List Part) (d p : Part) → 1 ≤ length xs → get_or xs 0 d ≡ p → xs ≡ p ∷ take (length xs - 1) (drop 1 xs)
 first_part [] d p some is = absurd (omega (arith, some))

@@ -32,7 +32,7 @@ IsProbable reading.TheVariants.NoFormat = ⊥
 IsProbable (reading.TheVariants.Damaged b) = Unit
 IsProbable reading.TheVariants.NotSpelled = Unit
 
--- a square that was found by its finder patterns and decodes in no position, but has format information; the cause is that of the square as it is
+-- a square in a grid that decodes in no position, but has format information; the cause is that of the square as it is
 pub record IsMissedIn (b : Bitmap) (m : missed.Missed) : Type 0 where
   pub modules : List Color
   pub sampled : IsSampled b m.grid modules

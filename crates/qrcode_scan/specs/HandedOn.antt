@@ -8,6 +8,7 @@ use Rattle.qrcode_reader.specs.declared.spell.headers.Header.{Header}
 use Rattle.qrcode_reader.specs.declared.spell.headers.Header.TheVariants.{Eci, Fnc1First, Fnc1Second, StructuredAppend}
 use Rattle.qrcode_reader.specs.declared.spell.parts.Part.{Part}
 use Rattle.qrcode_reader.specs.declared.spell.parts.Part.TheVariants.{Front, Bytes}
+use Rattle.qrcode_reader.specs.spell.Parts.{byte_count}
 
 abbrev pub fnc1 : Position → Header  -- the header for FNC1 in this position
 fnc1 First = Fnc1First
@@ -19,10 +20,6 @@ is_fnc1 (Front Fnc1First) = true
 is_fnc1 (Front (Fnc1Second n)) = true
 is_fnc1 (Front (StructuredAppend place last parity)) = false
 is_fnc1 (Bytes m n) = false
-
-abbrev pub byte_count : Part → ℕ  -- how many of the bytes belong to the part
-byte_count (Front h) = 0
-byte_count (Bytes m n) = n
 
 abbrev pub part_on : Bool → Part → List ℕ → List ℕ  -- the bytes passed on for a part whose own bytes are `chunk`; is_marked: it comes after FNC1
 part_on is_marked (Front h) chunk = []

@@ -107,8 +107,8 @@ pub record IsShownBy (bytes : List ℕ) (b : Bitmap) : Type 0 where
   pub same : b ≡ record { across = image.across; down = image.down; marks = dark_of_shades (map shade_lightness image.pixels) }
 
 -- a PNG file has faults that do not concern the image, and are ignored
-abbrev pub has_more : List ℕ → Bool
-has_more bytes = if is_png bytes then unwrap_or (option_map (λ (i : Image). i.has_faults) (image_of bytes)) false else false
+abbrev pub has_faults : List ℕ → Bool
+has_faults bytes = if is_png bytes then unwrap_or (option_map (λ (i : Image). i.has_faults) (image_of bytes)) false else false
 
 -- b shows the pixels of a picture: of a PNG file, or of another format
 pub record IsPictureOf (bytes : List ℕ) (b : Bitmap) : Type 0 where

@@ -53,7 +53,7 @@ fn only(alloc: Global, check: Check) -> Result<Checks, AllocError>
         codes: Codes {
             scans: Vec::new(alloc),
             missed: Vec::new(alloc),
-            has_more: false,
+            has_faults: false,
         },
     })
 }

@@ -6,7 +6,7 @@ ghost use Rattle.qrcode_scan.specs.declared.scanning.Unread.TheVariants.{OutOfMe
 ghost use Rattle.qrcode_scan.specs.Codes.{inner_side, place_of, AreApart, AreCodesIn, AreOther, AreTwo, FindsWholes, FindsWholesOf, HasGrid, IsApartFrom, IsCodeFound, IsFoundAs, IsFoundBy, IsMissedOf, IsProbable, Overlaps};
 ghost use Rattle.qrcode_scan.specs.Wholes.{IsGridOf, ShowsCode, Whole};
 ghost use Rattle.qrcode_scan.specs.declared.codes.Found.TheVariants.{Nothing, Missed as MissedAt};
-ghost use Rattle.qrcode_scan.specs.Scans.{has_more, HasNoWhole, IsNotClean, IsScanOf, IsUnreadPicture, IsUnreadIn};
+ghost use Rattle.qrcode_scan.specs.Scans.{has_faults, HasNoWhole, IsNotClean, IsScanOf, IsUnreadPicture, IsUnreadIn};
 
 use crate::grids::Grid;
 use crate::lone::{has_all_dark, lone_grid};
@@ -64,7 +64,7 @@ pub struct Codes {
     /// Squares that look like codes but do not decode, each once.
     pub missed: Vec<Missed>,
     /// Whether a PNG file has faults that are ignored (`Picture::has_faults`).
-    pub has_more: bool,
+    pub has_faults: bool,
 }
 
 /// Decodes the codes of a picture: the square in a plain margin, or else the squares that are found
@@ -80,7 +80,7 @@ pub fn read_codes(alloc: Global, bytes: &[u8]) -> Result<Codes, scanning::Unread
     ensures whole { IfOk result (λ codes. FindsWholesOf bytes.now codes.scans.items) }
     ensures missed { IfOk result (λ codes. All (IsMissedOf bytes.now) codes.missed.items) }
     ensures told_once { IfOk result (λ codes. AllPairs AreOther codes.missed.items) }
-    ensures more { IfOk result (λ codes. codes.has_more ≡ has_more bytes.now) }
+    ensures more { IfOk result (λ codes. codes.has_faults ≡ has_faults bytes.now) }
     ensures causes { IfErr result (IsUnreadPicture bytes.now) }
 {
     let seen = match seen_in(alloc, bytes) {
@@ -90,7 +90,7 @@ pub fn read_codes(alloc: Global, bytes: &[u8]) -> Result<Codes, scanning::Unread
     match codes_in(alloc, &seen.pixels, seen.is_inverted) {
         Ok(codes) => {
             let mut codes = codes;
-            codes.has_more = seen.has_more;
+            codes.has_faults = seen.has_faults;
             Ok(codes)
         }
         Err(cause) => Err(cause),
@@ -131,7 +131,7 @@ fn only(alloc: Global, scan: Scan) -> Result<Codes, AllocError>
     Ok(Codes {
         scans: vec![in alloc; scan]?,
         missed: Vec::new(alloc),
-        has_more: false,
+        has_faults: false,
     })
 }
 
@@ -158,7 +158,7 @@ fn lone_code(alloc: Global, pixels: &Pixels, is_inverted: bool) -> Result<Codes,
     let mut codes = Codes {
         scans: Vec::new(alloc),
         missed: Vec::new(alloc),
-        has_more: false,
+        has_faults: false,
     };
     let Some(grid) = lone_grid(alloc, pixels)? else {
         return Ok(codes);

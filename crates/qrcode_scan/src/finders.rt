@@ -97,12 +97,9 @@ fn push_finders(found: &mut Found, pixels: &Pixels, y: usize) -> Result<(), Allo
     let row = row_of(pixels, y);
     for x in 0..row.length {
         if is_dark(pixels, row, x) && !is_dark(pixels, row, x + 1) {
-            match finder_before(pixels, row, x + 1) {
-                Some(start) => {
-                    let finder = finder_at(pixels, (start + x + 1) / 2, y, x + 1 - start);
-                    push_both(found, pixels, finder)?;
-                }
-                None => {}
+            if let Some(start) = finder_before(pixels, row, x + 1) {
+                let finder = finder_at(pixels, (start + x + 1) / 2, y, x + 1 - start);
+                push_both(found, pixels, finder)?;
             }
         }
     }
@@ -129,16 +126,12 @@ fn push_both(found: &mut Found, pixels: &Pixels, finder: Option<Finder>) -> Resu
     }
     if found.turned.len() < MOST_TURNED
         && !is_known(&found.turned, finder)
-        && has_diagonals(pixels, finder)
+        && diagonal_of(pixels, finder, false).is_some()
+        && diagonal_of(pixels, finder, true).is_some()
     {
         found.turned.push(finder)?;
     }
     Ok(())
-}
-
-// Whether both diagonals of a finder pattern have its runs.
-fn has_diagonals(pixels: &Pixels, finder: Finder) -> bool {
-    diagonal_of(pixels, finder, false).is_some() && diagonal_of(pixels, finder, true).is_some()
 }
 
 // Returns finder patterns at any angle with exact centres, each once.
@@ -346,16 +339,12 @@ fn finder_before(pixels: &Pixels, line: Line, end: usize) -> Option<usize>
     let hole = run_start(pixels, line, middle, false);
     let start = run_start(pixels, line, hole, true);
     let total = end - start;
-    if is_near(end - last, 1, total)
+    let is_finder = is_near(end - last, 1, total)
         && is_near(last - ring, 1, total)
         && is_middle(ring - middle, total)
         && is_near(middle - hole, 1, total)
-        && is_near(hole - start, 1, total)
-    {
-        Some(start)
-    } else {
-        None
-    }
+        && is_near(hole - start, 1, total);
+    is_finder.then_some(start)
 }
 
 // Whether a run is `sevenths` sevenths of `total`, with an error of less than half of that plus
@@ -402,8 +391,8 @@ pub(crate) fn run_start(pixels: &Pixels, line: Line, end: usize, dark: bool) -> 
 // Whether the pixel at a place of a line is dark; there is none outside.
 fn is_dark(pixels: &Pixels, line: Line, place: usize) -> bool {
     place < line.length
-        && match pixels.marks().get(line.first + place * line.step) {
-            Some(mark) => *mark,
-            None => false,
-        }
+        && matches!(
+            pixels.marks().get(line.first + place * line.step),
+            Some(true)
+        )
 }

@@ -6,7 +6,8 @@ use crate::finders::{Finder, finders};
 use crate::micro::push_micro;
 use crate::pixels::Pixels;
 use crate::samples::mark_in;
-use crate::turned::{push_turned, turned_grid};
+use crate::turned::{is_square, push_turned, turned_grid};
+use crate::wholes::Corner;
 use std::alloc::{AllocError, Global};
 
 // The most grids of a picture. Bounds memory and time.
@@ -45,21 +46,19 @@ pub struct Grid {
 // Three finder patterns: one in the corner, one left or right of it, one above or below it. Of a
 // turned square `beside` is below it if it is right of it, and above it if it is left of it.
 #[derive(Clone, Copy)]
-pub(crate) struct Corner {
+pub(crate) struct Trio {
     pub(crate) corner: Finder,
     pub(crate) beside: Finder,
     pub(crate) below: Finder,
 }
 
-impl Corner {
-    // Whether the corner is one of the two on the right.
-    pub(crate) fn is_right(&self) -> bool {
-        self.beside.x + self.beside.y < self.corner.x + self.corner.y
-    }
-
-    // Whether the corner is one of the two below.
-    pub(crate) fn is_lower(&self) -> bool {
-        self.below.y + self.corner.x < self.corner.y + self.below.x
+impl Trio {
+    // Returns in which corner of the square the first of them is.
+    pub(crate) fn place(&self) -> Corner {
+        Corner {
+            is_right: self.beside.x + self.beside.y < self.corner.x + self.corner.y,
+            is_lower: self.below.y + self.corner.x < self.corner.y + self.below.x,
+        }
     }
 }
 
@@ -87,7 +86,10 @@ fn push_grids(
 ) -> Result<Vec<Finder>, AllocError> {
     let found = finders(alloc, pixels)?;
     for corner in &found.upright {
-        push_corners(alloc, grids, pixels, &found.upright, *corner)?;
+        let belows = nearest(alloc, &found.upright, *corner, true)?;
+        for beside in &nearest(alloc, &found.upright, *corner, false)? {
+            push_below(grids, pixels, &belows, *corner, *beside, false)?;
+        }
     }
     for finder in &found.upright {
         push_micro(grids, pixels, *finder)?;
@@ -95,35 +97,19 @@ fn push_grids(
     Ok(found.turned)
 }
 
-// Appends the grids with this finder pattern in the corner.
-fn push_corners(
+// Returns the finder patterns that are nearest to `corner`: of those above and below it, or of those
+// left and right of it, on both sides.
+fn nearest(
     alloc: Global,
-    grids: &mut Vec<Grid>,
-    pixels: &Pixels,
     found: &[Finder],
     corner: Finder,
-) -> Result<(), AllocError> {
-    let besides: Vec<Finder> = found
-        .iter()
-        .filter(|it| is_beside(corner, **it))
-        .copied()
-        .collect(alloc)?;
-    let belows: Vec<Finder> = found
-        .iter()
-        .filter(|it| is_below(corner, **it))
-        .copied()
-        .collect(alloc)?;
-    let belows = nearest(alloc, &belows, corner)?;
-    for beside in &nearest(alloc, &besides, corner)? {
-        push_below(grids, pixels, &belows, corner, *beside)?;
-    }
-    Ok(())
-}
-
-// Returns the finder patterns of a line that are nearest to `corner`, on both sides.
-fn nearest(alloc: Global, line: &[Finder], corner: Finder) -> Result<Vec<Finder>, AllocError> {
+    is_down: bool,
+) -> Result<Vec<Finder>, AllocError> {
     let (mut before, mut behind) = (Vec::new(alloc), Vec::new(alloc));
-    for other in line {
+    for other in found {
+        if !(is_down && is_below(corner, *other) || !is_down && is_beside(corner, *other)) {
+            continue;
+        }
         if place(*other) < place(corner) {
             push_near(&mut before, corner, *other)?;
         } else {
@@ -153,21 +139,24 @@ fn place(finder: Finder) -> usize {
     finder.x + finder.y
 }
 
-// Appends the grids of two finder patterns and each third one above or below the corner.
-fn push_below(
+// Appends the grids of two finder patterns and each third one.
+pub(crate) fn push_below(
     grids: &mut Vec<Grid>,
     pixels: &Pixels,
     belows: &[Finder],
     corner: Finder,
     beside: Finder,
+    is_turned: bool,
 ) -> Result<(), AllocError> {
     for below in belows {
-        let corner = Corner {
+        let trio = Trio {
             corner,
             beside,
             below: *below,
         };
-        push_grid(grids, grid_of(pixels, &corner, false))?;
+        if !is_turned || is_square(&trio) {
+            push_grid(grids, grid_of(pixels, &trio, is_turned))?;
+        }
     }
     Ok(())
 }
@@ -205,19 +194,19 @@ pub(crate) fn is_same_size(finder: Finder, other: Finder) -> bool {
 
 // Returns the grid between three finder patterns whose timing patterns fit best; at most a quarter
 // of their modules may be wrong.
-pub(crate) fn grid_of(pixels: &Pixels, corner: &Corner, is_turned: bool) -> Option<Grid> {
+fn grid_of(pixels: &Pixels, trio: &Trio, is_turned: bool) -> Option<Grid> {
     let (mut best, mut least) = (None, 251);
     for version in 1..41 {
         let count = 17 + 4 * version;
         let likely = if is_turned {
-            turned_grid(pixels, corner, count)
+            turned_grid(pixels, trio, count)
         } else {
-            likely_grid(corner, count)
+            likely_grid(trio, count)
         };
         let Some(grid) = likely else {
             continue;
         };
-        let wrong = 500 * wrong_timing(pixels, corner, &grid) / (count - 16);
+        let wrong = 500 * wrong_timing(pixels, trio, &grid) / (count - 16);
         if wrong < least {
             least = wrong;
             best = Some(grid);
@@ -228,15 +217,15 @@ pub(crate) fn grid_of(pixels: &Pixels, corner: &Corner, is_turned: bool) -> Opti
 
 // Returns the grid of `count` modules a side between three finder patterns, if their distances fit
 // their sizes, within a fifth.
-fn likely_grid(corner: &Corner, count: usize) -> Option<Grid>
+fn likely_grid(trio: &Trio, count: usize) -> Option<Grid>
     requires { (21 ≤ count) × (count ≤ 177) }
     ensures { IfSome result (λ grid. (grid.count ≡ count) × (1 ≤ grid.parts)) }
 {
-    let Corner {
+    let Trio {
         corner,
         beside,
         below,
-    } = *corner;
+    } = *trio;
     let (across, down) = (corner.x.abs_diff(beside.x), corner.y.abs_diff(below.y));
     if !is_size(across, corner.width, count) || !is_size(down, corner.height, count) {
         return None;
@@ -264,12 +253,13 @@ fn is_size(apart: usize, seven: usize, count: usize) -> bool
 }
 
 // Counts the wrong modules of the two timing patterns.
-fn wrong_timing(pixels: &Pixels, corner: &Corner, grid: &Grid) -> usize
+fn wrong_timing(pixels: &Pixels, trio: &Trio, grid: &Grid) -> usize
     requires { (21 ≤ grid.now.count) × (1 ≤ grid.now.parts) }
     ensures { result ≤ 354 }
 {
-    let row = timing_line(!corner.is_lower(), grid.count);
-    let column = timing_line(!corner.is_right(), grid.count);
+    let place = trio.place();
+    let row = timing_line(!place.is_lower, grid.count);
+    let column = timing_line(!place.is_right, grid.count);
     let mut wrong = 0;
     for i in 8..grid.count - 8 {
         wrong += usize::from(mark_in(pixels, grid, i, row) != (i % 2 == 0));

@@ -174,10 +174,7 @@ fn push_row(marks: &mut Vec<bool>, row: &[bool], across: usize) -> Result<(), Al
 fn mark_of(row: &[bool], x: usize) -> bool
     ensures { result ≡ slice_index_or row.now x false }
 {
-    match row.get(x) {
-        Some(mark) => *mark,
-        None => false,
-    }
+    matches!(row.get(x), Some(true))
 }
 
 // Leaves out the last row if there is one row more than columns and the pixels of the last one are

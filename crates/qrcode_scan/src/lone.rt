@@ -76,22 +76,14 @@ fn marks_of(
 /// Whether all dark pixels are in a place.
 pub(crate) fn has_all_dark(pixels: &Pixels, place: Place) -> bool {
     for y in 0..pixels.sides().1 {
-        if !has_dark_of(pixels, place, y) {
+        let row = row_of(pixels, y);
+        let first = run_end(pixels, row, 0, false);
+        let is_inside = place.top <= y && y < place.bottom && place.left <= first;
+        if first < row.length
+            && !(is_inside && run_start(pixels, row, row.length, false) <= place.right)
+        {
             return false;
         }
     }
     true
-}
-
-// Whether all dark pixels of a row are in a place.
-fn has_dark_of(pixels: &Pixels, place: Place, y: usize) -> bool
-    requires { y ≤ 65535 }
-{
-    let row = row_of(pixels, y);
-    let first = run_end(pixels, row, 0, false);
-    first == row.length
-        || (place.top <= y
-            && y < place.bottom
-            && place.left <= first
-            && run_start(pixels, row, row.length, false) <= place.right)
 }

@@ -24,10 +24,8 @@ pub(crate) fn push_micro(
     finder: Finder,
 ) -> Result<(), AllocError> {
     for corner in 0..4 {
-        push_grid(
-            grids,
-            micro_grid(pixels, finder, corner % 2 == 1, 2 <= corner),
-        )?;
+        let grid = micro_grid(pixels, finder, corner % 2 == 1, 2 <= corner);
+        push_grid(grids, grid)?;
     }
     Ok(())
 }
@@ -66,13 +64,8 @@ fn span_of(pixels: &Pixels, line: Line, centre: usize, seven: usize, is_before: 
     } else {
         centre.saturating_sub(seven) / 2
     };
-    let (far, count) = timing_end(
-        pixels,
-        line,
-        (centre / 2).min(line.length),
-        seven,
-        is_before,
-    );
+    let place = (centre / 2).min(line.length);
+    let (far, count) = timing_end(pixels, line, place, seven, is_before);
     Span {
         start: near.min(far),
         extent: near.abs_diff(far),

@@ -62,11 +62,8 @@ pub(crate) fn mark_in(pixels: &Pixels, grid: &Grid, column: usize, row: usize) -
     ensures { result ≡ mark_at pixels.now (column_at grid.now column row)
         (row_at grid.now column row) }
 {
-    mark_at(
-        pixels,
-        column_at(grid, column, row),
-        row_at(grid, column, row),
-    )
+    let (x, y) = (column_at(grid, column, row), row_at(grid, column, row));
+    mark_at(pixels, x, y)
 }
 
 // Returns the column of the pixel at the centre of a module.

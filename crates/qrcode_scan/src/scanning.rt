@@ -5,8 +5,8 @@ ghost use Rattle.qrcode_gs1.specs.symbol.Characters.{undoubled};
 ghost use Rattle.qrcode_scan.specs.Squares.{inverted};
 ghost use Rattle.qrcode_reader.specs.Positions.{IsFirstPartsReading};
 ghost use Rattle.qrcode_scan.specs.declared.scanning.Unread.TheVariants.{OutOfMemory};
-ghost use Rattle.qrcode_scan.specs.HandedOn.{byte_count, is_fnc1, part_on, handed_on};
-ghost use Rattle.qrcode_scan.specs.Scans.{IsPictureOf, IsReadAs, IsSeenAs, IsShownBy, IsSquareOf, IsUnreadIn, IsUnseen, has_more, is_png, is_jpeg, unread_as};
+ghost use Rattle.qrcode_scan.specs.HandedOn.{is_fnc1, part_on, handed_on};
+ghost use Rattle.qrcode_scan.specs.Scans.{IsPictureOf, IsReadAs, IsSeenAs, IsShownBy, IsSquareOf, IsUnreadIn, IsUnseen, has_faults, is_png, is_jpeg, unread_as};
 
 use crate::files::pixels_of;
 use crate::grids::Grid;
@@ -118,16 +118,16 @@ pub(crate) struct Seen {
     pub(crate) pixels: Pixels,
     pub(crate) is_inverted: bool,
     /// Whether its file has faults that are ignored.
-    pub(crate) has_more: bool,
+    pub(crate) has_faults: bool,
 }
 
 // Reads the pixels of a picture.
 pub(crate) fn seen_in(alloc: Global, bytes: &[u8]) -> Result<Seen, Unread>
     ensures value { IfOk result (λ seen. IsSeenAs bytes.now seen.pixels seen.is_inverted) }
-    ensures more { IfOk result (λ seen. seen.has_more ≡ has_more bytes.now) }
+    ensures more { IfOk result (λ seen. seen.has_faults ≡ has_faults bytes.now) }
     ensures causes { IfErr result (IsUnseen bytes.now) }
 {
-    let (pixels, has_more) = match pixels_in(alloc, bytes) {
+    let (pixels, has_faults) = match pixels_in(alloc, bytes) {
         Ok(found) => found,
         Err(cause) => return Err(cause),
     };
@@ -140,7 +140,7 @@ pub(crate) fn seen_in(alloc: Global, bytes: &[u8]) -> Result<Seen, Unread>
     Ok(Seen {
         pixels,
         is_inverted,
-        has_more,
+        has_faults,
     })
 }
 
@@ -148,7 +148,7 @@ pub(crate) fn seen_in(alloc: Global, bytes: &[u8]) -> Result<Seen, Unread>
 #[tactic(auto, using(crate::proofs::Seen::png_picture, crate::proofs::Seen::other_picture))]
 fn pixels_in(alloc: Global, bytes: &[u8]) -> Result<(Pixels, bool), Unread>
     ensures value { IfOk result (λ found. IsPictureOf bytes.now found.0) }
-    ensures more { IfOk result (λ found. found.1 ≡ has_more bytes.now) }
+    ensures more { IfOk result (λ found. found.1 ≡ has_faults bytes.now) }
     ensures causes { IfErr result (IsUnseen bytes.now) }
 {
     if is_png(bytes) {
@@ -168,7 +168,7 @@ fn pixels_in(alloc: Global, bytes: &[u8]) -> Result<(Pixels, bool), Unread>
 fn png_pixels(alloc: Global, bytes: &[u8]) -> Result<(Pixels, bool), Unread>
     requires png { is_png bytes.now ≡ true }
     ensures value { IfOk result (λ found. IsShownBy bytes.now found.0) }
-    ensures more { IfOk result (λ found. found.1 ≡ has_more bytes.now) }
+    ensures more { IfOk result (λ found. found.1 ≡ has_faults bytes.now) }
     ensures causes { IfErr result (IsUnseen bytes.now) }
 {
     let picture = match qrcode_png::read(alloc, bytes) {
@@ -258,22 +258,12 @@ fn handed_on(alloc: Global, found: &Parts) -> Result<Vec<u8>, AllocError>
     let mut rest = found.bytes.as_slice();
     let mut is_marked = false;
     for part in &found.parts {
-        let (chunk, behind) = rest.split_at(byte_count(*part).min(rest.len()));
+        let (chunk, behind) = rest.split_at(part.byte_count().min(rest.len()));
         push_part(&mut bytes, is_marked, *part, chunk)?;
         is_marked = is_fnc1(*part) | is_marked;
         rest = behind;
     }
     Ok(bytes)
-}
-
-// The number of bytes that a part has.
-fn byte_count(part: Part) -> usize
-    ensures { result ≡ byte_count part }
-{
-    match part {
-        Part::Front(_) => 0,
-        Part::Bytes(_, count) => count,
-    }
 }
 
 // Whether a part is FNC1, in either position.

@@ -136,10 +136,7 @@ pub(crate) fn mark_at(pixels: &Pixels, x: usize, y: usize) -> bool
     requires row { y < 1000000000 }
     ensures { result ≡ mark_at pixels.now x y }
 {
-    match pixels.marks().get(y * pixels.sides().0 + x) {
-        Some(mark) => *mark,
-        None => false,
-    }
+    matches!(pixels.marks().get(y * pixels.sides().0 + x), Some(true))
 }
 
 // Returns the colours of the first pixels of `count` by `count` modules, `scale` pixels apart,
@@ -247,8 +244,6 @@ fn is_dark_pixel(square: &Square, x: usize, y: usize) -> bool
     if column < zone || column >= zone + count || row < zone || row >= zone + count {
         return false;
     }
-    match square.modules.get((row - zone) * count + (column - zone)) {
-        Some(color) => *color == Color::Dark,
-        None => false,
-    }
+    let color = square.modules.get((row - zone) * count + (column - zone));
+    matches!(color, Some(Color::Dark))
 }

@@ -3,11 +3,13 @@
 ghost use Rattle.std.specs.Prelude.{◌≡◌, ◌+◌, ◌*◌, ◌^◌, ◌<◌, ◌≤◌, IfSome};
 
 use crate::finders::{Finder, square_of_far};
-use crate::grids::{Corner, Grid, grid_of, is_same_size, push_grid};
+use crate::grids::{Grid, Trio, is_same_size, push_below};
 use crate::pixels::Pixels;
-use crate::samples::{is_inside, mark_in};
-use crate::wholes::{corner_start, finder_dark};
+use crate::wholes::has_patterns;
 use std::alloc::AllocError;
+
+// The most wrong modules of a finder pattern: a quarter.
+const MOST_WRONG: usize = 12;
 
 /// Appends the grids between three of these finder patterns.
 pub(crate) fn push_turned(
@@ -16,42 +18,10 @@ pub(crate) fn push_turned(
     found: &[Finder],
 ) -> Result<(), AllocError> {
     for corner in found {
-        push_besides(grids, pixels, found, *corner)?;
-    }
-    Ok(())
-}
-
-// Appends the grids with this finder pattern in the corner.
-fn push_besides(
-    grids: &mut Vec<Grid>,
-    pixels: &Pixels,
-    found: &[Finder],
-    corner: Finder,
-) -> Result<(), AllocError> {
-    for beside in found {
-        if is_same_size(corner, *beside) {
-            push_belows(grids, pixels, found, corner, *beside)?;
-        }
-    }
-    Ok(())
-}
-
-// Appends the grids of two finder patterns and a third.
-fn push_belows(
-    grids: &mut Vec<Grid>,
-    pixels: &Pixels,
-    found: &[Finder],
-    corner: Finder,
-    beside: Finder,
-) -> Result<(), AllocError> {
-    for below in found {
-        let corner = Corner {
-            corner,
-            beside,
-            below: *below,
-        };
-        if is_square(&corner) {
-            push_grid(grids, grid_of(pixels, &corner, true))?;
+        for beside in found {
+            if is_same_size(*corner, *beside) {
+                push_below(grids, pixels, found, *corner, *beside, true)?;
+            }
         }
     }
     Ok(())
@@ -59,14 +29,14 @@ fn push_belows(
 
 // Whether two finder patterns are about as far from the one in the corner, at a right angle, within
 // an eighth of the squares of the distances; and which of them is `beside`.
-fn is_square(corner: &Corner) -> bool {
-    let one = apart(corner.corner, corner.beside);
-    let other = apart(corner.corner, corner.below);
-    let third = apart(corner.beside, corner.below);
-    is_same_size(corner.corner, corner.below)
+pub(crate) fn is_square(trio: &Trio) -> bool {
+    let one = apart(trio.corner, trio.beside);
+    let other = apart(trio.corner, trio.below);
+    let third = apart(trio.beside, trio.below);
+    is_same_size(trio.corner, trio.below)
         && 8 * one.abs_diff(other) <= one + other
         && 8 * third.abs_diff(one + other) <= one + other
-        && is_beside(corner)
+        && is_beside(trio)
 }
 
 // Returns the square of the distance of two finder patterns, four times.
@@ -77,47 +47,43 @@ fn apart(one: Finder, other: Finder) -> usize
 }
 
 // Whether `beside` is right of the corner and below it, or left and above: more so than `below`.
-fn is_beside(corner: &Corner) -> bool {
-    let (one, beside, below) = (corner.corner, corner.beside, corner.below);
+fn is_beside(trio: &Trio) -> bool {
+    let (one, beside, below) = (trio.corner, trio.beside, trio.below);
     below.x * below.y + beside.x * one.y + one.x * beside.y
         < beside.x * beside.y + below.x * one.y + one.x * below.y
 }
 
 /// Returns the grid of `count` modules a side between three finder patterns, if their distance fits
 /// their sizes, within a fifth, and if it shows them.
-pub(crate) fn turned_grid(pixels: &Pixels, corner: &Corner, count: usize) -> Option<Grid>
+pub(crate) fn turned_grid(pixels: &Pixels, trio: &Trio, count: usize) -> Option<Grid>
     requires { (21 ≤ count) × (count ≤ 177) }
     ensures { IfSome result (λ grid. (grid.count ≡ count) × (1 ≤ grid.parts)) }
 {
-    if !is_far(corner, count) {
+    if !is_far(trio, count) {
         return None;
     }
-    let grid = grid_between(corner, count);
-    if is_inside(pixels, &grid) && shows_finders(pixels, corner, &grid) {
-        Some(grid)
-    } else {
-        None
-    }
+    let grid = grid_between(trio, count);
+    has_patterns(pixels, &grid, trio.place(), MOST_WRONG).then_some(grid)
 }
 
 // Whether the finder patterns are as far apart as in a square of `count` modules a side, within a
 // fifth. A row through a turned finder pattern is as much longer than its side as the side is than
 // its greater extent, across or down.
-fn is_far(corner: &Corner, count: usize) -> bool
+fn is_far(trio: &Trio, count: usize) -> bool
     requires { (21 ≤ count) × (count ≤ 177) }
 {
-    let (one, other) = (corner.corner, corner.beside);
+    let (one, other) = (trio.corner, trio.beside);
     let extent = one.x.abs_diff(other.x).max(one.y.abs_diff(other.y));
     let wanted = (one.width + one.height) * extent * (count - 7);
     5 * (7 * apart(one, other)).abs_diff(wanted) <= wanted
 }
 
 // Returns the grid of `count` modules a side between three finder patterns.
-fn grid_between(corner: &Corner, count: usize) -> Grid
+fn grid_between(trio: &Trio, count: usize) -> Grid
     requires { (21 ≤ count) × (count ≤ 177) }
     ensures { (result.count ≡ count) × (1 ≤ result.parts) }
 {
-    let (one, beside, below) = (corner.corner, corner.beside, corner.below);
+    let (one, beside, below) = (trio.corner, trio.beside, trio.below);
     let (across, fall) = (one.x.abs_diff(beside.x), one.y.abs_diff(beside.y));
     let (lean, down) = (one.x.abs_diff(below.x), one.y.abs_diff(below.y));
     let x = least_of(one.x, beside.x, below.x) + lean;
@@ -142,31 +108,4 @@ fn least_of(one: usize, beside: usize, below: usize) -> usize
 {
     let fourth = (beside + below).saturating_sub(one);
     one.min(beside).min(below).min(fourth)
-}
-
-// Whether a grid shows the three finder patterns.
-fn shows_finders(pixels: &Pixels, corner: &Corner, grid: &Grid) -> bool
-    requires { (21 ≤ grid.now.count) × (1 ≤ grid.now.parts) }
-{
-    let (is_right, is_lower) = (corner.is_right(), corner.is_lower());
-    let x = corner_start(is_right, grid.count);
-    let y = corner_start(is_lower, grid.count);
-    let beside = corner_start(!is_right, grid.count);
-    let below = corner_start(!is_lower, grid.count);
-    shows_finder(pixels, grid, x, y)
-        && shows_finder(pixels, grid, beside, y)
-        && shows_finder(pixels, grid, x, below)
-}
-
-// Whether a finder pattern begins in this column and row of a grid; at most a quarter of its modules
-// may be wrong.
-fn shows_finder(pixels: &Pixels, grid: &Grid, column: usize, row: usize) -> bool
-    requires { (column ≤ 170) × (row ≤ 170) × (1 ≤ grid.now.parts) }
-{
-    let mut wrong = 0;
-    for i in 0..49 {
-        let is_dark = mark_in(pixels, grid, column + i % 7, row + i / 7);
-        wrong += usize::from(is_dark != finder_dark(i % 7, i / 7));
-    }
-    4 * wrong <= 49
 }

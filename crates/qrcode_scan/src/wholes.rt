@@ -15,7 +15,7 @@ const MOST_GRIDS: usize = 1024;
 
 // A finder pattern: its first pixel, and the pixels of a module.
 #[derive(Clone, Copy)]
-struct Finder {
+struct Pattern {
     x: usize,
     y: usize,
     scale: usize,
@@ -24,9 +24,9 @@ struct Finder {
 
 // The corner of a square whose finder pattern has others left or right of it, and above or below.
 #[derive(Clone, Copy)]
-struct Corner {
-    is_right: bool,
-    is_lower: bool,
+pub(crate) struct Corner {
+    pub(crate) is_right: bool,
+    pub(crate) is_lower: bool,
 }
 
 /// Finds squares of modules in a picture. First come all squares of Normal versions in whole
@@ -80,7 +80,7 @@ fn push_row(grids: &mut Vec<Grid>, pixels: &Pixels, y: usize) -> Result<(), Allo
 }
 
 // Returns the finder pattern whose first light pixel this is: the first of five light modules.
-fn finder_at(pixels: &Pixels, x: usize, y: usize) -> Option<Finder>
+fn finder_at(pixels: &Pixels, x: usize, y: usize) -> Option<Pattern>
     requires inside { (x < pixels.now.across) × (y < pixels.now.down) }
     requires at_most { (x ≤ 65535) × (y ≤ 65535) }
     ensures place { IfSome result (λ finder. (finder.x + finder.scale ≡ x)
@@ -99,13 +99,13 @@ fn finder_at(pixels: &Pixels, x: usize, y: usize) -> Option<Finder>
     if scale * 5 != five || x < scale || y < scale {
         return None;
     }
-    let finder = Finder {
+    let finder = Pattern {
         x: x - scale,
         y: y - scale,
         scale,
     };
     let grid = grid_at(finder.x, finder.y, scale, 21);
-    if has_finder(pixels, &grid, 0, 0) {
+    if has_finder(pixels, &grid, 0, 0, 0) {
         Some(finder)
     } else {
         None
@@ -163,7 +163,7 @@ fn light_run(pixels: &Pixels, x: usize, y: usize) -> usize
 }
 
 // Appends the grids of squares of each size that have this finder pattern in each of their corners.
-fn push_sizes(grids: &mut Vec<Grid>, pixels: &Pixels, finder: Finder) -> Result<(), AllocError>
+fn push_sizes(grids: &mut Vec<Grid>, pixels: &Pixels, finder: Pattern) -> Result<(), AllocError>
     requires ring { IsRing pixels.now (finder.x + finder.scale) (finder.y + finder.scale)
         finder.scale }
     requires patterned { ArePatterned pixels.now grids.old.items }
@@ -227,7 +227,7 @@ fn is_same(one: &Grid, other: &Grid) -> bool
 
 // Returns the grid of a square of this version with the finder pattern in a corner, if it has the
 // two others.
-fn whole_grid(pixels: &Pixels, finder: Finder, version: usize, corner: Corner) -> Option<Grid>
+fn whole_grid(pixels: &Pixels, finder: Pattern, version: usize, corner: Corner) -> Option<Grid>
     requires version { (1 ≤ version) × (version ≤ 40) }
     requires ring { IsRing pixels.now (finder.x + finder.scale) (finder.y + finder.scale)
         finder.scale }
@@ -248,7 +248,7 @@ fn whole_grid(pixels: &Pixels, finder: Finder, version: usize, corner: Corner) -
         return None;
     }
     let grid = grid_at(finder.x - column, finder.y - row, finder.scale, count);
-    if has_patterns(pixels, &grid, corner) {
+    if has_patterns(pixels, &grid, corner, 0) {
         Some(grid)
     } else {
         None
@@ -256,7 +256,7 @@ fn whole_grid(pixels: &Pixels, finder: Finder, version: usize, corner: Corner) -
 }
 
 // Returns the first column or row of a finder pattern in a corner of `count` modules a side.
-pub(crate) fn corner_start(is_last: bool, count: usize) -> usize
+fn corner_start(is_last: bool, count: usize) -> usize
     requires { (7 ≤ count) × (count ≤ 177) }
     ensures value { result ≡ corner_start is_last count }
     ensures at_most { result ≤ 170 }
@@ -264,10 +264,11 @@ pub(crate) fn corner_start(is_last: bool, count: usize) -> usize
     if is_last { count - 7 } else { 0 }
 }
 
-// Whether a grid lies in the pixels and has finder patterns in this corner and those next to it.
-fn has_patterns(pixels: &Pixels, grid: &Grid, corner: Corner) -> bool
+// Whether a grid lies in the pixels and has finder patterns in this corner and those next to it, of
+// each of which at most this many modules are wrong.
+pub(crate) fn has_patterns(pixels: &Pixels, grid: &Grid, corner: Corner, most: usize) -> bool
     requires { (21 ≤ grid.now.count) × (1 ≤ grid.now.parts) }
-    ensures all { IsTrue result
+    ensures all { IsTrue result → most ≡ 0
         → HasPatterns pixels.now grid.now corner.is_right corner.is_lower }
     ensures none { IsFalse result
         → ¬ HasPatterns pixels.now grid.now corner.is_right corner.is_lower }
@@ -277,27 +278,32 @@ fn has_patterns(pixels: &Pixels, grid: &Grid, corner: Corner) -> bool
     let beside = corner_start(!corner.is_right, grid.count);
     let below = corner_start(!corner.is_lower, grid.count);
     is_inside(pixels, grid)
-        && has_finder(pixels, grid, beside, y)
-        && has_finder(pixels, grid, x, below)
-        && has_finder(pixels, grid, x, y)
+        && has_finder(pixels, grid, beside, y, most)
+        && has_finder(pixels, grid, x, below, most)
+        && has_finder(pixels, grid, x, y, most)
 }
 
-// Whether a grid has a finder pattern that begins in this column and row.
-fn has_finder(pixels: &Pixels, grid: &Grid, column: usize, row: usize) -> bool
+// Whether a grid has a finder pattern that begins in this column and row, of which at most this many
+// modules are wrong.
+fn has_finder(pixels: &Pixels, grid: &Grid, column: usize, row: usize, most: usize) -> bool
     requires { (column ≤ 170) × (row ≤ 170) × (1 ≤ grid.now.parts) }
-    ensures all { IsTrue result → HasFinder (marked pixels.now grid.now) column row }
+    ensures all { IsTrue result → most ≡ 0 → HasFinder (marked pixels.now grid.now) column row }
     ensures none { IsFalse result → ¬ HasFinder (marked pixels.now grid.now) column row }
 {
+    let mut left = most;
     for i in 0..49 {
         if mark_in(pixels, grid, column + i % 7, row + i / 7) != finder_dark(i % 7, i / 7) {
-            return false;
+            if left == 0 {
+                return false;
+            }
+            left -= 1;
         }
     }
     true
 }
 
 // Whether a module of a finder pattern is dark.
-pub(crate) fn finder_dark(column: usize, row: usize) -> bool
+fn finder_dark(column: usize, row: usize) -> bool
     requires { (column < 7) × (row < 7) }
     ensures { result ≡ finder_dark column row }
 {
