@@ -1,58 +1,28 @@
 -- The versions that hold segments.
-use Rattle.std.proofs.Common.{◌≡◌, ℕ, ◌+◌, ◌-◌, ◌<◌, ◌≤◌, nat_le, pos, negsuc, Bool, true, false, not, List, length, Option, Some, None, IsTrue, if◌then◌else◌, refl, sym, ap, subst, ◌∙◌, ◌⊎◌, inl, inr, arith, true≢false}
+use Rattle.std.proofs.Common.{◌≡◌, ℕ, ◌+◌, ◌<◌, ◌≤◌, pos, Bool, true, false, not, List, Option, Some, None, IsTrue, if◌then◌else◌, refl, sym, ap, subst, ◌∙◌, ◌⊎◌, inl, inr, arith, true≢false}
 use Rattle.std.specs.Option.{option_or}
 use Rattle.std.specs.Prelude.{Result, Ok, Err, IfOk, IfErr, OnOk}
-use Rattle.std.proofs.lemmas.Bool.{and_parts, leb-true, cases_lt, cond-true, cond-false, le-leb, lt-leb}
+use Rattle.std.proofs.lemmas.Bool.{cases_lt}
 use Rattle.qrcode_types.specs.Versions.{is_valid, has_level}
 use Rattle.qrcode_types.specs.declared.types.EcLevel.{EcLevel}
 use Rattle.qrcode_types.specs.declared.types.QrError.{QrError}
 use Rattle.qrcode_types.specs.declared.types.QrError.TheVariants.{InvalidVersion, OutOfMemory}
 use Rattle.qrcode_types.specs.declared.types.Version.{Version}
-use Rattle.qrcode_types.specs.declared.types.Version.TheVariants.{Normal, Micro}
+use Rattle.qrcode_types.specs.declared.types.Version.TheVariants.{Normal}
 use Rattle.qrcode_bits.specs.Manners.{rank}
-use Rattle.qrcode_bits.specs.Refusals.{terminator_refusal}
 use Rattle.qrcode_bits.proofs.Manners.{valid_of}
 use Rattle.qrcode.specs.Code.{Code}
-use Rattle.goqlanis_request.specs.Segments.{first_of, last_of, refusal_in, segments_refusal, written_segments, AreRefused, AreUnheld, Holds, IsLeastHeld, MayTake}
+use Rattle.qrcode_charsets.proofs.Ranks.{rank_at_most, same_rank}
+use Rattle.goqlanis_request.specs.Segments.{first_of, last_of, refusal_in, segments_refusal, AreRefused, AreUnheld, Holds, IsLeastHeld, MayTake}
 use Rattle.goqlanis_request.specs.declared.request.Choice.{Choice}
 use Rattle.goqlanis_request.specs.declared.request.Choice.TheVariants.{From, Boosted, At}
 use Rattle.goqlanis_request.specs.declared.segments.Segment.{Segment}
 
-abbrev version_of : ℕ → Version  -- the version with this rank
-version_of n = if nat_le n 4 then Micro (pos n) else Normal (pos (n - 4))
-
--- a version is the one with its rank, which is at most 44
-at_place : (v : Version) → IsTrue (is_valid v) → (v ≡ version_of (rank v)) × (rank v ≤ 44)
-at_place (Micro (pos n)) valid =
-    let most = leb-true n 4 (and_parts (nat_le 1 n) (nat_le n 4) valid).1 in
-    (sym (cond-true (nat_le n 4) (Micro (pos n)) (Normal (pos (n - 4))) (le-leb n 4 most)), omega (arith, most))
-at_place (Normal (pos n)) valid =
-    let w = and_parts (nat_le 1 n) (nat_le n 40) valid in
-    let some = leb-true 1 n w.0 in
-    let most = leb-true n 40 w.1 in
-    let same : n ≡ 4 + n - 4 = omega arith in (
-      ap (λ k. Normal (pos k)) same ∙ sym (cond-false (nat_le (4 + n) 4) (Micro (pos (4 + n))) (Normal (pos (4 + n - 4))) (lt-leb (4 + n) 4 (omega (arith, some)))),
-      omega (arith, most),
-    )
-at_place (Micro (negsuc n)) valid = cc
-at_place (Normal (negsuc n)) valid = cc
-
--- only one version has a rank
-same_place : (u v : Version) → IsTrue (is_valid u) → IsTrue (is_valid v) → rank u ≡ rank v → u ≡ v
-same_place u v first second same = (at_place u first).0 ∙ ap version_of same ∙ sym (at_place v second).0
-
--- if neither of two causes applies, the second does not
-or_none : {A : Type 0} (a b : Option A) → option_or a b ≡ None → b ≡ None
-or_none None b h = h
-or_none (Some x) b h = absurd cc
-
-level_of : (has : Bool) (r : Option QrError) → (if not has then Some InvalidVersion else r) ≡ None → IsTrue has
-level_of true r h = refl
-level_of false r h = absurd cc
-
--- a terminator without a cause to fail needs the level
-pub ended_level : (v : Version) (l : EcLevel) (used : ℕ) → terminator_refusal v l used ≡ None → IsTrue (has_level v l)
-ended_level v l used h = level_of (has_level v l) _ h
+-- a version has the level if its lack is no cause to fail
+level_of : (first : Option QrError) (has : Bool) (r : Option QrError) → option_or first (if not has then Some InvalidVersion else r) ≡ None → IsTrue has
+level_of None true r h = refl
+level_of None false r h = absurd cc
+level_of (Some e) has r h = absurd cc
 
 -- an allowed version has at least the rank of the first
 behind_first : (choice : Choice) (v : Version) → MayTake choice v → rank (first_of choice) ≤ rank v
@@ -68,15 +38,13 @@ may_before (At version) v low high = absurd (omega (arith, low, high))
 
 -- and so is the last
 pub may_last : (choice : Choice) → IsTrue (is_valid (first_of choice)) → MayTake choice (last_of choice)
-may_last (From from) valid = (at_place from valid).1
-may_last (Boosted from) valid = (at_place from valid).1
+may_last (From from) valid = rank_at_most from valid
+may_last (Boosted from) valid = rank_at_most from valid
 may_last (At version) valid = refl
 
 module _ (l : EcLevel) (segments : List Segment) where
   valid_held : (v : Version) → Holds v l segments → IsTrue (is_valid v)
-  valid_held v holds =
-      let used = length (written_segments v segments) in
-      valid_of v l (ended_level v l used (or_none (segments_refusal v 0 segments) (terminator_refusal v l used) holds))
+  valid_held v holds = valid_of v l (level_of (segments_refusal v 0 segments) (has_level v l) _ holds)
 
   abbrev pub NoneHolds : ℕ → ℕ → Type 0  -- no version with a rank from `from` to before `to` holds the segments
   NoneHolds from to = (v : Version) → from ≤ rank v → rank v < to → ¬ Holds v l segments
@@ -86,7 +54,7 @@ module _ (l : EcLevel) (segments : List Segment) where
   none_more from to v e valid at some none u low high holds = elim (cases_lt (rank u) to) [
     | inl less ↦ none u low less holds
     | inr more ↦
-        let same = same_place u v (valid_held u holds) valid (omega (arith, at, more, high)) in
+        let same = same_rank u v (valid_held u holds) valid (omega (arith, at, more, high)) in
         let held = subst (λ w. Holds w l segments) same holds in
         absurd cc
   ]
@@ -109,7 +77,7 @@ module _ (l : EcLevel) (segments : List Segment) where
     from_on : (from v : Version) → NoneHolds (rank from) 44 → refusal_in (Normal (pos 40)) l segments ≡ Some e → rank from ≤ rank v → ¬ Holds v l segments
     from_on from v none some low holds =
         let valid = valid_held v holds in
-        none_more (rank from) 44 (Normal (pos 40)) e refl refl some none v low (omega (arith, (at_place v valid).1)) holds
+        none_more (rank from) 44 (Normal (pos 40)) e refl refl some none v low (omega (arith, rank_at_most v valid)) holds
 
     of : (choice : Choice) → NoneHolds (rank (first_of choice)) (rank (last_of choice)) → refusal_in (last_of choice) l segments ≡ Some e
         → (v : Version) → MayTake choice v → ¬ Holds v l segments

@@ -1,5 +1,5 @@
 -- Logo areas at other levels and in other versions.
-use Rattle.std.proofs.Common.{◌≡◌, ℕ, ◌+◌, Bool, refl, arith, pos, subst, inl, inr}
+use Rattle.std.proofs.Common.{◌≡◌, ℕ, ◌+◌, ◌==◌, Bool, if◌then◌else◌, refl, sym, ap, ◌∙◌, arith, pos, subst, inl, inr}
 use Rattle.std.specs.Prelude.{Option, None, Some}
 use Rattle.std.proofs.lemmas.Bool.{cases_lt}
 use Rattle.qrcode_types.specs.Versions.{level_number}
@@ -31,24 +31,18 @@ no_area v l w None e r why is =
     why.1 is.size (omega (arith, is.odd)) is.inside is.odd (subst (λ (r : Rectangle). Fits v l (half_wish v l w) (only r)) is.centred is.fits)
 no_area v l w (Some size) e r why is = none_sized v l w size e r why is
 
+abbrev level_at : ℕ → EcLevel  -- the level with this number
+level_at n = if n == 0 then L else if n == 1 then M else if n == 2 then Q else H
+
+at_number : (l : EcLevel) → level_at (level_number l) ≡ l
+at_number L = refl
+at_number M = refl
+at_number Q = refl
+at_number H = refl
+
 -- levels with the same number are the same
 same_level : (l m : EcLevel) → level_number l ≡ level_number m → l ≡ m
-same_level L L e = refl
-same_level M M e = refl
-same_level Q Q e = refl
-same_level H H e = refl
-same_level L M e = absurd (omega (arith, e))
-same_level L Q e = absurd (omega (arith, e))
-same_level L H e = absurd (omega (arith, e))
-same_level M L e = absurd (omega (arith, e))
-same_level M Q e = absurd (omega (arith, e))
-same_level M H e = absurd (omega (arith, e))
-same_level Q L e = absurd (omega (arith, e))
-same_level Q M e = absurd (omega (arith, e))
-same_level Q H e = absurd (omega (arith, e))
-same_level H L e = absurd (omega (arith, e))
-same_level H M e = absurd (omega (arith, e))
-same_level H Q e = absurd (omega (arith, e))
+same_level l m e = sym (at_number l) ∙ ap level_at e ∙ at_number m
 
 -- one more level has no such area
 pub none_higher : (v : Version) (l m : EcLevel) (w : LogoWish) (n : ℕ) → level_number m ≡ n → NoHigher v l w n → ¬ HasArea v m w → NoHigher v l w (n + 1)

@@ -1,15 +1,14 @@
 -- Segments in order: why they cannot be appended, and the symbol of their bits.
-use Rattle.std.specs.Prelude.{◌≡◌, Bool, List, Result, Ok, Err, IfOk, IfErr, IsErr, IsErrAnd, flat_map}
+use Rattle.std.specs.Prelude.{◌≡◌, List, Result, Ok, Err, IfOk, flat_map}
 use Rattle.std.specs.List.{AllByRecursion}
 use Rattle.std.specs.Option.{option_or}
-use Rattle.std.proofs.Common.{ℕ, suc, ◌+◌, ◌<◌, [], ◌∷◌, ◌++◌, length, get_or, take, drop, Option, Some, None, refl, subst, sym, ap, ap₂, ◌∙◌, ◌⊎◌, inl, inr, arith, length-append, drop-cons, zero-add}
-use Rattle.std.proofs.lemmas.List.{take_more, take-append-drop}
+use Rattle.std.proofs.Common.{ℕ, suc, ◌+◌, ◌<◌, [], ◌∷◌, ◌++◌, length, get_or, drop, Option, Some, None, refl, subst, sym, ap, ap₂, ◌∙◌, ◌⊎◌, inl, inr, arith, append_assoc, drop-cons, length-append}
 use Rattle.qrcode_types.specs.declared.types.EcLevel.{EcLevel}
 use Rattle.qrcode_types.specs.declared.types.QrError.{QrError}
 use Rattle.qrcode_types.specs.declared.types.QrError.TheVariants.{OutOfMemory}
 use Rattle.qrcode_types.specs.declared.types.Version.{Version}
 use Rattle.qrcode_bits.specs.BitList.{BitList}
-use Rattle.qrcode_bits.specs.Pushes.{Changes}
+use Rattle.qrcode_bits.specs.Pushes.{Changes, with_bits}
 use Rattle.qrcode_bits.specs.Refusals.{terminator_refusal}
 use Rattle.qrcode_bits.specs.Spelling.{IsReadBack, SpellsOnly}
 use Rattle.qrcode_bits.specs.Written.{Piece, written, terminated}
@@ -17,7 +16,6 @@ use Rattle.qrcode.specs.Code.{Code}
 use Rattle.qrcode.specs.Reading.{EncodesBits}
 use Rattle.goqlanis_request.specs.Segments.{refusal_in, segment_bits, segment_refusal, segments_refusal, written_segments, IsSymbolOfSegments}
 use Rattle.goqlanis_request.specs.declared.segments.Segment.{Segment}
-use Rattle.qrcode_sheets.proofs.Pieces.{flat_map_more}
 
 -- a successful push had no cause to fail
 pub taken_by : (r : Option QrError) (old after new : BitList) (u : Unit {0}) → Changes r old after new (Ok u) → r ≡ None
@@ -29,75 +27,68 @@ pub refused_by : (r : Option QrError) (old after new : BitList) (e : QrError) �
 refused_by None old after new e c = inl (c.accepted refl)
 refused_by (Some x) old after new e c = let same = c.refused x refl in inr cc
 
-or_assoc : {A : Type 0} (a b c : Option A) → option_or a (option_or b c) ≡ option_or (option_or a b) c
-or_assoc None b c = refl
-or_assoc (Some x) b c = refl
+-- the list has the bits of the first segments, of which none fails, and `rest` follows
+abbrev pub LeavesRest : Version → List Segment → BitList → List Segment → Type 0
+LeavesRest v all list rest = (list.version ≡ v)
+    × ((segments_refusal v 0 all ≡ segments_refusal v (length list.bits) rest) × (written_segments v all ≡ list.bits ++ written_segments v rest))
 
--- two lists in order fail for the cause of the first, or else for that of the second after it
-refusal-append : (v : Version) (used : ℕ) (xs ys : List Segment)
-    → segments_refusal v used (xs ++ ys) ≡ option_or (segments_refusal v used xs) (segments_refusal v (used + length (written_segments v xs)) ys)
-refusal-append v used [] ys = let same : used ≡ used + 0 = omega arith in ap (λ n. segments_refusal v n ys) same
-refusal-append v used (x ∷ xs) ys =
-    let r = segment_refusal v used x in
-    let next = used + length (segment_bits v x) in
-    let same : next + length (written_segments v xs) ≡ used + length (written_segments v (x ∷ xs)) = omega (arith, length-append (segment_bits v x) (written_segments v xs)) in
-    ap (option_or r) (refusal-append v next xs ys ∙ ap (λ n. option_or (segments_refusal v next xs) (segments_refusal v n ys)) same)
-    ∙ or_assoc r (segments_refusal v next xs) (segments_refusal v (used + length (written_segments v (x ∷ xs))) ys)
+module _ (v : Version) (all : List Segment) (i : ℕ) (d : Segment) (old : BitList) (inside : i < length all) (before : LeavesRest v all old (drop i all)) where
+  here : LeavesRest v all old (get_or all i d ∷ drop (i + 1) all)
+  here =
+      let same : suc i ≡ i + 1 = omega arith in
+      subst (LeavesRest v all old) (drop-cons all i d inside ∙ ap (λ n. get_or all i d ∷ drop n all) same) before
 
-module _ (v u : Version) (segments : List Segment) (i : ℕ) (d : Segment) (old : List Bool) (inside : i < length segments)
-    (same : u ≡ v) (bits : old ≡ written_segments v (take i segments)) (before : segments_refusal v 0 (take i segments) ≡ None) where
-  -- the cause for the next segment, by the list of bits before it
-  behind : (r : Option QrError) → segment_refusal u (length old) (get_or segments i d) ≡ r → segment_refusal v (0 + length (written_segments v (take i segments))) (get_or segments i d) ≡ r
-  behind r h = ap₂ (λ w n. segment_refusal w n (get_or segments i d)) (sym same) (zero-add (length (written_segments v (take i segments))) ∙ ap length (sym bits)) ∙ h
+  -- the cause for all is that for the next segment, or else for the rest
+  pub next : (r : Option QrError) → segment_refusal old.version (length old.bits) (get_or all i d) ≡ r
+      → segments_refusal v 0 all ≡ option_or r (segments_refusal v (length old.bits + length (segment_bits v (get_or all i d))) (drop (i + 1) all))
+  next r is =
+      here.1.0
+      ∙ ap (λ o. option_or o (segments_refusal v (length old.bits + length (segment_bits v (get_or all i d))) (drop (i + 1) all)))
+      (ap (λ w. segment_refusal w (length old.bits) (get_or all i d)) (sym before.0) ∙ is)
 
   -- one more segment is written
-  pub written_more : (new : List Bool) → new ≡ old ++ segment_bits u (get_or segments i d) → new ≡ written_segments v (take (i + 1) segments)
-  written_more new is =
-      is ∙ ap₂ (λ bits w. bits ++ segment_bits w (get_or segments i d)) bits same ∙ sym (flat_map_more (segment_bits v) segments i d inside)
+  pub pushed : (new : BitList) → new ≡ with_bits old (segment_bits old.version (get_or all i d)) → segment_refusal old.version (length old.bits) (get_or all i d) ≡ None
+      → LeavesRest v all new (drop (i + 1) all)
+  pushed new is taken =
+      let more = segment_bits v (get_or all i d) in
+      let bits : new.bits ≡ old.bits ++ more = ap (λ (l : BitList). l.bits) is ∙ ap (λ w. old.bits ++ segment_bits w (get_or all i d)) before.0 in (
+        ap (λ (l : BitList). l.version) is ∙ before.0,
+        (
+          next None taken ∙ ap (λ n. segments_refusal v n (drop (i + 1) all)) (sym (ap length bits ∙ length-append old.bits more)),
+          here.1.1 ∙ sym (append_assoc old.bits more (written_segments v (drop (i + 1) all))) ∙ ap (λ b. b ++ written_segments v (drop (i + 1) all)) (sym bits),
+        ),
+      )
 
-  -- one more segment has no cause to fail
-  pub taken_more : segment_refusal u (length old) (get_or segments i d) ≡ None → segments_refusal v 0 (take (i + 1) segments) ≡ None
-  taken_more h =
-      let none = behind None h in
-      ap (segments_refusal v 0) (take_more segments i d inside)
-      ∙ refusal-append v 0 (take i segments) (get_or segments i d ∷ [])
-      ∙ rw (before, none) refl
+-- the bits of all segments, behind the list `start`, which is empty
+module _ (v : Version) (l : EcLevel) (segments : List Segment) (start list : BitList) (empty : start ≡ record { version = v; bits = [] })
+    (kept : list.version ≡ start.version) (written_as : list.bits ≡ written_segments start.version segments) where
+  same : list.version ≡ v
+  same = kept ∙ ap (λ (b : BitList). b.version) empty
 
-  -- the next segment is the first that fails
-  pub refused_next : (e : QrError) → segment_refusal u (length old) (get_or segments i d) ≡ Some e → segments_refusal v 0 segments ≡ Some e
-  refused_next e h =
-      let some = behind (Some e) h in
-      ap (segments_refusal v 0) (sym (take-append-drop i segments) ∙ ap (λ rest. take i segments ++ rest) (drop-cons segments i d inside))
-      ∙ refusal-append v 0 (take i segments) (get_or segments i d ∷ drop (suc i) segments)
-      ∙ rw (before, some) refl
+  bits : list.bits ≡ written_segments v segments
+  bits = written_as ∙ ap (λ (b : BitList). written_segments b.version segments) empty
 
--- if no segment fails, the cause for the terminator is the cause
-pub at_end : (v u : Version) (l : EcLevel) (segments : List Segment) (old : List Bool) (r : Option QrError) → u ≡ v → old ≡ written_segments v segments
-    → segments_refusal v 0 segments ≡ None → terminator_refusal u l (length old) ≡ r → refusal_in v l segments ≡ r
-at_end v u l segments old r same bits taken ended =
-    ap (λ first. option_or first (terminator_refusal v l (length (written_segments v segments)))) taken
-    ∙ ap₂ (λ w n. terminator_refusal w l n) (sym same) (ap length (sym bits))
-    ∙ ended
+  -- if no segment fails, the cause for the terminator is the cause
+  pub at_end : (r : Option QrError) → segments_refusal start.version 0 segments ≡ None → terminator_refusal list.version l (length list.bits) ≡ r → refusal_in v l segments ≡ r
+  at_end r taken ended =
+      ap (λ first. option_or first (terminator_refusal v l (length (written_segments v segments)))) (sym (ap (λ (b : BitList). segments_refusal b.version 0 segments) empty) ∙ taken)
+      ∙ ap₂ (λ w n. terminator_refusal w l n) (sym same) (ap length (sym bits))
+      ∙ ended
 
--- an error that a `?` passes on
-pub handed_on : {T : Type 0} (result : Result T QrError) (e : QrError) (P : QrError → Type 0) → IsErr result × IsErrAnd result (λ x. x ≡ e) → P e → IfErr result P
-handed_on (Ok x) e P h p = tt
-handed_on (Err x) e P h p = subst P (sym h.1) p
-
--- a symbol of these bits is the symbol of the segments
-pub symbol_of_segments : (l : EcLevel) (segments : List Segment) (v : Version) (b : BitList) (result : Result Code QrError)
-    → b ≡ record { version = v; bits = terminated v l (written_segments v segments) }
-    → IfOk result (λ code. code.version ≡ b.version) → IfOk result (λ code. code.level ≡ l) → IfOk result (λ code. EncodesBits b.version l b.bits code.modules)
-    → ((pieces : List Piece) → AllByRecursion (IsReadBack v) pieces → written_segments v segments ≡ written v pieces → SpellsOnly b.version b.bits (flat_map (λ p. p.chunk) pieces))
-    → IfOk result (IsSymbolOfSegments l segments)
-symbol_of_segments l segments v b (Err e) is version level encodes spelled = tt
-symbol_of_segments l segments v b (Ok code) is version level encodes spelled =
-    let here : code.version ≡ v = version ∙ ap (λ (x : BitList). x.version) is in
-    let bits = λ (u : Version). terminated u l (written_segments u segments) in
-    record {
-      level = level;
-      encodes = subst (λ u. EncodesBits u l (bits u) code.modules) (sym here) (subst (λ (x : BitList). EncodesBits x.version l x.bits code.modules) is encodes);
-      spelled = subst (λ u. (pieces : List Piece) → AllByRecursion (IsReadBack u) pieces → written_segments u segments ≡ written u pieces
-          → SpellsOnly u (bits u) (flat_map (λ p. p.chunk) pieces)) (sym here)
-          (λ pieces readable same. subst (λ (x : BitList). SpellsOnly x.version x.bits (flat_map (λ p. p.chunk) pieces)) is (spelled pieces readable same));
-    }
+  -- a symbol of the terminated bits is the symbol of the segments
+  pub symbol_of_segments : (b : BitList) (result : Result Code QrError) → b ≡ record { version = list.version; bits = terminated list.version l list.bits }
+      → IfOk result (λ code. code.version ≡ b.version) → IfOk result (λ code. code.level ≡ l) → IfOk result (λ code. EncodesBits b.version l b.bits code.modules)
+      → ((pieces : List Piece) → AllByRecursion (IsReadBack list.version) pieces → list.bits ≡ written list.version pieces → SpellsOnly b.version b.bits (flat_map (λ p. p.chunk) pieces))
+      → IfOk result (IsSymbolOfSegments l segments)
+  symbol_of_segments b (Err e) is version level encodes spelled = tt
+  symbol_of_segments b (Ok code) is version level encodes spelled =
+      let here : code.version ≡ list.version = version ∙ ap (λ (x : BitList). x.version) is in
+      let all : Version → BitList = λ u. record { version = u; bits = terminated u l (written_segments u segments) } in
+      let whole : b ≡ all code.version = is ∙ ap₂ (λ u t. record { version = u; bits = terminated u l t }) same bits ∙ ap all (sym (here ∙ same)) in
+      record {
+        level = level;
+        encodes = subst (λ (x : BitList). EncodesBits x.version l x.bits code.modules) whole encodes;
+        spelled = λ pieces readable told.
+            subst (λ (x : BitList). SpellsOnly x.version x.bits (flat_map (λ p. p.chunk) pieces)) whole (spelled pieces (subst (λ u. AllByRecursion (IsReadBack u) pieces) here readable)
+            (bits ∙ ap (λ u. written_segments u segments) (sym (here ∙ same)) ∙ told ∙ ap (λ u. written u pieces) here));
+      }

@@ -1,10 +1,9 @@
 //! Makes symbols of segments that the user chose.
 
-ghost use Rattle.std.specs.Prelude.{◌≡◌, ◌⊎◌, ◌≤◌, Some, None, [], length, IsTrue, IfOk, IfErr, OnOk};
+ghost use Rattle.std.specs.Prelude.{◌≡◌, ◌⊎◌, Some, None, [], length, IsTrue, IfOk, IfErr, OnOk};
 ghost use Rattle.std.specs.List.{position_from};
 ghost use Rattle.qrcode_types.specs.Versions.{is_valid};
 ghost use Rattle.qrcode_types.specs.declared.types.QrError.TheVariants.{OutOfMemory};
-ghost use Rattle.qrcode_bits.specs.Manners.{rank};
 ghost use Rattle.qrcode_bits.specs.Pushes.{Appends, PushesPiece};
 ghost use Rattle.goqlanis_request.specs.Segments.{first_of, is_unwritable, last_of, refusal_in, segment_bits, segment_refusal, segments_refusal, written_segments, AreRefused, IsLeastHeld, IsSymbolOfSegments};
 
@@ -12,6 +11,7 @@ use crate::request::Choice;
 use qrcode::QrCode;
 use qrcode::bits::Bits;
 use qrcode::types::{EcLevel, Mode, QrError, QrResult, Version};
+use qrcode_charsets::shortest::{rank, version_at};
 use qrcode_types::characters::can_write;
 use std::alloc::Global;
 
@@ -89,39 +89,12 @@ pub(crate) fn first_of(choice: Choice) -> Version
 }
 
 // The largest version that a choice allows.
-fn last_of(choice: Choice) -> Version
+pub(crate) fn last_of(choice: Choice) -> Version
     ensures { result ≡ last_of choice }
 {
     match choice {
         Choice::From(_) | Choice::Boosted(_) => Version::Normal(40),
         Choice::At(version) => version,
-    }
-}
-
-// The rank of a version in the order M1 to M4, 1 to 40, from 1 to 44.
-fn rank(version: Version) -> usize
-    requires { IsTrue (is_valid version) }
-    ensures value { result ≡ rank version }
-    ensures at_least { 1 ≤ result }
-    ensures at_most { result ≤ 44 }
-{
-    match version {
-        Version::Micro(number) => number as usize,
-        Version::Normal(number) => 4 + number as usize,
-    }
-}
-
-// The version with this rank.
-fn version_at(place: usize) -> Version
-    requires at_least { 1 ≤ place }
-    requires at_most { place ≤ 44 }
-    ensures valid { IsTrue (is_valid result) }
-    ensures place { rank result ≡ place }
-{
-    if place <= 4 {
-        Version::Micro(place as i16)
-    } else {
-        Version::Normal(place as i16 - 4)
     }
 }
 

@@ -15,7 +15,7 @@ mod choice;
 mod drawing;
 mod measuring;
 
-pub use choice::any_has;
+pub use choice::{any_has, rank, version_at};
 
 /// Encodes `text` at level `ec_level`, in the smallest version from `from` on that can show it in
 /// one of `sets`, and there in the fewest bits over these sets: the set's designator, if any, and

@@ -97,8 +97,8 @@ pub fn any_has(sets: &[Charset], text: &str) -> bool
     false
 }
 
-// Returns the place of a version in the order of sizes, from 1 to 44.
-fn rank(version: Version) -> usize
+/// Returns the place of a version in the order of sizes, M1 to M4 and then 1 to 40, from 1 to 44.
+pub fn rank(version: Version) -> usize
     requires { IsTrue (is_valid version) }
     ensures value { result ≡ manners.rank version }
     ensures at_least { 1 ≤ result }
@@ -110,8 +110,8 @@ fn rank(version: Version) -> usize
     }
 }
 
-// Returns the version at this place.
-fn version_at(place: usize) -> Version
+/// Returns the version at this place.
+pub fn version_at(place: usize) -> Version
     requires at_least { 1 ≤ place }
     requires at_most { place ≤ 44 }
     ensures valid { IsTrue (is_valid result) }

@@ -1,34 +1,28 @@
-use Rattle.std.proofs.Common.{◌≡◌, ◌⊎◌, Some, inl, inr, ap, ◌∙◌}
+use Rattle.std.proofs.Common.{◌≡◌, ◌⊎◌, ◌++◌, Some, length, inl, inr, ap, sym, refl}
 use Rattle.qrcode_types.specs.declared.types.QrError.TheVariants.{OutOfMemory}
-use Rattle.qrcode_bits.specs.BitList.{BitList}
-use Rattle.goqlanis_request.specs.Segments.{segments_refusal}
-use Rattle.goqlanis_request.proofs.Segmented.{handed_on, refused_by, refused_next, taken_by, taken_more, written_more}
+use Rattle.qrcode_bits.proofs.Several.{handed_on}
+use Rattle.goqlanis_request.specs.Segments.{segments_refusal, written_segments}
+use Rattle.goqlanis_request.proofs.Segmented.{next, pushed, refused_by, taken_by}
 use Rattle.goqlanis_request.proofs.segments.push_all.Goals as goal
+
+pub loop-segment-init : goal.loop-segment-init
+loop-segment-init c =
+    let v = c.args.bits.now.version in
+    let all = c.args.segments.now in
+    (refl, (ap (λ b. segments_refusal v (length b) all) (sym c.requires.empty), ap (λ b. b ++ written_segments v all) (sym c.requires.empty)))
 
 pub loop-segment-preserved : goal.loop-segment-preserved
 loop-segment-preserved c =
-    let now = c.loop-segment.invariant in
-    let old : BitList = c.loop-segment.bits in
-    let v = c.args.bits.now.version in
-    let segments = c.args.segments.now in
-    let i = c.loop-segment.segment-index in
-    let is = c.in_ok-push.ensures.changed in (
-      ap (λ (b : BitList). b.version) is ∙ now.0,
-      (
-        written_more v old.version segments i _ old.bits c.loop-segment-test.true now.0 now.1.0 now.1.1 c.push.new.bits.bits (ap (λ (b : BitList). b.bits) is),
-        taken_more v old.version segments i _ old.bits c.loop-segment-test.true now.0 now.1.0 now.1.1 (taken_by _ _ _ _ _ c.in_ok-push.ensures),
-      ),
-    )
+    let at = c.loop-segment in
+    pushed c.args.bits.now.version c.args.segments.now at.segment-index _ at.bits c.loop-segment-test.true at.invariant c.push.new.bits c.in_ok-push.ensures.changed
+    (taken_by _ _ _ _ _ c.in_ok-push.ensures)
 
 pub returns-in_err-push-clause-causes : goal.returns-in_err-push-clause-causes
 returns-in_err-push-clause-causes c =
-    let now = c.loop-segment.invariant in
-    let old : BitList = c.loop-segment.bits in
+    let at = c.loop-segment in
     let v = c.args.bits.now.version in
-    let segments = c.args.segments.now in
-    let i = c.loop-segment.segment-index in
-    let why = refused_by _ _ _ _ _ c.in_err-push.ensures in
-    handed_on c.from_residual.result _ (λ e. (e ≡ OutOfMemory) ⊎ (segments_refusal v 0 segments ≡ Some e)) c.from_residual.ensures (elim why [
+    let all = c.args.segments.now in
+    handed_on c.from_residual.result _ (λ e. (e ≡ OutOfMemory) ⊎ (segments_refusal v 0 all ≡ Some e)) c.from_residual.ensures (elim (refused_by _ _ _ _ _ c.in_err-push.ensures) [
       | inl memory ↦ inl memory
-      | inr some ↦ inr (refused_next v old.version segments i _ old.bits c.loop-segment-test.true now.0 now.1.0 now.1.1 _ some)
+      | inr some ↦ inr (next v all at.segment-index _ at.bits c.loop-segment-test.true at.invariant _ some)
     ])
