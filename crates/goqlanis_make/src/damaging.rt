@@ -13,6 +13,7 @@ use qrcode::types::Color;
 use qrcode_damage::damage::{Damage, TooMuch, damaged, most_codewords};
 use qrcode_damage::laid::laid;
 use qrcode_reader::Position;
+use qrcode_sheets::sheet::Overlay;
 use std::alloc::Global;
 
 // Returns the damage that is asked for, in this code.
@@ -51,7 +52,7 @@ pub(crate) fn draw_damaged(
     }
     let request = &asked.request;
     let modules = damaged_modules(alloc, request, wanted.position, code, damage)?;
-    match drawn(alloc, request, code, &modules) {
+    match drawn(alloc, request, code, &modules, Overlay::Nothing) {
         Ok(drawing) => Ok(drawing),
         Err(_) => Err(Failure::OutOfMemory),
     }

@@ -20,10 +20,9 @@ use goqlanis_options::asked::{Asked, Target, Work};
 use goqlanis_options::charsets::Coded;
 use goqlanis_options::report::show_report;
 use goqlanis_request::{
-    Choice, Drawing, Extent, Request, Segment, application_refusal_text, data_refusal_text,
-    drawing_of, elements_refusal_text, manner_of, quiet_zone, refusal_text, scale,
-    segments_refusal_text, symbol_for_application, symbol_in, symbol_of, symbol_of_elements,
-    unwritable,
+    Choice, Extent, Request, Segment, application_refusal_text, data_refusal_text, drawing_of,
+    elements_refusal_text, manner_of, quiet_zone, refusal_text, scale, segments_refusal_text,
+    symbol_for_application, symbol_in, symbol_of, symbol_of_elements, unwritable,
 };
 use goqlanis_tables::pages::Pages;
 use qrcode::QrCode;
@@ -109,34 +108,24 @@ fn choice_for_logo(
     }))
 }
 
-// A drawing, and the area in its middle if it has one.
-#[derive(Drop)]
-struct Picture {
-    drawing: Drawing,
-    area: Option<Rectangle>,
-}
-
-// Draws `code` as the command line asks, with the logo, cross or area in its middle.
+// Draws `code` as the command line asks, with the logo, cross or area in its middle. Returns the
+// area, if there is one, with the bytes of the drawing.
 //
 // Errors: `Refused` if the code has no such area; `OutOfMemory`.
-fn draw_code(alloc: Global, asked: &Asked<'_, '_>, code: QrCode) -> Result<Picture, Failure>
-    ensures symbol { IfOk result (λ picture. picture.drawing.code ≡ code) }
+fn draw_code(
+    alloc: Global,
+    asked: &Asked<'_, '_>,
+    code: &QrCode,
+) -> Result<(Option<Rectangle>, Vec<u8>), Failure>
     ensures shown { asked.now.logo ≡ None
-        → IfOk result (λ picture. IsShownIn asked.now.request picture.drawing) }
+        → IfOk result (λ drawn. IsShownIn asked.now.request code.now drawn.1.items) }
 {
     if let Some(logo) = &asked.logo {
-        let (area, bytes) = draw_with_middle(alloc, &asked.request, logo, &code)?;
-        let drawing = Drawing { code, bytes };
-        return Ok(Picture {
-            drawing,
-            area: Some(area),
-        });
+        let (area, bytes) = draw_with_middle(alloc, &asked.request, logo, code)?;
+        return Ok((Some(area), bytes));
     }
     match drawing_of(alloc, &asked.request, code) {
-        Ok(drawing) => Ok(Picture {
-            drawing,
-            area: None,
-        }),
+        Ok(bytes) => Ok((None, bytes)),
         Err(error) => {
             let why = refusal_text(alloc, &asked.request, error)?;
             Err(Failure::Refused(why))
@@ -319,10 +308,10 @@ pub(crate) fn draw_reported(
         show_report(rt, asked, &code, None, coded)?;
         return Ok(Some(drawing));
     }
-    let picture = draw_code(rt.alloc(), asked, code)?;
-    warn_of_logo(rt, asked, &picture.drawing.code, picture.area)?;
-    show_report(rt, asked, &picture.drawing.code, picture.area, coded)?;
-    Ok(Some(picture.drawing.bytes))
+    let (area, bytes) = draw_code(rt.alloc(), asked, &code)?;
+    warn_of_logo(rt, asked, &code, area)?;
+    show_report(rt, asked, &code, area, coded)?;
+    Ok(Some(bytes))
 }
 
 /// Refuses a binary format that would go to a terminal.

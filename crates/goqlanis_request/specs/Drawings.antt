@@ -7,12 +7,12 @@ use Rattle.qrcode_types.specs.declared.types.Version.{Version}
 use Rattle.qrcode_render.specs.Layout.{layout}
 use Rattle.qrcode_sheets.specs.Paths.{Frame, frame_of}
 use Rattle.qrcode_sheets.specs.declared.svg_path.Size.TheVariants.{Dots}
+use Rattle.qrcode.specs.Code.{Code}
 use Rattle.qrcode.specs.Pictures.{quiet_zone}
 use Rattle.qrcode_sheets.specs.Formats.{IsDrawn}
 use Rattle.qrcode_sheets.specs.Layers.{units}
 use Rattle.goqlanis_request.specs.Masks.{AreUnder}
 use Rattle.qrcode_sheets.specs.Sheets.{Nothing, Overlay, Sheet, shade_of}
-use Rattle.goqlanis_request.specs.declared.drawing.Drawing.{Drawing}
 use Rattle.goqlanis_request.specs.declared.request.Extent.{Extent}
 use Rattle.goqlanis_request.specs.declared.request.Extent.TheVariants.{Module, Side, Exact}
 use Rattle.goqlanis_request.specs.declared.request.Request.{Request}
@@ -66,5 +66,5 @@ sheet_for r v s over = record {
 }
 
 -- the bytes draw the symbol as requested, under the requested mask
-abbrev pub IsShownIn : Request → Drawing → Type 0
-IsShownIn r d = (s : List Color) × (AreUnder r.mask d.code s × IsDrawn r.format (sheet_for r d.code.version s Nothing) d.bytes.items)
+abbrev pub IsShownIn : Request → Code → List ℕ → Type 0
+IsShownIn r code bytes = (s : List Color) × (AreUnder r.mask code s × IsDrawn r.format (sheet_for r code.version s Nothing) bytes)

@@ -6,7 +6,7 @@ ghost use Rattle.qrcode.specs.Pictures.{quiet_zone};
 ghost use Rattle.qrcode_sheets.specs.Formats.{IsDrawn, takes_overlay};
 ghost use Rattle.goqlanis_request.specs.Drawings.{IsShownIn, dots_for, scale_for, sheet_for, unit_for};
 ghost use Rattle.goqlanis_request.specs.Masks.{LacksMask};
-ghost use Rattle.qrcode_sheets.specs.Sheets.{Nothing, overlay_of, sheet_of};
+ghost use Rattle.qrcode_sheets.specs.Sheets.{overlay_of, sheet_of};
 ghost use Rattle.goqlanis_request.specs.Symbols.{IsSymbolIn, IsRefusedFor};
 
 use crate::masking::modules_under;
@@ -18,15 +18,6 @@ use qrcode_sheets::sheet::{Overlay, Sheet};
 use qrcode_sheets::svg_path::{Frame, Size};
 use qrcode_sheets::{DrawError, draw, units};
 use std::alloc::Global;
-
-/// A symbol and its picture.
-#[derive(Drop)]
-pub struct Drawing {
-    /// The symbol under its own mask, the first with the lowest penalty. The picture may show
-    /// another mask.
-    pub code: QrCode,
-    pub bytes: Vec<u8>,
-}
 
 /// Encodes `bytes` at `level` in a version that `choice` allows, written as `manner` says.
 ///
@@ -53,38 +44,19 @@ pub fn symbol_in(
 ///
 /// Errors: `InvalidVersion` if the version of `code` lacks that mask; `OutOfMemory` if memory runs
 /// out, or if the picture is larger than its format allows, as `draw` says.
-pub fn drawing_of(alloc: Global, request: &Request<'_>, code: QrCode) -> QrResult<Drawing>
-    ensures symbol { IfOk result (λ drawing. drawing.code ≡ code) }
-    ensures shown { IfOk result (IsShownIn request.now) }
+pub fn drawing_of(alloc: Global, request: &Request<'_>, code: &QrCode) -> QrResult<Vec<u8>>
+    ensures shown { IfOk result (λ file. IsShownIn request.now code.now file.items) }
     ensures causes { IfErr result (λ e. (e ≡ OutOfMemory)
-        ⊎ ((e ≡ InvalidVersion) × LacksMask request.now.mask code.version)) }
+        ⊎ ((e ≡ InvalidVersion) × LacksMask request.now.mask code.now.version)) }
 {
-    let modules = modules_under(alloc, &code, request.mask)?;
-    let bytes = drawn(alloc, request, &code, &modules)?;
-    Ok(Drawing { code, bytes })
-}
-
-/// Draws these modules of a symbol as requested.
-///
-/// Errors: only `OutOfMemory`, as `draw` says.
-pub fn drawn(
-    alloc: Global,
-    request: &Request<'_>,
-    code: &QrCode,
-    modules: &[Color],
-) -> QrResult<Vec<u8>>
-    requires { length modules.now ≡ length code.now.modules }
-    ensures shown { IfOk result (λ file. IsDrawn request.now.format (sheet_for request.now
-        code.now.version modules.now Nothing) file.items) }
-    ensures memory { IsOkUnless result OutOfMemory }
-{
-    drawn_under(alloc, request, code, modules, Overlay::Nothing)
+    let modules = modules_under(alloc, code, request.mask)?;
+    drawn(alloc, request, code, &modules, Overlay::Nothing)
 }
 
 /// Draws these modules of a symbol as requested, with `over` on top.
 ///
 /// Errors: only `OutOfMemory`, as `draw` says.
-pub(crate) fn drawn_under(
+pub fn drawn(
     alloc: Global,
     request: &Request<'_>,
     code: &QrCode,

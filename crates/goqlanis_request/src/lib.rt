@@ -14,7 +14,7 @@ mod request;
 mod segments;
 
 pub use charsets::symbol_among;
-pub use drawing::{Drawing, dots, drawing_of, drawn, quiet_zone, scale, symbol_in};
+pub use drawing::{dots, drawing_of, drawn, quiet_zone, scale, symbol_in};
 pub use elements::{symbol_for_application, symbol_of_elements};
 pub use refusal::{
     Grouped, VersionName, application_refusal_text, data_refusal_text, elements_refusal_text,

@@ -11,7 +11,7 @@ ghost use Rattle.goqlanis_request.specs.Drawings.{scale_for};
 ghost use Rattle.goqlanis_request.specs.Masks.{LacksMask};
 ghost use Rattle.goqlanis_request.specs.Overlays.{AreBeside, IsCrossSize, IsCrossWidth, IsShownWith, LacksRoom, cross_for, cross_shade, cross_text, is_black_unit, is_in_bar, lies_between, overlay_for, overlay_with, svg_element};
 
-use crate::drawing::{drawn_under, quiet_zone, scale, unit};
+use crate::drawing::{drawn, quiet_zone, scale, unit};
 use crate::masking::modules_under;
 use crate::places::place_in;
 use crate::request::Request;
@@ -187,7 +187,7 @@ pub fn with_logo(
     };
     let light = modules_beside(alloc, request, code, area)?;
     let over = overlay_in(area, inside, &text);
-    let bytes = drawn_under(alloc, request, code, &light, over)?;
+    let bytes = drawn(alloc, request, code, &light, over)?;
     Ok(Some(bytes))
 }
 

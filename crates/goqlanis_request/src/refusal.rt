@@ -3,7 +3,7 @@
 use crate::drawing::symbol_in;
 use crate::elements::{symbol_for_application, symbol_of_elements};
 use crate::request::{Choice, Request};
-use crate::segments::{Segment, first_of, symbol_of};
+use crate::segments::{Segment, first_of, last_of, symbol_of};
 use qrcode::QrCode;
 use qrcode::bits::Manner;
 use qrcode::types::{EcLevel, Mode, QrError, Version};
@@ -158,8 +158,7 @@ fn room_refusal_text(
     let name = VersionName(version);
     let mut text = format!(in alloc; "version {name} at level {level:?} does not hold the {what}")?;
     if let Some(least) = least.filter(|least| *least != version) {
-        let name = VersionName(least);
-        write!(text, "; version {name} does")?;
+        write!(text, "; version {} does", VersionName(least))?;
     }
     Ok(text)
 }
@@ -173,22 +172,15 @@ fn too_long_text(
 ) -> Result<String, AllocError> {
     let (level, count) = (request.level, Grouped(bytes.len()));
     let mut text = format!(in alloc; "{count} bytes at ")?;
-    let version = match request.choice {
-        Choice::At(version) => {
-            let name = VersionName(version);
-            write!(text, "version {name} and ")?;
-            version
-        }
-        _ => Version::Normal(40),
-    };
-    match byte_room(manner, version, level) {
-        0 => write!(text, "level {level:?}: too many")?,
+    if let Choice::At(version) = request.choice {
+        write!(text, "version {} and ", VersionName(version))?;
+    }
+    write!(text, "level {level:?}: ")?;
+    match byte_room(manner, last_of(request.choice), level) {
+        0 => text.push_str("too many")?,
         most => {
             let most = Grouped(most);
-            write!(
-                text,
-                "level {level:?}: at most {most} fit, more of digits or capitals"
-            )?;
+            write!(text, "at most {most} fit, more of digits or capitals")?;
         }
     }
     push_help(&mut text, request, manner, bytes)?;
@@ -205,8 +197,7 @@ fn push_help(
     let alloc = *text.allocator();
     let from = Choice::From(first_of(request.choice));
     if let Some(version) = version_of(symbol_in(alloc, from, manner, request.level, bytes)) {
-        let name = VersionName(version);
-        return write!(text, "; version {name} holds them");
+        return write!(text, "; version {} holds them", VersionName(version));
     }
     for level in [EcLevel::Q, EcLevel::M, EcLevel::L] {
         let any = Choice::From(Version::Normal(1));
@@ -266,7 +257,7 @@ impl fmt::Display for VersionName {
     }
 }
 
-/// Displays a number below 1,000,000,000 with a comma between groups of three digits.
+/// Displays a number with a comma between groups of three digits; one of more than nine without.
 #[derive(Clone, Copy)]
 pub struct Grouped(pub usize);
 
@@ -277,7 +268,8 @@ impl fmt::Display for Grouped {
         match (millions, thousands) {
             (0, 0) => write!(f, "{rest}"),
             (0, _) => write!(f, "{thousands},{rest:03}"),
-            _ => write!(f, "{millions},{below:03},{rest:03}"),
+            (1..=999, _) => write!(f, "{millions},{below:03},{rest:03}"),
+            _ => write!(f, "{}", self.0),
         }
     }
 }
