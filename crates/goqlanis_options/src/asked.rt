@@ -167,16 +167,24 @@ pub fn asked_for<'a, 'w>(
     Ok(asked)
 }
 
-// Checks that what is drawn can go where it is to go.
+// Checks that what is drawn can go where it is to go: it replaces nothing that is read, and several
+// drawings go to files, can be printed one after another, or are pages of one PDF document.
 fn check_files(rt: &HostRuntime, asked: &Asked<'_, '_>) -> Result<(), Failure> {
     let is_split = matches!(asked.work, Work::Split(_));
-    if !asked.is_dry && (is_split || asked.input.lines.is_some()) {
-        check_one_behind_another(rt.alloc(), asked)?;
+    if !is_split && asked.input.lines.is_none() {
+        return check_target(rt, asked);
+    }
+    let is_to_files = asked.is_dry || matches!(asked.target, Target::File(_));
+    if !is_to_files && !takes(asked.request.format, "series") {
+        let names = takers(rt.alloc(), "series")?;
+        return usage!(rt.alloc();
+            "pictures of this format cannot follow one another on standard output: add --output, \
+            e.g. -o a-{{}}.png, and files are numbered; {names} can"
+        );
     }
     match asked.input.lines {
         Some(_) => check_streams(rt, asked),
-        None if is_split => Ok(()),
-        None => check_target(rt, asked),
+        None => Ok(()),
     }
 }
 
@@ -255,19 +263,6 @@ fn lines_of<'a>(alloc: Global, given: &ArgMatches<'a>) -> Result<Option<Lines<'a
     Ok(Some(lines))
 }
 
-// Checks that several drawings go to files, can be printed one after another, or are pages of one
-// PDF document.
-fn check_one_behind_another(alloc: Global, asked: &Asked<'_, '_>) -> Result<(), Failure> {
-    if matches!(asked.target, Target::File(_)) || takes(asked.request.format, "series") {
-        return Ok(());
-    }
-    let names = takers(alloc, "series")?;
-    usage!(alloc;
-        "pictures of this format cannot follow one another on standard output: add --output, e.g. \
-        -o a-{{}}.png, and files are numbered; {names} can"
-    )
-}
-
 // Returns the source of the data.
 fn source_of<'a>(given: &ArgMatches<'a>) -> Source<'a> {
     let text = given.get_str("TEXT").or(given.get_str("ELEMENTS"));
@@ -326,7 +321,7 @@ fn split_of(alloc: Global, given: &ArgMatches<'_>, choice: Choice) -> Result<Spl
     }
 }
 
-// Returns the version that an option names, if it is given.
+// Returns the version that an option names, 1 to 40 or M1 to M4, if it is given.
 fn version_of(
     alloc: Global,
     given: &ArgMatches<'_>,
@@ -335,9 +330,13 @@ fn version_of(
     let Some(name) = given.get_str(option) else {
         return Ok(None);
     };
-    match version(name) {
-        Some(version) => Ok(Some(version)),
-        None => usage!(alloc; "--{option} {name}: versions are 1 to 40, and M1 to M4"),
+    let version = match name.strip_prefix('M').or(name.strip_prefix('m')) {
+        Some(number) => number.parse::<i16>().map(Version::Micro),
+        None => name.parse::<i16>().map(Version::Normal),
+    };
+    match version {
+        Ok(version) if version.is_valid() => Ok(Some(version)),
+        _ => usage!(alloc; "--{option} {name}: versions are 1 to 40, and M1 to M4"),
     }
 }
 
@@ -384,35 +383,13 @@ fn request_of<'a>(
 // with a logo, to leave room for it, unless the payload's format fixes the level or the code is a
 // Micro one, which has no H.
 fn level_of(purpose: Purpose, given: &ArgMatches<'_>, choice: Choice) -> EcLevel {
-    if let Some(level) = given.get_str("level").and_then(level_named) {
-        return level;
-    }
     let has_middle = given.contains_id("logo") || given.get_flag("logo-area");
-    match choice {
-        Choice::At(Version::Micro(1)) => EcLevel::L,
-        Choice::At(Version::Micro(_)) => EcLevel::M,
+    match (given.get_str("level").unwrap_or(""), choice) {
+        ("L" | "l", _) | ("", Choice::At(Version::Micro(1))) => EcLevel::L,
+        ("M" | "m", _) | ("", Choice::At(Version::Micro(_))) => EcLevel::M,
+        ("Q" | "q", _) => EcLevel::Q,
+        ("H" | "h", _) => EcLevel::H,
         _ if has_middle && !purpose.has_its_level() => EcLevel::H,
         _ => EcLevel::M,
     }
-}
-
-// Returns the level with this name.
-fn level_named(name: &str) -> Option<EcLevel> {
-    match name {
-        "L" | "l" => Some(EcLevel::L),
-        "M" | "m" => Some(EcLevel::M),
-        "Q" | "q" => Some(EcLevel::Q),
-        "H" | "h" => Some(EcLevel::H),
-        _ => None,
-    }
-}
-
-// Parses a version: 1 to 40, or M1 to M4.
-fn version(name: &str) -> Option<Version> {
-    let number = name.strip_prefix('M').or(name.strip_prefix('m'));
-    let version = match number {
-        Some(number) => number.parse::<i16>().map(Version::Micro),
-        None => name.parse::<i16>().map(Version::Normal),
-    };
-    version.ok().filter(|version| version.is_valid())
 }

@@ -2,32 +2,43 @@
 
 use crate::formats::{takers, takes};
 use crate::nearest::nearest;
-use crate::options::part_colours;
 use clap::ArgMatches;
 use goqlanis_files::failure::Failure;
 use goqlanis_files::usage;
 use goqlanis_request::Request;
-use qrcode_sheets::PartInk;
+use qrcode::types::Color;
 use qrcode_sheets::colours::{Colour, NAMES, colour_named};
 use qrcode_sheets::sheet::Ink;
+use qrcode_sheets::{Part, PartInk};
 use std::alloc::{AllocError, Global};
+
+// The options for colours of the dark or the light modules of one part of a code.
+#[rattlefmt::skip]
+static PART_COLOURS: &[(&str, Part, Color)] = &[
+    ("finder-dark", Part::Finder, Color::Dark), ("finder-light", Part::Finder, Color::Light),
+    ("alignment-dark", Part::Alignment, Color::Dark), ("alignment-light", Part::Alignment, Color::Light),
+    ("timing-dark", Part::Timing, Color::Dark), ("timing-light", Part::Timing, Color::Light),
+    ("format-dark", Part::FormatWord, Color::Dark), ("format-light", Part::FormatWord, Color::Light),
+    ("version-dark", Part::VersionWord, Color::Dark), ("version-light", Part::VersionWord, Color::Light),
+    ("data-dark", Part::Data, Color::Dark), ("data-light", Part::Data, Color::Light),
+];
+
+// Returns the options for colours of parts, each with its part and tone.
+fn part_colours() -> &'static [(&'static str, Part, Color)] {
+    PART_COLOURS
+}
 
 /// Returns the colours of parts that the command line gives; `--invert` swaps dark and light.
 ///
 /// Errors: `Usage` for an unknown colour; `OutOfMemory`.
 pub fn part_inks<'a>(alloc: Global, given: &ArgMatches<'a>) -> Result<Vec<PartInk<'a>>, Failure> {
+    let is_inverted = given.get_flag("invert");
     let mut inks = Vec::new(alloc);
     for (option, part, tone) in part_colours() {
         if let Some(text) = given.get_str(option) {
-            inks.push(PartInk {
-                part: *part,
-                tone: if given.get_flag("invert") {
-                    !*tone
-                } else {
-                    *tone
-                },
-                ink: ink_of(alloc, option, text)?,
-            })?;
+            let ink = ink_of(alloc, option, text)?;
+            let (part, tone) = (*part, if is_inverted { !*tone } else { *tone });
+            inks.push(PartInk { part, tone, ink })?;
         }
     }
     Ok(inks)

@@ -17,22 +17,16 @@ pub fn push_file(text: &mut String, file: &str) -> Result<(), AllocError> {
 /// Errors: only `AllocError`.
 pub fn push_string(text: &mut String, plain: &str) -> Result<(), AllocError> {
     for character in plain.chars() {
-        push_escaped(text, character)?;
+        match character {
+            '"' => text.push_str("\\\"")?,
+            '\\' => text.push_str("\\\\")?,
+            _ if is_unseen(character) => {
+                for unit in character.encode_utf16(&mut [0; 2]) {
+                    write!(text, "\\u{unit:04x}")?;
+                }
+            }
+            _ => text.push(character)?,
+        }
     }
     Ok(())
-}
-
-// Appends a character of a JSON string.
-fn push_escaped(text: &mut String, character: char) -> Result<(), AllocError> {
-    match character {
-        '"' => text.push_str("\\\""),
-        '\\' => text.push_str("\\\\"),
-        _ if is_unseen(character) => {
-            for unit in character.encode_utf16(&mut [0; 2]) {
-                write!(text, "\\u{unit:04x}")?;
-            }
-            Ok(())
-        }
-        _ => text.push(character),
-    }
 }

@@ -1,5 +1,4 @@
-//! What tasks are for, and the options that have a meaning of their own: those of fields and of
-//! colours of parts.
+//! What tasks are for, and the options of fields.
 
 use qrcode_payloads::kinds::Kind;
 
@@ -18,11 +17,9 @@ macro_rules! entry {
 pub mod fields;
 mod habits;
 mod kinds;
-mod parts;
 
 pub use habits::{OTHER_NAMES, counts};
 pub use kinds::entry_of;
-pub(crate) use parts::part_colours;
 
 /// The value that an option takes.
 #[derive(Clone, Copy)]

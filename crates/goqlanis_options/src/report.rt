@@ -4,12 +4,13 @@ use crate::asked::{Asked, Report, Target};
 use crate::charsets::{CharsetName, Coded};
 use crate::json::push_file;
 use crate::sizes::pixels_per_inch;
-use crate::warnings::{Decimal, hundredths_of, warn_of_sizes};
+use crate::warnings::{Decimal, millimetres, warn_of_sizes};
 use goqlanis_files::failure::Failure;
 use goqlanis_files::streams::print;
 use goqlanis_request::{Extent, Request, VersionName, dots, quiet_zone, scale};
 use qrcode::QrCode;
 use qrcode_area::areas::Rectangle;
+use qrcode_check::masks::place_of;
 use std::alloc::{AllocError, Global};
 
 /// Appends a part of a report: as JSON, or as text for people, with the same values.
@@ -43,15 +44,17 @@ pub fn show_report(
         return Ok(());
     }
     let is_json = asked.report == Report::Json;
-    let mut text = String::from_str(rt.alloc(), if is_json { "{" } else { "" })?;
-    push_place(&mut text, asked, is_json)?;
-    push_code(&mut text, &asked.request, code, is_json)?;
-    push_sizes(&mut text, &asked.request, sizes, is_json)?;
+    let text = String::from_str(rt.alloc(), if is_json { "{" } else { "" })?;
+    let mut facts = Facts { text, is_json };
+    facts.push_place(asked)?;
+    facts.push_code(&asked.request, code)?;
+    facts.push_sizes(&asked.request, sizes)?;
     if asked.is_dry {
-        push_least(&mut text, &asked.request, sizes, is_json)?;
+        facts.push_least(&asked.request, sizes)?;
     }
-    push_set(&mut text, coded, is_json)?;
-    push_area(&mut text, area, is_json)?;
+    facts.push_set(coded)?;
+    facts.push_area(area)?;
+    let mut text = facts.text;
     text.push_str(if is_json { "}\n" } else { "\n" })?;
     if asked.is_dry || is_json && matches!(asked.target, Target::File(_)) {
         print(rt, text.as_bytes())?;
@@ -90,128 +93,115 @@ fn sizes_of(request: &Request<'_>, code: &QrCode) -> Sizes {
     }
 }
 
-// Returns the number of the code's own mask, the one with the lowest penalty.
-fn own_mask(code: &QrCode) -> usize {
-    if code.version().is_micro() {
-        code.mask().micro_number()
-    } else {
-        code.mask().number()
-    }
-}
-
-// Appends the line of a report, and in JSON the file.
-fn push_place(text: &mut String, asked: &Asked<'_, '_>, is_json: bool) -> Result<(), AllocError> {
-    if let Some(place) = asked.doubts.place {
-        let line = place.line;
-        push_either!(text, is_json; "\"line\": {line}, ", "line {line}: ")?;
-    }
-    match asked.target {
-        Target::File(file) if is_json => push_file(text, file),
-        _ => Ok(()),
-    }
-}
-
-// Appends version, level, mask and modules.
-fn push_code(
-    text: &mut String,
-    request: &Request<'_>,
-    code: &QrCode,
+// The facts of a report, as JSON or as text for people.
+#[derive(Drop)]
+struct Facts {
+    text: String,
     is_json: bool,
-) -> Result<(), AllocError> {
-    let (version, level) = (VersionName(code.version()), code.error_correction_level());
-    let mask = request.mask.unwrap_or(own_mask(code));
-    let (modules, zone) = (code.width(), quiet_zone(request, code));
-    push_either!(text, is_json;
-        "\"version\": \"{version}\", \"level\": \"{level:?}\", \"mask\": {mask}, \
-        \"modules\": {modules}, \"quiet_zone\": {zone}",
-        "version {version}, level {level:?}, mask {mask}\nmodules: {modules} by {modules}; "
-    )
 }
 
-// Appends the area in the middle, if there is one.
-fn push_area(text: &mut String, area: Option<Rectangle>, is_json: bool) -> Result<(), AllocError> {
-    let Some(area) = area else {
-        return Ok(());
-    };
-    let (width, height, left, top) = (area.width, area.height, area.left, area.top);
-    push_either!(text, is_json;
-        ", \"area\": {{\"width\": {width}, \"height\": {height}, \"column\": {left}, \
-        \"row\": {top}}}",
-        "\narea: {width} by {height} modules, from column {left} and row {top}"
-    )
-}
+impl Facts {
+    // Appends the line of a report, and in JSON the file.
+    fn push_place(&mut self, asked: &Asked<'_, '_>) -> Result<(), AllocError> {
+        if let Some(place) = asked.doubts.place {
+            let line = place.line;
+            push_either!(self.text, self.is_json; "\"line\": {line}, ", "line {line}: ")?;
+        }
+        match asked.target {
+            Target::File(file) if self.is_json => push_file(&mut self.text, file),
+            _ => Ok(()),
+        }
+    }
 
-// Appends the sizes of a report. Of an exact length, pixels mean nothing.
-fn push_sizes(
-    text: &mut String,
-    request: &Request<'_>,
-    sizes: Sizes,
-    is_json: bool,
-) -> Result<(), AllocError> {
-    let (zone, scale, side) = (sizes.zone, sizes.scale, sizes.side);
-    let length = Decimal(hundredths_of(side, sizes.dots.unwrap_or(0)));
-    let is_length = matches!(request.extent, Extent::Exact(_));
-    if !is_length {
-        push_either!(text, is_json;
-            ", \"scale\": {scale}, \"pixels\": {side}",
-            "pixels of a module: {scale}; quiet zone: {zone}\nsize: {side} by {side} pixels"
+    // Appends version, level, mask and modules.
+    fn push_code(&mut self, request: &Request<'_>, code: &QrCode) -> Result<(), AllocError> {
+        let (version, level) = (VersionName(code.version()), code.error_correction_level());
+        let own = place_of(code.version(), code.mask());
+        let mask = request.mask.unwrap_or(own);
+        let (modules, zone) = (code.width(), quiet_zone(request, code));
+        push_either!(self.text, self.is_json;
+            "\"version\": \"{version}\", \"level\": \"{level:?}\", \"mask\": {mask}, \
+            \"modules\": {modules}, \"quiet_zone\": {zone}",
+            "version {version}, level {level:?}, mask {mask}\nmodules: {modules} by {modules}; "
+        )
+    }
+
+    // Appends the area in the middle, if there is one.
+    fn push_area(&mut self, area: Option<Rectangle>) -> Result<(), AllocError> {
+        let Some(area) = area else {
+            return Ok(());
+        };
+        let (width, height, left, top) = (area.width, area.height, area.left, area.top);
+        push_either!(self.text, self.is_json;
+            ", \"area\": {{\"width\": {width}, \"height\": {height}, \"column\": {left}, \
+            \"row\": {top}}}",
+            "\narea: {width} by {height} modules, from column {left} and row {top}"
+        )
+    }
+
+    // Appends the sizes of a report. Of an exact length, pixels mean nothing.
+    fn push_sizes(&mut self, request: &Request<'_>, sizes: Sizes) -> Result<(), AllocError> {
+        let (zone, scale, side) = (sizes.zone, sizes.scale, sizes.side);
+        let length = millimetres(side, sizes.dots.unwrap_or(0));
+        let is_length = matches!(request.extent, Extent::Exact(_));
+        if !is_length {
+            push_either!(self.text, self.is_json;
+                ", \"scale\": {scale}, \"pixels\": {side}",
+                "pixels of a module: {scale}; quiet zone: {zone}\nsize: {side} by {side} pixels"
+            )?;
+        } else if !self.is_json {
+            write!(
+                self.text,
+                "quiet zone: {zone}\nsize: {length} by {length} mm"
+            )?;
+        }
+        match sizes.dots {
+            Some(_) if self.is_json => write!(self.text, ", \"millimetres\": {length}"),
+            Some(dots) if !is_length => write!(self.text, ", {length} mm at {dots} per inch"),
+            _ => Ok(()),
+        }
+    }
+
+    // Appends the smallest size that many readers need, with modules of 0.25 mm: where lengths are
+    // not exact, of so many whole pixels.
+    fn push_least(&mut self, request: &Request<'_>, sizes: Sizes) -> Result<(), AllocError> {
+        if request.format.row().is_exact && request.dpi.is_none() {
+            let length = Decimal(u64::from(sizes.modules) * 25);
+            return push_either!(self.text, self.is_json;
+                ", \"least_millimetres\": {length}",
+                "\nsmallest for most readers: {length} mm"
+            );
+        }
+        let Some(dots) = sizes.dots else {
+            return Ok(());
+        };
+        let least = dots.saturating_mul(25).div_ceil(2_540).max(1);
+        let length = millimetres(sizes.modules.saturating_mul(least), dots);
+        push_either!(self.text, self.is_json;
+            ", \"least_scale\": {least}, \"least_millimetres\": {length}",
+            "\nsmallest for most readers: {length} mm, {least} pixels per module"
+        )
+    }
+
+    // Appends the character set of `--charset`, and the version that UTF-8 would have taken.
+    fn push_set(&mut self, coded: Option<Coded>) -> Result<(), AllocError> {
+        let Some(coded) = coded else {
+            return Ok(());
+        };
+        let set = CharsetName(coded.set);
+        push_either!(self.text, self.is_json;
+            ", \"charset\": \"{set}\"",
+            "\ncharacter set: {set}"
         )?;
-    } else if !is_json {
-        write!(text, "quiet zone: {zone}\nsize: {length} by {length} mm")?;
-    }
-    match sizes.dots {
-        Some(_) if is_json => write!(text, ", \"millimetres\": {length}"),
-        Some(dots) if !is_length => write!(text, ", {length} mm at {dots} per inch"),
-        _ => Ok(()),
-    }
-}
-
-// Appends the smallest size that many readers need, with modules of 0.25 mm: where lengths are not
-// exact, of so many whole pixels.
-fn push_least(
-    text: &mut String,
-    request: &Request<'_>,
-    sizes: Sizes,
-    is_json: bool,
-) -> Result<(), AllocError> {
-    if request.format.row().is_exact && request.dpi.is_none() {
-        let length = Decimal(u64::from(sizes.modules) * 25);
-        return push_either!(text, is_json;
-            ", \"least_millimetres\": {length}",
-            "\nsmallest for most readers: {length} mm"
-        );
-    }
-    let Some(dots) = sizes.dots else {
-        return Ok(());
-    };
-    let least = dots.saturating_mul(25).div_ceil(2_540).max(1);
-    let length = Decimal(hundredths_of(sizes.modules.saturating_mul(least), dots));
-    push_either!(text, is_json;
-        ", \"least_scale\": {least}, \"least_millimetres\": {length}",
-        "\nsmallest for most readers: {length} mm, {least} pixels per module"
-    )
-}
-
-// Appends the character set of `--charset`, and the version that UTF-8 would have taken.
-fn push_set(text: &mut String, coded: Option<Coded>, is_json: bool) -> Result<(), AllocError> {
-    let Some(coded) = coded else {
-        return Ok(());
-    };
-    let set = CharsetName(coded.set);
-    push_either!(text, is_json;
-        ", \"charset\": \"{set}\"",
-        "\ncharacter set: {set}"
-    )?;
-    match (coded.set.designator(), is_json) {
-        (Some(number), true) => write!(text, ", \"eci\": {number}")?,
-        (Some(number), false) => write!(text, ", ECI {number}")?,
-        (None, _) => {}
-    }
-    match coded.utf8 {
-        Some(version) => push_either!(text, is_json;
-            ", \"utf8_version\": \"{version}\"",
-            "; in UTF-8 without ECI: version {version}"
-        ),
-        None => Ok(()),
+        if let Some(number) = coded.set.designator() {
+            push_either!(self.text, self.is_json; ", \"eci\": {number}", ", ECI {number}")?;
+        }
+        match coded.utf8 {
+            Some(version) => push_either!(self.text, self.is_json;
+                ", \"utf8_version\": \"{version}\"",
+                "; in UTF-8 without ECI: version {version}"
+            ),
+            None => Ok(()),
+        }
     }
 }

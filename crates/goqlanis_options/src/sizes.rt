@@ -36,8 +36,8 @@ pub fn extent_of(
     let size = given.get_str("size").or(has_own.then_some("46mm"));
     let (option, text, extent) = match (given.get_str("scale"), given.get_str("module"), size) {
         (Some(text), _, _) => ("scale", text, scale_of(text, format, is_exact)),
-        (_, Some(text), _) => ("module", text, module_of(text, dots, is_exact)),
-        (_, _, Some(text)) => ("size", text, side_of(text, dots, is_exact)),
+        (_, Some(text), _) => ("module", text, size_of(text, dots, is_exact, false)),
+        (_, _, Some(text)) => ("size", text, size_of(text, dots, is_exact, true)),
         _ => return Ok(Extent::Module(format.row().pixels)),
     };
     match extent {
@@ -84,26 +84,24 @@ fn scale_tip(purpose: Purpose, option: &str, text: &str) -> &'static str {
     }
 }
 
-// Parses the size of a side, or explains what to write instead.
-fn side_of(text: &str, dots: Option<u16>, is_exact: bool) -> Result<Extent, &'static str> {
-    let text = text.strip_suffix("px").unwrap_or(text);
-    match (parts_of(text), text.trim().parse::<u16>()) {
-        (Some(parts), _) if is_exact => length_of(parts, true),
-        (Some(parts), _) => {
+// Parses the size of a side, which may be in pixels, or else of a module; or explains what to write
+// instead.
+fn size_of(
+    text: &str,
+    dots: Option<u16>,
+    is_exact: bool,
+    is_side: bool,
+) -> Result<Extent, &'static str> {
+    let number = text.strip_suffix("px").unwrap_or(text).trim();
+    match (parts_of(text), number.parse::<u16>()) {
+        (Some(parts), _) if is_exact => length_of(parts, is_side),
+        (Some(parts), _) if is_side => {
             let pixels = pixels_of(parts, dots, 0)?;
             Ok(Extent::Side(pixels, Some(parts / 18_000)))
         }
-        (None, Ok(pixels)) if pixels > 0 => Ok(Extent::Side(pixels, None)),
-        _ => Err(size_help(text, is_exact, true)),
-    }
-}
-
-// Parses the length of a module, or explains what to write instead.
-fn module_of(text: &str, dots: Option<u16>, is_exact: bool) -> Result<Extent, &'static str> {
-    match parts_of(text) {
-        Some(parts) if is_exact => length_of(parts, false),
-        Some(parts) => Ok(Extent::Module(pixels_of(parts, dots, INCH / 2)?)),
-        None => Err(size_help(text, is_exact, false)),
+        (Some(parts), _) => Ok(Extent::Module(pixels_of(parts, dots, INCH / 2)?)),
+        (None, Ok(pixels)) if is_side && pixels > 0 => Ok(Extent::Side(pixels, None)),
+        _ => Err(size_help(text, is_exact, is_side)),
     }
 }
 

@@ -76,7 +76,8 @@ fn warn_of_text(rt: &HostRuntime, asked: &Asked<'_, '_>, text: &str) -> Result<(
 }
 
 // Warns of a dark and a light colour that are too close, or else of a colour on the wrong side of
-// the threshold that readers use.
+// the threshold that readers use. With `--invert`, dark modules may all be lighter than the light
+// ones.
 fn warn_of_colours(
     rt: &HostRuntime,
     doubts: Doubts<'_>,
@@ -84,22 +85,44 @@ fn warn_of_colours(
 ) -> Result<(), Failure> {
     let dark = extremes(request, Color::Dark);
     let light = extremes(request, Color::Light);
-    if let Some((dark, light)) = close_colours(dark, light, request.is_inverted) {
-        let why = if is_brighter(dark, light) {
-            "are lighter, which few readers accept; to swap them, use --invert"
-        } else {
-            "have less than 40 % contrast, which many readers need"
-        };
-        let (dark, light) = (name_of(dark), name_of(light));
-        doubted!(rt, doubts; "dark modules {dark} on light modules {light} {why}")
-    } else if let Some((ink, better)) = stray_colour(dark, light) {
-        let name = name_of(ink);
-        doubted!(rt, doubts;
-            "readers may take {name} for the other kind of module; use a {better} colour"
-        )
+    let is_swapped = request.is_inverted && !is_brighter(light.0, dark.1);
+    let (below, above, dark, light) = if is_swapped {
+        (light, dark, dark.0, light.1)
     } else {
-        Ok(())
+        (dark, light, dark.1, light.0)
+    };
+    if is_brighter(above.0, below.1) {
+        return warn_of_threshold(rt, doubts, below, above);
     }
+    let why = if is_brighter(dark, light) {
+        "are lighter, which few readers accept; to swap them, use --invert"
+    } else {
+        "have less than 40 % contrast, which many readers need"
+    };
+    let (dark, light) = (name_of(dark), name_of(light));
+    doubted!(rt, doubts; "dark modules {dark} on light modules {light} {why}")
+}
+
+// Warns of a colour on the wrong side of the threshold halfway between the darkest and the brightest
+// colour, of those that shall be `below` it and `above` it.
+fn warn_of_threshold(
+    rt: &HostRuntime,
+    doubts: Doubts<'_>,
+    below: Extremes<'_>,
+    above: Extremes<'_>,
+) -> Result<(), Failure> {
+    let both = brightness(below.0).saturating_add(brightness(above.1));
+    let (ink, better) = if brightness(below.1).saturating_mul(2) >= both {
+        (below.1, "darker")
+    } else if brightness(above.0).saturating_mul(2) <= both {
+        (above.0, "lighter")
+    } else {
+        return Ok(());
+    };
+    let name = name_of(ink);
+    doubted!(rt, doubts;
+        "readers may take {name} for the other kind of module; use a {better} colour"
+    )
 }
 
 // Warns of the first `--segment byte:` with more than ASCII after an ECI that is not UTF-8, since
@@ -171,22 +194,19 @@ pub(crate) fn warn_of_sizes(
 ) -> Result<(), Failure> {
     let (doubts, side) = (asked.doubts, sizes.side);
     if let Some(dots) = sizes.dots {
-        let made = hundredths_of(side, dots);
-        let wanted = match asked.request.extent {
-            Extent::Side(_, Some(wanted)) => wanted,
-            _ => 0,
-        };
-        if made.saturating_add(10) <= wanted {
-            let (wanted, made) = (Decimal(wanted), Decimal(made));
-            let (modules, scale) = (sizes.modules, sizes.scale);
-            doubted!(rt, doubts;
-                "a side of {wanted} mm comes out at {made} mm: {modules} modules of {scale} whole \
-                pixels"
-            )?;
+        let made = millimetres(side, dots);
+        match asked.request.extent {
+            Extent::Side(_, Some(wanted)) if made.0.saturating_add(10) <= wanted => {
+                let (wanted, modules, scale) = (Decimal(wanted), sizes.modules, sizes.scale);
+                doubted!(rt, doubts;
+                    "a side of {wanted} mm comes out at {made} mm: {modules} modules of {scale} \
+                    whole pixels"
+                )?;
+            }
+            _ => {}
         }
-        let module = hundredths_of(sizes.scale, dots);
-        if module < 25 {
-            let module = Decimal(module);
+        let module = millimetres(sizes.scale, dots);
+        if module.0 < 25 {
             doubted!(rt, doubts;
                 "modules of {module} mm are under the 0.25 mm that many readers need"
             )?;
@@ -209,12 +229,12 @@ pub(crate) fn warn_of_sizes(
     Ok(())
 }
 
-/// Converts `pixels` to hundredths of a millimetre, at `dots` pixels per inch.
-pub fn hundredths_of(pixels: u32, dots: u32) -> u64 {
+/// Converts `pixels` to millimetres, at `dots` pixels per inch.
+pub(crate) fn millimetres(pixels: u32, dots: u32) -> Decimal {
     if dots == 0 {
-        return 0;
+        return Decimal(0);
     }
-    pixels as u64 * 2540 / dots as u64
+    Decimal(pixels as u64 * 2540 / dots as u64)
 }
 
 /// A number of hundredths, displayed with two decimals.
@@ -241,40 +261,6 @@ fn name_of(ink: Ink<'_>) -> &str {
 // contrast D or F.
 const CONTRAST: u32 = 102;
 
-// Returns the brightest dark colour and the darkest light colour if they are too close. With
-// `--invert`, dark modules may also all be lighter than the light ones.
-fn close_colours<'a>(
-    dark: Extremes<'a>,
-    light: Extremes<'a>,
-    is_inverted: bool,
-) -> Option<(Ink<'a>, Ink<'a>)> {
-    if is_brighter(light.0, dark.1) {
-        None
-    } else if !is_inverted {
-        Some((dark.1, light.0))
-    } else {
-        (!is_brighter(dark.0, light.1)).then_some((dark.0, light.1))
-    }
-}
-
-// Returns a colour on the wrong side of the threshold halfway between the darkest and the brightest
-// colour, and whether it should be darker or lighter.
-fn stray_colour<'a>(dark: Extremes<'a>, light: Extremes<'a>) -> Option<(Ink<'a>, &'static str)> {
-    let (below, above) = if is_brighter(light.0, dark.1) {
-        (dark, light)
-    } else {
-        (light, dark)
-    };
-    let both = brightness(below.0).saturating_add(brightness(above.1));
-    if brightness(below.1).saturating_mul(2) >= both {
-        Some((below.1, "darker"))
-    } else if brightness(above.0).saturating_mul(2) <= both {
-        Some((above.0, "lighter"))
-    } else {
-        None
-    }
-}
-
 // The darkest and the brightest colour of dark (or of light) modules.
 type Extremes<'a> = (Ink<'a>, Ink<'a>);
 
@@ -284,14 +270,13 @@ fn extremes<'a>(request: &Request<'a>, tone: Color) -> Extremes<'a> {
         Color::Light => request.light,
     };
     let (mut darkest, mut brightest) = (ink, ink);
-    for part in request.parts {
-        if (part.tone == tone) != request.is_inverted {
-            if brightness(part.ink) <= brightness(darkest) {
-                darkest = part.ink;
-            }
-            if brightness(part.ink) > brightness(brightest) {
-                brightest = part.ink;
-            }
+    let parts = request.parts.iter();
+    for part in parts.filter(|part| (part.tone == tone) != request.is_inverted) {
+        if brightness(part.ink) <= brightness(darkest) {
+            darkest = part.ink;
+        }
+        if brightness(part.ink) > brightness(brightest) {
+            brightest = part.ink;
         }
     }
     (darkest, brightest)

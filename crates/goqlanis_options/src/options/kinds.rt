@@ -1,54 +1,48 @@
 //! The options of payloads: which are required, and help that a kind has for itself.
 
 use super::Entry;
-use super::Takes::{self, Text, Wanted};
+use super::Takes::{Text, Wanted};
 use super::fields::option_of;
 use qrcode_contents::fields::errors::Field;
 use qrcode_payloads::kinds::Kind;
 
-/// Returns the option of `field` in payloads of `kind`, with the help that this kind has for it.
+/// Returns the option of `field` in payloads of `kind`: with the help that this kind has for it, and
+/// required if payloads of this kind need the field.
 pub fn entry_of(kind: Kind, field: Field) -> Entry {
     let entry = option_of(field);
     let (takes, help) = match own_help(kind, field) {
         Some((name, help)) => (Text(name), help),
         None => (entry.takes, entry.help),
     };
+    let takes = match takes {
+        Text(name) if is_needed(kind, field) => Wanted(name),
+        takes => takes,
+    };
     Entry {
-        takes: wanted(takes, kind, field),
+        takes,
         help,
         ..*entry
     }
 }
 
-// What an option takes, which is required if payloads of `kind` need `field`.
-fn wanted(takes: Takes, kind: Kind, field: Field) -> Takes {
-    match takes {
-        Text(name) if needed(kind).contains(&field) => Wanted(name),
-        takes => takes,
-    }
-}
-
-// Returns the fields that payloads of a kind need.
-fn needed(kind: Kind) -> &'static [Field] {
+// Whether payloads of a kind need a field.
+fn is_needed(kind: Kind, field: Field) -> bool {
     match kind {
-        Kind::Wifi => &[Field::Ssid],
-        Kind::Mecard => &[Field::Family],
-        Kind::Vcard => &[Field::Name, Field::Family],
-        Kind::Payment => &[Field::Name, Field::Iban, Field::Amount],
-        Kind::Bill => &[
-            Field::Iban,
-            Field::Name,
-            Field::PostalCode,
-            Field::City,
-            Field::Country,
-        ],
-        Kind::Mail => &[Field::Email],
-        Kind::Geo => &[Field::Latitude, Field::Longitude],
-        Kind::Tel | Kind::Sms => &[Field::Phone],
-        Kind::Otp => &[Field::Account, Field::Secret],
-        Kind::Event => &[Field::Begin, Field::End],
-        Kind::Upi | Kind::Promptpay => &[Field::Payee],
-        Kind::Pix => &[Field::Payee, Field::Name, Field::City],
+        Kind::Wifi => field == Field::Ssid,
+        Kind::Mecard => field == Field::Family,
+        Kind::Vcard => matches!(field, Field::Name | Field::Family),
+        Kind::Payment => matches!(field, Field::Name | Field::Iban | Field::Amount),
+        Kind::Bill => matches!(
+            field,
+            Field::Iban | Field::Name | Field::PostalCode | Field::City | Field::Country
+        ),
+        Kind::Mail => field == Field::Email,
+        Kind::Geo => matches!(field, Field::Latitude | Field::Longitude),
+        Kind::Tel | Kind::Sms => field == Field::Phone,
+        Kind::Otp => matches!(field, Field::Account | Field::Secret),
+        Kind::Event => matches!(field, Field::Begin | Field::End),
+        Kind::Upi | Kind::Promptpay => field == Field::Payee,
+        Kind::Pix => matches!(field, Field::Payee | Field::Name | Field::City),
     }
 }
 
