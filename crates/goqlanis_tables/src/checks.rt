@@ -29,12 +29,12 @@ pub fn check_columns(
         Work::Elements(_) if table.field.is_none() => check_identifiers(rt.alloc(), columns)?,
         _ => {}
     }
-    if table.is_whole && columns.names().len() > 1 && table.lines.has_header {
+    if table.is_whole && columns.names.len() > 1 && table.lines.has_header {
         doubted!(rt, asked.doubts;
             "lines are encoded whole, with all columns; for one of them, add --field"
         )?;
     }
-    for (place, name) in columns.names().iter().enumerate() {
+    for (place, name) in columns.names.iter().enumerate() {
         let is_named = is_in_path(rt.alloc(), asked.target, name.as_str())?;
         if let Some(why) = left_out(&asked.work, table, place.saturating_add(1), is_named) {
             let name = shown(name.as_str());
@@ -52,14 +52,21 @@ fn check_payload(
     table: &Table<'_>,
 ) -> Result<(), Failure> {
     let columns = &table.columns;
-    if columns.is_empty() && !table.lines.has_header {
+    if columns.names.is_empty() && !table.lines.has_header {
         return usage!(rt.alloc();
             "--lines: add --header if the first line names the columns, or name them with \
             --columns, e.g. --columns ssid,password"
         );
     }
     check_spelling(rt.alloc(), fields.kind, asked.target, columns)?;
-    check_password(rt.alloc(), fields, columns)?;
+    let says_protection = [Field::Password, Field::Security].iter().any(|field| {
+        columns.field(*field).is_some() || !fields.text(*field).is_empty()
+    });
+    if fields.kind == Kind::Wifi && !says_protection && !columns.names.is_empty() {
+        return usage!(rt.alloc();
+            "no column is called password; for open networks, add --security open"
+        );
+    }
     if table.lines.field.is_some() {
         return usage!(rt.alloc(); "--field: a payload takes all its columns; leave it out");
     }
@@ -88,23 +95,10 @@ fn check_options(
     Ok(())
 }
 
-// Refuses a table of networks that does not say how they are protected.
-fn check_password(alloc: Global, fields: Fields<'_, '_>, columns: &Columns) -> Result<(), Failure> {
-    let is_said = [Field::Password, Field::Security].iter().any(|field| {
-        columns.field(*field).is_some() || !fields.text(*field).is_empty()
-    });
-    if fields.kind == Kind::Wifi && !is_said && !columns.is_empty() {
-        return usage!(alloc;
-            "no column is called password; for open networks, add --security open"
-        );
-    }
-    Ok(())
-}
-
 // Refuses a table of GS1 data in which no column is named by an application identifier.
 fn check_identifiers(alloc: Global, columns: &Columns) -> Result<(), Failure> {
-    let mut names = columns.names().iter();
-    if !columns.is_empty() && !names.any(|name| is_identifier(identifier_in(name.as_str()))) {
+    let mut names = columns.names.iter();
+    if !columns.names.is_empty() && !names.any(|name| is_identifier(identifier_in(name.as_str()))) {
         return usage!(alloc;
             "name the columns by application identifiers, e.g. --columns 01,10,17"
         );
@@ -123,7 +117,7 @@ fn check_spelling(
     let known = fields
         .map(|field| option_of(*field).long)
         .collect::<Vec<&'static str>>(alloc)?;
-    for name in columns.names() {
+    for name in &columns.names {
         let name = name.as_str().trim();
         if field_called(kind, name).is_some() || is_in_path(alloc, target, name)? {
             continue;
@@ -143,7 +137,7 @@ fn left_out(
     is_named: bool,
 ) -> Option<&'static str> {
     let columns = &table.columns;
-    let name = columns.names().get(number.saturating_sub(1))?.as_str();
+    let name = columns.names.get(number.saturating_sub(1))?.as_str();
     match (work, table.lines.field) {
         (Work::Payload(fields), _) => match field_called(fields.kind, name) {
             None if !is_named => Some("is no option of this command, so it"),

@@ -8,12 +8,13 @@ use qrcode_contents::fields::errors::Field;
 use qrcode_payloads::kinds::{Kind, fields_of as fields_in};
 use std::alloc::{AllocError, Global};
 
-/// The names of columns, in order; there may be none.
+/// The columns of a table; there may be none.
 #[derive(Drop)]
 pub struct Columns {
-    names: Vec<String>,
-    // The fields of a payload, in order, each with the number of the column that gives it, from 1.
-    fields: Vec<(Field, Option<usize>)>,
+    /// The names in order.
+    pub names: Vec<String>,
+    /// The fields of a payload, in order, each with the number of the column that gives it, from 1.
+    pub fields: Vec<(Field, Option<usize>)>,
 }
 
 impl Columns {
@@ -60,27 +61,11 @@ impl Columns {
         Ok(())
     }
 
-    /// Whether there are none.
-    pub fn is_empty(&self) -> bool {
-        self.names.is_empty()
-    }
-
-    /// Returns the names in order.
-    pub fn names(&self) -> &[String] {
-        &self.names
-    }
-
     /// Returns the number of the column called `name`, from 1.
     pub fn number_of(&self, name: &str) -> Option<usize> {
         let mut names = self.names.iter();
         let place = names.position(|known| known.as_str().trim().eq_ignore_ascii_case(name))?;
         Some(place.saturating_add(1))
-    }
-
-    /// Returns the fields of a payload, in order, each with the number of the column that gives it,
-    /// from 1.
-    pub fn fields(&self) -> &[(Field, Option<usize>)] {
-        &self.fields
     }
 
     /// Returns the number of the column that gives a field of a payload, from 1.
@@ -90,13 +75,6 @@ impl Columns {
         *number
     }
 
-    /// Whether each of these fields is the name of a column.
-    pub fn are_names(&self, fields: &[String]) -> bool {
-        fields
-            .iter()
-            .all(|field| self.number_of(field.as_str().trim()).is_some())
-    }
-
     /// Returns the names with commas between.
     ///
     /// Errors: only `AllocError`.
@@ -104,17 +82,6 @@ impl Columns {
         let names = self.names.iter();
         let names = names.map(|name| name.as_str()).collect::<Vec<&str>>(alloc)?;
         names.join(alloc, ", ")
-    }
-
-    /// Returns the name of another delimiter, if there is only one name and it has one inside.
-    pub fn other_delimiter(&self) -> Option<&'static str> {
-        let [name] = self.names.as_slice() else {
-            return None;
-        };
-        let (_, shown) = [(';', ";"), ('\t', "tab"), ('|', "|"), (',', ",")]
-            .iter()
-            .find(|(sign, _)| name.as_str().contains(*sign))?;
-        Some(*shown)
     }
 
     /// Returns what messages call a field: its column, if it has one, or else its option.
@@ -138,18 +105,14 @@ pub(crate) fn field_called(kind: Kind, name: &str) -> Option<Field> {
         if long.eq_ignore_ascii_case(name) {
             return Some(*field);
         }
-        if has_other_name(kind, long, name) {
+        let is_other = OTHER_NAMES.iter().any(|(other, option)| *option == long
+            && other.eq_ignore_ascii_case(name)
+            && counts(other, Purpose::Content(kind)));
+        if is_other {
             found = Some(*field);
         }
     }
     found
-}
-
-// Whether an option of payloads of `kind` has this name as another name.
-fn has_other_name(kind: Kind, long: &str, name: &str) -> bool {
-    OTHER_NAMES.iter().any(|(other, option)| *option == long
-        && other.eq_ignore_ascii_case(name)
-        && counts(other, Purpose::Content(kind)))
 }
 
 /// Returns the application identifier that a column is named by, without its brackets.

@@ -107,9 +107,8 @@ fn unquoted(alloc: Global, field: &str) -> Result<String, AllocError> {
     let inner = field
         .strip_prefix('"')
         .and_then(|rest| rest.strip_suffix('"'));
-    let Some(inner) = inner else {
-        return String::from_str(alloc, field);
-    };
-    let parts = inner.split("\"\"").collect::<Vec<&str>>(alloc)?;
-    parts.join(alloc, "\"")
+    match inner {
+        Some(inner) => inner.replace(alloc, "\"\"", "\""),
+        None => String::from_str(alloc, field),
+    }
 }

@@ -79,10 +79,9 @@ pub(crate) fn utf8<'a>(alloc: Global, bytes: &'a [u8]) -> Result<&'a str, Failur
 
 /// Whether a line has no data: all of its fields are empty.
 pub(crate) fn is_blank(line: &[u8], delimiter: &str) -> bool {
-    match str::from_utf8(line) {
-        Ok(text) => text.split(delimiter).all(|field| field.trim().is_empty()),
-        Err(_) => false,
-    }
+    str::from_utf8(line).is_ok_and(|text| {
+        text.split(delimiter).all(|field| field.trim().is_empty())
+    })
 }
 
 /// Whether a word is one of these, in any case.

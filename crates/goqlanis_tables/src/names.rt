@@ -186,7 +186,7 @@ fn place_of<'a>(piece: &'a str, columns: &Columns) -> Option<(Part<'a>, &'a str)
 
 // Fails: a placeholder is unknown.
 fn unknown<T>(alloc: Global, word: &str, columns: &Columns) -> Result<T, Failure> {
-    if columns.is_empty() {
+    if columns.names.is_empty() {
         return usage!(alloc;
             "--output: {{{word}}} is unknown; {{}} is the number, {{:04}} the same with zeros, \
             {{text}} the line, {{1}} its first field; --header or --columns name others"

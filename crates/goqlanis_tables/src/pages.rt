@@ -12,10 +12,6 @@ use std::alloc::{AllocError, Global};
 // The most bytes of pages. Where an object begins has ten digits in the table; the rest is for nodes.
 const MOST_BYTES: usize = 9_999_000_000;
 
-// The objects before the pages: the catalog, the root of the tree of pages, which is written last,
-// and the information.
-const FIRST: usize = 3;
-
 // The most pages under a node of their tree. (An array of PDF 1.4 has at most 8,191 items.)
 const MOST_KIDS: usize = 1_000;
 
@@ -28,21 +24,14 @@ pub struct Pages<'a> {
     length: usize,
     // Where each object begins, by number.
     starts: Vec<usize>,
-    // The numbers of the nodes under the root. Behind each come its pages, each of two objects: the
-    // page and its contents.
+    // The numbers of the nodes under the root.
     nodes: Vec<usize>,
+    // The numbers of the pages under the last node, and how many pages there are in all.
+    kids: Vec<usize>,
+    count: usize,
 }
 
-// The parts of a file of one page, each without the number of its object.
-#[derive(Clone, Copy)]
-struct Parts<'a> {
-    version: &'a str,
-    catalog: &'a str,
-    // The page: before the references to its node and to its contents, between them, and after.
-    page: (&'a str, &'a str, &'a str),
-    contents: &'a str,
-    information: &'a str,
-}
+type Three<'a> = (&'a str, &'a str, &'a str);
 
 impl<'a> Pages<'a> {
     /// Returns a document without pages.
@@ -52,6 +41,8 @@ impl<'a> Pages<'a> {
             length: 0,
             starts: Vec::new(alloc),
             nodes: Vec::new(alloc),
+            kids: Vec::new(alloc),
+            count: 0,
         }
     }
 
@@ -59,7 +50,10 @@ impl<'a> Pages<'a> {
     ///
     /// Errors: `Refused` if the document would be too long; those of `Series::write`; `OutOfMemory`.
     pub fn add(&mut self, rt: &HostRuntime, file: &[u8]) -> Result<(), Failure> {
-        let Some(parts) = str::from_utf8(file).ok().and_then(parts_of) else {
+        let Some((head, (before, between, after), contents)) = str::from_utf8(file)
+            .ok()
+            .and_then(parts_of)
+        else {
             return refused!(rt.alloc();
                 "this PDF file is not one of a page, as those that goqlanis draws"
             );
@@ -69,23 +63,27 @@ impl<'a> Pages<'a> {
                 "the PDF document would have more than 10 GB: write several, of fewer lines each"
             );
         }
-        self.begin_page(rt, parts)?;
-        let (before, between, after) = parts.page;
-        let (node, contents) = (self.node(), self.starts.len().saturating_add(2));
-        let page = format!(in rt.alloc(); "{before}{node} 0 R{between}{contents} 0 R{after}")?;
+        self.begin_page(rt, head)?;
+        let node = self.nodes.last().copied().unwrap_or(0);
+        let number = self.starts.len().saturating_add(1);
+        let inside = number.saturating_add(1);
+        self.kids.push(number)?;
+        self.count = self.count.saturating_add(1);
+        let page = format!(in rt.alloc(); "{before}{node} 0 R{between}{inside} 0 R{after}")?;
         self.put_object(rt, page.as_str())?;
-        self.put_object(rt, parts.contents)
+        self.put_object(rt, contents)
     }
 
     // Writes what comes before a page: the head of the document, or the last full node.
-    fn begin_page(&mut self, rt: &HostRuntime, parts: Parts<'_>) -> Result<(), Failure> {
+    fn begin_page(&mut self, rt: &HostRuntime, head: Three<'_>) -> Result<(), Failure> {
         if self.starts.is_empty() {
-            self.put(rt, parts.version)?;
-            self.put_object(rt, parts.catalog)?;
+            let (version, catalog, information) = head;
+            self.put(rt, version)?;
+            self.put_object(rt, catalog)?;
             self.starts.push(0)?;
-            self.put_object(rt, parts.information)?;
+            self.put_object(rt, information)?;
         }
-        if self.nodes.is_empty() || self.kids() >= MOST_KIDS {
+        if self.nodes.is_empty() || self.kids.len() >= MOST_KIDS {
             self.end_node(rt)?;
             self.starts.push(0)?;
             self.nodes.push(self.starts.len())?;
@@ -93,27 +91,24 @@ impl<'a> Pages<'a> {
         Ok(())
     }
 
-    // The number of the last node of the tree, if there is one.
-    fn node(&self) -> usize {
-        self.nodes.last().copied().unwrap_or(0)
-    }
-
-    // The number of pages under the last node.
-    fn kids(&self) -> usize {
-        self.starts.len().saturating_sub(self.node()) / 2
-    }
-
     // Writes the last node of the tree, if there is one.
     fn end_node(&mut self, rt: &HostRuntime) -> Result<(), Failure> {
-        if self.nodes.is_empty() {
+        let Some(node) = self.nodes.last().copied() else {
             return Ok(());
+        };
+        let head = format!(in rt.alloc(); "{node} 0 obj\n<</Type/Pages/Parent 2 0 R")?;
+        let text = node_of(head, &self.kids, self.kids.len())?;
+        self.put_at(rt, node, text.as_str())?;
+        self.kids.clear();
+        Ok(())
+    }
+
+    // Writes an object of the tree, of which only the number is known so far.
+    fn put_at(&mut self, rt: &HostRuntime, number: usize, text: &str) -> Result<(), Failure> {
+        if let Some(start) = self.starts.get_mut(number.saturating_sub(1)) {
+            *start = self.length;
         }
-        let (node, start) = (self.node(), self.length);
-        if let Some(place) = self.starts.get_mut(node.saturating_sub(1)) {
-            *place = start;
-        }
-        let text = node_of(rt.alloc(), node, self.kids())?;
-        self.put(rt, text.as_str())
+        self.put(rt, text)
     }
 
     // Writes the next object.
@@ -139,15 +134,11 @@ impl<'a> Pages<'a> {
             return Ok(());
         }
         self.end_node(rt)?;
+        let head = String::from_str(rt.alloc(), "2 0 obj\n<</Type/Pages")?;
+        let root = node_of(head, &self.nodes, self.count)?;
+        self.put_at(rt, 2, root.as_str())?;
         let start = self.length;
-        if let Some(root) = self.starts.get_mut(1) {
-            *root = start;
-        }
-        let last = self.starts.len();
-        let root = root_of(rt.alloc(), &self.nodes, last)?;
-        self.put(rt, root.as_str())?;
-        let start = self.length;
-        let size = last.saturating_add(1);
+        let size = self.starts.len().saturating_add(1);
         let table = table_of(rt.alloc(), &self.starts)?;
         self.put(rt, table.as_str())?;
         let end = format!(in rt.alloc();
@@ -157,45 +148,32 @@ impl<'a> Pages<'a> {
     }
 }
 
-// Splits a file of one page into its parts.
-fn parts_of(file: &str) -> Option<Parts<'_>> {
+// Splits a file of one page into its parts: version, catalog and information; the page before its
+// references to its node and to its contents, between them, and after; and the contents.
+fn parts_of(file: &str) -> Option<(Three<'_>, Three<'_>, &str)> {
     let (version, rest) = file.split_once("1 0 obj\n")?;
     let (catalog, rest) = rest.split_once("2 0 obj\n")?;
     let (_, rest) = rest.split_once("3 0 obj\n")?;
-    let (page, rest) = rest.split_once("4 0 obj\n")?;
-    let (before, page) = page.split_once("2 0 R")?;
-    let (between, after) = page.split_once("4 0 R")?;
+    let (before, rest) = rest.split_once("2 0 R")?;
+    let (between, rest) = rest.split_once("4 0 R")?;
+    let (after, rest) = rest.split_once("4 0 obj\n")?;
     let (contents, rest) = rest.split_once("5 0 obj\n")?;
     let (information, _) = rest.split_once("xref\n")?;
-    Some(Parts {
-        version,
-        catalog,
-        page: (before, between, after),
+    Some((
+        (version, catalog, information),
+        (before, between, after),
         contents,
-        information,
-    })
+    ))
 }
 
-// Returns the node of the tree with this number, which has `count` pages.
-fn node_of(alloc: Global, node: usize, count: usize) -> Result<String, AllocError> {
-    let mut text = format!(in alloc; "{node} 0 obj\n<</Type/Pages/Parent 2 0 R/Kids[")?;
-    let mut page = node.saturating_add(1);
-    for _ in 0..count {
-        write!(text, "{page} 0 R\n")?;
-        page = page.saturating_add(2);
+// Returns a node of the tree, which begins with `head`: its children, and how many pages they have.
+fn node_of(head: String, kids: &[usize], count: usize) -> Result<String, AllocError> {
+    let mut text = head;
+    text.push_str("/Kids[")?;
+    for kid in kids {
+        write!(text, "{kid} 0 R\n")?;
     }
     write!(text, "]/Count {count}>>\nendobj\n")?;
-    Ok(text)
-}
-
-// Returns the root of the tree of a document whose last object has this number.
-fn root_of(alloc: Global, nodes: &[usize], last: usize) -> Result<String, AllocError> {
-    let mut text = String::from_str(alloc, "2 0 obj\n<</Type/Pages/Kids[")?;
-    for node in nodes {
-        write!(text, "{node} 0 R\n")?;
-    }
-    let pages = last.saturating_sub(FIRST).saturating_sub(nodes.len()) / 2;
-    write!(text, "]/Count {pages}>>\nendobj\n")?;
     Ok(text)
 }
 

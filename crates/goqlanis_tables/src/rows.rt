@@ -54,7 +54,7 @@ impl Row {
         utf8(alloc, line.bytes)?;
         let mut pairs = Vec::new(alloc);
         let is_open = is_open(alloc, columns, line)?;
-        for (field, number) in columns.fields() {
+        for (field, number) in &columns.fields {
             let name = option_of(*field).long;
             let text = match number {
                 Some(number) => {
@@ -78,7 +78,7 @@ impl Row {
 ///
 /// Errors: `Refused` if the line has fewer fields than columns; `OutOfMemory`.
 pub fn loose(alloc: Global, columns: &Columns, line: &Line<'_>) -> Result<Option<Field>, Failure> {
-    for (field, number) in columns.fields() {
+    for (field, number) in &columns.fields {
         let Some(number) = number else {
             continue;
         };

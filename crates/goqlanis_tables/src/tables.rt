@@ -72,7 +72,7 @@ impl<'a> Table<'a> {
 
     // Whether fields of the lines count.
     fn has_fields(&self) -> bool {
-        !self.columns.is_empty() || self.lines.field.is_some()
+        !self.columns.names.is_empty() || self.lines.field.is_some()
     }
 
     /// Returns the place of a line, by its number among those that are encoded, from 1.
@@ -119,18 +119,21 @@ impl<'a> Table<'a> {
         doubts: Doubts<'_>,
         line: &Line<'_>,
     ) -> Result<(), Failure> {
-        if self.columns.is_empty() {
+        if self.columns.names.is_empty() {
             return Ok(());
         }
         let fields = line.fields(rt.alloc())?;
-        let (count, known) = (fields.len(), self.columns.names().len());
+        let (count, known) = (fields.len(), self.columns.names.len());
         if count > known && !self.is_whole || count < known && self.has_elements {
             return refused!(rt.alloc();
                 "fields: {count}, columns: {known}; put quotation marks around a field that contains \
                 the delimiter"
             );
         }
-        if line.number == 1 && !self.lines.has_header && self.columns.are_names(fields) {
+        let mut names = fields
+            .iter()
+            .map(|field| self.columns.number_of(field.as_str().trim()));
+        if line.number == 1 && !self.lines.has_header && names.all(|name| name.is_some()) {
             doubted!(rt, doubts;
                 "these are the names of the columns; add --header to leave them out"
             )?;
@@ -146,7 +149,7 @@ impl<'a> Table<'a> {
         let text = utf8(alloc, line.bytes)?;
         match self.field {
             Some(number) => Ok(String::from_str(alloc, line.field(alloc, number)?)?),
-            None if self.has_elements && !self.columns.is_empty() => {
+            None if self.has_elements && !self.columns.names.is_empty() => {
                 Ok(elements_in(alloc, &self.columns, line.fields(alloc)?)?)
             }
             None => Ok(String::from_str(alloc, text)?),
@@ -191,11 +194,15 @@ fn check_delimiter(
     is_whole: bool,
 ) -> Result<(), Failure> {
     let has_names = matches!(target, Target::File(path) if path.contains('{'));
-    match columns.other_delimiter() {
-        Some(sign) if has_names || !is_whole => {
+    let ([name], true) = (columns.names.as_slice(), has_names || !is_whole) else {
+        return Ok(());
+    };
+    let mut signs = [(';', ";"), ('\t', "tab"), ('|', "|"), (',', ",")].iter();
+    match signs.find(|(sign, _)| name.as_str().contains(*sign)) {
+        Some((_, sign)) => {
             usage!(alloc; "the columns have another delimiter: add --delimiter \"{sign}\"")
         }
-        _ => Ok(()),
+        None => Ok(()),
     }
 }
 
@@ -204,7 +211,7 @@ fn field_number(alloc: Global, columns: &Columns, name: &str) -> Result<usize, F
     match (columns.number_of(name), name.parse::<u16>()) {
         (Some(number), _) => Ok(number),
         (None, Ok(number)) if number > 0 => Ok(number as usize),
-        _ if columns.is_empty() => usage!(alloc;
+        _ if columns.names.is_empty() => usage!(alloc;
             "--field {name}: use a whole number, 1 to 65,535, or name the columns with --header"
         ),
         _ => {
@@ -218,11 +225,10 @@ fn field_number(alloc: Global, columns: &Columns, name: &str) -> Result<usize, F
 // fields are left out.
 fn elements_in(alloc: Global, columns: &Columns, fields: &[String]) -> Result<String, AllocError> {
     let mut text = String::new(alloc);
-    for (name, field) in columns.names().iter().zip(fields) {
+    for (name, field) in columns.names.iter().zip(fields) {
         let name = identifier_in(name.as_str());
         if is_identifier(name) && !field.is_empty() {
-            let value = field.as_str().split('(').collect::<Vec<&str>>(alloc)?;
-            let value = value.join(alloc, "\\(")?;
+            let value = field.as_str().replace(alloc, '(', "\\(")?;
             write!(text, "({name}){value}")?;
         }
     }
