@@ -14,8 +14,8 @@ const EXAMPLES: &str = "Examples:
       encode the bytes of a file, as PNG
   goqlanis --micro -o code.svg 1234567
       make a Micro QR code
-  goqlanis --lines -o seat-{}.svg < seats.txt
-      write seat-1.svg, seat-2.svg and so on
+  goqlanis --lines -o seat.svg < seats.txt
+      write seat-000001.svg, seat-000002.svg and so on
   goqlanis split --count 4 -o part.pbm -i ticket.txt
       split data over 4 codes; goqlanis join part-*.pbm reads them back
   goqlanis read ticket.png

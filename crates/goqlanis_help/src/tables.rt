@@ -26,7 +26,7 @@ pub(crate) const SEGMENTS: &str = "Input
 
 // A code for each line.
 pub(crate) const LINES: &str = "Input
---lines: Make one code per input line. In --output, {} stands for the line number, {:04} for it in four digits, {text} for the line, {1} for its first field; without them one file has all codes: pdf as pages, text, zpl, tspl and escpos one after another
+--lines: Make one code per input line. In --output, {} stands for the line number, {:04} for it in four digits, {text} for the line, {1} for its first field; without them a number is added, or one file has all codes: pdf as pages, text, zpl, tspl and escpos one after another
 --header: With --lines: the first line names the columns, e.g. ssid,password for wifi or 01,10 for gs1, and has no number; {ssid} in --output is that field
 --columns NAMES: With --lines: names of the columns, if the first line has none; with --header, instead of its names
 --field FIELD: With --lines: encode only this field of each line, by number or name
@@ -60,7 +60,7 @@ pub(crate) const MASKS: &str = "Code
 
 // The output.
 pub(crate) const LOOKS: &str = "Output
--o --output FILE: Write to FILE, atomically; split adds numbers, e.g. a-000001.png; - is standard output
+-o --output FILE: Write to FILE, atomically; --lines and split add numbers, e.g. a-000001.png; - is standard output
 -f --format FORMAT|: Output format; terminal: half-blocks in black on white; text: a block per module; ascii: ## per module; zpl, tspl, escpos: printers [default: FILE's extension (.txt: half-blocks); to a terminal: terminal; else half-blocks]
 -q --quiet-zone MODULES=0..255: Quiet zone on each side, 0 to 255; readers need 4, of Micro QR 2 [default: 4, Micro QR 2]
 -s --scale PIXELS: Pixels per module, 1 to 1,000; in SVG, EPS and PDF also e.g. 2.5 [default: 8; 1 in PIC, half-blocks, terminal, text, ascii]

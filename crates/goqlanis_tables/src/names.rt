@@ -8,7 +8,7 @@ use goqlanis_files::streams::is_unseen;
 use goqlanis_files::{refused, usage};
 use goqlanis_options::asked::{Asked, Target};
 use goqlanis_options::formats::takes;
-use goqlanis_options::targets::{check_target, reader_of};
+use goqlanis_options::targets::{check_target, is_same_file, reader_of};
 use std::alloc::{AllocError, Global};
 use std::fs;
 use unicode_normalization::to_nfc;
@@ -52,27 +52,13 @@ impl<'a> Pattern<'a> {
             return Ok(None);
         };
         let pattern = Pattern::of(rt.alloc(), path, columns)?;
-        if asked.input.lines.is_some()
-            && !pattern.has_places
-            && takes(asked.request.format, "series")
-        {
+        let has_lines = asked.input.lines.is_some();
+        if has_lines && !pattern.has_places && takes(asked.request.format, "series") {
             check_target(rt, asked)?;
             return Ok(None);
         }
-        pattern.check(rt, asked, columns)?;
-        Ok(Some(pattern))
-    }
-
-    // Checks that it names a file for each code.
-    fn check(
-        &self,
-        rt: &HostRuntime,
-        asked: &Asked<'_, '_>,
-        columns: &Columns,
-    ) -> Result<(), Failure> {
-        let path = self.path;
         let folder = path.rsplit_once('/').map_or("", |(folder, _)| folder);
-        if is_stream(rt, path) {
+        if is_stream(rt, path) || is_same_file(rt, path, "/dev/stdout") {
             usage!(rt.alloc();
                 "--output {path}: each code gets its own file; name one, e.g. a.png, or leave out \
                 --output for text"
@@ -81,17 +67,12 @@ impl<'a> Pattern<'a> {
             usage!(rt.alloc();
                 "--output: {{}}, {{text}} and {{1}} are for the file name, not for its folder"
             )
-        } else if self.has_text() && asked.input.lines.is_none() {
+        } else if pattern.has_text() && !has_lines {
             usage!(rt.alloc();
                 "--output: {{text}} and {{1}} are for --lines; {{}} is the number"
             )
-        } else if !self.has_places && asked.input.lines.is_some() {
-            usage!(rt.alloc();
-                "--output {path}: files of this format have one code; add {{}}, which stands for \
-                its number, e.g. a-{{}}.png"
-            )
         } else {
-            Ok(())
+            Ok(Some(pattern))
         }
     }
 

@@ -18,7 +18,7 @@ def examples_of_the_help_run(program):
         shown = run(program, ["--help"], folder).stdout.decode()
         found = re.findall(r"^  (goqlanis .*)$", shown, re.MULTILINE)
         ran = [by_shell(program, it, folder) for it in found]
-        made = {"ticket.png", "seat-1.svg", "seat-2.svg", "label.png"}
+        made = {"ticket.png", "seat-000001.svg", "seat-000002.svg", "label.png"}
         is_well = all(it.returncode == 0 and not it.stderr for it in ran)
         return len(ran) == 8 and is_well and made < set(os.listdir(folder))
 
