@@ -1,13 +1,5 @@
-//! `goqlanis check`: reports where the codes in a picture depart from the standard.
+//! Reports on where codes depart from the standard, as text or JSON.
 
-use crate::pictures::{picture_name, pictures_in};
-use crate::reading::{picture_of, reported, status_of, warn_of_missed};
-use crate::reports::{push_file, push_heading};
-use goqlanis_files::failure::{Failure, WARNINGS, warn_of_more};
-use goqlanis_files::refused;
-use goqlanis_files::streams::write_data;
-use goqlanis_options::asked::Report;
-use goqlanis_options::pictures::{Pictures, STANDARD_INPUT};
 use goqlanis_options::push_either;
 use goqlanis_options::warnings::Decimal;
 use goqlanis_request::VersionName;
@@ -15,105 +7,16 @@ use qrcode_check::correction::grade_of;
 use qrcode_check::modules::WrongModules;
 use qrcode_check::segments::Taken;
 use qrcode_check::{Check, Content};
-use qrcode_scan::{Unread, check_codes};
 use std::alloc::{AllocError, Global};
-use std::process::ExitCode;
 
-/// Checks the codes in pictures and prints a report. The status is 1 if a code departs from the
-/// standard or is not decoded, or if one of several pictures cannot be read.
-pub fn check(rt: &HostRuntime, pictures: &Pictures<'_, '_>) -> Result<ExitCode, Failure> {
-    let is_json = pictures.report == Report::Json;
-    let mut is_standard = true;
-    let mut text = String::new(rt.alloc());
-    let names = pictures.names.unwrap_or(STANDARD_INPUT);
-    for name in names {
-        let file = if pictures.is_many { *name } else { "" };
-        let checked = check_one(rt, is_json, name, file, &mut text);
-        is_standard = reported(rt, pictures.is_many || is_json, checked)? && is_standard;
-    }
-    if is_json {
-        text.push_str(if text.is_empty() { "[\n]\n" } else { "\n]\n" })?;
-    }
-    write_data(rt, None, text.as_bytes())?;
-    Ok(status_of(is_standard))
-}
-
-// Checks the codes in the pictures of a file and appends the report; `file` names it there, unless
-// it is empty. Returns whether all are read and follow the standard.
-fn check_one(
-    rt: &HostRuntime,
-    is_json: bool,
-    name: &str,
-    file: &str,
+/// Appends the report on a code: the rest of its JSON object, or lines of text.
+///
+/// Errors: only `AllocError`.
+pub(crate) fn push_check(
     text: &mut String,
-) -> Result<bool, Failure> {
-    let (name, bytes) = picture_of(rt, name)?;
-    let pictures = pictures_in(rt, name, &bytes)?;
-    let count = pictures.len();
-    let mut checks = Vec::new(rt.alloc());
-    let mut is_whole = true;
-    for (place, picture) in pictures.iter().enumerate() {
-        let name = picture_name(rt.alloc(), name, place, count)?;
-        let checked = push_checks(rt, name.as_str(), picture, &mut checks);
-        is_whole = reported(rt, count > 1, checked)? && is_whole;
-    }
-    let checks = checks.as_slice();
-    if is_json {
-        push_objects(text, checks, file)?;
-    } else {
-        push_heading(text, file)?;
-        push_texts(text, checks)?;
-    }
-    Ok(is_whole && checks.iter().all(|check| check.is_standard()))
-}
-
-// Checks the codes in a picture that messages call `name`. Returns whether all are read.
-fn push_checks(
-    rt: &HostRuntime,
-    name: &str,
-    picture: &[u8],
-    checks: &mut Vec<Check>,
-) -> Result<bool, Failure> {
-    let found = match check_codes(rt.alloc(), picture) {
-        Ok(found) => found,
-        Err(Unread::OutOfMemory) => return Err(Failure::OutOfMemory),
-        Err(error) => return refused!(rt.alloc(); "cannot check {name}: {error}"),
-    };
-    if found.codes.has_faults {
-        warn_of_more(rt, WARNINGS, name)?;
-    }
-    let is_whole = warn_of_missed(rt, &found.codes);
-    for check in found.checks {
-        checks.push(check)?;
-    }
-    Ok(is_whole)
-}
-
-// Appends a JSON object for each code.
-fn push_objects(text: &mut String, checks: &[Check], file: &str) -> Result<(), AllocError> {
-    for check in checks {
-        text.push_str(if text.is_empty() { "[\n" } else { ",\n" })?;
-        push_file(text, file)?;
-        push_check(text, check, true)?;
-    }
-    Ok(())
-}
-
-// Appends lines of text, with a heading for each of several codes.
-fn push_texts(text: &mut String, checks: &[Check]) -> Result<(), AllocError> {
-    let count = checks.len();
-    for (place, check) in checks.iter().enumerate() {
-        let number = place.saturating_add(1);
-        if count > 1 {
-            write!(text, "code {number} of {count}\n")?;
-        }
-        push_check(text, check, false)?;
-    }
-    Ok(())
-}
-
-// Appends the report on a code: a JSON object on one line, or lines of text.
-fn push_check(text: &mut String, check: &Check, is_json: bool) -> Result<(), AllocError> {
+    check: &Check,
+    is_json: bool,
+) -> Result<(), AllocError> {
     let (version, level) = (VersionName(check.version), check.ec_level);
     let (mask, allowed) = (check.mask_number(), check.allowed);
     let wrong = numbers(*text.allocator(), &check.wrong)?;
@@ -177,8 +80,10 @@ fn is_whole(check: &Check) -> bool {
     check.modules.are_right() && check.wrong.iter().all(|count| *count == 0)
 }
 
-// Lists numbers, separated by commas.
-fn numbers(alloc: Global, numbers: &[usize]) -> Result<String, AllocError> {
+/// Lists numbers, separated by commas.
+///
+/// Errors: only `AllocError`.
+pub(crate) fn numbers(alloc: Global, numbers: &[usize]) -> Result<String, AllocError> {
     let mut text = String::new(alloc);
     for number in numbers {
         let sign = if text.is_empty() { "" } else { ", " };

@@ -1,6 +1,7 @@
 //! `goqlanis join`: joins the data of the codes that `split` made.
 
-use crate::reading::push_scans;
+use crate::checking::numbers;
+use crate::pictures::Found;
 use goqlanis_files::failure::Failure;
 use goqlanis_files::refused;
 use goqlanis_files::streams::write_data;
@@ -17,16 +18,17 @@ use std::process::ExitCode;
 pub fn join_pictures(rt: &HostRuntime, pictures: &Pictures<'_, '_>) -> Result<ExitCode, Failure> {
     let names = pictures.names.unwrap_or(STANDARD_INPUT);
     let output = pictures.output;
-    let (mut sources, mut scans) = (Vec::new(rt.alloc()), Vec::new(rt.alloc()));
+    let mut sources = Vec::new(rt.alloc());
+    let mut found = Found::nothing(rt.alloc(), false);
     for name in names {
-        if !push_scans(rt, name, &mut scans)? {
+        if !found.push_file(rt, name)? {
             return Ok(ExitCode::FAILURE);
         }
-        for _ in sources.len()..scans.len() {
+        for _ in sources.len()..found.scans.len() {
             sources.push(*name)?;
         }
     }
-    match scans.as_slice() {
+    match found.scans.as_slice() {
         [only] if part_of(only).is_none() => write_data(rt, output, &only.any.reading.data),
         scans => write_data(rt, output, &join_scans(rt.alloc(), &sources, scans)?),
     }
@@ -113,14 +115,12 @@ fn names_at(
 
 // Lists the numbers of missing parts.
 fn missing_places(alloc: Global, parts: &[Part<'_>]) -> Result<String, AllocError> {
-    let mut text = String::new(alloc);
-    let last = parts.first().map_or(0, |part| part.last);
-    for place in 0..last as usize + 1 {
+    let last = parts.first().map_or(0, |part| part.last) as usize;
+    let mut missing = Vec::new(alloc);
+    for place in 0..last + 1 {
         if !parts.iter().any(|part| part.place as usize == place) {
-            let sign = if text.is_empty() { "" } else { ", " };
-            let number = place.saturating_add(1);
-            write!(text, "{sign}{number}")?;
+            missing.push(place.saturating_add(1))?;
         }
     }
-    Ok(text)
+    numbers(alloc, &missing)
 }

@@ -7,6 +7,5 @@ mod pictures;
 mod reading;
 mod reports;
 
-pub use checking::check;
 pub use joining::join_pictures;
-pub use reading::read;
+pub use reading::{check, read};

@@ -1,5 +1,7 @@
 //! Reports on decoded codes, as text or JSON.
 
+use crate::checking::push_check;
+use crate::pictures::Found;
 use goqlanis_files::streams::shown;
 use goqlanis_options::charsets::eci_name;
 use goqlanis_options::json::{self, push_string};
@@ -40,45 +42,50 @@ pub(crate) fn other_set(parts: &[Part]) -> Option<CharacterSet> {
     None
 }
 
-/// Reports on decoded codes as lines of text, under the name of their file unless it is empty.
+/// Reports on what is found in a file: as JSON objects, with the data of decoded codes, or as lines of
+/// text, with a heading for each of several checks; with the name of the file unless it is empty.
+/// The first object is the first of all if it `is_first`.
 ///
 /// Errors: only `AllocError`.
-pub(crate) fn report(alloc: Global, scans: &[Scan], file: &str) -> Result<String, AllocError> {
+pub(crate) fn report(
+    alloc: Global,
+    found: &Found,
+    file: &str,
+    is_json: bool,
+    is_first: bool,
+) -> Result<String, AllocError> {
     let mut text = String::new(alloc);
-    push_heading(&mut text, file)?;
-    for scan in scans {
-        push_scan(&mut text, scan, false)?;
+    if !is_json && !file.is_empty() {
+        write!(text, "{}:\n", shown(file))?;
+    }
+    for scan in &found.scans {
+        if is_json {
+            begin_object(&mut text, file, is_first)?;
+        }
+        push_scan(&mut text, scan, is_json)?;
+    }
+    let count = found.checks.len();
+    for (place, check) in found.checks.iter().enumerate() {
+        let number = place.saturating_add(1);
+        if is_json {
+            begin_object(&mut text, file, is_first)?;
+        } else if count > 1 {
+            write!(text, "code {number} of {count}\n")?;
+        }
+        push_check(&mut text, check, is_json)?;
     }
     Ok(text)
 }
 
-/// Appends the name of a file as a heading, unless it is empty.
-///
-/// Errors: only `AllocError`.
-pub(crate) fn push_heading(text: &mut String, file: &str) -> Result<(), AllocError> {
-    if file.is_empty() {
-        return Ok(());
-    }
-    write!(text, "{}:\n", shown(file))
-}
-
-/// Returns a JSON object of a code with its data, on one line; it names the file unless that is
-/// empty.
-///
-/// Errors: only `AllocError`.
-pub(crate) fn object_of(alloc: Global, scan: &Scan, file: &str) -> Result<String, AllocError> {
-    let mut text = String::new(alloc);
-    push_file(&mut text, file)?;
-    push_scan(&mut text, scan, true)?;
-    push_data(&mut text, scan)?;
-    Ok(text)
-}
-
-/// Begins a JSON object with the name of a file, unless it is empty.
-///
-/// Errors: only `AllocError`.
-pub(crate) fn push_file(text: &mut String, file: &str) -> Result<(), AllocError> {
-    text.push('{')?;
+// Begins a JSON object on a line of its own, with the name of a file unless it is empty. In an empty
+// text it is the first of all if it `is_first`.
+fn begin_object(text: &mut String, file: &str, is_first: bool) -> Result<(), AllocError> {
+    let sign = if is_first && text.is_empty() {
+        '['
+    } else {
+        ','
+    };
+    write!(text, "{sign}\n{{")?;
     if file.is_empty() {
         Ok(())
     } else {
@@ -86,7 +93,7 @@ pub(crate) fn push_file(text: &mut String, file: &str) -> Result<(), AllocError>
     }
 }
 
-// Appends the report on one code: members of a JSON object, or lines of text.
+// Appends the report on one code: the rest of its JSON object, or lines of text.
 fn push_scan(text: &mut String, scan: &Scan, is_json: bool) -> Result<(), AllocError> {
     push_symbol(text, scan, is_json)?;
     push_wrong(text, &scan.any.reading.wrong, is_json)?;
@@ -96,7 +103,11 @@ fn push_scan(text: &mut String, scan: &Scan, is_json: bool) -> Result<(), AllocE
         push_part(text, *part, is_json)?;
         sign = if is_json { ", " } else { "" };
     }
-    Ok(())
+    if is_json {
+        push_data(text, scan)
+    } else {
+        Ok(())
+    }
 }
 
 // Appends version, level, mask, sizes and position of a code.
@@ -150,23 +161,25 @@ fn push_part(text: &mut String, part: Part, is_json: bool) -> Result<(), AllocEr
                 "segment: {mode} mode, bytes: {count}\n"
             )
         }
-        Part::Front(header) => push_header(text, header, is_json),
-    }
-}
-
-fn push_header(text: &mut String, header: Header, is_json: bool) -> Result<(), AllocError> {
-    match header {
-        Header::Eci(number) => push_set(text, CharacterSet(number), is_json),
-        Header::Fnc1First => push_either!(text, is_json;
+        Part::Front(Header::Eci(number)) => push_set(text, CharacterSet(number), is_json),
+        Part::Front(Header::Fnc1First) => push_either!(text, is_json;
             "{{\"fnc1\": \"first\"}}",
             "header: FNC1 in first position, GS1 data\n"
         ),
-        Header::Fnc1Second(indicator) => push_application(text, Application(indicator), is_json),
-        Header::StructuredAppend {
-            place,
-            last,
-            parity,
-        } => {
+        Part::Front(Header::Fnc1Second(indicator)) => {
+            let application = Application(indicator);
+            push_either!(text, is_json;
+                "{{\"fnc1\": \"second\", \"application\": \"{application}\"}}",
+                "header: FNC1 in second position, application {application}\n"
+            )
+        }
+        Part::Front(
+            Header::StructuredAppend {
+                place,
+                last,
+                parity,
+            },
+        ) => {
             let (number, count) = (place.saturating_add(1), last.saturating_add(1));
             push_either!(text, is_json;
                 "{{\"symbol\": {number}, \"of\": {count}, \"parity\": {parity}}}",
@@ -184,18 +197,6 @@ fn push_set(text: &mut String, set: CharacterSet, is_json: bool) -> Result<(), A
         Some(name) => write!(text, "{{\"eci\": {number}, \"name\": \"{name}\"}}"),
         None => write!(text, "{{\"eci\": {number}}}"),
     }
-}
-
-// Appends the header of an industry's own format.
-fn push_application(
-    text: &mut String,
-    application: Application,
-    is_json: bool,
-) -> Result<(), AllocError> {
-    push_either!(text, is_json;
-        "{{\"fnc1\": \"second\", \"application\": \"{application}\"}}",
-        "header: FNC1 in second position, application {application}\n"
-    )
 }
 
 // An application indicator: two digits, or a letter, encoded as its ASCII code plus 100.
