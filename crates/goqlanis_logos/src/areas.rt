@@ -83,24 +83,27 @@ fn largest_area(
     Ok(None)
 }
 
-/// Returns the area that is asked for in the middle of a code.
+/// Returns the area in the middle of a code, if the command line asks for one.
 ///
-/// Errors: `Refused` if there is none; `OutOfMemory`.
-pub(crate) fn area_of(
+/// Errors: `Refused` if the code has no such area; `OutOfMemory`.
+pub fn area_in(
     alloc: Global,
-    logo: &AskedLogo<'_>,
+    asked: &Asked<'_, '_>,
     code: &QrCode,
-) -> Result<Rectangle, Failure> {
+) -> Result<Option<Rectangle>, Failure> {
+    let Some(logo) = &asked.logo else {
+        return Ok(None);
+    };
     let (version, level) = (code.version(), code.error_correction_level());
-    if has_default(logo) {
-        return match largest_area(alloc, logo, version, level, 1)? {
-            Some(area) => Ok(area),
-            None => refuse(alloc, code, wish_around(logo, 1), LogoError::NoRoom),
-        };
-    }
-    let wish = wish_of(logo, code.width());
-    match logo_area(alloc, version, level, wish) {
-        Ok(area) => Ok(area),
+    let (wish, found) = if has_default(logo) {
+        let found = largest_area(alloc, logo, version, level, 1)?;
+        (wish_around(logo, 1), found.ok_or(LogoError::NoRoom))
+    } else {
+        let wish = wish_of(logo, code.width());
+        (wish, logo_area(alloc, version, level, wish))
+    };
+    match found {
+        Ok(area) => Ok(Some(area)),
         Err(error) => refuse(alloc, code, wish, error),
     }
 }
@@ -198,7 +201,7 @@ fn refuse(
     code: &QrCode,
     wish: LogoWish,
     error: LogoError,
-) -> Result<Rectangle, Failure> {
+) -> Result<Option<Rectangle>, Failure> {
     let (version, level) = (code.version(), code.error_correction_level());
     let (name, side) = (VersionName(version), code.width());
     let mut text = match error {

@@ -115,21 +115,19 @@ fn has_handler(text: &str) -> bool {
     text.contains("javascript:")
 }
 
-// Skips the declaration, comments and document type of an XML file.
+// How what may precede the root of an XML file begins and ends: a declaration, a comment, and the
+// document type.
+static PROLOG: &[(&str, &str)] = &[("<?", "?>"), ("<!--", "-->"), ("<!DOCTYPE", ">")];
+
+// Skips what precedes the root of an XML file.
 fn behind_prolog(text: &str) -> Option<&str> {
     let mut left = text.strip_prefix('\u{feff}').unwrap_or(text);
     for _ in 0..100 {
-        let text = left.trim_start();
-        let behind = if text.starts_with("<?") {
-            text.split_once("?>")
-        } else if text.starts_with("<!--") {
-            text.split_once("-->")
-        } else if text.starts_with("<!DOCTYPE") {
-            text.split_once('>')
-        } else {
-            return Some(text);
+        left = left.trim_start();
+        let Some((_, end)) = PROLOG.iter().find(|(begin, _)| left.starts_with(*begin)) else {
+            return Some(left);
         };
-        left = behind?.1;
+        left = left.split_once(*end)?.1;
     }
     None
 }
@@ -182,10 +180,9 @@ fn sides(root: &str) -> Result<(u32, u32), &'static str> {
 
 // Strips the unit of a number of pixels; `None` if it is not one.
 fn pixels(text: &str) -> Option<&str> {
-    let number = match text.strip_suffix("px") {
-        Some(number) => number.trim_end(),
-        None => text,
-    };
+    let number = text
+        .strip_suffix("px")
+        .map_or(text, |number| number.trim_end());
     let is_number = number
         .bytes()
         .all(|byte| byte.is_ascii_digit() || byte == b'.');
@@ -194,9 +191,6 @@ fn pixels(text: &str) -> Option<&str> {
 
 // Returns the integer part of a decimal number, at least 1.
 fn whole(number: &str) -> Option<u32> {
-    let digits = match number.split_once('.') {
-        Some((digits, _)) => digits,
-        None => number,
-    };
+    let digits = number.split_once('.').map_or(number, |(digits, _)| digits);
     Some(digits.parse::<u32>().ok()?.max(1))
 }

@@ -3,7 +3,6 @@
 ghost use Rattle.std.specs.Prelude.{IfOk, IsErr};
 ghost use Rattle.qrcode_sheets.specs.Places.{HasPixels};
 
-use crate::areas::area_of;
 use crate::logos::{element_of, pixels_of};
 use crate::shrinking::shrunk;
 use goqlanis_files::failure::Failure;
@@ -43,137 +42,108 @@ pub fn has_pixels(asked: &Asked<'_, '_>) -> bool {
         .is_some_and(|logo| !matches!(logo.middle, Middle::Light))
 }
 
-/// Returns the area in the middle of a code, if the command line asks for one.
+/// Draws a code with the requested logo, cross or nothing in this area.
 ///
-/// Errors: `Refused` if the code has no such area; `OutOfMemory`.
-pub fn middle_of(
-    alloc: Global,
-    asked: &Asked<'_, '_>,
-    code: &QrCode,
-) -> Result<Option<Rectangle>, Failure> {
-    match &asked.logo {
-        Some(logo) => Ok(Some(area_of(alloc, logo, code)?)),
-        None => Ok(None),
-    }
-}
-
-/// Draws a code with the requested logo, cross or empty area; returns the area with the bytes of
-/// the drawing.
-///
-/// Errors: `Refused` if the code has no such area; `OutOfMemory`.
+/// Errors: `Refused` if a logo has no room there; `OutOfMemory`.
 pub fn draw_with_middle(
     alloc: Global,
     request: &Request<'_>,
     logo: &AskedLogo<'_>,
     code: &QrCode,
-) -> Result<(Rectangle, Vec<u8>), Failure> {
+    area: Rectangle,
+) -> Result<Vec<u8>, Failure> {
     let is_png = request.format.row().middle == qrcode_formats::Middle::Pixels;
-    let area = area_of(alloc, logo, code)?;
-    let bytes = match logo.middle {
+    let spot = Spot {
+        alloc,
+        request,
+        code,
+        area,
+    };
+    match logo.middle {
         Middle::Logo(Logo::Pixels(pixels, across, down)) => {
-            let place = place_of(alloc, request, code, area, logo.margin)?;
-            let inset = Inset {
+            let place = spot.place(logo.margin)?.fitted(*across, *down);
+            spot.draw_logo(Inset {
                 pixels,
                 across: *across,
                 down: *down,
-                place: place.fitted(*across, *down),
-            };
-            draw_logo(alloc, request, code, area, inset)
+                place,
+            })
         }
         Middle::Logo(Logo::Element(_, _, rest)) => {
-            let inside = Inside::Element(logo.margin, rest.as_str());
-            draw_inside(alloc, request, code, area, inside)
+            spot.draw(Inside::Element(logo.margin, rest.as_str()))
         }
-        Middle::Cross if is_png => draw_cross(alloc, request, code, area),
-        Middle::Cross => draw_inside(alloc, request, code, area, Inside::Cross),
-        Middle::Light => draw_inside(alloc, request, code, area, Inside::Nothing),
-    };
-    Ok((area, bytes?))
-}
-
-// Draws a code with a logo in its area, as a PNG file. A logo with more pixels than its place is
-// shrunk to them.
-fn draw_logo(
-    alloc: Global,
-    request: &Request<'_>,
-    code: &QrCode,
-    area: Rectangle,
-    logo: Inset<'_>,
-) -> Result<Vec<u8>, Failure> {
-    match (
-        u16::try_from(logo.place.width),
-        u16::try_from(logo.place.height),
-    ) {
-        (Ok(across), Ok(down)) if across < logo.across && down < logo.down => {
-            let pixels = shrunk(alloc, logo, across, down)?;
-            let small = Inset {
-                pixels: &pixels,
-                across,
-                down,
-                ..logo
-            };
-            draw_inside(alloc, request, code, area, Inside::Pixels(small))
-        }
-        _ => draw_inside(alloc, request, code, area, Inside::Pixels(logo)),
+        Middle::Cross if is_png => spot.draw_cross(),
+        Middle::Cross => spot.draw(Inside::Cross),
+        Middle::Light => spot.draw(Inside::Nothing),
     }
 }
 
-// Draws a code with the Swiss cross, as a PNG file.
-fn draw_cross(
+// An area in a code that is drawn as requested.
+#[derive(Clone, Copy)]
+struct Spot<'a> {
     alloc: Global,
-    request: &Request<'_>,
-    code: &QrCode,
+    request: &'a Request<'a>,
+    code: &'a QrCode,
     area: Rectangle,
-) -> Result<Vec<u8>, Failure> {
-    let place = place_of(alloc, request, code, area, 0)?;
-    let pixels = cross_pixels(alloc)?;
-    let inset = Inset {
-        pixels: &pixels,
-        across: CROSS_UNITS,
-        down: CROSS_UNITS,
-        place: place.square(cross_width(request, code)),
-    };
-    draw_inside(alloc, request, code, area, Inside::Pixels(inset))
 }
 
-// Draws a code with something in its area.
-fn draw_inside(
-    alloc: Global,
-    request: &Request<'_>,
-    code: &QrCode,
-    area: Rectangle,
-    inside: Inside<'_>,
-) -> Result<Vec<u8>, Failure> {
-    match with_logo(alloc, request, code, area, inside) {
-        Ok(Some(bytes)) => Ok(bytes),
-        Ok(None) => no_room(alloc, area),
-        Err(_) => Err(Failure::OutOfMemory),
+impl Spot<'_> {
+    // Draws the code with a logo in the area, as a PNG file. A logo with more pixels than its place
+    // is shrunk to them.
+    fn draw_logo(&self, logo: Inset<'_>) -> Result<Vec<u8>, Failure> {
+        let across = u16::try_from(logo.place.width).unwrap_or(u16::MAX);
+        let down = u16::try_from(logo.place.height).unwrap_or(u16::MAX);
+        if across >= logo.across || down >= logo.down {
+            return self.draw(Inside::Pixels(logo));
+        }
+        let pixels = shrunk(self.alloc, logo, across, down)?;
+        self.draw(Inside::Pixels(Inset {
+            pixels: &pixels,
+            across,
+            down,
+            ..logo
+        }))
     }
-}
 
-// Fails: the area is too small for a logo within its margin.
-fn no_room<T>(alloc: Global, area: Rectangle) -> Result<T, Failure>
-    ensures { IsErr result }
-{
-    let (width, height) = (area.width, area.height);
-    refused!(alloc;
-        "the area of {width} by {height} modules leaves no room for a logo within its margin; use \
-        a smaller --logo-margin, a larger --logo-size, or a larger version with -v"
-    )
-}
+    // Draws the code with the Swiss cross, as a PNG file.
+    fn draw_cross(&self) -> Result<Vec<u8>, Failure> {
+        let width = cross_width(self.request, self.code);
+        let pixels = cross_pixels(self.alloc)?;
+        self.draw(Inside::Pixels(Inset {
+            pixels: &pixels,
+            across: CROSS_UNITS,
+            down: CROSS_UNITS,
+            place: self.place(0)?.square(width),
+        }))
+    }
 
-// Returns the place of an area within a margin, in pixels.
-fn place_of(
-    alloc: Global,
-    request: &Request<'_>,
-    code: &QrCode,
-    area: Rectangle,
-    margin: u8,
-) -> Result<Place, Failure>
-    ensures { IfOk result HasPixels }
-{
-    match place_in(request, code, area, margin) {
-        Some(place) => Ok(place),
-        None => no_room(alloc, area),
+    // Draws the code with something in the area.
+    fn draw(&self, inside: Inside<'_>) -> Result<Vec<u8>, Failure> {
+        match with_logo(self.alloc, self.request, self.code, self.area, inside) {
+            Ok(Some(bytes)) => Ok(bytes),
+            Ok(None) => self.no_room(),
+            Err(_) => Err(Failure::OutOfMemory),
+        }
+    }
+
+    // Returns the place of the area within a margin, in pixels.
+    fn place(&self, margin: u8) -> Result<Place, Failure>
+        ensures { IfOk result HasPixels }
+    {
+        match place_in(self.request, self.code, self.area, margin) {
+            Some(place) => Ok(place),
+            None => self.no_room(),
+        }
+    }
+
+    // Fails: the area is too small for a logo within its margin.
+    fn no_room<T>(&self) -> Result<T, Failure>
+        ensures { IsErr result }
+    {
+        let (width, height) = (self.area.width, self.area.height);
+        refused!(self.alloc;
+            "the area of {width} by {height} modules leaves no room for a logo within its margin; \
+            use a smaller --logo-margin, a larger --logo-size, or a larger version with -v"
+        )
     }
 }

@@ -2,28 +2,41 @@
 
 use qrcode_sheets::Inset;
 use std::alloc::{AllocError, Global};
+use std::ops::Range;
 
-// A pixel in a row or column, and how much of it counts.
+// What a pixel of a shrunk picture covers along one side, in parts of which a pixel of the picture
+// has `unit`.
 #[derive(Clone, Copy)]
-struct Share {
-    place: u64,
-    parts: u64,
+struct Span {
+    begin: u64,
+    end: u64,
+    unit: u64,
 }
 
-// Returns the pixels that pixel `place` of `count` covers, of `whole`, each in `count` parts.
-fn shares_of(alloc: Global, place: u16, count: u16, whole: u16) -> Result<Vec<Share>, AllocError> {
-    let unit = count.max(1) as u64;
-    let begin = (place as u64).saturating_mul(whole as u64);
-    let end = begin.saturating_add(whole as u64);
-    let mut shares = Vec::new(alloc);
-    for place in begin / unit..end.div_ceil(unit) {
-        let start = place.saturating_mul(unit);
-        let parts = end
-            .min(start.saturating_add(unit))
-            .saturating_sub(begin.max(start));
-        shares.push(Share { place, parts })?;
+impl Span {
+    // What pixel `place` of `count` covers of `whole` pixels.
+    fn of(place: u16, count: u16, whole: u16) -> Span {
+        let begin = (place as u64).saturating_mul(whole as u64);
+        Span {
+            begin,
+            end: begin.saturating_add(whole as u64),
+            unit: count as u64,
+        }
     }
-    Ok(shares)
+
+    // The pixels of which it covers something.
+    fn pixels(&self) -> Range<u64> {
+        let unit = self.unit.max(1);
+        self.begin / unit..self.end.div_ceil(unit)
+    }
+
+    // How many parts it covers of pixel `place` of the picture.
+    fn parts_of(&self, place: u64) -> u64 {
+        let start = place.saturating_mul(self.unit);
+        self.end
+            .min(start.saturating_add(self.unit))
+            .saturating_sub(self.begin.max(start))
+    }
 }
 
 // Sums over pixels, by their parts: of the opacity, and of red, green and blue by opacity.
@@ -37,13 +50,10 @@ struct Sums {
 impl Sums {
     fn add(&mut self, parts: u64, shade: [u8; 4]) {
         let share = parts.saturating_mul(shade[3] as u64);
-        let more = |sum: u64, level: u8| sum.saturating_add(share.saturating_mul(level as u64));
-        let [red, green, blue] = self.levels;
-        self.levels = [
-            more(red, shade[0]),
-            more(green, shade[1]),
-            more(blue, shade[2]),
-        ];
+        for i in 0..3usize {
+            let more = share.saturating_mul(shade[i] as u64);
+            self.levels[i] = self.levels[i].saturating_add(more);
+        }
         self.parts = self.parts.saturating_add(parts);
         self.opacity = self.opacity.saturating_add(share);
     }
@@ -75,46 +85,32 @@ pub(crate) fn shrunk(
     across: u16,
     down: u16,
 ) -> Result<Vec<[u8; 4]>, AllocError> {
-    let mut columns = Vec::new(alloc);
-    for column in 0..across {
-        columns.push(shares_of(alloc, column, across, picture.across)?)?;
-    }
     let mut shades = Vec::new(alloc);
     for row in 0..down {
-        let rows = shares_of(alloc, row, down, picture.down)?;
-        push_row(&mut shades, picture, &columns, &rows)?;
+        let rows = Span::of(row, down, picture.down);
+        for column in 0..across {
+            let columns = Span::of(column, across, picture.across);
+            shades.push(shade_of(picture, columns, rows))?;
+        }
     }
     Ok(shades)
 }
 
-// Appends a row of pixels, which covers these columns and rows of the picture.
-fn push_row(
-    shades: &mut Vec<[u8; 4]>,
-    picture: Inset<'_>,
-    columns: &[Vec<Share>],
-    rows: &[Share],
-) -> Result<(), AllocError> {
-    for columns in columns {
-        let mut sums = Sums {
-            parts: 0,
-            opacity: 0,
-            levels: [0; 3],
-        };
-        for row in rows {
-            add_row(&mut sums, picture, columns, *row);
-        }
-        shades.push(sums.shade())?;
-    }
-    Ok(())
-}
-
-// Adds what these columns cover of a row.
-fn add_row(sums: &mut Sums, picture: Inset<'_>, columns: &[Share], row: Share) {
-    let first = row.place.saturating_mul(picture.across as u64);
-    for column in columns {
-        let place = first.saturating_add(column.place) as usize;
-        if let Some(shade) = picture.pixels.get(place) {
-            sums.add(row.parts.saturating_mul(column.parts), *shade);
+// Returns the mean of what a pixel covers: these columns and rows of the picture.
+fn shade_of(picture: Inset<'_>, columns: Span, rows: Span) -> [u8; 4] {
+    let mut sums = Sums {
+        parts: 0,
+        opacity: 0,
+        levels: [0; 3],
+    };
+    for row in rows.pixels() {
+        let first = row.saturating_mul(picture.across as u64);
+        for column in columns.pixels() {
+            if let Some(shade) = picture.pixels.get(first.saturating_add(column) as usize) {
+                let parts = rows.parts_of(row).saturating_mul(columns.parts_of(column));
+                sums.add(parts, *shade);
+            }
         }
     }
+    sums.shade()
 }

@@ -3,8 +3,8 @@ use Rattle.std.specs.Prelude.{ℕ, ◌-◌, ◌==◌, Bool, List, [], ◌∷◌,
 use Rattle.std.specs.declared.string.String.{String}
 use Rattle.std.specs.declared.alloc.Global.{Global}
 use Rattle.qrcode_gs1.specs.Elements.{Item}
-use Rattle.goqlanis_make.specs.declared.contents.elements.Part.{Part}
-use Rattle.goqlanis_make.specs.declared.contents.elements.Part.TheVariants.{Nothing, Identifier, Value}
+use Rattle.goqlanis_make.specs.declared.elements.Part.{Part}
+use Rattle.goqlanis_make.specs.declared.elements.Part.TheVariants.{Nothing, Identifier, Value}
 
 abbrev pub value_byte : ℕ → List ℕ  -- a byte of a value, as written
 value_byte b = if b == 40 then 92 ∷ 40 ∷ [] else b ∷ []

@@ -70,25 +70,14 @@ fn damaged_modules(
 {
     // Its contract says that the modules are a square.
     let _width = code.width();
-    let modules = masked_modules(alloc, request, code)?;
+    let modules = match modules_under(alloc, code, request.mask) {
+        Ok(modules) => modules,
+        Err(error) => return Err(Failure::Refused(refusal_text(alloc, request, error)?)),
+    };
     let (version, level) = (code.version(), code.error_correction_level());
     match damaged(alloc, version, level, &modules, damage) {
         Ok(modules) => Ok(laid(alloc, version, position, &modules)?),
         Err(TooMuch::OutOfMemory) => Err(Failure::OutOfMemory),
         Err(error) => refused!(alloc; "{error}"),
-    }
-}
-
-// Returns the modules of a code under the requested mask.
-fn masked_modules(
-    alloc: Global,
-    request: &Request<'_>,
-    code: &QrCode,
-) -> Result<Vec<Color>, Failure>
-    ensures { IfOk result (λ modules. length modules.items ≡ length code.now.modules) }
-{
-    match modules_under(alloc, code, request.mask) {
-        Ok(modules) => Ok(modules),
-        Err(error) => Err(Failure::Refused(refusal_text(alloc, request, error)?)),
     }
 }

@@ -1,6 +1,6 @@
 //! Draws codes and writes drawings.
 
-ghost use Rattle.std.specs.Prelude.{◌≡◌, ℕ, List, None, Some, IfOk};
+ghost use Rattle.std.specs.Prelude.{◌≡◌, ℕ, List, None, Some, IfOk, IsErr};
 ghost use Rattle.qrcode_gs1.specs.Elements.{Item};
 ghost use Rattle.qrcode_gs1.specs.symbol.Indicators.{indicator_of};
 ghost use Rattle.goqlanis_request.specs.Drawings.{IsShownIn};
@@ -8,14 +8,14 @@ ghost use Rattle.goqlanis_request.specs.Elements.{IsApplicationIn, IsElementsIn}
 ghost use Rattle.goqlanis_make.specs.Labels.{label_text};
 
 use crate::charsets::text_code;
-use crate::contents::{Elements, with_round_brackets};
 use crate::damaging::draw_damaged;
+use crate::elements::{Elements, with_round_brackets};
 use crate::segments::{characters_of, is_empty, segments_of};
 use goqlanis_files::failure::Failure;
 use goqlanis_files::streams::{print, write_data, write_file};
 use goqlanis_files::{refused, usage};
-use goqlanis_logos::areas::{version_for, warn_of_logo};
-use goqlanis_logos::middle::{draw_with_middle, has_pixels, middle_of};
+use goqlanis_logos::areas::{area_in, version_for, warn_of_logo};
+use goqlanis_logos::middle::{draw_with_middle, has_pixels};
 use goqlanis_options::asked::{Asked, Target, Work};
 use goqlanis_options::charsets::Coded;
 use goqlanis_options::report::show_report;
@@ -34,7 +34,7 @@ use qrcode_gs1::errors::Gs1Error;
 use qrcode_gs1::symbol::errors::SymbolError;
 use qrcode_gs1::symbol::indicator_of;
 use qrcode_sheets::GREATEST_PAINTED;
-use std::alloc::Global;
+use std::alloc::{AllocError, Global};
 use std::io::IsTerminal;
 use std::process::ExitCode;
 
@@ -83,10 +83,7 @@ fn bytes_code(alloc: Global, asked: &Asked<'_, '_>, bytes: &[u8]) -> Result<QrCo
     let (request, manner) = (&asked.request, manner(alloc, asked, bytes)?);
     match symbol_in(alloc, request.choice, manner, request.level, bytes) {
         Ok(code) => Ok(code),
-        Err(error) => {
-            let why = data_refusal_text(alloc, request, manner, bytes, error)?;
-            Err(Failure::Refused(why))
-        }
+        Err(error) => refuse(data_refusal_text(alloc, request, manner, bytes, error)),
     }
 }
 
@@ -108,29 +105,32 @@ fn choice_for_logo(
     }))
 }
 
-// Draws `code` as the command line asks, with the logo, cross or area in its middle. Returns the
-// area, if there is one, with the bytes of the drawing.
+// Draws `code` as the command line asks, with the logo, cross or nothing in `area` of its middle.
 //
-// Errors: `Refused` if the code has no such area; `OutOfMemory`.
+// Errors: `Refused` if a logo has no room there; `OutOfMemory`.
 fn draw_code(
     alloc: Global,
     asked: &Asked<'_, '_>,
     code: &QrCode,
-) -> Result<(Option<Rectangle>, Vec<u8>), Failure>
+    area: Option<Rectangle>,
+) -> Result<Vec<u8>, Failure>
     ensures shown { asked.now.logo ≡ None
-        → IfOk result (λ drawn. IsShownIn asked.now.request code.now drawn.1.items) }
+        → IfOk result (λ bytes. IsShownIn asked.now.request code.now bytes.items) }
 {
-    if let Some(logo) = &asked.logo {
-        let (area, bytes) = draw_with_middle(alloc, &asked.request, logo, code)?;
-        return Ok((Some(area), bytes));
+    if let (Some(logo), Some(area)) = (&asked.logo, area) {
+        return draw_with_middle(alloc, &asked.request, logo, code, area);
     }
     match drawing_of(alloc, &asked.request, code) {
-        Ok(bytes) => Ok((None, bytes)),
-        Err(error) => {
-            let why = refusal_text(alloc, &asked.request, error)?;
-            Err(Failure::Refused(why))
-        }
+        Ok(bytes) => Ok(bytes),
+        Err(error) => refuse(refusal_text(alloc, &asked.request, error)),
     }
+}
+
+// Fails with a text that says why.
+fn refuse<T>(why: Result<String, AllocError>) -> Result<T, Failure>
+    ensures { IsErr result }
+{
+    Err(Failure::Refused(why?))
 }
 
 // The maximum side, in pixels, of uncompressed formats, which are drawn in memory: 0.8 GB for PPM.
@@ -207,10 +207,7 @@ fn segments_code(alloc: Global, asked: &Asked<'_, '_>, words: &[&str]) -> Result
     let request = &asked.request;
     match symbol_of(alloc, request.choice, request.level, &segments) {
         Ok(code) => Ok(code),
-        Err(error) => {
-            let why = segments_refusal_text(alloc, request, &segments, error)?;
-            Err(Failure::Refused(why))
-        }
+        Err(error) => refuse(segments_refusal_text(alloc, request, &segments, error)),
     }
 }
 
@@ -247,11 +244,10 @@ fn elements_code(alloc: Global, request: &Request<'_>, text: &str) -> Result<QrC
     match symbol_of_elements(alloc, request.choice, request.level, &elements) {
         Ok(code) => Ok(code),
         Err(SymbolError::Elements(Gs1Error::Refused(index, cause))) => {
-            Err(Failure::Refused(read.refusal(alloc, index, cause)?))
+            refuse(read.refusal(alloc, index, cause))
         }
         Err(SymbolError::Symbol(QrError::DataTooLong)) => {
-            let why = elements_refusal_text(alloc, request, &elements)?;
-            Err(Failure::Refused(why))
+            refuse(elements_refusal_text(alloc, request, &elements))
         }
         Err(SymbolError::Elements(_) | SymbolError::Symbol(_)) => Err(Failure::OutOfMemory),
     }
@@ -282,10 +278,7 @@ fn application_code(
     match symbol_for_application(alloc, request.choice, request.level, application, bytes) {
         Ok(code) => Ok(code),
         Err(QrError::OutOfMemory) => Err(Failure::OutOfMemory),
-        Err(_) => {
-            let why = application_refusal_text(alloc, request, application, bytes)?;
-            Err(Failure::Refused(why))
-        }
+        Err(_) => refuse(application_refusal_text(alloc, request, application, bytes)),
     }
 }
 
@@ -298,20 +291,21 @@ pub(crate) fn draw_reported(
     coded: Option<Coded>,
 ) -> Result<Option<Vec<u8>>, Failure> {
     check_side(rt.alloc(), asked, &code)?;
-    if asked.is_dry {
-        let area = middle_of(rt.alloc(), asked, &code)?;
-        show_report(rt, asked, &code, area, coded)?;
-        return Ok(None);
-    }
-    if let Work::Damaged(damage) = asked.work {
-        let drawing = draw_damaged(rt, asked, damage, &code)?;
-        show_report(rt, asked, &code, None, coded)?;
-        return Ok(Some(drawing));
-    }
-    let (area, bytes) = draw_code(rt.alloc(), asked, &code)?;
-    warn_of_logo(rt, asked, &code, area)?;
+    let area = area_in(rt.alloc(), asked, &code)?;
+    let bytes = match asked.work {
+        _ if asked.is_dry => None,
+        Work::Damaged(damage) => {
+            let bytes = draw_damaged(rt, asked, damage, &code)?;
+            Some(bytes)
+        }
+        _ => {
+            let bytes = draw_code(rt.alloc(), asked, &code, area)?;
+            warn_of_logo(rt, asked, &code, area)?;
+            Some(bytes)
+        }
+    };
     show_report(rt, asked, &code, area, coded)?;
-    Ok(Some(bytes))
+    Ok(bytes)
 }
 
 /// Refuses a binary format that would go to a terminal.

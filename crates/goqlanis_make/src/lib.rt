@@ -2,11 +2,12 @@
 #![tactic(auto)]
 
 mod charsets;
-mod contents;
 mod damaging;
 mod drawing;
+mod elements;
 mod lines;
 mod making;
+mod payloads;
 mod segments;
 mod splitting;
 

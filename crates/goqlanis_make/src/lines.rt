@@ -2,7 +2,7 @@
 
 use crate::drawing::{draw, write_drawing, write_page};
 use crate::making::draw_payload;
-use goqlanis_files::failure::{Doubts, Failure, Place};
+use goqlanis_files::failure::{Doubts, Failure};
 use goqlanis_files::files::flush_folder;
 use goqlanis_files::streams::{Series, ask, named, shown, unread};
 use goqlanis_files::{doubted, refused};
@@ -130,33 +130,18 @@ fn draw_each<R: BufRead>(
             break;
         }
         if let Some(line) = table.line(rt.alloc(), &read, number)? {
-            let drawn = draw_line(rt, asked, table, output, &line);
-            is_whole = reported(rt, place, drawn)? && is_whole;
+            match draw_line(rt, asked, table, output, &line) {
+                Err(Failure::Refused(why)) => {
+                    let why = shown(why.as_str());
+                    let _ = eprintln!(rt; "goqlanis: {place}{why}");
+                    is_whole = false;
+                }
+                drawn => drawn?,
+            }
         }
     }
     output.pages.end(rt)?;
-    Ok(if is_whole {
-        ExitCode::SUCCESS
-    } else {
-        ExitCode::FAILURE
-    })
-}
-
-// Reports a refusal of a line; returns whether there is none.
-fn reported(
-    rt: &HostRuntime,
-    place: Place<'_>,
-    drawn: Result<(), Failure>,
-) -> Result<bool, Failure> {
-    match drawn {
-        Ok(()) => Ok(true),
-        Err(Failure::Refused(why)) => {
-            let why = shown(why.as_str());
-            let _ = eprintln!(rt; "goqlanis: {place}{why}");
-            Ok(false)
-        }
-        Err(failure) => Err(failure),
-    }
+    Ok(ExitCode::from(u8::from(!is_whole)))
 }
 
 // Draws a line, to a file named after it if `--output` is given.

@@ -1,8 +1,8 @@
 //! Makes the codes that the command line asks for.
 
-use crate::contents::payload_of;
 use crate::drawing::{check_terminal, draw, write_drawing};
 use crate::lines::draw_lines;
+use crate::payloads::payload_of;
 use crate::splitting::{MOST_IN_SEVERAL, draw_several};
 use goqlanis_files::failure::Failure;
 use goqlanis_files::streams::{MOST_DATA, read_file, read_standard_input, shown};

@@ -1,6 +1,6 @@
 use Rattle.std.proofs.Common.{◌++◌, ap, ◌∙◌, sym, encode_utf8}
 use Rattle.goqlanis_make.proofs.Labelling.{encoded_more}
-use Rattle.goqlanis_make.proofs.contents.elements.Elements.read.Goals as goal
+use Rattle.goqlanis_make.proofs.elements.Elements.read.Goals as goal
 
 pub loop-character-preserved : goal.loop-character-preserved
 loop-character-preserved c =

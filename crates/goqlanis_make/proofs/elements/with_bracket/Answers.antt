@@ -1,6 +1,6 @@
 use Rattle.std.specs.Prelude.{string_bytes, string_len}
 use Rattle.goqlanis_make.proofs.Labelling.{value_joined}
-use Rattle.goqlanis_make.proofs.contents.elements.with_bracket.Goals as goal
+use Rattle.goqlanis_make.proofs.elements.with_bracket.Goals as goal
 
 pub returns : goal.returns
 returns c = record {

@@ -1,6 +1,8 @@
-//! Explains why a payload is refused: which option is wrong, and what would help.
+//! Makes the texts of payloads, or explains why one is refused: which option is wrong, and what would
+//! help.
 
-ghost use Rattle.std.specs.Prelude.{IsErr};
+ghost use Rattle.std.specs.Prelude.{◌≡◌, IfOk, IsErr, string_bytes};
+ghost use Rattle.qrcode_payloads.specs.Texts.{payload_text};
 
 use goqlanis_files::failure::Failure;
 use goqlanis_files::refused;
@@ -9,11 +11,30 @@ use goqlanis_tables::columns::Columns;
 use qrcode_contents::fields::errors::{Cause, ContentError, Field};
 use qrcode_payloads::given::Given;
 use qrcode_payloads::kinds::Kind;
+use qrcode_payloads::texts::text_of;
 use std::alloc::Global;
 
-/// Fails because of an error of a payload format, with a message: the option, what is wrong with
-/// it, and what its help says.
-pub(crate) fn not_made<G: Given>(
+/// Returns the text of a payload with these fields; messages name those of `columns` by column.
+///
+/// Errors: `Refused` if the format rejects a field; `OutOfMemory`.
+pub(crate) fn payload_of<G: Given>(
+    alloc: Global,
+    kind: Kind,
+    given: &G,
+    columns: &Columns,
+) -> Result<String, Failure>
+    ensures value { IfOk result (λ text.
+        string_bytes text ≡ payload_text kind (G.fields given.now)) }
+{
+    match text_of(alloc, kind, given) {
+        Ok(text) => Ok(text),
+        Err(error) => not_made(alloc, kind, error, given, columns),
+    }
+}
+
+// Fails because of an error of a payload format, with a message: the option, what is wrong with
+// it, and what its help says.
+fn not_made<G: Given>(
     alloc: Global,
     kind: Kind,
     error: ContentError,

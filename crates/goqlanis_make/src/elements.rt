@@ -79,45 +79,50 @@ impl Elements {
         index: usize,
         cause: Cause,
     ) -> Result<String, AllocError> {
-        let Some((identifier, value)) = self.items.get(index) else {
-            return Ok(String::new(alloc));
-        };
-        let number = index.saturating_add(1);
-        let mut text = format!(in alloc; "element {number}, ({identifier}): ")?;
-        match (cause, rule_of(identifier.as_bytes())) {
-            (Cause::Length, Some(rule)) => {
-                push_length(&mut text, identifier.as_str(), value.len(), rule.1)?;
-            }
-            (Cause::Character, Some(rule)) => push_character(&mut text, rule.2, value.as_str())?,
-            (Cause::CheckDigit, Some(rule)) => {
-                push_digit(&mut text, identifier.as_str(), value.as_str(), rule.3)?;
-            }
-            (Cause::Range, _) => text.push_str("its value is no date, YYMMDD (DD may be 00)")?,
-            _ if identifier.bytes().any(|byte| !byte.is_ascii_digit()) => text.push_str(
-                "no such identifier is known; if ( belongs to the value before it, write \\(",
-            )?,
-            _ => text.push_str(
-                "no such identifier is known; \
-                identifiers have two to four digits, as 01, 414 and 3103",
-            )?,
+        let mut text = String::new(alloc);
+        if let Some((identifier, value)) = self.items.get(index) {
+            let number = index.saturating_add(1);
+            write!(text, "element {number}, ({identifier}): ")?;
+            push_cause(&mut text, identifier.as_str(), value.as_str(), cause)?;
         }
         Ok(text)
     }
 }
 
-// Appends which length a value of `count` characters has to have.
-fn push_length(
+// Appends what is wrong with an element, and what would help.
+fn push_cause(
     text: &mut String,
     identifier: &str,
-    count: usize,
-    range: (usize, usize),
+    value: &str,
+    cause: Cause,
 ) -> Result<(), AllocError> {
-    let (least, most) = range;
-    write!(text, "its value has {count} characters; it needs {least}")?;
-    if least < most {
-        write!(text, " to {most}")?;
+    match (cause, rule_of(identifier.as_bytes())) {
+        (Cause::Length, Some(rule)) => {
+            let ((least, most), count) = (rule.1, value.len());
+            write!(text, "its value has {count} characters; it needs {least}")?;
+            if least < most {
+                write!(text, " to {most}")?;
+            }
+            text.push_str(length_help(identifier, count))
+        }
+        (Cause::Character, Some(rule)) => push_character(text, rule.2, value),
+        (Cause::CheckDigit, Some(rule)) => {
+            let place = rule.3;
+            let digit = right_digit(*text.allocator(), identifier, value, place)?;
+            write!(
+                text,
+                "its check digit, at place {place}, would be {digit}; look for a mistyped or \
+                swapped digit"
+            )
+        }
+        (Cause::Range, _) => text.push_str("its value is no date, YYMMDD (DD may be 00)"),
+        _ if identifier.bytes().any(|byte| !byte.is_ascii_digit()) => text.push_str(
+            "no such identifier is known; if ( belongs to the value before it, write \\(",
+        ),
+        _ => text.push_str(
+            "no such identifier is known; identifiers have two to four digits, as 01, 414 and 3103",
+        ),
     }
-    text.push_str(length_help(identifier, count))
 }
 
 // What would help with a value of this many characters, if its identifier allows no such length.
@@ -243,20 +248,6 @@ fn push_character(text: &mut String, digits: usize, value: &str) -> Result<(), A
         }
     }
     Ok(())
-}
-
-// Appends which check digit would be right at `place`, counted from 1.
-fn push_digit(
-    text: &mut String,
-    identifier: &str,
-    value: &str,
-    place: usize,
-) -> Result<(), AllocError> {
-    let digit = right_digit(*text.allocator(), identifier, value, place)?;
-    write!(
-        text,
-        "its check digit, at place {place}, would be {digit}; look for a mistyped or swapped digit"
-    )
 }
 
 // Returns the digit that would be right at `place`, counted from 1.

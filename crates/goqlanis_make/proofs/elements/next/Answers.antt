@@ -3,7 +3,7 @@ use Rattle.std.specs.Prelude.{string_bytes}
 use Rattle.std.proofs.lemmas.Bool.Decides.{nat_tests}
 use Rattle.goqlanis_make.specs.Labels.{items_of, label_text, read_text}
 use Rattle.goqlanis_make.proofs.Labelling.{identifier_closed, encoded_byte}
-use Rattle.goqlanis_make.proofs.contents.elements.next.Goals as goal
+use Rattle.goqlanis_make.proofs.elements.next.Goals as goal
 
 pub returns-in-Identifier-2 : goal.returns-in-Identifier-2
 returns-in-Identifier-2 c =
