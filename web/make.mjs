@@ -189,7 +189,8 @@ function warningsOf(made) {
         ...(/^.{1,7}$/u.test(at("field-password")?.value ?? "")
             && ["", "WPA"].includes(at("field-security").value)
             ? ["The password has fewer than 8 characters, which WPA needs."] : []),
-        ...(logo === null ? [] : ["Only SVG shows the logo; other files leave its area light."]),
+        ...(logo === null ? [] : [`${showsLogo("png") ? "SVG and PNG show" : "Only SVG shows"} `
+            + "the logo; other files leave its area light."]),
     ];
 }
 
@@ -212,9 +213,14 @@ function tell(text) {
     at("done").textContent = text;
 }
 
-/** Returns the code as a format shows it: only SVG has the logo, others a light area. */
+/** Returns whether a format shows the logo: SVG does, and PNG one that is a PNG file. */
+function showsLogo(format) {
+    return format === "svg" || format === "png" && logo?.[0] === 137;
+}
+
+/** Returns the code as a format shows it: with the logo, or a light area. */
 function shownIn(format) {
-    return format === "svg" ? code : new QrCode(code.modules, code.version, code.level);
+    return showsLogo(format) ? code : new QrCode(code.modules, code.version, code.level);
 }
 
 function save(format) {

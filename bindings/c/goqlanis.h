@@ -737,6 +737,17 @@ goq_answer goq_draw_with(const uint8_t *modules, size_t modules_length, uint32_t
 goq_answer goq_draw_with_length(const uint8_t *modules, size_t modules_length, uint32_t width,
     const goq_drawing *drawing, size_t *count);
 
+/* Draws a PNG file like goq_draw_with, with a logo: the picture in a PNG file goes into the middle
+   of the modules of `area`, in its own proportions, and is shrunk if it has more pixels both across
+   and down. Make these modules light before, with goq_cover: then the symbol decodes whatever the
+   logo shows. Eight bytes per pixel of `out`, and 1,000 more, are always enough. Errors: those of
+   goq_draw_with but GOQ_SMALL_BUFFER; GOQ_NOT_IN_FORMAT for another format, GOQ_NO_SUCH_SIZE for
+   more than 8,192 pixels a side, GOQ_NO_SUCH_AREA, GOQ_NOT_PICTURE, GOQ_BROKEN_PICTURE,
+   GOQ_SMALL_BUFFER; GOQ_OUT_OF_MEMORY. */
+goq_answer goq_draw_logo(const uint8_t *modules, size_t modules_length, uint32_t width,
+    const goq_drawing *drawing, const void *logo, size_t logo_length, const goq_rectangle *area,
+    void *out, size_t out_length, size_t *count);
+
 /* -- Reading -- */
 
 /* Decodes a square of modules: row by row from the top left corner, dark if not zero, without a

@@ -16,6 +16,7 @@ const OTHERS = {
     checked: (code, picture) => goqlanis.check(picture).map(String),
     places: (code, picture) => goqlanis.missed(picture).map(({ why, ...place }) => place),
     logo: (code, logo) => code.withLogo(logo).svg(),
+    logoInPng: (code, logo) => code.withLogo(logo).png(),
     spoilt: (code, options) => code.damaged(options).modules,
 };
 

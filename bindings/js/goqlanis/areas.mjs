@@ -1,7 +1,7 @@
 /* Areas of codes that may show anything, such as logos, and damage. */
 
 import * as checks from "./checks.mjs";
-import { refusal, refuse } from "./errors.mjs";
+import { QrError, refusal, refuse } from "./errors.mjs";
 import { answer, within } from "./memory.mjs";
 import { BLOCKS_MAX } from "./numbers.mjs";
 import { LEVELS, shown } from "./checks.mjs";
@@ -154,6 +154,15 @@ function ratioOf(ratio) {
             [best, least] = [[Math.round(wide * small), small], away];
     }
     return ratio >= 1 ? best : best.reverse();
+}
+
+/** Returns a logo for PNG: its area, and the bytes of its file. */
+export function logoOf({ data, ...area }) {
+    const [kind, text] = data.split(",");
+    if (!kind.includes("png"))
+        throw new QrError("NotInFormat",
+            "PNG: the logo is an SVG file: save it as PNG, or draw SVG");
+    return { area, file: Uint8Array.from(atob(text), (sign) => sign.charCodeAt(0)) };
 }
 
 /** Returns an SVG file with a picture in it. */

@@ -7,8 +7,9 @@ import { QrError, refuse } from "./errors.mjs";
 import { answer, number, within } from "./memory.mjs";
 import { FORMATS } from "./numbers.mjs";
 
-/* The formats of a code with a logo: SVG shows it, half blocks leave its area light. */
-const WITH_LOGO = ["svg", "txt", "light"];
+/* The formats of a code with a logo: SVG shows it, PNG if it is one, half blocks leave its area
+   light. */
+const WITH_LOGO = ["svg", "png", "txt", "light"];
 
 /** A QR or Micro QR code: see index.d.ts. */
 export class QrCode {
@@ -47,10 +48,11 @@ export class QrCode {
 
     /** Returns the picture in a format, as bytes or, if the format is text, as a string. */
     draw(format, options = {}) {
-        const bytes = drawn(this, format, options);
+        const logo = format === "png" && this.logo !== null ? areas.logoOf(this.logo) : null;
+        const bytes = drawn(this, format, options, logo);
         if (this.logo !== null && !WITH_LOGO.includes(format))
-            throw new QrError("NotInFormat", `${format.toUpperCase()}: only SVG shows the logo; `
-                + "withArea leaves its area light in all formats");
+            throw new QrError("NotInFormat", `${format.toUpperCase()}: SVG shows the logo, PNG if `
+                + "it is one; withArea leaves its area light in all formats");
         if (!FORMATS[format]?.isText && format !== "light")
             return bytes;
         const text = checks.textOf(bytes);

@@ -24,8 +24,8 @@ const NAMES = new Map(COLOURS.split(" ").map((it) => it.split("=")));
 const USUAL = { scale: null, size: null, quietZone: null, dark: "black", light: "white",
     dpi: null, ...Object.fromEntries([...PARTS.keys()].map((it) => [it, false])) };
 
-/** Returns the bytes of the picture of a code. */
-export function drawn(code, format, given) {
+/** Returns the bytes of the picture of a code, in PNG with a logo if there is one. */
+export function drawn(code, format, given, logo = null) {
     if (!Object.keys(KINDS).includes(format))
         throw new RangeError(
             `no format ${shown(format)}: take one of ${Object.keys(KINDS).join(", ")}`);
@@ -34,7 +34,7 @@ export function drawn(code, format, given) {
     const exact = format === "eps" || format === "pdf" ? exactOf(look.size, across) : null;
     const scale = exact?.scale ?? scaleOf(look, format, across);
     const own = ownOf(look, format), { dark, light, dpi } = inkOf(look, format, own);
-    const isColourful = format === "png" && Object.keys(own).length > 0;
+    const isColourful = logo !== null || format === "png" && Object.keys(own).length > 0;
     const side = across * scale, most = isColourful ? MOST_COLOURFUL : SIDES[kind.number] ?? side;
     if (side > most)
         throw new QrError("NoSuchSize", `a side of ${grouped(side)} pixels: this format has at `
@@ -44,12 +44,15 @@ export function drawn(code, format, given) {
         const drawing = { format: kind.number, zone, scale, dark, light, dpi: exact?.dpi ?? dpi,
             ...Object.fromEntries(Object.entries(own).map(([it, ink]) => [PARTS.get(it), ink])) };
         const asked = [buffers.bytes(code.modules), code.modules.length, code.width,
-            buffers.initial("goq_drawing", drawing)];
+            buffers.initial("goq_drawing", drawing), ...logo === null ? []
+                : [buffers.bytes(logo.file), logo.file.length,
+                    buffers.structs("goq_rectangle", [logo.area])]];
+        const call = logo === null ? "goq_draw_with" : "goq_draw_logo";
         const count = buffers.room(8);
         /* Always enough for SVG, PIC and EPS, and mostly for others, which are drawn to find how
            long they are. */
-        let room = code.modules.length * 80 + 400, out = buffers.room(room);
-        let said = answer("goq_draw_with", ...asked, out, room, count);
+        let room = logo ? 8 * side * side + 1000 : code.modules.length * 80 + 400;
+        let out = buffers.room(room), said = answer(call, ...asked, out, room, count);
         if (said === "SMALL_BUFFER") {
             refuse(answer("goq_draw_with_length", ...asked, count));
             [room] = buffers.sizes(count);

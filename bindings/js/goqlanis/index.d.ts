@@ -177,8 +177,8 @@ export class QrCode {
     damaged(options?: { codewords?: number; formatBits?: number; versionBits?: number;
         patternModules?: number; seed?: number }): QrCode;
     /** The code with a logo, the bytes or the text of an SVG or PNG file, in an area, by default
-        the largest in its ratio. Only SVG shows it; half blocks leave the area light, and other
-        formats throw NotInFormat: for these, take withArea. */
+        the largest in its ratio. SVG shows it, and PNG a PNG file; half blocks leave the area
+        light, and other formats throw NotInFormat: for these, take withArea. */
     withLogo(logo: Data,
         options?: AreaOptions & { area?: Rectangle | null; margin?: number }): QrCode;
 }

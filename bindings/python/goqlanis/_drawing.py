@@ -13,8 +13,9 @@ from . import _checks
 from . import _numbers as goq
 from ._checks import PARTS, shown
 from ._colours import are_close, colour
-from ._library import Drawing, library
+from ._library import Drawing, Rectangle, library
 from ._numbers import FORMATS, SIDES
+from .areas import Logo
 from .errors import NoSuchColour, NoSuchKind, NoSuchSize, NotInFormat, OutOfMemory, refuse
 
 
@@ -52,8 +53,10 @@ Look = namedtuple("Look", ["scale", "border", "quiet_zone", "dark", "light", "dp
                                               *[False] * len(PARTS)])
 
 
-def drawn(modules: bytes, width: int, usual_zone: int, name: str, look: Look) -> bytes:
-    """Draws modules in a format; the default quiet zone has `usual_zone` modules."""
+def drawn(modules: bytes, width: int, usual_zone: int, name: str, look: Look,
+          logo: Optional[Logo] = None) -> bytes:
+    """Draws modules in a format, in PNG with a logo; the default quiet zone has `usual_zone`
+    modules."""
     kind = KINDS.get(name) or OTHERS[name]
     if look.scale is not None and look.size is not None:
         raise ValueError("scale and size: give one of them")
@@ -67,19 +70,25 @@ def drawn(modules: bytes, width: int, usual_zone: int, name: str, look: Look) ->
     dark, light, dpi = _ink(look, name, kind.has_colours, own)
     dpi = exact[1] if exact else dpi
     side = across * scale
-    most = MOST_COLOURFUL if own and name == "png" else SIDES.get(kind.number, side)
+    most = MOST_COLOURFUL if logo or own and name == "png" else SIDES.get(kind.number, side)
     if side > most:
         helps = "a smaller border" if across > most else f"scale={most // across} or less"
         raise NoSuchSize(f"a side of {side:,} pixels: this format has at most {most:,}: take "
                          f"{helps}")
     drawing = Drawing(ctypes.sizeof(Drawing), kind.number, zone, scale, dark, light, dpi,
                       *(own.get(it, SAME) for it in PARTS))
-    given, count = (modules, len(modules), width, ctypes.byref(drawing)), ctypes.c_size_t()
-    refuse(library.goq_draw_with_length(*given, ctypes.byref(count)))
+    given: Tuple[Any, ...] = (modules, len(modules), width, ctypes.byref(drawing))
+    call, count = library.goq_draw_with, ctypes.c_size_t(8 * side * side + 1000)
+    if logo:
+        file, call = logo.png or b"", library.goq_draw_logo
+        given += file, len(file), ctypes.byref(Rectangle(*logo[:4]))
+    else:
+        refuse(library.goq_draw_with_length(*given, ctypes.byref(count)))
     out = _room(count.value)
     place = (ctypes.c_char * len(out)).from_buffer(out)
-    refuse(library.goq_draw_with(*given, place, len(out), ctypes.byref(count)))
-    return bytes(out) if name != "svg" else _framed(bytes(out), length, look)
+    refuse(call(*given, place, len(out), ctypes.byref(count)))
+    found = bytes(memoryview(out)[:count.value])
+    return found if name != "svg" else _framed(found, length, look)
 
 
 def _framed(svg: bytes, length: Optional[Length], look: Look) -> bytes:

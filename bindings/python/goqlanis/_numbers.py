@@ -64,6 +64,7 @@ CALLS = {
     "goq_is_functional": "number number number",
     "goq_draw_with": "data size number goq_drawing data size sizes",
     "goq_draw_with_length": "data size number goq_drawing sizes",
+    "goq_draw_logo": "data size number goq_drawing data size goq_rectangle data size sizes",
     "goq_read": "data size data size goq_reading",
     "goq_read_any": "data size data size goq_any_reading",
     "goq_read_text": "data size data size goq_reading",

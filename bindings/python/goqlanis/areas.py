@@ -138,6 +138,12 @@ class Logo(NamedTuple):
     height: int
     data: str
 
+    @property
+    def png(self) -> Optional[bytes]:
+        """The PNG file that it is, or None if it is an SVG file."""
+        kind, _, data = self.data.partition(",")
+        return base64.b64decode(data) if "png" in kind else None
+
     def over(self, svg: bytes, zone: int) -> bytes:
         """Returns an SVG file, whose quiet zone has `zone` modules, with the picture added."""
         picture = (f'<image x="{zone + self.left}" y="{zone + self.top}" width="{self.width}" '

@@ -52,7 +52,7 @@ class Symbol:
     a PNG file states; `title` of an SVG file. Colours that many readers cannot tell apart give a
     UserWarning.
 
-    With a logo, only SVG can be drawn, and half blocks with a light area in its place.
+    With a logo, SVG can be drawn, with a PNG file also PNG, and half blocks with a light area.
 
     >>> symbol = encode("01234567")
     >>> symbol, symbol.width, symbol.mask
@@ -317,9 +317,9 @@ take a smaller area
         """Returns the symbol with a logo: the path or the bytes of an SVG or PNG file.
 
         `area` is a rectangle, by default the largest one in the ratio of the logo, for which
-        `reserve` and `keep_alignment` are as for `largest_area`. SVG shows the logo, with `margin`
-        light modules on each side if there is room, and half blocks leave the area light. Other
-        formats raise NotInFormat; for these, take `with_area` and draw the logo yourself.
+        `reserve` and `keep_alignment` are as for `largest_area`. SVG shows the logo, and PNG a PNG
+        file, with `margin` light modules on each side if there is room; half blocks leave the area
+        light. Other formats raise NotInFormat: for these take `with_area`.
 
         Raises NoSuchArea or AreaTooLarge as `with_area` does, and NotPicture if `logo` is neither.
 
@@ -380,13 +380,18 @@ take a smaller area
         return _checks.version(self.version), _checks.level(self.level)
 
     def _drawn(self, name: str, scale: Any, quiet_zone: Any, more: Dict[str, Any]) -> bytes:
-        if self.logo is not None and name != "svg":
-            raise NotInFormat(f"{name.upper()}: only SVG shows the logo; with_area leaves its area "
-                              "light in all formats, and `goqlanis --logo` draws PNG too")
-        look = Look(scale, quiet_zone=quiet_zone, **more)
-        found = _drawing.drawn(self.modules, self.width, self.quiet_zone, name, look)
+        if self.logo is not None and not self._shows_logo(name):
+            helps = "the logo is an SVG file: save it as PNG, or draw SVG" if name == "png" else \
+                "SVG shows the logo, PNG if it is one; with_area leaves its area light in all"
+            raise NotInFormat(f"{name.upper()}: {helps}")
+        look, logo = Look(scale, quiet_zone=quiet_zone, **more), self.logo
+        found = _drawing.drawn(self.modules, self.width, self.quiet_zone, name, look,
+                               logo if name == "png" else None)
         zone = _drawing.zone_of(look, self.quiet_zone)
-        return self.logo.over(found, zone) if self.logo else found
+        return logo.over(found, zone) if logo and name == "svg" else found
+
+    def _shows_logo(self, name: str) -> bool:
+        return name == "svg" or name == "png" and (self.logo is None or self.logo.png is not None)
 
     def _plain(self, name: str, look: Look) -> bytes:
         """Draws the symbol without its logo."""
@@ -396,7 +401,7 @@ take a smaller area
         return self.svg()
 
     def _repr_png_(self) -> Optional[bytes]:
-        return self.png() if self.logo is None else None
+        return self.png() if self._shows_logo("png") else None
 
     def __str__(self) -> str:
         return self.text()

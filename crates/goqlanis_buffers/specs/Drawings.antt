@@ -5,7 +5,7 @@ use Rattle.qrcode_sheets.specs.Paths.{plain}
 use Rattle.goqlanis_buffers.specs.Shades.{colors_of}
 use Rattle.goqlanis_request.specs.Drawings.{sized}
 use Rattle.qrcode_sheets.specs.Formats.{IsDrawn}
-use Rattle.qrcode_sheets.specs.Sheets.{Nothing, Sheet}
+use Rattle.qrcode_sheets.specs.Sheets.{Nothing, Overlay, Sheet}
 use Rattle.qrcode_sheets.specs.declared.layers.PartInk.{PartInk}
 use Rattle.qrcode_formats.specs.Formats.{row}
 use Rattle.qrcode_formats.specs.declared.Density.{Density}
@@ -56,14 +56,17 @@ has_density f dpi = nat_le dpi (most_dpi (row f).density (row f).is_exact)
 abbrev pub is_sayable : Format → Drawing → Bool  -- the format supports the colours and dots per inch
 is_sayable f d = has_density f d.dpi && has_colours f d.dark d.light && have_tints f d
 
--- the bytes are the picture of modules of a width, in a format that supports its colours and dots per inch; it is known which modules belong to parts that
--- have a colour of their own
-pub record IsPictureIn (f : Format) (modules : List ℕ) (width : ℕ) (d : Drawing) (bytes : List ℕ) : Type 0 where
+-- the bytes are the picture of modules of a width, with this on top, in a format that supports its colours and dots per inch; it is known which modules
+-- belong to parts that have a colour of their own
+pub record IsPictureOver (over : Overlay) (f : Format) (modules : List ℕ) (width : ℕ) (d : Drawing) (bytes : List ℕ) : Type 0 where
   pub inks : List PartInk
   pub sayable : IsTrue (is_sayable f d)
   pub known : IsTrue (has_parts width d)
   pub own : map ink_paint inks ≡ paints d
-  pub shown : IsDrawn f (sheet f modules width d inks) bytes
+  pub shown : IsDrawn f (record (sheet f modules width d inks) { over = over }) bytes
+
+abbrev pub IsPictureIn : Format → List ℕ → ℕ → Drawing → List ℕ → Type 0  -- with nothing on top
+IsPictureIn f modules width d bytes = IsPictureOver Nothing f modules width d bytes
 
 -- the most pixels a side: four bytes of memory are taken for each in a PNG file in full colour
 abbrev pub most_side : Format → Bool → ℕ

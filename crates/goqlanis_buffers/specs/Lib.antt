@@ -8,6 +8,7 @@ pub mod Colours
 pub mod Damaging
 pub mod Drawings
 pub mod Joining
+pub mod Logos
 pub mod Missing
 pub mod Names
 pub mod Options

@@ -34,8 +34,8 @@ pub(crate) fn known_length(
     }
 }
 
-// The number of pixels along a side.
-fn side_of(asked: &Asked<'_>, format: Format) -> usize
+/// Returns the number of pixels along a side.
+pub(crate) fn side_of(asked: &Asked<'_>, format: Format) -> usize
     requires drawable { IsDrawable asked.now format }
     ensures value { result ≡ side_of asked.now }
     ensures at_most { result < 2 ^ 32 }

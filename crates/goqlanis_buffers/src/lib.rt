@@ -12,6 +12,7 @@ pub mod damaging;
 pub mod joining;
 pub mod laws;
 mod lengths;
+pub mod logos;
 pub mod missing;
 pub mod names;
 pub mod options;

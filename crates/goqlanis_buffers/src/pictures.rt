@@ -1,16 +1,19 @@
 //! Draws pictures into buffers.
 
-ghost use Rattle.std.specs.Prelude.{◌≡◌, ◌↔◌, ℕ, length, map, IfOk, IfErr, IsOkUnless, IsTrue};
+ghost use Rattle.std.specs.Prelude.{◌≡◌, ◌≢◌, ◌↔◌, ℕ, length, map, IfOk, IfErr, IsOkUnless, IsTrue};
 ghost use Rattle.qrcode_types.specs.declared.types.QrError.TheVariants.{OutOfMemory};
 ghost use Rattle.qrcode_formats.specs.Formats.{row};
+ghost use Rattle.qrcode_sheets.specs.Formats.{takes_overlay};
 ghost use Rattle.qrcode_sheets.specs.Paths.{frame_of, plain};
+ghost use Rattle.qrcode_sheets.specs.Sheets.{overlay_of};
 ghost use Rattle.goqlanis_buffers.specs.Shades.{colors_of};
 ghost use Rattle.goqlanis_request.specs.Drawings.{sized};
 ghost use Rattle.goqlanis_buffers.specs.Colours.{colour_name};
 ghost use Rattle.goqlanis_buffers.specs.Calls.{TellsLength, WritesPicture};
 ghost use Rattle.goqlanis_buffers.specs.Answers.{HasSize};
-ghost use Rattle.goqlanis_buffers.specs.Asking.{IsCauseFor, IsDrawable, IsPictureFor};
-ghost use Rattle.goqlanis_buffers.specs.Drawings.{density, dots, has_side, is_sayable, most_side, IsPictureIn};
+ghost use Rattle.goqlanis_buffers.specs.declared.answers.Refusal.TheVariants.{SmallBuffer};
+ghost use Rattle.goqlanis_buffers.specs.Asking.{IsCauseFor, IsDrawable};
+ghost use Rattle.goqlanis_buffers.specs.Drawings.{density, dots, has_side, is_sayable, most_side, IsPictureOver};
 ghost use Rattle.goqlanis_buffers.specs.Tints.{named_paint, paints};
 
 use crate::answers::Refusal;
@@ -92,7 +95,7 @@ pub fn put_picture(alloc: Global, asked: &Asked<'_>, out: &mut [u8]) -> Result<u
         Ok(_) => {}
         Err(_) => return Err(Refusal::OutOfMemory),
     }
-    let Ok(bytes) = drawn(alloc, asked, format) else {
+    let Ok(bytes) = drawn(alloc, asked, format, Overlay::Nothing) else {
         return Err(Refusal::OutOfMemory);
     };
     if out.len() < bytes.len() {
@@ -118,16 +121,17 @@ pub fn length_of(alloc: Global, asked: &Asked<'_>) -> Result<usize, Refusal>
         Ok(None) => {}
         Err(_) => return Err(Refusal::OutOfMemory),
     }
-    match drawn(alloc, asked, format) {
+    match drawn(alloc, asked, format, Overlay::Nothing) {
         Ok(bytes) => Ok(bytes.len()),
         Err(_) => Err(Refusal::OutOfMemory),
     }
 }
 
-// The format, if the picture can be drawn in it.
-fn format_of(asked: &Asked<'_>) -> Result<Format, Refusal>
+/// Returns the format, if the picture can be drawn in it.
+pub(crate) fn format_of(asked: &Asked<'_>) -> Result<Format, Refusal>
     ensures drawable { IfOk result (IsDrawable asked.now) }
     ensures causes { (room : ℕ) → IfErr result (IsCauseFor asked.now room) }
+    ensures no_buffer { IfErr result (λ refusal. refusal ≢ SmallBuffer) }
 {
     let drawing = asked.drawing;
     if drawing.size != SIZE {
@@ -198,10 +202,17 @@ fn is_sayable(format: Format, drawing: &Drawing) -> bool
         && have_tints(format, drawing)
 }
 
-// Draws a picture. Errors: only `OutOfMemory`.
-fn drawn(alloc: Global, asked: &Asked<'_>, format: Format) -> QrResult<Vec<u8>>
+/// Draws a picture with `over` on top. Errors: only `OutOfMemory`.
+pub(crate) fn drawn(
+    alloc: Global,
+    asked: &Asked<'_>,
+    format: Format,
+    over: Overlay<'_>,
+) -> QrResult<Vec<u8>>
     requires drawable { IsDrawable asked.now format }
-    ensures picture { IfOk result (λ bytes. IsPictureFor asked.now bytes.items) }
+    requires taken { IsTrue (takes_overlay format (overlay_of over)) }
+    ensures picture { IfOk result (λ bytes. IsPictureOver (overlay_of over.entry) format
+        asked.now.modules.now asked.now.width asked.now.drawing.now bytes.items) }
     ensures memory { IsOkUnless result OutOfMemory }
 {
     let colors = colors_of(alloc, asked.modules)?;
@@ -213,7 +224,7 @@ fn drawn(alloc: Global, asked: &Asked<'_>, format: Format) -> QrResult<Vec<u8>>
         light: &light,
         own: &own,
     };
-    draw_named(alloc, asked, format, &colors, names)
+    draw_named(alloc, asked, format, &colors, names, over)
 }
 
 // The names of colours: of dark and of light modules, and of those that parts have of their own.
@@ -224,21 +235,23 @@ struct Names<'a> {
     own: &'a [NamedTint],
 }
 
-// Draws a picture with these modules and names of colours.
+// Draws a picture with these modules and names of colours, and with `over` on top.
 fn draw_named<'a>(
     alloc: Global,
     asked: &Asked<'_>,
     format: Format,
     modules: &'a [Color],
     names: Names<'a>,
+    over: Overlay<'a>,
 ) -> QrResult<Vec<u8>>
     requires drawable { IsDrawable asked.now format }
     requires modules { modules.now ≡ colors_of asked.now.modules.now }
     requires dark { names.dark.now ≡ colour_name asked.now.drawing.now.dark }
     requires light { names.light.now ≡ colour_name asked.now.drawing.now.light }
     requires own { map named_paint names.own.now ≡ paints asked.now.drawing.now }
-    ensures drawing { IfOk result (λ bytes. IsPictureIn format asked.now.modules.now asked.now.width
-        asked.now.drawing.now bytes.items) }
+    requires taken { IsTrue (takes_overlay format (overlay_of over)) }
+    ensures drawing { IfOk result (λ bytes. IsPictureOver (overlay_of over.entry) format
+        asked.now.modules.now asked.now.width asked.now.drawing.now bytes.items) }
     ensures memory { IsOkUnless result OutOfMemory }
 {
     let drawing = asked.drawing;
@@ -261,7 +274,7 @@ fn draw_named<'a>(
         frame: sized_frame(dots),
         version: version_for(asked.width),
         parts: &inks,
-        over: Overlay::Nothing,
+        over,
     };
     match draw(alloc, format, &sheet) {
         Ok(file) => Ok(file),

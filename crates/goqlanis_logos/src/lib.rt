@@ -4,4 +4,3 @@
 pub mod areas;
 mod logos;
 pub mod middle;
-mod shrinking;

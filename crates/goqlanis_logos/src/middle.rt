@@ -4,7 +4,6 @@ ghost use Rattle.std.specs.Prelude.{IfOk, IsErr};
 ghost use Rattle.qrcode_sheets.specs.Places.{HasPixels};
 
 use crate::logos::{element_of, pixels_of};
-use crate::shrinking::shrunk;
 use goqlanis_files::failure::Failure;
 use goqlanis_files::refused;
 use goqlanis_files::streams::read_file;
@@ -13,6 +12,7 @@ use goqlanis_options::logos::{AskedLogo, Logo, Middle};
 use goqlanis_request::Request;
 use goqlanis_request::overlays::{CROSS_UNITS, Inside, cross_pixels, cross_width, with_logo};
 use goqlanis_request::places::place_in;
+use goqlanis_request::shrinking::shrunk;
 use qrcode::QrCode;
 use qrcode_area::areas::Rectangle;
 use qrcode_sheets::{Inset, Place};
@@ -91,18 +91,17 @@ impl Spot<'_> {
     // Draws the code with a logo in the area, as a PNG file. A logo with more pixels than its place
     // is shrunk to them.
     fn draw_logo(&self, logo: Inset<'_>) -> Result<Vec<u8>, Failure> {
-        let across = u16::try_from(logo.place.width).unwrap_or(u16::MAX);
-        let down = u16::try_from(logo.place.height).unwrap_or(u16::MAX);
-        if across >= logo.across || down >= logo.down {
-            return self.draw(Inside::Pixels(logo));
-        }
-        let pixels = shrunk(self.alloc, logo, across, down)?;
-        self.draw(Inside::Pixels(Inset {
-            pixels: &pixels,
-            across,
-            down,
-            ..logo
-        }))
+        let small = shrunk(self.alloc, logo)?;
+        let shown = match &small {
+            Some(pixels) => Inset {
+                pixels,
+                across: logo.place.width as u16,
+                down: logo.place.height as u16,
+                ..logo
+            },
+            None => logo,
+        };
+        self.draw(Inside::Pixels(shown))
     }
 
     // Draws the code with the Swiss cross, as a PNG file.

@@ -82,7 +82,7 @@ overlay_for r v area (Pixels n) = Picture (window_of area) n
 abbrev pub LacksRoom : Format → Version → Rectangle → Inside → Type 0
 LacksRoom f v area Nothing = ⊥
 LacksRoom f v area Cross = takes_overlay f (Shapes []) ≡ false
-LacksRoom f v area (Element margin rest) = ((row f).middle ≢ middle.Element) ⊎ (¬ HasRoom v area margin)
+LacksRoom f v area (Element margin rest) = ((row f).middle ≢ middle.Element) ⊎ (¬ HasRoom (side v) area margin)
 LacksRoom f v area (Pixels n) = takes_overlay f (Picture (window_of area) n) ≡ false
 
 -- bytes draw the symbol as requested, with the modules of the area light and what is in it on top of everything

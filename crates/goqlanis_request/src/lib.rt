@@ -12,6 +12,7 @@ pub mod places;
 mod refusal;
 mod request;
 mod segments;
+pub mod shrinking;
 
 pub use charsets::symbol_among;
 pub use drawing::{dots, drawing_of, drawn, quiet_zone, scale, symbol_in};

@@ -9,7 +9,7 @@ ghost use Rattle.qrcode_sheets.specs.Formats.{takes_overlay};
 ghost use Rattle.qrcode_sheets.specs.Sheets.{overlay_of};
 ghost use Rattle.goqlanis_request.specs.Drawings.{scale_for};
 ghost use Rattle.goqlanis_request.specs.Masks.{LacksMask};
-ghost use Rattle.goqlanis_request.specs.Overlays.{AreBeside, IsCrossSize, IsCrossWidth, IsShownWith, LacksRoom, cross_for, cross_shade, cross_text, is_black_unit, is_in_bar, lies_between, overlay_for, overlay_with, svg_element};
+ghost use Rattle.goqlanis_request.specs.Overlays.{AreBeside, IsCrossSize, IsCrossWidth, IsShownWith, LacksRoom, cross_for, cross_shade, cross_text, is_black_unit, is_in_bar, lies_between, overlay_for, overlay_with, svg_element, window_of};
 
 use crate::drawing::{drawn, quiet_zone, scale, unit};
 use crate::masking::modules_under;
@@ -198,15 +198,19 @@ fn overlay_in<'a>(area: Rectangle, inside: Inside<'a>, text: &'a str) -> Overlay
     match inside {
         Inside::Nothing => Overlay::Nothing,
         Inside::Cross | Inside::Element(..) => Overlay::Shapes(text.as_bytes()),
-        Inside::Pixels(inset) => {
-            let window = Window {
-                left: area.left,
-                top: area.top,
-                width: area.width,
-                height: area.height,
-            };
-            Overlay::Pixels(window, inset)
-        }
+        Inside::Pixels(inset) => Overlay::Pixels(window_of(area), inset),
+    }
+}
+
+/// Returns an area as a window of a picture.
+pub fn window_of(area: Rectangle) -> Window
+    ensures { result ≡ window_of area }
+{
+    Window {
+        left: area.left,
+        top: area.top,
+        width: area.width,
+        height: area.height,
     }
 }
 

@@ -1,8 +1,9 @@
 //! Where an area of modules is in a drawing.
 
-ghost use Rattle.std.specs.Prelude.{◌≡◌, ◌↔◌, ◌+◌, ◌≤◌, IsTrue, IfNone, IfSome};
+ghost use Rattle.std.specs.Prelude.{◌≡◌, ◌↔◌, ◌+◌, ◌*◌, ◌^◌, ◌<◌, ◌≤◌, IsTrue, IfNone, IfSome};
+ghost use Rattle.qrcode_types.specs.Versions.{side};
 ghost use Rattle.qrcode_sheets.specs.Places.{HasPixels};
-ghost use Rattle.goqlanis_request.specs.Places.{place_in, HasRoom};
+ghost use Rattle.goqlanis_request.specs.Places.{place_at, place_in, HasRoom};
 
 use crate::drawing::{quiet_zone, unit};
 use crate::request::Request;
@@ -15,11 +16,26 @@ use qrcode_sheets::Place;
 pub fn place_in(request: &Request<'_>, code: &QrCode, area: Rectangle, margin: u8) -> Option<Place>
     ensures value { IfSome result (λ place.
         place ≡ place_in request.now code.now.version area margin) }
-    ensures none { IfNone result (¬ HasRoom code.now.version area margin) }
+    ensures none { IfNone result (¬ HasRoom (side code.now.version) area margin) }
     ensures pixels { IfSome result HasPixels }
 {
-    let (side, both) = (code.width(), 2 * margin as usize);
     let (zone, unit) = (quiet_zone(request, code), unit(request, code));
+    place_at(code.width(), zone, unit, area, margin)
+}
+
+/// Returns where `area` less `margin` modules on each side is in a drawing of `side` by `side`
+/// modules of `unit` pixels, with a quiet zone of `zone` modules. Returns `None` if no module is
+/// left, or `area` is not inside the symbol.
+pub fn place_at(side: usize, zone: u32, unit: u32, area: Rectangle, margin: u8) -> Option<Place>
+    requires some { 1 ≤ unit }
+    requires few { side + zone < 2 ^ 16 }
+    requires fits { (side + zone) * unit < 2 ^ 32 }
+    ensures value { IfSome result (λ place. place ≡ place_at zone unit area margin) }
+    ensures room { IfSome result (λ _. HasRoom side area margin) }
+    ensures none { IfNone result (¬ HasRoom side area margin) }
+    ensures pixels { IfSome result HasPixels }
+{
+    let both = 2 * margin as usize;
     if !is_within(side, area.left, area.width) || !is_within(side, area.top, area.height) {
         return None;
     }

@@ -1,6 +1,7 @@
 //! Logos in areas of symbols.
 use crate::areas::{Excess, Rectangle, Wish};
 use crate::QrCode;
+use goqlanis_sys as sys;
 use std::iter;
 
 /// The area and margin of a logo.
@@ -42,21 +43,29 @@ impl From<Excess> for LogoError {
     }
 }
 
-// A picture in an area of a symbol, as a data URI.
+// A picture in an area of a symbol, an SVG or PNG file.
 #[derive(Clone, Debug, PartialEq, Eq, Hash)]
 pub(crate) struct Logo {
     area: [usize; 4],
-    data: String,
+    pub(crate) file: Vec<u8>,
 }
 
 impl Logo {
+    // Returns the area, if the logo is a PNG file.
+    pub(crate) fn area_of_png(&self) -> Option<sys::goq_rectangle> {
+        let [left, top, width, height] = self.area;
+        is_png(&self.file).then_some(sys::goq_rectangle { left, top, width, height })
+    }
+
     // Returns an SVG file with the picture added. Its quiet zone has `zone` modules, and a module
     // has `unit` units.
     pub(crate) fn over(&self, svg: &str, zone: usize, unit: usize) -> String {
         let [left, top, width, height] = self.area;
         let (x, y) = (unit * (zone + left), unit * (zone + top));
-        let (width, height, data) = (unit * width, unit * height, &self.data);
-        let image = format!(r#"<image x="{x}" y="{y}" width="{width}" height="{height}" href="{data}"/></svg>"#);
+        let (width, height, data) = (unit * width, unit * height, base64(&self.file));
+        let kind = if is_png(&self.file) { "png" } else { "svg+xml" };
+        let place = format!(r#"x="{x}" y="{y}" width="{width}" height="{height}""#);
+        let image = format!(r#"<image {place} href="data:image/{kind};base64,{data}"/></svg>"#);
         svg[..svg.rfind("</svg>").unwrap_or(svg.len())].to_owned() + &image
     }
 }
@@ -65,7 +74,8 @@ impl QrCode {
     /// Returns the symbol with a logo: the bytes of an SVG or PNG file.
     ///
     /// Without an area in the options, the logo gets the largest one in the middle with its ratio.
-    /// Only SVG shows the logo, with a margin of light modules; other formats leave the area light.
+    /// SVG shows the logo, and PNG a PNG file, with a margin of light modules; other formats leave
+    /// the area light.
     ///
     /// ```
     /// use goqlanis::{logos::LogoOptions, read, render::svg, EcLevel, QrCode};
@@ -84,12 +94,10 @@ impl QrCode {
             Some(area) => area,
             None => self.largest_area(&Wish { ratio, reserve, keep_alignment })?,
         };
-        let kind = if is_png(logo) { "png" } else { "svg+xml" };
         let covered = self.with_area(&[area])?;
         let [across, down] = [area.width, area.height].map(|side| margin.min((side - 1) / 2));
         let area = [area.left + across, area.top + down, area.width - 2 * across, area.height - 2 * down];
-        let data = format!("data:image/{kind};base64,{}", base64(logo));
-        Ok(QrCode { logo: Some(Logo { area, data }), ..covered })
+        Ok(QrCode { logo: Some(Logo { area, file: logo.to_vec() }), ..covered })
     }
 }
 

@@ -9,10 +9,12 @@ use goqlanis_sys as sys;
 pub enum RenderError {
     /// A PNG file would have more than 65,535 pixels per side, rows of pixels or dots more than
     /// 16,384, half blocks or characters more than 4,096, or any picture more than 65,535 modules
-    /// per side. With colours of patterns, a PNG file has at most 8,192.
+    /// per side. With colours of patterns or a logo, a PNG file has at most 8,192.
     TooLarge,
     /// Patterns have colours, and no version has that many modules per side.
     NoPatterns,
+    /// The PNG file of the logo is damaged, interlaced or too large.
+    BrokenLogo,
     /// Memory ran out.
     OutOfMemory,
 }
@@ -20,6 +22,7 @@ pub enum RenderError {
 says! { RenderError:
     RenderError::TooLarge => "the picture would be too large: take a smaller module size";
     RenderError::NoPatterns => "no version has that many modules: only codes have patterns";
+    RenderError::BrokenLogo => "the logo is damaged, interlaced or too large: save it again";
     RenderError::OutOfMemory => "out of memory";
 }
 
@@ -301,15 +304,29 @@ impl<'a, P: Pixel> Renderer<'a, P> {
             format_dark, format_light, version_dark, version_light, data_dark, data_light,
         };
         let (modules, length, width) = (self.modules.as_ptr(), self.modules.len(), self.width as u32);
-        let mut count = 0;
-        // SAFETY: the lengths are those of the buffers.
-        accepted(unsafe { sys::goq_draw_with_length(modules, length, width, &drawing, &mut count) })?;
+        let logo = self.logo.filter(|_| format == sys::GOQ_PNG);
+        let logo = logo.and_then(|it| Some((&it.file, it.area_of_png()?)));
+        let pixels = (u64::from(self.side()) * u64::from(self.across)).min(8192) as usize;
+        let mut count = 8 * pixels * pixels + 1000;
+        if logo.is_none() {
+            // SAFETY: the lengths are those of the buffers.
+            accepted(unsafe { sys::goq_draw_with_length(modules, length, width, &drawing, &mut count) })?;
+        }
         let mut bytes = Vec::new();
         bytes.try_reserve_exact(count).map_err(|_| RenderError::OutOfMemory)?;
         bytes.resize(count, 0);
         let out = bytes.as_mut_ptr();
         // SAFETY: the same.
-        accepted(unsafe { sys::goq_draw_with(modules, length, width, &drawing, out, count, &mut count) })?;
+        accepted(unsafe {
+            match &logo {
+                None => sys::goq_draw_with(modules, length, width, &drawing, out, count, &mut count),
+                Some((file, area)) => {
+                    let (file, size) = (file.as_ptr(), file.len());
+                    sys::goq_draw_logo(modules, length, width, &drawing, file, size, area, out, count, &mut count)
+                }
+            }
+        })?;
+        bytes.truncate(count);
         Ok(bytes)
     }
 
@@ -329,6 +346,7 @@ fn accepted(answer: u32) -> Result<(), RenderError> {
         sys::GOQ_OK => Ok(()),
         sys::GOQ_NO_SUCH_SIZE => Err(RenderError::TooLarge),
         sys::GOQ_NO_SUCH_SIDE => Err(RenderError::NoPatterns),
+        sys::GOQ_NOT_PICTURE | sys::GOQ_BROKEN_PICTURE => Err(RenderError::BrokenLogo),
         _ => Err(RenderError::OutOfMemory),
     }
 }

@@ -310,6 +310,13 @@ fn logos() {
     assert_eq!(text.matches("<image").count(), 1);
     assert_eq!(covered.render::<Luma>().build(), code.with_area(&[area.unwrap()]).unwrap().render::<Luma>().build());
     assert_eq!(read(&covered.to_colors()).unwrap().data, b"01234567");
+    // PNG shows a PNG file, and leaves the area of others light.
+    let file = code.render::<png::Color>().build();
+    let options = LogoOptions { area, ..LogoOptions::default() };
+    let inked = |logo: &[u8]| code.with_logo(logo, &options).unwrap().render::<png::Color>().try_build();
+    assert_ne!(inked(&file).unwrap(), inked(logo).unwrap());
+    assert_eq!(read_picture(&inked(&file).unwrap()).unwrap()[0].reading.data, b"01234567");
+    assert_eq!(inked(&file[..99]), Err(RenderError::BrokenLogo));
     assert!(code.with_logo(b"\x89PNG\r\n\x1a\n\0\0\0\x0dIHDR\0\0\0\x10\0\0\0\x09\x08", &LogoOptions::default()).is_ok());
     let wide = br#"<!-- <svg viewBox="0 0 1 1"> --><svg viewBox="0 0 3 1"/>"#;
     let alone = |logo: &[u8]| code.with_logo(logo, &LogoOptions::default()).unwrap().to_colors();

@@ -1,5 +1,6 @@
 use Rattle.std.proofs.Common.{◌∙◌, rules}
 use Rattle.qrcode_sheets.specs.Formats.{IsDrawn}
+use Rattle.qrcode_sheets.specs.Sheets.{overlay_of}
 use Rattle.goqlanis_buffers.specs.Drawings.{sheet}
 use Rattle.goqlanis_buffers.proofs.Tinted.{are_taken}
 use Rattle.goqlanis_buffers.proofs.pictures.draw_named.Goals as goal
@@ -9,7 +10,7 @@ pub returns-in-Ok-clause-drawing : goal.returns-in-Ok-clause-drawing
 returns-in-Ok-clause-drawing c =
     let a = c.args.asked.now in
     let inks = c.in_ok-inks.inks.items in
-    let shown : IsDrawn c.args.format (sheet c.args.format a.modules.now a.width a.drawing.now inks) c.in-Ok.file.items = search rules in
+    let shown : IsDrawn c.args.format (record (sheet c.args.format a.modules.now a.width a.drawing.now inks) { over = overlay_of c.args.over }) c.in-Ok.file.items = search rules in
     record {
       inks = inks;
       sayable = c.requires.drawable.sayable;
@@ -18,9 +19,10 @@ returns-in-Ok-clause-drawing c =
       shown = shown;
     }
 
--- The format has these colours, and nothing lies over the modules.
+-- The format has these colours, and what lies over the modules.
 pub unreachable-requires : goal.unreachable-requires
 unreachable-requires c =
     let own = c.in_ok-inks.ensures.value ∙ c.requires.own in
+    let over = c.requires.taken in
     let taken = are_taken c.args.format c.args.asked.now.drawing.now c.in_ok-inks.inks.items c.requires.drawable.sayable own in
     search rules

@@ -1,6 +1,8 @@
 //! Logos with more pixels than their place in a drawing.
 
-use qrcode_sheets::Inset;
+ghost use Rattle.std.specs.Prelude.{◌<◌, IfOk, IfSome};
+
+use qrcode_sheets::{Inset, Place};
 use std::alloc::{AllocError, Global};
 use std::ops::Range;
 
@@ -75,16 +77,22 @@ fn mean(sum: u64, parts: u64) -> u8 {
     u8::try_from(level.unwrap_or(0)).unwrap_or(u8::MAX)
 }
 
-/// Returns the shades of a picture with `across` by `down` pixels, fewer than it has: each is the
-/// mean of what it covers, by area and opacity.
+/// Returns the pixels of a picture that has more of them than its place, both across and down,
+/// shrunk to those of the place: each is the mean of what it covers, by area and opacity. Returns
+/// `None` for others.
 ///
 /// Errors: only `AllocError`.
-pub(crate) fn shrunk(
-    alloc: Global,
-    picture: Inset<'_>,
-    across: u16,
-    down: u16,
-) -> Result<Vec<[u8; 4]>, AllocError> {
+pub fn shrunk(alloc: Global, picture: Inset<'_>) -> Result<Option<Vec<[u8; 4]>>, AllocError>
+    ensures across { IfOk result (λ small. IfSome small (λ _.
+        picture.entry.place.width < picture.entry.across)) }
+    ensures down { IfOk result (λ small. IfSome small (λ _.
+        picture.entry.place.height < picture.entry.down)) }
+{
+    let Place { width, height, .. } = picture.place;
+    if picture.across as u32 <= width || picture.down as u32 <= height {
+        return Ok(None);
+    }
+    let (across, down) = (width as u16, height as u16);
     let mut shades = Vec::new(alloc);
     for row in 0..down {
         let rows = Span::of(row, down, picture.down);
@@ -93,7 +101,7 @@ pub(crate) fn shrunk(
             shades.push(shade_of(picture, columns, rows))?;
         }
     }
-    Ok(shades)
+    Ok(Some(shades))
 }
 
 // Returns the mean of what a pixel covers: these columns and rows of the picture.
