@@ -5,7 +5,7 @@ use clap::error::{Error, ErrorKind};
 use goqlanis_files::failure::{Failure, status};
 use goqlanis_files::streams::{Escapes, print};
 use goqlanis_files::{refused, usage};
-use goqlanis_help::advice::{advice, wrapped_help};
+use goqlanis_help::advice::{advise, wrapped_help};
 use goqlanis_help::command::{command_of, end_of_help, usage_of};
 use goqlanis_help::conflicts::check_conflicts;
 use goqlanis_help::tasks::{DRAWING, Task, task_named};
@@ -32,7 +32,7 @@ pub fn run(rt: &HostRuntime) -> ExitCode {
 fn run_words(rt: &HostRuntime) -> Result<ExitCode, Failure> {
     let mut words = all_words(rt)?;
     let task = take_command(rt.alloc(), &mut words)?;
-    if task.draws() && has_unit_apart(&words) {
+    if task.purpose.draws() && has_unit_apart(&words) {
         return usage!(rt.alloc(); "{UNIT_APART}");
     }
     let (usage, help_end) = (usage_of(rt.alloc(), task)?, end_of_help(rt.alloc(), task)?);
@@ -86,9 +86,7 @@ fn refuse(
     if error.kind() == ErrorKind::OutOfMemory {
         return Err(Failure::OutOfMemory);
     }
-    if let Some(why) = advice(rt.alloc(), task, words, error)? {
-        return Err(Failure::Usage(why));
-    }
+    advise(rt.alloc(), task, words, error)?;
     let text = format!(in rt.alloc(); "{error}")?;
     if !error.use_stderr() {
         return print(rt, wrapped_help(rt.alloc(), text.as_str())?.as_bytes());

@@ -256,17 +256,14 @@ fn make_fresh(
         let beside = format!(in rt.alloc(); "{}goqlanis-{number}.new", folder.way.as_str())?;
         match private_file(rt, beside.as_str()) {
             Ok((file, usual)) => {
-                let fresh = Fresh {
+                let fresh = Some(Fresh {
                     beside,
                     path,
                     old,
                     _folder: folder,
                     usual,
-                };
-                return Ok(Draft {
-                    file,
-                    fresh: Some(fresh),
                 });
+                return Ok(Draft { file, fresh });
             }
             Err(error) if error.kind() == ErrorKind::AlreadyExists => {}
             Err(error) => return Err(WriteError::Folder(folder.name, error)),

@@ -224,7 +224,13 @@ pub fn shown(text: &str) -> Escapes<'_> {
 impl fmt::Display for Escapes<'_> {
     fn fmt<W: fmt::Write>(&self, f: &mut fmt::Formatter<W>) -> fmt::Result {
         for chunk in self.bytes.utf8_chunks() {
-            write_text(f, chunk.valid(), self.has_lines)?;
+            for character in chunk.valid().chars() {
+                if !is_unseen(character) || self.has_lines && matches!(character, '\n' | '\t') {
+                    write!(f, "{character}")?;
+                } else {
+                    write!(f, "{}", character.escape_default())?;
+                }
+            }
             write!(f, "{}", chunk.invalid().escape_ascii())?;
         }
         Ok(())
@@ -249,19 +255,3 @@ static UNSEEN: &[(u32, u32)] = &[
     (0xfeff, 0xfeff), (0xffa0, 0xffa0), (0xfff0, 0xfffb), (0x110bd, 0x110bd), (0x110cd, 0x110cd),
     (0x13430, 0x1343f), (0x1bca0, 0x1bca3), (0x1d173, 0x1d17a), (0xe0000, 0xe0fff),
 ];
-
-// Writes `text` with escapes for such characters.
-fn write_text<W: fmt::Write>(
-    f: &mut fmt::Formatter<W>,
-    text: &str,
-    has_lines: bool,
-) -> fmt::Result {
-    for character in text.chars() {
-        if !is_unseen(character) || (has_lines && matches!(character, '\n' | '\t')) {
-            write!(f, "{character}")?;
-        } else {
-            write!(f, "{}", character.escape_default())?;
-        }
-    }
-    Ok(())
-}

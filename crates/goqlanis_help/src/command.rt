@@ -86,7 +86,7 @@ pub fn end_of_help(alloc: Global, task: &Task) -> Result<String, AllocError> {
             write!(text, "  {word:9}  {about}\n")?;
         }
         write!(text, "\n{EXAMPLES}")?;
-    } else if task.draws() {
+    } else if task.purpose.draws() {
         text.push_str(
             "Options for sizes, colours, logos and reports are those of goqlanis --help.\n",
         )?;
@@ -98,7 +98,15 @@ pub fn end_of_help(alloc: Global, task: &Task) -> Result<String, AllocError> {
 fn arguments<'a>(alloc: Global, task: &Task) -> Result<Vec<Arg<'a>>, AllocError> {
     let mut arguments = Vec::new(alloc);
     if let Some((name, help)) = task.operand() {
-        arguments.push(positional(Arg::new(alloc, name).help(help), task.purpose))?;
+        let arg = Arg::new(alloc, name).help(help);
+        arguments.push(if task.purpose.draws() {
+            arg
+        } else {
+            let is_required = matches!(task.purpose, Purpose::Join);
+            arg.num_args(1..)
+                .action(ArgAction::Append)
+                .required(is_required)
+        })?;
     }
     for headed in task.all_options(alloc)? {
         arguments.push(argument(alloc, task, headed)?)?;
@@ -111,26 +119,12 @@ fn arguments<'a>(alloc: Global, task: &Task) -> Result<Vec<Arg<'a>>, AllocError>
     Ok(arguments)
 }
 
-// Adds how often the positional argument may be given.
-fn positional(arg: Arg<'_>, purpose: Purpose) -> Arg<'_> {
-    if purpose.draws() {
-        return arg;
-    }
-    let is_required = matches!(purpose, Purpose::Join);
-    arg.num_args(1..)
-        .action(ArgAction::Append)
-        .required(is_required)
-}
-
-// Whether an option is the same for all codes, so that the help of a command need not repeat it.
-fn is_common(heading: &str, entry: &Entry) -> bool {
-    !matches!(heading, "Input" | "Code") && !matches!(entry.long, "output" | "format")
-}
-
 // Builds an option. A negative number after it is its value.
 fn argument<'a>(alloc: Global, task: &Task, headed: Headed) -> Result<Arg<'a>, AllocError> {
     let (heading, entry) = headed;
-    let is_hidden = !task.word.is_empty() && task.draws() && is_common(heading, &entry);
+    // The help of a command need not repeat options that are the same for all codes.
+    let is_own = matches!(heading, "Input" | "Code") || matches!(entry.long, "output" | "format");
+    let is_hidden = !task.word.is_empty() && task.purpose.draws() && !is_own;
     let arg = Arg::new(alloc, entry.long)
         .long(entry.long)
         .help(entry.help)

@@ -35,14 +35,22 @@ pub fn check_conflicts(alloc: Global, given: &ArgMatches<'_>) -> Result<(), Fail
     for (one, others, help) in CONFLICTS {
         let other = others.iter().find(|other| is_given(given, other));
         if let Some(other) = other.filter(|_| is_given(given, one)) {
-            if let Some(task) = given.get_str("TEXT").and_then(task_named) {
-                let word = task.word;
-                return usage!(alloc;
-                    "{word}: the command comes first, before options: goqlanis {word} .."
-                );
-            }
+            check_place(alloc, given.get_str("TEXT").unwrap_or(""))?;
             return usage!(alloc; "{one} and {other} do not go together: {help}");
         }
     }
     Ok(())
+}
+
+/// Checks that a word behind options is not a command.
+///
+/// Errors: `Usage` if it is; `OutOfMemory`.
+pub(crate) fn check_place(alloc: Global, word: &str) -> Result<(), Failure> {
+    match task_named(word) {
+        Some(task) => {
+            let name = task.word;
+            usage!(alloc; "{word}: the command comes first, before options: goqlanis {name} ..")
+        }
+        None => Ok(()),
+    }
 }

@@ -134,11 +134,6 @@ pub fn task_named(word: &str) -> Option<&'static Task> {
 }
 
 impl Task {
-    /// Whether the task draws a code.
-    pub fn draws(&self) -> bool {
-        self.purpose.draws()
-    }
-
     /// Returns the positional argument, if there is one: its name and its help.
     pub(crate) fn operand(&self) -> Option<(&'static str, &'static str)> {
         self.operand.split_once(": ")
@@ -164,23 +159,15 @@ impl Task {
         let mut all = Vec::new(alloc);
         for group in self.groups {
             let (heading, lines) = group.split_once('\n').unwrap_or((*group, ""));
-            if lines.is_empty() {
-                push_under(&mut all, heading, &self.own_options(alloc)?)?;
+            let options = if lines.is_empty() {
+                self.own_options(alloc)?
             } else {
-                push_under(&mut all, heading, &entries_in(alloc, lines)?)?;
+                entries_in(alloc, lines)?
+            };
+            for entry in &options {
+                all.push((heading, *entry))?;
             }
         }
         Ok(all)
     }
-}
-
-fn push_under(
-    all: &mut Vec<Headed>,
-    heading: &'static str,
-    options: &[Entry],
-) -> Result<(), AllocError> {
-    for entry in options {
-        all.push((heading, *entry))?;
-    }
-    Ok(())
 }
