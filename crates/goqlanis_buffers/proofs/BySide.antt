@@ -1,6 +1,6 @@
 -- The lengths of pictures follow from their sides.
 use Rattle.std.proofs.Common.{◌≡◌, ℕ, zero, suc, ◌+◌, ◌-◌, ◌*◌, ◌/◌, ◌<◌, ◌≤◌, List, [], ◌∷◌, Bool, true, false, ◌++◌, length, length-append, drop, flat_map, decimal, refl, sym, ap, ap₂, ◌∙◌, subst, arith}
-use Rattle.std.specs.Prelude.{codes}
+use Rattle.std.specs.Prelude.{codes, IfSome}
 use Rattle.std.specs.List.{range_with_len}
 use Rattle.std.proofs.lemmas.List.{length-map, length-take-le, length-drop}
 use Rattle.std.proofs.lemmas.List.FromFn.{length-map-range_with_len}
@@ -13,7 +13,7 @@ use Rattle.qrcode_formats.specs.declared.Format.{Format}
 use Rattle.qrcode_formats.specs.declared.Format.TheVariants.{EscPos, Grey, Pbm, Pgm, Ppm, Tspl, Xbm}
 use Rattle.qrcode_sheets.specs.Formats.{IsDrawn}
 use Rattle.qrcode_sheets.specs.Sheets.{rgb}
-use Rattle.goqlanis_buffers.specs.Asking.{escpos_length, pbm_length, pgm_length, ppm_length, side_of, tspl_length, xbm_length, HasLength, IsDrawable}
+use Rattle.goqlanis_buffers.specs.Asking.{known_length, side_of, HasLength, IsDrawable}
 use Rattle.goqlanis_buffers.specs.Colours.{colour_shade}
 use Rattle.goqlanis_buffers.specs.Drawings.{sheet}
 use Rattle.goqlanis_buffers.proofs.Tinted.{no_paints}
@@ -124,57 +124,22 @@ length_of_xbm_row bytes = length-append (flat_map (λ b. codes "0x" ++ hex_pair 
 abbrev pub at_of : Asked → Layout  -- how the pixels of what is asked for lie
 at_of a = layout a.width a.drawing.now.zone a.drawing.now.scale a.drawing.now.scale
 
--- a drawing in the requested format, which has no colours of parts, has the length that is computed
-drawn_length : (a : Asked) (f g : Format) (bytes : List ℕ) (count total : ℕ) → f ≡ g → (row g).parts ≡ Fixed → IsDrawable a f
-    → IsDrawn g (sheet g a.modules.now a.width a.drawing.now []) bytes → length bytes ≡ total → count ≡ total → HasLength a count
-drawn_length a f g bytes count total is fixed asked drawn long same =
-    let h = subst (IsDrawable a) is asked in
-    let none = no_paints g a.drawing.now fixed h.sayable in (
+-- a drawing in a format without colours of parts has the length that is computed
+drawn_length : (a : Asked) (f : Format) (bytes : List ℕ) (count : ℕ) → (row f).parts ≡ Fixed → IsDrawable a f → IsDrawn f (sheet f a.modules.now a.width a.drawing.now []) bytes
+    → length bytes ≡ count → HasLength a count
+drawn_length a f bytes count fixed h drawn long =
+    let none = no_paints f a.drawing.now fixed h.sayable in (
       bytes,
       (
         record {
-          named = g;
+          named = f;
           asked = h.asked;
           sized = h.sized;
           drawn = record { inks = []; sayable = h.sayable; known = h.known; own = sym none; shown = drawn };
         },
-        same ∙ sym long,
+        sym long,
       ),
     )
-
--- the same for each of these formats
-pub of_grey : (a : Asked) (f : Format) (side count : ℕ) → f ≡ Grey → IsDrawable a f → side ≡ side_of a → count ≡ side * side → HasLength a count
-of_grey a f side count is h at same =
-    let s = colors_of a.modules.now in
-    drawn_length a f Grey (raw_bytes (0 ∷ []) (255 ∷ []) (picture (at_of a) s)) count _ is refl h refl
-    (length_of_grey 0 255 (at_of a) s) (same ∙ ap (λ n. n * n) at)
-
-pub of_pbm : (a : Asked) (f : Format) (side count : ℕ) → f ≡ Pbm → IsDrawable a f → side ≡ side_of a → count ≡ pbm_length side → HasLength a count
-of_pbm a f side count is h at same =
-    let s = colors_of a.modules.now in
-    drawn_length a f Pbm (pbm_file true false (picture (at_of a) s)) count _ is refl h refl
-    (length_of_pbm true false (at_of a) s) (same ∙ ap pbm_length at)
-
-pub of_pgm : (a : Asked) (f : Format) (side count : ℕ) → f ≡ Pgm → IsDrawable a f → side ≡ side_of a → count ≡ pgm_length side → HasLength a count
-of_pgm a f side count is h at same =
-    let s = colors_of a.modules.now in
-    drawn_length a f Pgm (pgm_file 0 255 (picture (at_of a) s)) count _ is refl h refl
-    (length_of_pgm 0 255 (at_of a) s) (same ∙ ap pgm_length at)
-
-pub of_ppm : (a : Asked) (f : Format) (side count : ℕ) → f ≡ Ppm → IsDrawable a f → side ≡ side_of a → count ≡ ppm_length side → HasLength a count
-of_ppm a f side count is h at same =
-    let s = colors_of a.modules.now in
-    let dark = rgb (colour_shade a.drawing.now.dark) in
-    let light = rgb (colour_shade a.drawing.now.light) in
-    drawn_length a f Ppm (ppm_file dark light (picture (at_of a) s)) count _ is refl h refl
-    (length_of_ppm dark light (at_of a) s refl refl) (same ∙ ap ppm_length at)
-
-pub of_escpos : (a : Asked) (f : Format) (side count : ℕ) → f ≡ EscPos → IsDrawable a f → side ≡ side_of a → count ≡ escpos_length side → HasLength a count
-of_escpos a f side count is h at same =
-    let s = colors_of a.modules.now in
-    let row = bytes_across (pixels_across (at_of a)) in
-    drawn_length a f EscPos (escpos_file true false (picture (at_of a) s)) count _ is refl h refl
-    (length_of_file escpos_head (λ bytes. bytes) [] true false (at_of a) s row (λ bytes long. long)) (same ∙ ap escpos_length at)
 
 -- a picture at its corner makes a label of its own size
 at_corner : (w h : ℕ) → tspl_head_at (0, 0) w h ≡ tspl_head w h
@@ -184,17 +149,24 @@ at_corner w h =
     let corner : decimal 0 ≡ 48 ∷ [] = decimal_digit 0 (omega arith) in
     rw (across, down, corner) refl
 
-pub of_tspl : (a : Asked) (f : Format) (side count : ℕ) → f ≡ Tspl → IsDrawable a f → side ≡ side_of a → count ≡ tspl_length side → HasLength a count
-of_tspl a f side count is h at same =
-    let s = colors_of a.modules.now in
-    let row = bytes_across (pixels_across (at_of a)) in
-    drawn_length a f Tspl (tspl_file_at (0, 0) true false (picture (at_of a) s)) count _ is refl h refl
-    (length_of_file (tspl_head_at (0, 0)) tspl_row tspl_tail true false (at_of a) s row (λ bytes long. length-map bytes _ ∙ long))
-    (same ∙ ap tspl_length at ∙ ap (λ head. length head + pixels_down (at_of a) * row + length tspl_tail) (sym (at_corner (pixels_across (at_of a)) (pixels_down (at_of a)))))
-
-pub of_xbm : (a : Asked) (f : Format) (side count : ℕ) → f ≡ Xbm → IsDrawable a f → side ≡ side_of a → count ≡ xbm_length side → HasLength a count
-of_xbm a f side count is h at same =
-    let s = colors_of a.modules.now in
-    let row = bytes_across (pixels_across (at_of a)) in
-    drawn_length a f Xbm (xbm_file true false (picture (at_of a) s)) count _ is refl h refl
-    (length_of_file xbm_head xbm_row xbm_tail true false (at_of a) s (5 * row + 1) (λ bytes long. length_of_xbm_row bytes ∙ ap (λ n. 5 * n + 1) long)) (same ∙ ap xbm_length at)
+-- a picture has the length that is known by its side
+pub has_length : (a : Asked) (f : Format) → IsDrawable a f → IfSome (known_length f (side_of a)) (HasLength a)
+has_length a Grey h = drawn_length a Grey _ _ refl h refl (length_of_grey 0 255 (at_of a) (colors_of a.modules.now))
+has_length a Pbm h = drawn_length a Pbm _ _ refl h refl (length_of_pbm true false (at_of a) (colors_of a.modules.now))
+has_length a Pgm h = drawn_length a Pgm _ _ refl h refl (length_of_pgm 0 255 (at_of a) (colors_of a.modules.now))
+has_length a Ppm h =
+    drawn_length a Ppm _ _ refl h refl
+    (length_of_ppm (rgb (colour_shade a.drawing.now.dark)) (rgb (colour_shade a.drawing.now.light)) (at_of a) (colors_of a.modules.now) refl refl)
+has_length a EscPos h =
+    drawn_length a EscPos _ _ refl h refl
+    (length_of_file escpos_head (λ bytes. bytes) [] true false (at_of a) (colors_of a.modules.now) (bytes_across (side_of a)) (λ bytes long. long))
+has_length a Tspl h =
+    let row = bytes_across (side_of a) in
+    drawn_length a Tspl _ _ refl h refl
+    (length_of_file (tspl_head_at (0, 0)) tspl_row tspl_tail true false (at_of a) (colors_of a.modules.now) row (λ bytes long. length-map bytes _ ∙ long)
+    ∙ ap (λ head. length head + side_of a * row + length tspl_tail) (at_corner (side_of a) (side_of a)))
+has_length a Xbm h =
+    drawn_length a Xbm _ _ refl h refl
+    (length_of_file xbm_head xbm_row xbm_tail true false (at_of a) (colors_of a.modules.now) (5 * bytes_across (side_of a) + 1)
+    (λ bytes long. length_of_xbm_row bytes ∙ ap (λ n. 5 * n + 1) long))
+has_length a f h = tt

@@ -1,13 +1,15 @@
 -- Texts in character sets.
-use Rattle.std.proofs.Common.{◌≡◌, ℕ, ◌+◌, ◌<◌, List, length, take, Option, Some, None, subst}
+use Rattle.std.proofs.Common.{◌≡◌, ℕ, ◌+◌, ◌<◌, List, length, take, Option, Some, None, inl, inr, subst}
 use Rattle.std.specs.Prelude.{chars, IfSome, IsUtf8}
 use Rattle.qrcode.specs.Code.{Code}
 use Rattle.qrcode_charsets.specs.Charsets.{Has}
 use Rattle.qrcode_charsets.specs.Shortest.{IsAt, NoneHas}
 use Rattle.qrcode_charsets.specs.declared.sets.Charset.{Charset}
 use Rattle.goqlanis_request.specs.Charsets.{IsShortestOf}
-use Rattle.goqlanis_buffers.specs.Charsets.{IsAskedOf, IsLacked, IsNotWritten}
+use Rattle.goqlanis_buffers.specs.Charsets.{IsAskedOf, IsLacked, IsNotWritten, IsUncoded, IsUncodedIn}
 use Rattle.goqlanis_buffers.specs.Symbols.{IsMaskingCause}
+use Rattle.goqlanis_buffers.specs.declared.answers.Fault.{Fault}
+use Rattle.goqlanis_buffers.specs.declared.answers.Fault.TheVariants.{At, Other}
 use Rattle.goqlanis_buffers.specs.declared.answers.Refusal.{Refusal}
 use Rattle.goqlanis_buffers.specs.declared.options.Asked.{Asked}
 use Rattle.goqlanis_buffers.specs.declared.options.Options.{Options}
@@ -18,6 +20,14 @@ pub lacked : (sets : List Charset) (text : List ℕ) (set : Charset) (result : O
 lacked sets text set None none at first = tt
 lacked sets text set (Some place) none at first =
     record { none = none; set = set; first = at; within = first.0; before = first.1; lacks = first.2 }
+
+-- the text has no symbol in the sets
+pub uncoded : {o : Options} {numbers utf8 : List ℕ} (room : ℕ) (a : Asked) (sets : List Charset) (text : List ℕ) (why : Fault)
+    → IsAskedOf o numbers a sets → text ≡ utf8 → IsUtf8 utf8 → IsUncodedIn a sets text why → IsUncoded o numbers utf8 room why
+uncoded room a sets text (At place refusal) named same is cause =
+    inr (record { asked = a; sets = sets; named = named; text = is; cause = subst (λ u. IsUncodedIn a sets u (At place refusal)) same cause })
+uncoded room a sets text (Other refusal) named same is cause =
+    inr (inr (inr (inl (record { asked = a; sets = sets; named = named; text = is; cause = subst (λ u. IsUncodedIn a sets u (Other refusal)) same cause }))))
 
 -- a symbol of the text is not written
 pub unwritten : {o : Options} {numbers utf8 : List ℕ} {room : ℕ} {refusal : Refusal} (a : Asked) (sets : List Charset) (set : Charset) (own : Code) (text : List ℕ)

@@ -18,9 +18,9 @@ use Rattle.qrcode_area.specs.declared.reserve.Reserve.{Reserve}
 use Rattle.qrcode_area.proofs.Bounds.{agrees_along, excess_is_not, length_counts}
 use Rattle.qrcode_area.proofs.Shown.{area_is_read, area_keeps_bits}
 use Rattle.goqlanis_buffers.specs.Areas.{covered_byte, told, IsCovered, IsTaken, IsUncovered, IsUncoveredCause}
-use Rattle.goqlanis_buffers.specs.declared.answers.Refusal.TheVariants.{AreaFormat}
+use Rattle.goqlanis_buffers.specs.declared.answers.Fault.TheVariants.{At}
+use Rattle.goqlanis_buffers.specs.declared.answers.Refusal.TheVariants.{AreaBlock, AreaFormat}
 use Rattle.goqlanis_buffers.specs.declared.areas.Taken.{Taken}
-use Rattle.goqlanis_buffers.specs.declared.areas.Uncovered.TheVariants.{Block}
 
 -- bytes that were made light in an area agree with the old ones outside of it
 agrees : (v : Version) (area : ℕ → ℕ → Bool) (old new : List ℕ) → length (colors_of old) ≡ side v * side v → length new ≡ length old
@@ -66,7 +66,7 @@ covered v l k rectangles area old new w square format inside may is across same 
 -- a block with more touched codewords than may be lost is a cause of the error
 pub lost_block : (v : Version) (l : EcLevel) (k : MaskPattern) (rectangles : List Rectangle) (modules : List ℕ) (r : Reserve)
     → length (colors_of modules) ≡ side v * side v → HasFormat v (colors_of modules) l k → IsTrue (is_inside (side v) rectangles)
-    → IsReserve v l (covers rectangles) r → r.allowed < r.most → IsUncovered rectangles modules (Block r.worst)
+    → IsReserve v l (covers rectangles) r → r.allowed < r.most → IsUncovered rectangles modules (At r.worst AreaBlock)
 lost_block v l k rectangles modules r square format inside h over = (
   v,
   (

@@ -17,7 +17,7 @@ use Rattle.goqlanis_buffers.specs.Drawings.{sheet, IsPictureIn}
 use Rattle.goqlanis_buffers.specs.Tints.{ink_paint, Paint}
 use Rattle.goqlanis_buffers.specs.declared.pictures.Drawing.{Drawing}
 use Rattle.qrcode_formats.specs.declared.Format.{Format}
-use Rattle.qrcode_formats.specs.declared.Format.TheVariants.{HalfBlocks, LightHalfBlocks, Terminal, Chars, Png, Svg, SvgPath, Eps, Pic, Pbm, Pgm, Grey, Pdf, Zpl, Tspl, EscPos, Xbm, Ppm, Ascii}
+use Rattle.qrcode_formats.specs.declared.Format.TheVariants.{Png, SvgPath, Eps, Pdf, Zpl}
 
 -- a layer depends on the modules, and on which of them get its colour
 layer_alike : (t : Sheet) (us ws : List PartInk) (j k : PartInk) → ink_paint j ≡ ink_paint k
@@ -49,25 +49,12 @@ over_alike t us ws a b same x y = x.1.1 ∙ ap (λ l. l ++ shapes_in t.over) (la
 -- a drawing with the same colours of parts has one picture
 alike : (f : Format) (t : Sheet) (us ws : List PartInk) (a b : List ℕ) → map ink_paint us ≡ map ink_paint ws → f ≢ Png → f ≢ SvgPath → f ≢ Pdf → f ≢ Zpl
     → IsDrawn f (record t { parts = us }) a → IsDrawn f (record t { parts = ws }) b → a ≡ b
-alike HalfBlocks t us ws a b same no_png no_path no_pdf no_zpl x y = x ∙ sym y
-alike LightHalfBlocks t us ws a b same no_png no_path no_pdf no_zpl x y = x ∙ sym y
-alike Terminal t us ws a b same no_png no_path no_pdf no_zpl x y = x ∙ sym y
-alike Chars t us ws a b same no_png no_path no_pdf no_zpl x y = x ∙ sym y
-alike Svg t us ws a b same no_png no_path no_pdf no_zpl x y = x ∙ sym y
 alike Eps t us ws a b same no_png no_path no_pdf no_zpl x y = x.1.1 ∙ ap (eps_text t) (over_alike t us ws x.0 y.0 same x.1.0 y.1.0) ∙ sym y.1.1
-alike Pic t us ws a b same no_png no_path no_pdf no_zpl x y = x ∙ sym y
-alike Pbm t us ws a b same no_png no_path no_pdf no_zpl x y = x ∙ sym y
-alike Pgm t us ws a b same no_png no_path no_pdf no_zpl x y = x ∙ sym y
-alike Grey t us ws a b same no_png no_path no_pdf no_zpl x y = x ∙ sym y
 alike Png t us ws a b same no_png no_path no_pdf no_zpl x y = absurd (no_png refl)
 alike SvgPath t us ws a b same no_png no_path no_pdf no_zpl x y = absurd (no_path refl)
 alike Zpl t us ws a b same no_png no_path no_pdf no_zpl x y = absurd (no_zpl refl)
-alike Tspl t us ws a b same no_png no_path no_pdf no_zpl x y = x ∙ sym y
-alike EscPos t us ws a b same no_png no_path no_pdf no_zpl x y = x ∙ sym y
-alike Xbm t us ws a b same no_png no_path no_pdf no_zpl x y = x ∙ sym y
-alike Ascii t us ws a b same no_png no_path no_pdf no_zpl x y = x ∙ sym y
-alike Ppm t us ws a b same no_png no_path no_pdf no_zpl x y = x ∙ sym y
 alike Pdf t us ws a b same no_png no_path no_pdf no_zpl x y = absurd (no_pdf refl)
+alike f t us ws a b same no_png no_path no_pdf no_zpl x y = x ∙ sym y
 
 pub one_picture : (f : Format) (t : Sheet) (a b : List ℕ) → f ≢ Png → f ≢ SvgPath → f ≢ Pdf → f ≢ Zpl → IsDrawn f t a → IsDrawn f t b → a ≡ b
 one_picture f t a b no_png no_path no_pdf no_zpl x y = alike f t t.parts t.parts a b refl no_png no_path no_pdf no_zpl x y

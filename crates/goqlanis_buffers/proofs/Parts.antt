@@ -3,8 +3,8 @@ use Rattle.std.proofs.Common.{◌≡◌, ℕ, ◌+◌, ◌≤◌, inl, inr, List
 use Rattle.std.proofs.Math.Nat.{eq-or-lt_of_le}
 use Rattle.std.proofs.lemmas.Option.{get_or_from_slice_get}
 use Rattle.std.specs.Prelude.{slice_get}
-use Rattle.goqlanis_buffers.specs.contents.Elements.{IsText, AreTexts}
-use Rattle.goqlanis_buffers.specs.declared.contents.elements.Part.{Part}
+use Rattle.goqlanis_buffers.specs.Elements.{IsText, AreTexts}
+use Rattle.goqlanis_buffers.specs.declared.elements.Part.{Part}
 
 -- one more element is UTF-8
 pub texts_more : (parts : List Part) (i : ℕ) (d : Part) → AreTexts parts i → IsText (get_or parts i d) → AreTexts parts (i + 1)

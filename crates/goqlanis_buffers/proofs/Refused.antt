@@ -3,7 +3,7 @@ use Rattle.std.proofs.Common.{◌≡◌, ℕ, List, IsTrue, refl, sym, subst, in
 use Rattle.std.specs.Prelude.{IsUtf8}
 use Rattle.qrcode_bits.specs.Manners.{is_text}
 use Rattle.qrcode_types.specs.declared.types.QrError.{QrError}
-use Rattle.qrcode_types.specs.declared.types.QrError.TheVariants.{DataTooLong, InvalidVersion, UnsupportedCharacterSet, InvalidEciDesignator, InvalidCharacter, OutOfMemory}
+use Rattle.qrcode_types.specs.declared.types.QrError.TheVariants.{DataTooLong, OutOfMemory}
 use Rattle.qrcode.specs.Code.{Code}
 use Rattle.goqlanis_request.specs.Symbols.{IsRefusedFor}
 use Rattle.goqlanis_buffers.specs.Options.{HasNoSymbol, IsAsked, IsMadeAs, IsOptionsCause}
@@ -16,11 +16,7 @@ use Rattle.goqlanis_buffers.specs.declared.options.Options.{Options}
 -- an error of the constructors is the cause of that error of a call with options
 no_symbol : (o : Options) (bytes : List ℕ) (room : ℕ) (e : QrError) → HasNoSymbol o bytes (refusal_in e) → IsOptionsCause o bytes room (refusal_in e)
 no_symbol o bytes room DataTooLong h = h
-no_symbol o bytes room InvalidVersion h = h
-no_symbol o bytes room UnsupportedCharacterSet h = h
-no_symbol o bytes room InvalidEciDesignator h = h
-no_symbol o bytes room InvalidCharacter h = h
-no_symbol o bytes room OutOfMemory h = h
+no_symbol o bytes room e h = h
 
 pub refused_as : (o : Options) (a : Asked) (bytes : List ℕ) (e : QrError) (refusal : Refusal) → refusal ≡ refusal_in e → IsAsked o a
     → (IsTrue (is_text a.manner) → IsUtf8 bytes) → IsRefusedFor a.choice a.manner a.level bytes e → (room : ℕ) → IsOptionsCause o bytes room refusal

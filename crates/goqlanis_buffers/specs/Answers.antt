@@ -1,5 +1,5 @@
 -- What the calls for C return: 0, or the number of an error; and the cause of each error.
-use Rattle.std.specs.Prelude.{◌≡◌, ◌≢◌, ◌⊎◌, ◌+◌, ◌*◌, ◌^◌, ◌<◌, ◌≤◌, ◌-◌, ◌==◌, nat_le, ⊤, ℕ, pos, List, [], ◌∷◌, length, chars, false, IsTrue, Option, Some, None, slice_get, if◌then◌else◌}
+use Rattle.std.specs.Prelude.{◌≡◌, ◌≢◌, ◌⊎◌, ◌+◌, ◌*◌, ◌^◌, ◌<◌, ◌≤◌, ◌-◌, ◌==◌, ⊤, ℕ, pos, List, [], ◌∷◌, length, chars, false, IsTrue, Option, Some, None, slice_get, if◌then◌else◌}
 use Rattle.qrcode_types.specs.Versions.{has_level}
 use Rattle.qrcode_types.specs.declared.types.EcLevel.{EcLevel}
 use Rattle.qrcode_types.specs.declared.types.Version.{Version}
@@ -19,22 +19,21 @@ use Rattle.goqlanis_buffers.specs.Symbols.{ExceedsRoom, IsSegmentsSymbol}
 use Rattle.goqlanis_buffers.specs.Tints.{has_parts, is_plain}
 use Rattle.goqlanis_buffers.specs.declared.segments.Segment as by_hand
 use Rattle.goqlanis_buffers.specs.declared.answers.Refusal.{Refusal}
-use Rattle.goqlanis_buffers.specs.declared.answers.Refusal.TheVariants.{NoSuchLevel, NoSuchVersion, LevelNotInVersion, TooLong, NoMode, NoRoom, SmallBuffer, OutOfMemory, NoSuchFormat, NotSquare, NoSuchSize, NotText, NoSuchKind, NotInMode, NoSuchNumber, NoSuchSide, NoFormat, Damaged, NotSpelled, NoSuchStruct, NoSuchManner, NoSuchMask, NotInFormat, NotShown, NotSeveral, Stranger, Missing, Twice, Parity, NotRead, NoSuchArea, NoArea, AreaBlock, AreaFormat, NotPicture, BrokenPicture, NoSquare, LargePicture, NoSuchSet, NotInSet, ManyCodewords, ManyFormatBits, ManyVersionBits, ManyPatternModules}
+use Rattle.goqlanis_buffers.specs.declared.answers.Refusal.TheVariants.{NoSuchLevel, NoSuchVersion, LevelNotInVersion, TooLong, NoMode, NoRoom, SmallBuffer, OutOfMemory, NoSuchFormat, NotSquare, NoSuchSize, NotText, NoSuchKind, NotInMode, NoSuchNumber, NoSuchSide, NoFormat, Damaged, NotSpelled, NoSuchStruct, NoSuchManner, NoSuchMask, NotInFormat, NotShown, NotSeveral, Stranger, Missing, Twice, Parity, NotRead, NoSuchArea, NoSuchContent, NoSuchField, FieldEmpty, FieldTooLong, FieldTooShort, FieldControl, FieldCharacter, FieldCheckDigits, FieldRange, FieldUnused, NoSuchIdentifier, ElementLength, FieldDecimals, FieldWord, NoArea, AreaBlock, AreaFormat, NotPicture, BrokenPicture, NoSquare, LargePicture, NoSuchSet, NotInSet, ManyCodewords, ManyFormatBits, ManyVersionBits, ManyPatternModules}
 
-abbrev pub refusals : List Refusal  -- the errors in the order of their numbers, from 1 to 31
+abbrev pub refusals : List Refusal  -- the errors in the order of their numbers, from 1 to 58
 refusals =
     NoSuchLevel ∷ NoSuchVersion ∷ LevelNotInVersion ∷ TooLong ∷ NoMode ∷ NoRoom ∷ SmallBuffer ∷ OutOfMemory ∷
     NoSuchFormat ∷ NotSquare ∷ NoSuchSize ∷ NotText ∷ NoSuchKind ∷ NotInMode ∷ NoSuchNumber ∷
     NoSuchSide ∷ NoFormat ∷ Damaged ∷ NotSpelled ∷ NoSuchStruct ∷ NoSuchManner ∷
-    NoSuchMask ∷ NotInFormat ∷ NotShown ∷ NotSeveral ∷ Stranger ∷ Missing ∷ Twice ∷ Parity ∷ NotRead ∷ NoSuchArea ∷ []
-
-abbrev pub more_refusals : List Refusal  -- the errors from 46 on; those between are of contents
-more_refusals =
-    NoArea ∷ AreaBlock ∷ AreaFormat ∷ NotPicture ∷ BrokenPicture ∷ NoSquare ∷ LargePicture ∷ NoSuchSet ∷ NotInSet ∷ ManyCodewords ∷ ManyFormatBits ∷ ManyVersionBits ∷
-    ManyPatternModules ∷ []
+    NoSuchMask ∷ NotInFormat ∷ NotShown ∷ NotSeveral ∷ Stranger ∷ Missing ∷ Twice ∷ Parity ∷ NotRead ∷ NoSuchArea ∷
+    NoSuchContent ∷ NoSuchField ∷ FieldEmpty ∷ FieldTooLong ∷ FieldTooShort ∷ FieldControl ∷ FieldCharacter ∷ FieldCheckDigits ∷
+    FieldRange ∷ FieldUnused ∷ NoSuchIdentifier ∷ ElementLength ∷ FieldDecimals ∷ FieldWord ∷
+    NoArea ∷ AreaBlock ∷ AreaFormat ∷ NotPicture ∷ BrokenPicture ∷ NoSquare ∷ LargePicture ∷ NoSuchSet ∷ NotInSet ∷
+    ManyCodewords ∷ ManyFormatBits ∷ ManyVersionBits ∷ ManyPatternModules ∷ []
 
 abbrev pub refusal_of : ℕ → Option Refusal  -- the error with a number, if there is one
-refusal_of n = if n == 0 then None else (if nat_le 46 n then slice_get more_refusals (n - 46) else slice_get refusals (n - 1))
+refusal_of n = if n == 0 then None else slice_get refusals (n - 1)
 
 -- the first segment with an error, in a version that has the level, has this one
 abbrev pub IsSegmentCause : ℕ → ℕ → List by_hand.Segment → Refusal → Type 0

@@ -19,15 +19,15 @@ use Rattle.qrcode_area.specs.Reserves.{IsLeast}
 use Rattle.qrcode_area.specs.declared.areas.Rectangle.{Rectangle}
 use Rattle.qrcode_area.specs.declared.rectangles.Kept.TheVariants.{AllPatterns, ButAlignment}
 use Rattle.qrcode_area.specs.declared.rectangles.Wish as asked
-use Rattle.goqlanis_buffers.specs.Answers.{IsMaskCause, refusal_of}
+use Rattle.goqlanis_buffers.specs.Answers.{IsMaskCause}
 use Rattle.goqlanis_buffers.specs.Calls.{Tells, Writes}
 use Rattle.goqlanis_buffers.specs.Names.{level_named, version_named}
 use Rattle.goqlanis_buffers.specs.Outputs.{IsFilled}
+use Rattle.goqlanis_buffers.specs.declared.answers.Fault.{Fault}
+use Rattle.goqlanis_buffers.specs.declared.answers.Fault.TheVariants.{At, Other}
 use Rattle.goqlanis_buffers.specs.declared.answers.Refusal.{Refusal}
 use Rattle.goqlanis_buffers.specs.declared.answers.Refusal.TheVariants.{AreaBlock, AreaFormat, LevelNotInVersion, NoArea, NoSuchArea, NoSuchLevel, NoSuchStruct, NoSuchVersion, OutOfMemory, SmallBuffer}
 use Rattle.goqlanis_buffers.specs.declared.areas.Taken.{Taken}
-use Rattle.goqlanis_buffers.specs.declared.areas.Uncovered.{Uncovered}
-use Rattle.goqlanis_buffers.specs.declared.areas.Uncovered.TheVariants.{Block, Other}
 use Rattle.goqlanis_buffers.specs.declared.areas.Wish.{Wish}
 
 -- the version and level with these numbers; the version has the level
@@ -150,23 +150,14 @@ IsUncoveredCause rectangles modules AreaFormat =
     (v : Version) × ((l : EcLevel) × (IsAreaIn rectangles modules v l × (LeavesReserve v l (covers rectangles) 0 × ¬ KeepsFormat v (covers rectangles))))
 IsUncoveredCause rectangles modules refusal = IsMaskCause modules refusal
 
-abbrev pub IsUncovered : List Rectangle → List ℕ → Uncovered → Type 0
-IsUncovered rectangles modules (Block b) =
+-- why an area is not covered; of a block that would lose too much, with its number
+abbrev pub IsUncovered : List Rectangle → List ℕ → Fault → Type 0
+IsUncovered rectangles modules (At b AreaBlock) =
     (v : Version) × ((l : EcLevel) × (IsAreaIn rectangles modules v l
     × IsLostBlock v l (covers rectangles) b (touched v l (covers rectangles) b) (ec_length v l / 2)))
+IsUncovered rectangles modules (At b refusal) = ⊥
 IsUncovered rectangles modules (Other refusal) = IsUncoveredCause rectangles modules refusal
 
-abbrev pub refusal_reported : Uncovered → Refusal  -- the error that C gets
-refusal_reported (Block b) = AreaBlock
-refusal_reported (Other refusal) = refusal
-
-abbrev pub place_reported : Uncovered → ℕ → ℕ  -- the `place` that C gets: the block, if one is to blame; else as it was
-place_reported (Block b) before = b
-place_reported (Other refusal) before = before
-
--- an answer, and `place` after the call, report an error whose cause applies
-pub record IsCoverRefusal (rectangles : List Rectangle) (modules : List ℕ) (answer before after : ℕ) : Type 0 where
-  pub why : Uncovered
-  pub cause : IsUncovered rectangles modules why
-  pub answered : refusal_of answer ≡ Some (refusal_reported why)
-  pub reported : after ≡ place_reported why before
+-- covers an area of a square of modules, or fails for a cause
+abbrev pub CoversArea : List Rectangle → List ℕ → List ℕ → Result (Unit {0}) Fault → Type 0
+CoversArea rectangles old new result = Writes (λ new done. IsCovered rectangles old new) (IsUncovered rectangles old) old new result

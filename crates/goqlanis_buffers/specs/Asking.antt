@@ -1,7 +1,9 @@
 -- Requests to draw, and the lengths of pictures.
-use Rattle.std.specs.Prelude.{◌≡◌, ◌+◌, ◌*◌, ◌/◌, ◌^◌, ◌<◌, ◌++◌, ℕ, List, [], codes, decimal, length, IsTrue}
+use Rattle.std.specs.Prelude.{◌≡◌, ◌+◌, ◌*◌, ◌++◌, ℕ, List, [], Option, Some, None, codes, decimal, length, IsTrue}
+use Rattle.qrcode_sheets.specs.Files.{pbm_head}
 use Rattle.qrcode_sheets.specs.Printers.{bytes_across, escpos_head, tspl_head, tspl_tail, xbm_head, xbm_tail}
 use Rattle.qrcode_formats.specs.declared.Format.{Format}
+use Rattle.qrcode_formats.specs.declared.Format.TheVariants.{EscPos, Grey, Pbm, Pgm, Ppm, Tspl, Xbm}
 use Rattle.goqlanis_buffers.specs.Answers.{HasSize, IsDrawingCause, IsOfSquare, IsPicture}
 use Rattle.goqlanis_buffers.specs.Drawings.{is_sayable}
 use Rattle.goqlanis_buffers.specs.Tints.{has_parts}
@@ -24,27 +26,24 @@ IsCauseFor a room refusal = IsDrawingCause a.modules.now a.width a.drawing.now r
 abbrev pub side_of : Asked → ℕ  -- the number of pixels along a side
 side_of a = (a.width + 2 * a.drawing.now.zone) * a.drawing.now.scale
 
-abbrev pub pbm_length : ℕ → ℕ  -- the length of a PBM file by its side in pixels: a header, and rows of eight pixels per byte
-pbm_length side = length (codes "P4\n" ++ (decimal side ++ (codes " " ++ (decimal side ++ codes "\n")))) + side * ((side + 7) / 8)
-
-abbrev pub pgm_length : ℕ → ℕ  -- the length of a PGM file: a header, and one byte per pixel
-pgm_length side = length (codes "P5\n" ++ (decimal side ++ (codes " " ++ (decimal side ++ codes "\n255\n")))) + side * side
-
-abbrev pub ppm_length : ℕ → ℕ  -- the length of a PPM file: a header, and three bytes per pixel
-ppm_length side = length (codes "P6\n" ++ (decimal side ++ (codes " " ++ (decimal side ++ codes "\n255\n")))) + side * side * 3
-
 -- the length of a head, `side` rows of `row` bytes each, and a tail
 abbrev pub rows_length : (ℕ → ℕ → List ℕ) → ℕ → List ℕ → ℕ → ℕ
 rows_length head row tail side = length (head side side) + side * row + length tail
 
-abbrev pub escpos_length : ℕ → ℕ
-escpos_length side = rows_length escpos_head (bytes_across side) [] side
+-- the header of a PGM or PPM file, after its type
+abbrev pub grey_head : ℕ → List ℕ
+grey_head side = decimal side ++ (codes " " ++ (decimal side ++ codes "\n255\n"))
 
-abbrev pub tspl_length : ℕ → ℕ
-tspl_length side = rows_length tspl_head (bytes_across side) tspl_tail side
-
-abbrev pub xbm_length : ℕ → ℕ  -- five characters per byte, and the end of a line per row
-xbm_length side = rows_length xbm_head (5 * bytes_across side + 1) xbm_tail side
+-- the length of a picture by its side in pixels, in a format that stores each pixel, or each eight
+abbrev pub known_length : Format → ℕ → Option ℕ
+known_length Grey side = Some (side * side)
+known_length Pbm side = Some (length (pbm_head side side) + side * bytes_across side)
+known_length Pgm side = Some (length (codes "P5\n" ++ grey_head side) + side * side)
+known_length Ppm side = Some (length (codes "P6\n" ++ grey_head side) + side * side * 3)
+known_length EscPos side = Some (rows_length escpos_head (bytes_across side) [] side)
+known_length Tspl side = Some (rows_length tspl_head (bytes_across side) tspl_tail side)
+known_length Xbm side = Some (rows_length xbm_head (5 * bytes_across side + 1) xbm_tail side)
+known_length f side = None
 
 abbrev pub HasLength : Asked → ℕ → Type 0  -- a picture that is asked for has this many bytes
 HasLength a count = (bytes : List ℕ) × (IsPictureFor a bytes × (count ≡ length bytes))

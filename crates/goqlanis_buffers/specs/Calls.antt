@@ -7,6 +7,8 @@ use Rattle.goqlanis_buffers.specs.Outputs.{IsFilled, IsVersionAt, IsWrittenAs}
 use Rattle.goqlanis_buffers.specs.Readings.{IsAnyReadInto, IsMaskNumber, IsReadInto, IsTextReadInto}
 use Rattle.goqlanis_buffers.specs.Segments.{IsLeastHeld}
 use Rattle.goqlanis_buffers.specs.Symbols.{IsSegmentsSymbol}
+use Rattle.goqlanis_buffers.specs.declared.answers.Fault.{Fault}
+use Rattle.goqlanis_buffers.specs.declared.answers.Fault.TheVariants.{At, Other}
 use Rattle.goqlanis_buffers.specs.declared.answers.Refusal.{Refusal}
 use Rattle.goqlanis_buffers.specs.declared.options.Options.{Options}
 use Rattle.goqlanis_buffers.specs.declared.pictures.Drawing.{Drawing}
@@ -26,13 +28,40 @@ pub record IsReported {T : Type 0} (Does : Result T Refusal → Type 0) (number 
   pub refused : number ≢ 0 → IsSomeAnd (refusal_of number) (λ refusal. Does (Err refusal))
   pub unchanged : number ≢ 0 → new ≡ old
 
+abbrev pub refusal_at : Fault → Refusal  -- the error
+refusal_at (At n refusal) = refusal
+refusal_at (Other refusal) = refusal
+
+abbrev pub place_in : Fault → ℕ → ℕ  -- the index or number of what is wrong; or as before, if no item is to blame
+place_in (At n refusal) before = n
+place_in (Other refusal) before = before
+
+-- the same, if what is wrong goes to a second output
+pub record IsAnswerAt {T : Type 0} (result : Result T Fault) (number : ℕ) (old new : T) (before after : ℕ) : Type 0 where
+  pub ok : IfOk result (λ value. (number ≡ 0) × (new ≡ value) × (after ≡ before))
+  pub err : IfErr result (λ fault. (refusal_of number ≡ Some (refusal_at fault)) × (new ≡ old) × (after ≡ place_in fault before))
+
+-- an error is reported, and what is wrong
+pub record IsFault (Cause : Fault → Type 0) (number before after : ℕ) : Type 0 where
+  pub fault : Fault
+  pub cause : Cause fault
+  pub answered : refusal_of number ≡ Some (refusal_at fault)
+  pub placed : after ≡ place_in fault before
+
+-- a call for C does this: it returns 0 and a value in an output; or the number of an error with the output unchanged, and reports what is wrong
+pub record IsReportedAt {T : Type 0} (Does : Result T Fault → Type 0) (number : ℕ) (old new : T) (before after : ℕ) : Type 0 where
+  pub made : number ≡ 0 → Does (Ok new)
+  pub place_unchanged : number ≡ 0 → after ≡ before
+  pub refused : number ≢ 0 → IsFault (λ fault. Does (Err fault)) number before after
+  pub unchanged : number ≢ 0 → new ≡ old
+
 -- a call that returns a value, or fails for a cause
 pub record Tells {T : Type 0} (Made : T → Type 0) (Cause : Refusal → Type 0) (result : Result T Refusal) : Type 0 where
   pub made : IfOk result Made
   pub causes : IfErr result Cause
 
 -- a call that also writes to a buffer, which is unchanged after an error
-pub record Writes {A T : Type 0} (Made : List A → T → Type 0) (Cause : Refusal → Type 0) (old new : List A) (result : Result T Refusal) : Type 0 where
+pub record Writes {A T E : Type 0} (Made : List A → T → Type 0) (Cause : E → Type 0) (old new : List A) (result : Result T E) : Type 0 where
   pub made : IfOk result (Made new)
   pub unchanged : OnErr result (new ≡ old)
   pub causes : IfErr result Cause

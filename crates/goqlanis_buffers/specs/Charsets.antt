@@ -1,5 +1,5 @@
 -- Texts in character sets that C numbers.
-use Rattle.std.specs.Prelude.{◌≡◌, ◌≢◌, ◌⊎◌, ℕ, ◌+◌, ◌==◌, ◌<◌, List, take, length, map, chars, slice_get, Some, unwrap_or, IsUtf8, Err, if◌then◌else◌}
+use Rattle.std.specs.Prelude.{◌≡◌, ◌≢◌, ◌⊎◌, ℕ, ◌+◌, ◌==◌, ◌<◌, List, take, length, map, chars, slice_get, Some, unwrap_or, IsUtf8, Result, Err, if◌then◌else◌}
 use Rattle.qrcode.specs.Code.{Code}
 use Rattle.qrcode_types.specs.declared.types.QrError.{QrError}
 use Rattle.qrcode_types.specs.declared.types.QrError.TheVariants.{UnsupportedCharacterSet}
@@ -8,16 +8,18 @@ use Rattle.qrcode_charsets.specs.Shortest.{IsAt, NoneHas}
 use Rattle.qrcode_charsets.specs.declared.sets.Charset.{Charset}
 use Rattle.qrcode_charsets.specs.declared.sets.TheConstants.{CHARSETS}
 use Rattle.goqlanis_request.specs.Charsets.{IsShortestOf, IsShownOrRefused}
-use Rattle.goqlanis_buffers.specs.Answers.{refusal_of}
+use Rattle.goqlanis_buffers.specs.Calls.{Writes}
 use Rattle.goqlanis_buffers.specs.Options.{IsAsked, IsOptionsCause}
+use Rattle.goqlanis_buffers.specs.Outputs.{IsWrittenAs}
 use Rattle.goqlanis_buffers.specs.Segments.{refusal_in}
 use Rattle.goqlanis_buffers.specs.Symbols.{IsMasked, IsMaskingCause}
+use Rattle.goqlanis_buffers.specs.declared.answers.Fault.{Fault}
+use Rattle.goqlanis_buffers.specs.declared.answers.Fault.TheVariants.{At, Other}
 use Rattle.goqlanis_buffers.specs.declared.answers.Refusal.{Refusal}
 use Rattle.goqlanis_buffers.specs.declared.answers.Refusal.TheVariants as refusals
-use Rattle.goqlanis_buffers.specs.declared.charsets.Uncoded.{Uncoded}
-use Rattle.goqlanis_buffers.specs.declared.charsets.Uncoded.TheVariants.{NoSuchSet, NotInSet, Other}
 use Rattle.goqlanis_buffers.specs.declared.options.Asked.{Asked}
 use Rattle.goqlanis_buffers.specs.declared.options.Options.{Options}
+use Rattle.goqlanis_buffers.specs.declared.symbols.Symbol.{Symbol}
 
 abbrev pub number_of : Charset → ℕ  -- the number of a set: its ECI designator, or 0 for UTF-8 without one
 number_of c = unwrap_or (designator c) 0
@@ -32,6 +34,11 @@ pub record IsFirstUnknown (numbers : List ℕ) (place : ℕ) : Type 0 where
   pub sets : List Charset
   pub before : map number_of sets ≡ take place numbers
   pub unknown : (c : Charset) → number_of c ≢ number
+
+-- why there are no sets with these numbers: one is unknown, or memory ran out
+abbrev pub HasUnknown : List ℕ → Fault → Type 0
+HasUnknown numbers (At place refusal) = (refusal ≡ refusals.NoSuchSet) × IsFirstUnknown numbers place
+HasUnknown numbers (Other refusal) = refusal ≡ refusals.OutOfMemory
 
 -- each of the sets lacks a character of the text; in the first of them the one at this place is the first
 pub record IsLacked (sets : List Charset) (text : List ℕ) (place : ℕ) : Type 0 where
@@ -49,10 +56,9 @@ pub record IsNotCoded (a : Asked) (sets : List Charset) (utf8 : List ℕ) (refus
   pub cause : IsShownOrRefused a.choice sets a.level utf8 (Err error)
   pub has : error ≡ UnsupportedCharacterSet → ¬ NoneHas sets (chars utf8)
 
-abbrev pub IsUncodedIn : Asked → List Charset → List ℕ → Uncoded → Type 0  -- why there is none
-IsUncodedIn a sets utf8 (NotInSet place) = IsLacked sets (chars utf8) place
+abbrev pub IsUncodedIn : Asked → List Charset → List ℕ → Fault → Type 0  -- why there is none
+IsUncodedIn a sets utf8 (At place refusal) = (refusal ≡ refusals.NotInSet) × IsLacked sets (chars utf8) place
 IsUncodedIn a sets utf8 (Other refusal) = IsNotCoded a sets utf8 refusal
-IsUncodedIn a sets utf8 (NoSuchSet place) = ⊥
 
 -- what is asked for, and the sets in which the text may be encoded
 pub record IsAskedOf (o : Options) (numbers : List ℕ) (a : Asked) (sets : List Charset) : Type 0 where
@@ -83,36 +89,24 @@ pub record IsNotWritten (o : Options) (numbers utf8 : List ℕ) (room : ℕ) (re
   pub cause : IsMaskingCause asked.mask own room refusal
 
 -- the options are valid, and the text has no symbol in the sets that are asked for
-pub record HasNoCode (o : Options) (numbers utf8 : List ℕ) (why : Uncoded) : Type 0 where
+pub record HasNoCode (o : Options) (numbers utf8 : List ℕ) (why : Fault) : Type 0 where
   pub asked : Asked
   pub sets : List Charset
   pub named : IsAskedOf o numbers asked sets
   pub text : IsUtf8 utf8
   pub cause : IsUncodedIn asked sets utf8 why
 
--- why a text is not encoded in a buffer of `room` items
-abbrev pub IsUncoded : Options → List ℕ → List ℕ → ℕ → Uncoded → Type 0
-IsUncoded o numbers utf8 room (NoSuchSet place) = ((a : Asked) × IsAsked o a) × IsFirstUnknown numbers place
-IsUncoded o numbers utf8 room (NotInSet place) = HasNoCode o numbers utf8 (NotInSet place)
+-- why a text is not encoded in a buffer of `room` items; of an unknown number, with its index; of a lacking character, with its place
+abbrev pub IsUncoded : Options → List ℕ → List ℕ → ℕ → Fault → Type 0
+IsUncoded o numbers utf8 room (At place refusal) =
+    (((a : Asked) × IsAsked o a) × HasUnknown numbers (At place refusal)) ⊎ HasNoCode o numbers utf8 (At place refusal)
 IsUncoded o numbers utf8 room (Other refusal) =
     (refusal ≡ refusals.OutOfMemory)
     ⊎ (((bytes : List ℕ) (room : ℕ) → IsOptionsCause o bytes room refusal)
     ⊎ (((refusal ≡ refusals.NotText) × (((a : Asked) × ((sets : List Charset) × IsAskedOf o numbers a sets)) × ¬ IsUtf8 utf8))
     ⊎ (HasNoCode o numbers utf8 (Other refusal) ⊎ IsNotWritten o numbers utf8 room refusal)))
 
-abbrev pub refusal_reported : Uncoded → Refusal  -- the error that C gets
-refusal_reported (NoSuchSet place) = refusals.NoSuchSet
-refusal_reported (NotInSet place) = refusals.NotInSet
-refusal_reported (Other refusal) = refusal
-
-abbrev pub place_reported : Uncoded → ℕ → ℕ  -- the `place` that C gets: the index of a number, or the place of a character; else as it was
-place_reported (NoSuchSet place) before = place
-place_reported (NotInSet place) before = place
-place_reported (Other refusal) before = before
-
--- an answer, and `place` after the call, report an error whose cause applies
-pub record IsCodingRefusal (o : Options) (numbers utf8 : List ℕ) (room answer before after : ℕ) : Type 0 where
-  pub why : Uncoded
-  pub cause : IsUncoded o numbers utf8 room why
-  pub answered : refusal_of answer ≡ Some (refusal_reported why)
-  pub reported : after ≡ place_reported why before
+-- writes the symbol of a text in the set with this number
+abbrev pub WritesCoded : Options → List ℕ → List ℕ → ℕ → List ℕ → List ℕ → Result Symbol Fault → Type 0
+WritesCoded o numbers utf8 number old new result =
+    Writes (IsWrittenAs (IsCodedSymbol o numbers utf8 number) old) (IsUncoded o numbers utf8 (length old)) old new result

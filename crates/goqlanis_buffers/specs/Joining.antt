@@ -1,5 +1,5 @@
 -- The data of several symbols, read from squares.
-use Rattle.std.specs.Prelude.{◌≡◌, ◌≢◌, ◌<◌, ⊤, ℕ, List, ◌∷◌, length, map, take, Some, slice_get}
+use Rattle.std.specs.Prelude.{◌≡◌, ◌≢◌, ◌⊎◌, ◌<◌, ⊤, Result, ℕ, List, ◌∷◌, length, map, take, Some, slice_get}
 use Rattle.std.specs.List.{AllZip}
 use Rattle.qrcode_layout.specs.declared.masks.MaskPattern.{MaskPattern}
 use Rattle.qrcode_reader.specs.Readings.{HasNoVersion, HasNoFormat, HasDamagedBlock, HoldsNoParts, IsPartsReading}
@@ -9,20 +9,20 @@ use Rattle.qrcode_reader.specs.declared.spell.parts.Part as piece
 use Rattle.qrcode_reader.specs.declared.spell.parts.Part.TheVariants.{Front}
 use Rattle.goqlanis_buffers.specs.Shades.{colors_of}
 use Rattle.qrcode_append.specs.Joining.{IsJoined, IsJoinRefused}
+use Rattle.qrcode_append.specs.declared.errors.JoinError.{JoinError}
 use Rattle.qrcode_append.specs.declared.errors.JoinError.TheVariants as join
 use Rattle.qrcode_append.specs.declared.joining.Part.{Part}
 use Rattle.qrcode_types.specs.declared.types.Color.{Color}
 use Rattle.qrcode_types.specs.declared.types.EcLevel.{EcLevel}
 use Rattle.qrcode_types.specs.declared.types.Version.{Version}
-use Rattle.goqlanis_buffers.specs.Answers.{refusal_of}
+use Rattle.goqlanis_buffers.specs.Calls.{Writes}
 use Rattle.goqlanis_buffers.specs.Outputs.{IsFilled}
+use Rattle.goqlanis_buffers.specs.declared.answers.Fault.{Fault}
+use Rattle.goqlanis_buffers.specs.declared.answers.Fault.TheVariants.{At, Other}
 use Rattle.goqlanis_buffers.specs.declared.answers.Refusal.{Refusal}
 use Rattle.goqlanis_buffers.specs.declared.answers.Refusal.TheVariants as refusals
 use Rattle.goqlanis_buffers.specs.declared.joining.Found.{Found}
 use Rattle.goqlanis_buffers.specs.declared.joining.Square.{Square}
-use Rattle.goqlanis_buffers.specs.declared.joining.Unjoined.{Unjoined}
-use Rattle.goqlanis_buffers.specs.declared.joining.Unjoined.TheVariants.{SmallBuffer, OutOfMemory}
-use Rattle.goqlanis_buffers.specs.declared.joining.Unjoined.TheVariants as unjoined
 
 -- a part of data: what its header says, and its bytes
 pub record Share : Type 0 where
@@ -89,37 +89,27 @@ pub record IsJoinedInto (squares : List Square) (old new : List ℕ) (count : �
   pub filled : IsFilled old new bytes
   pub counted : count ≡ length bytes
 
+-- why squares are not decoded as parts: one is none, or memory ran out
+abbrev pub HasNoPart : List Square → Fault → Type 0
+HasNoPart squares (At place refusal) = IsFirstNoPart squares place refusal
+HasNoPart squares (Other refusal) = refusal ≡ refusals.OutOfMemory
+
+abbrev pub join_fault : JoinError → Fault  -- the error that C gets of parts that are not all the parts of the same data, and which part is wrong
+join_fault (join.Stranger part) = At part refusals.Stranger
+join_fault (join.Missing part) = At part refusals.Missing
+join_fault (join.Twice part) = At part refusals.Twice
+join_fault join.Parity = Other refusals.Parity
+join_fault join.OutOfMemory = Other refusals.OutOfMemory
+
+-- the parts of squares are not all the parts of the same data
+abbrev pub AreNotJoined : List Square → Fault → Type 0
+AreNotJoined squares fault = (e : JoinError) × ((fault ≡ join_fault e) × ((parts : List Part) × (ArePartsOf squares (map part_of parts) × IsJoinRefused parts e)))
+
 -- why squares are not joined into a buffer of `room` bytes
-abbrev pub IsUnjoined : List Square → ℕ → Unjoined → Type 0
-IsUnjoined squares room (unjoined.Square place refusal) = IsFirstNoPart squares place refusal
-IsUnjoined squares room (unjoined.Parts e) = (parts : List Part) × (ArePartsOf squares (map part_of parts) × IsJoinRefused parts e)
-IsUnjoined squares room SmallBuffer = (bytes : List ℕ) × (IsDataOf squares bytes × (room < length bytes))
-IsUnjoined squares room OutOfMemory = ⊤
+abbrev pub IsUnjoined : List Square → ℕ → Fault → Type 0
+IsUnjoined squares room fault =
+    HasNoPart squares fault ⊎ (AreNotJoined squares fault ⊎ ((fault ≡ Other refusals.SmallBuffer) × ((bytes : List ℕ) × (IsDataOf squares bytes × (room < length bytes)))))
 
-abbrev pub refusal_reported : Unjoined → Refusal  -- the error that C gets
-refusal_reported (unjoined.Square place refusal) = refusal
-refusal_reported (unjoined.Parts (join.Stranger place)) = refusals.Stranger
-refusal_reported (unjoined.Parts (join.Missing place)) = refusals.Missing
-refusal_reported (unjoined.Parts (join.Twice place)) = refusals.Twice
-refusal_reported (unjoined.Parts join.Parity) = refusals.Parity
-refusal_reported (unjoined.Parts join.OutOfMemory) = refusals.OutOfMemory
-refusal_reported SmallBuffer = refusals.SmallBuffer
-refusal_reported OutOfMemory = refusals.OutOfMemory
-
--- the `place` that C gets: that of the wrong square or part, if there is one; else as it was
-abbrev pub place_reported : Unjoined → ℕ → ℕ
-place_reported (unjoined.Square place refusal) before = place
-place_reported (unjoined.Parts (join.Stranger place)) before = place
-place_reported (unjoined.Parts (join.Missing place)) before = place
-place_reported (unjoined.Parts (join.Twice place)) before = place
-place_reported (unjoined.Parts join.Parity) before = before
-place_reported (unjoined.Parts join.OutOfMemory) before = before
-place_reported SmallBuffer before = before
-place_reported OutOfMemory before = before
-
--- an answer, and `place` after the call, report an error whose cause applies
-pub record IsJoinRefusal (squares : List Square) (room answer before after : ℕ) : Type 0 where
-  pub why : Unjoined
-  pub cause : IsUnjoined squares room why
-  pub answered : refusal_of answer ≡ Some (refusal_reported why)
-  pub reported : after ≡ place_reported why before
+-- writes the data of squares, and returns its length
+abbrev pub WritesJoined : List Square → List ℕ → List ℕ → Result ℕ Fault → Type 0
+WritesJoined squares old new result = Writes (IsJoinedInto squares old) (IsUnjoined squares (length old)) old new result

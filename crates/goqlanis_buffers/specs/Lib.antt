@@ -5,8 +5,10 @@ pub mod Calls
 pub mod Charsets
 pub mod Checking
 pub mod Colours
+pub mod Contents
 pub mod Damaging
 pub mod Drawings
+pub mod Elements
 pub mod Joining
 pub mod Logos
 pub mod Missing
@@ -21,4 +23,3 @@ pub mod Shades
 pub mod Symbols
 pub mod Texts
 pub mod Tints
-pub mod contents

@@ -1,5 +1,5 @@
 -- What the calls for C read from pictures.
-use Rattle.std.specs.Prelude.{◌≡◌, ◌≢◌, ◌⊎◌, ◌+◌, ◌<◌, ◌≤◌, ⊤, ℕ, Bool, not, List, All, AllPairs, flat_map, length, map, if◌then◌else◌}
+use Rattle.std.specs.Prelude.{◌≡◌, ◌≢◌, ◌⊎◌, ◌+◌, ◌<◌, ◌≤◌, ⊤, ℕ, Bool, not, List, All, AllPairs, flat_map, length, map, Result, IfOk, IfErr, OnErr, if◌then◌else◌}
 use Rattle.std.specs.List.{AllZip}
 use Rattle.qrcode_types.specs.declared.types.Mode.{Mode}
 use Rattle.qrcode_types.specs.declared.types.Mode.TheVariants.{Numeric, Alphanumeric, Byte, Kanji}
@@ -124,3 +124,12 @@ abbrev pub IsScanCause : List ℕ → ℕ → ℕ → ℕ → ℕ → Refusal �
 IsScanCause picture size codes parts bytes refusal =
     IsUnreadFor picture size refusal
     ⊎ ((refusal ≡ refusals.SmallBuffer) × ((told : Told) × (IsToldIn picture size told × ExceedsRoom told codes parts bytes)))
+
+-- a call decodes the codes in a picture, or fails for a cause and leaves the buffers unchanged
+pub record ScansPicture (picture : List ℕ) (size : ℕ) (codes new_codes : List Code) (parts new_parts : List Part) (bytes new_bytes : List ℕ) (result : Result Scan Refusal)
+    : Type 0 where
+  pub made : IfOk result (IsScanned picture size codes new_codes parts new_parts bytes new_bytes)
+  pub codes_unchanged : OnErr result (new_codes ≡ codes)
+  pub parts_unchanged : OnErr result (new_parts ≡ parts)
+  pub bytes_unchanged : OnErr result (new_bytes ≡ bytes)
+  pub causes : IfErr result (IsScanCause picture size (length codes) (length parts) (length bytes))

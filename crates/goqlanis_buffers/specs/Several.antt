@@ -1,5 +1,5 @@
 -- Data split over several symbols (structured append).
-use Rattle.std.specs.Prelude.{◌≡◌, ◌≢◌, ◌≤◌, ◌<◌, ⊤, ℕ, zero, suc, pos, List, [], ◌∷◌, length, flat_map, IsTrue, IsUtf8, Option, Some, None, slice_get}
+use Rattle.std.specs.Prelude.{◌≡◌, ◌≢◌, ◌≤◌, ◌<◌, ⊤, ℕ, zero, suc, pos, List, [], ◌∷◌, length, flat_map, IsTrue, IsUtf8, Option, Some, None, Result, slice_get}
 use Rattle.qrcode_types.specs.declared.types.Version.TheVariants.{Normal}
 use Rattle.qrcode_bits.specs.Manners.{is_text}
 use Rattle.qrcode_bits.specs.declared.bits.manner.Manner.{Manner}
@@ -8,6 +8,7 @@ use Rattle.qrcode.specs.Code.{Code}
 use Rattle.qrcode_append.specs.Fewest.{IsAmong, AreCounted, AreFewest}
 use Rattle.qrcode_append.specs.Symbols.{HoldSeveral}
 use Rattle.goqlanis_buffers.specs.Names.{level_named}
+use Rattle.goqlanis_buffers.specs.Calls.{Writes}
 use Rattle.goqlanis_buffers.specs.Outputs.{module_bytes, IsDescribed, IsFilled}
 use Rattle.goqlanis_buffers.specs.declared.answers.Refusal.{Refusal}
 use Rattle.goqlanis_buffers.specs.declared.answers.Refusal.TheVariants.{NoSuchLevel, NoSuchVersion, NoSuchStruct, NoSuchManner, NoSuchNumber, NotText, NoRoom, SmallBuffer, OutOfMemory}
@@ -102,3 +103,8 @@ IsSeveralCause s bytes room NoRoom = HaveNoRoom s bytes
 IsSeveralCause s bytes room SmallBuffer = (codes : List Code) × (AreSymbolsWith s bytes codes × (room < length (modules_of codes)))
 IsSeveralCause s bytes room OutOfMemory = ⊤
 IsSeveralCause s bytes room refusal = ⊥
+
+-- writes the symbols of data that options ask for, so many
+abbrev pub WritesSeveral : Several → List ℕ → ℕ → List ℕ → List ℕ → Result Symbol Refusal → Type 0
+WritesSeveral s bytes count old new result =
+    Writes (λ new symbol. AreWritten (AreSymbolsWith s bytes) old new symbol count) (IsSeveralCause s bytes (length old)) old new result

@@ -2,10 +2,16 @@
 
 ghost use Rattle.std.specs.Prelude.{◌≡◌, ◌≤◌, Some};
 ghost use Rattle.goqlanis_buffers.specs.Answers.{refusal_of};
-ghost use Rattle.goqlanis_buffers.specs.Calls.{IsAnswer};
+ghost use Rattle.goqlanis_buffers.specs.Calls.{IsAnswer, IsAnswerAt};
+ghost use Rattle.goqlanis_buffers.specs.Scanning.{picture_refusal, square_refusal};
 ghost use Rattle.goqlanis_buffers.specs.Segments.{refusal_in};
+ghost use Rattle.goqlanis_buffers.specs.declared.answers.Fault.TheVariants.{Other};
+ghost use Rattle.goqlanis_buffers.specs.declared.answers.Refusal.TheVariants.{OutOfMemory};
 
 use qrcode::types::QrError;
+use qrcode_reader::Unread;
+use qrcode_scan::{Unread as UnreadPicture, Unscanned};
+use std::alloc::AllocError;
 
 /// Why a call fails, with the number that C gets. Each error has one cause.
 #[derive(Clone, Copy, Drop, PartialEq, Eq)]
@@ -73,6 +79,34 @@ pub enum Refusal {
     NotRead = 30,
     /// An area has no rectangle, or one that is empty or not inside the symbol.
     NoSuchArea = 31,
+    /// No kind of payload has this number.
+    NoSuchContent = 32,
+    /// The kind of payload has no such field.
+    NoSuchField = 33,
+    /// A field is empty.
+    FieldEmpty = 34,
+    /// A field, or the whole text, is too long.
+    FieldTooLong = 35,
+    /// A field is too short.
+    FieldTooShort = 36,
+    /// A field has a control character.
+    FieldControl = 37,
+    /// A field or an element has a character that may not stand there.
+    FieldCharacter = 38,
+    /// The check digits of a field or an element are wrong.
+    FieldCheckDigits = 39,
+    /// The number, date or time of a field or an element is out of range.
+    FieldRange = 40,
+    /// A field cannot be combined with the others.
+    FieldUnused = 41,
+    /// The application identifier of an element is unknown.
+    NoSuchIdentifier = 42,
+    /// The value of an element has too few or too many characters.
+    ElementLength = 43,
+    /// The number in a field has too many decimals.
+    FieldDecimals = 44,
+    /// A field is none of the words that are allowed.
+    FieldWord = 45,
     /// No rectangle in the middle leaves what is asked for.
     NoArea = 46,
     /// The area touches more codewords of a block than may be lost.
@@ -128,6 +162,67 @@ impl From<QrError> for Refusal {
     }
 }
 
+/// Maps the error of a square that does not decode.
+impl From<Unread> for Refusal {
+    ghost from_gives = { λ e refusal. refusal ≡ square_refusal e };
+
+    fn from(unread: Unread) -> Refusal {
+        match unread {
+            Unread::NoSuchSide => Refusal::NoSuchSide,
+            Unread::NoFormat => Refusal::NoFormat,
+            Unread::Damaged(_) => Refusal::Damaged,
+            Unread::NotSpelled => Refusal::NotSpelled,
+            Unread::OutOfMemory => Refusal::OutOfMemory,
+        }
+    }
+}
+
+/// Maps the error of a picture that does not decode.
+impl From<UnreadPicture> for Refusal {
+    ghost from_gives = { λ e refusal. refusal ≡ picture_refusal e };
+
+    fn from(unread: UnreadPicture) -> Refusal {
+        match unread {
+            UnreadPicture::Unscanned(Unscanned::NotPicture) | UnreadPicture::Jpeg => {
+                Refusal::NotPicture
+            }
+            UnreadPicture::OutOfMemory
+            | UnreadPicture::Unscanned(Unscanned::OutOfMemory)
+            | UnreadPicture::Png(qrcode_png::Unread::OutOfMemory) => Refusal::OutOfMemory,
+            UnreadPicture::Unscanned(_) | UnreadPicture::Png(_) => Refusal::BrokenPicture,
+            UnreadPicture::NoSquare => Refusal::NoSquare,
+            UnreadPicture::NoSymbol(_, cause) => Refusal::from(cause),
+        }
+    }
+}
+
+/// Memory ran out.
+impl From<AllocError> for Refusal {
+    ghost from_gives = { λ _ refusal. refusal ≡ OutOfMemory };
+
+    fn from(_error: AllocError) -> Refusal {
+        Refusal::OutOfMemory
+    }
+}
+
+/// Why a call fails that also reports what is wrong.
+#[derive(Clone, Copy, Drop)]
+pub enum Fault {
+    /// The item with this index or number is wrong.
+    At(usize, Refusal),
+    /// No item is to blame.
+    Other(Refusal),
+}
+
+/// No item is to blame.
+impl From<Refusal> for Fault {
+    ghost from_gives = { λ refusal fault. fault ≡ Other refusal };
+
+    fn from(refusal: Refusal) -> Fault {
+        Fault::Other(refusal)
+    }
+}
+
 /// Turns a result into what C gets: 0, with the value in `output`; or the number of the error, with
 /// `output` unchanged.
 pub fn answer<T: Copy>(made: Result<T, Refusal>, output: &mut T) -> u32
@@ -139,5 +234,22 @@ pub fn answer<T: Copy>(made: Result<T, Refusal>, output: &mut T) -> u32
             0
         }
         Err(refusal) => refusal.number(),
+    }
+}
+
+/// Like `answer`. If an item is to blame, `place` gets its index or number; else it is unchanged.
+pub fn answer_at<T: Copy>(made: Result<T, Fault>, output: &mut T, place: &mut usize) -> u32
+    ensures { IsAnswerAt made result output.old output.new place.old place.new }
+{
+    match made {
+        Ok(value) => {
+            *output = value;
+            0
+        }
+        Err(Fault::At(index, refusal)) => {
+            *place = index;
+            refusal.number()
+        }
+        Err(Fault::Other(refusal)) => refusal.number(),
     }
 }

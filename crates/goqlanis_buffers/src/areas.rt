@@ -1,19 +1,17 @@
 //! Areas of symbols that may show anything.
 
-ghost use Rattle.std.specs.Prelude.{◌≡◌, ◌≢◌, ◌<◌, ◌≤◌, ℕ, Bool, length, Some, slice_index, IsTrue, IfErr, IfOk, OnErr, OnOk};
+ghost use Rattle.std.specs.Prelude.{◌≡◌, ◌<◌, ℕ, Bool, length, slice_index, IsTrue, IfErr, IfOk};
 ghost use Rattle.qrcode_types.specs.Versions.{has_level};
 ghost use Rattle.qrcode_types.specs.declared.types.EcLevel.{EcLevel};
 ghost use Rattle.qrcode_types.specs.declared.types.Version.{Version};
 ghost use Rattle.qrcode_area.specs.Areas.{covers};
 ghost use Rattle.qrcode_area.specs.Reserves.{IsReserve};
-ghost use Rattle.goqlanis_buffers.specs.Answers.{refusal_of};
-ghost use Rattle.goqlanis_buffers.specs.Outputs.{IsFilled};
-ghost use Rattle.goqlanis_buffers.specs.Areas.{covered_byte, place_reported, refusal_reported, told, wanted, IsCovered, IsLevelNamed, IsPairCause, IsTaken, IsUncovered, TellsLargest, WritesReserve};
+ghost use Rattle.goqlanis_buffers.specs.Areas.{covered_byte, told, wanted, CoversArea, IsLevelNamed, IsPairCause, IsTaken, TellsLargest, WritesReserve};
 
-use crate::answers::Refusal;
+use crate::answers::{Fault, Refusal};
 use crate::names::{level_named, version_named};
 use crate::reading::format_of;
-use crate::symbols::fill;
+use crate::symbols::put;
 use qrcode::types::{EcLevel, Version};
 use qrcode_area::areas::{Area, Rectangle};
 use qrcode_area::rectangles::{Kept, Wish as Wanted, largest_rectangle};
@@ -68,39 +66,6 @@ const MOST: usize = 31_329;
 // A reserve of half of the codewords that may be lost.
 const HALF: u32 = 0xffff_ffff;
 
-/// Why an area cannot be covered.
-#[derive(Clone, Copy, Drop)]
-pub enum Uncovered {
-    /// It touches more codewords of this block than may be lost.
-    Block(usize),
-    /// Another cause.
-    Other(Refusal),
-}
-
-impl Uncovered {
-    /// Returns the number that C gets.
-    pub fn number(self) -> u32
-        ensures value { refusal_of result ≡ Some (refusal_reported self) }
-        ensures not_made { result ≢ 0 }
-    {
-        let refusal = match self {
-            Uncovered::Block(_) => Refusal::AreaBlock,
-            Uncovered::Other(refusal) => refusal,
-        };
-        refusal.number()
-    }
-
-    /// Returns the block, or `before` if no block is to blame.
-    pub fn place(self, before: usize) -> usize
-        ensures value { result ≡ place_reported self before }
-    {
-        match self {
-            Uncovered::Block(block) => block,
-            Uncovered::Other(_) => before,
-        }
-    }
-}
-
 /// Writes how many codewords of each block have modules in an area to the start of `touched`, and
 /// returns what else the area takes.
 ///
@@ -115,24 +80,15 @@ pub fn reserve_into(
 ) -> Result<Taken, Refusal>
     ensures { WritesReserve version level rectangles.now touched.old touched.new result }
 {
-    let (version, level) = match pair_named(version, level) {
-        Ok(pair) => pair,
-        Err(refusal) => return Err(refusal),
-    };
+    let (version, level) = pair_named(version, level)?;
     if rectangles.len() > MOST {
         return Err(Refusal::NoSuchArea);
     }
     let Some(area) = Area::new(version, rectangles) else {
         return Err(Refusal::NoSuchArea);
     };
-    let Ok(reserve) = reserve_in(alloc, version, level, &area) else {
-        return Err(Refusal::OutOfMemory);
-    };
-    let counts = reserve.touched.as_slice();
-    if touched.len() < counts.len() {
-        return Err(Refusal::SmallBuffer);
-    }
-    fill(touched, counts);
+    let reserve = reserve_in(alloc, version, level, &area)?;
+    put(touched, &reserve.touched)?;
     Ok(made_of(&reserve))
 }
 
@@ -174,10 +130,7 @@ pub fn largest(alloc: Global, version: u32, level: u32, wish: &Wish) -> Result<R
     if wish.size != SIZE {
         return Err(Refusal::NoSuchStruct);
     }
-    let (version, level) = match pair_named(version, level) {
-        Ok(pair) => pair,
-        Err(refusal) => return Err(refusal),
-    };
+    let (version, level) = pair_named(version, level)?;
     match largest_rectangle(alloc, version, level, wish_of(version, level, wish)) {
         Ok(Some(rectangle)) => Ok(rectangle),
         Ok(None) => Err(Refusal::NoArea),
@@ -227,31 +180,26 @@ fn pair_named(version: u32, level: u32) -> Result<(Version, EcLevel), Refusal>
 /// Makes the modules of an area of a symbol light. The area may then show anything. After an error
 /// `modules` is unchanged.
 ///
-/// Errors, the first that applies: `NoSuchSide`, `NoFormat`, `NoSuchArea`, `Uncovered::Block`,
+/// Errors, the first that applies: `NoSuchSide`, `NoFormat`, `NoSuchArea`, `AreaBlock` at the block,
 /// `AreaFormat`; or `OutOfMemory`.
-pub fn cover(alloc: Global, modules: &mut [u8], rectangles: &[Rectangle]) -> Result<(), Uncovered>
-    ensures made { OnOk result (IsCovered rectangles.now modules.old modules.new) }
-    ensures unchanged { OnErr result (modules.new ≡ modules.old) }
-    ensures causes { IfErr result (IsUncovered rectangles.now modules.old) }
+pub fn cover(alloc: Global, modules: &mut [u8], rectangles: &[Rectangle]) -> Result<(), Fault>
+    ensures { CoversArea rectangles.now modules.old modules.new result }
 {
-    let format = match format_of(alloc, modules) {
-        Ok(format) => format,
-        Err(refusal) => return Err(Uncovered::Other(refusal)),
-    };
+    let format = format_of(alloc, modules)?;
     if rectangles.len() > MOST {
-        return Err(Uncovered::Other(Refusal::NoSuchArea));
+        return Err(Fault::Other(Refusal::NoSuchArea));
     }
     let Some(area) = Area::new(format.version, rectangles) else {
-        return Err(Uncovered::Other(Refusal::NoSuchArea));
+        return Err(Fault::Other(Refusal::NoSuchArea));
     };
     let Ok(reserve) = reserve_in(alloc, format.version, format.level, &area) else {
-        return Err(Uncovered::Other(Refusal::OutOfMemory));
+        return Err(Fault::Other(Refusal::OutOfMemory));
     };
     if reserve.most > reserve.allowed {
-        return Err(Uncovered::Block(reserve.worst));
+        return Err(Fault::At(reserve.worst, Refusal::AreaBlock));
     }
     if reserve.excess().is_some() {
-        return Err(Uncovered::Other(Refusal::AreaFormat));
+        return Err(Fault::Other(Refusal::AreaFormat));
     }
     lighten(modules, side(format.version), &area);
     Ok(())

@@ -1,14 +1,12 @@
 //! Texts in character sets that C numbers.
 
-ghost use Rattle.std.specs.Prelude.{◌≡◌, ◌≢◌, ◌<◌, chars, length, map, Some, IfErr, IfNone, IfOk, IfSome, OnErr};
+ghost use Rattle.std.specs.Prelude.{◌≡◌, ◌≢◌, ◌<◌, chars, length, map, IfErr, IfNone, IfOk, IfSome, OnErr};
 ghost use Rattle.qrcode_charsets.specs.Shortest.{NoneHas};
 ghost use Rattle.qrcode_charsets.specs.declared.sets.Charset.{Charset};
 ghost use Rattle.goqlanis_request.specs.Charsets.{IsShortestOf};
-ghost use Rattle.goqlanis_buffers.specs.Answers.{refusal_of};
-ghost use Rattle.goqlanis_buffers.specs.Charsets.{number_of, numbers_tried, place_reported, refusal_reported, IsCodedSymbol, IsFirstUnknown, IsLacked, IsUncoded, IsUncodedIn};
-ghost use Rattle.goqlanis_buffers.specs.Outputs.{IsWrittenAs};
+ghost use Rattle.goqlanis_buffers.specs.Charsets.{number_of, numbers_tried, HasUnknown, IsLacked, IsUncodedIn, WritesCoded};
 
-use crate::answers::Refusal;
+use crate::answers::{Fault, Refusal};
 use crate::options::{Asked, Options, asked_by};
 use crate::symbols::{Symbol, write_masked};
 use goqlanis_request::symbol_among;
@@ -18,84 +16,36 @@ use qrcode_charsets::sets::{CHARSETS, Charset};
 use qrcode_charsets::shortest::any_has;
 use std::alloc::Global;
 
-/// Why a text is not encoded in any of some character sets.
-#[derive(Clone, Copy, Drop)]
-pub enum Uncoded {
-    /// No set has the number at this index.
-    NoSuchSet(usize),
-    /// Each set lacks a character of the text; the first set lacks the one at this place.
-    NotInSet(usize),
-    /// Another cause.
-    Other(Refusal),
-}
-
-impl Uncoded {
-    /// Returns the number that C gets.
-    pub fn number(self) -> u32
-        ensures value { refusal_of result ≡ Some (refusal_reported self) }
-        ensures not_made { result ≢ 0 }
-    {
-        let refusal = match self {
-            Uncoded::NoSuchSet(_) => Refusal::NoSuchSet,
-            Uncoded::NotInSet(_) => Refusal::NotInSet,
-            Uncoded::Other(refusal) => refusal,
-        };
-        refusal.number()
-    }
-
-    /// Returns the index or place of what is wrong, or `before` if there is none.
-    pub fn place(self, before: usize) -> usize
-        ensures value { result ≡ place_reported self before }
-    {
-        match self {
-            Uncoded::NoSuchSet(place) | Uncoded::NotInSet(place) => place,
-            Uncoded::Other(_) => before,
-        }
-    }
-}
-
 /// Encodes a text as `options` ask, in that of the sets with these `numbers` in which it takes the
 /// fewest bits; without numbers in that of `CHARSETS`. Writes the modules to the start of
-/// `modules`, and returns version, level and width, and the number of the set. The options' manner
-/// is ignored.
+/// `modules` and the number of the set to `designator`, and returns version, level and width. The
+/// options' manner is ignored.
 ///
 /// Errors, the first that applies: `NoSuchStruct`, `NoSuchLevel`, `NoSuchVersion`, `NoSuchManner`,
-/// `Uncoded::NoSuchSet`, `NotText`, `Uncoded::NotInSet`, `LevelNotInVersion`, `NoMode`, `NoRoom`,
-/// `NoSuchMask`, `SmallBuffer`; or `OutOfMemory`. After an error `modules` is unchanged.
+/// `NoSuchSet` at the number, `NotText`, `NotInSet` at the first character that the first set lacks,
+/// `LevelNotInVersion`, `NoMode`, `NoRoom`, `NoSuchMask`, `SmallBuffer`; or `OutOfMemory`. After an
+/// error `modules` and `designator` are unchanged.
 pub fn encode_charset(
     alloc: Global,
     text: &[u8],
     numbers: &[u32],
     options: &Options,
     modules: &mut [u8],
-) -> Result<(Symbol, u32), Uncoded>
-    ensures made { IfOk result (λ made. IsWrittenAs
-        (IsCodedSymbol options.now numbers.now text.now made.1)
-        modules.old modules.new made.0) }
-    ensures unchanged { OnErr result (modules.new ≡ modules.old) }
-    ensures causes { IfErr result
-        (IsUncoded options.now numbers.now text.now (length modules.old)) }
+    designator: &mut u32,
+) -> Result<Symbol, Fault>
+    ensures writes { WritesCoded options.now numbers.now text.now designator.new
+        modules.old modules.new result }
+    ensures designator_unchanged { OnErr result (designator.new ≡ designator.old) }
 {
-    let asked = match asked_by(options) {
-        Ok(asked) => asked,
-        Err(refusal) => return Err(Uncoded::Other(refusal)),
-    };
-    let sets = match sets_of(alloc, numbers) {
-        Ok(sets) => sets,
-        Err(Some(place)) => return Err(Uncoded::NoSuchSet(place)),
-        Err(None) => return Err(Uncoded::Other(Refusal::OutOfMemory)),
-    };
+    let asked = asked_by(options)?;
+    let sets = sets_of(alloc, numbers)?;
     let Ok(text) = str::from_utf8(text) else {
-        return Err(Uncoded::Other(Refusal::NotText));
+        return Err(Fault::Other(Refusal::NotText));
     };
-    let (code, set) = match code_among(alloc, &asked, &sets, text) {
-        Ok(made) => made,
-        Err(why) => return Err(why),
-    };
-    match write_masked(alloc, &code, asked.mask, modules) {
-        Ok(symbol) => Ok((symbol, set.designator().unwrap_or(0))),
-        Err(refusal) => Err(Uncoded::Other(refusal)),
-    }
+    let (code, set) = code_among(alloc, &asked, &sets, text)?;
+    let symbol = write_masked(alloc, &code, asked.mask, modules)?;
+    *designator = set.designator().unwrap_or(0);
+    Ok(symbol)
 }
 
 // Encodes a text in that of `sets` in which it takes the fewest bits.
@@ -104,7 +54,7 @@ fn code_among(
     asked: &Asked,
     sets: &[Charset],
     text: &str,
-) -> Result<(QrCode, Charset), Uncoded>
+) -> Result<(QrCode, Charset), Fault>
     requires { 0 < length sets.now }
     ensures made { IfOk result (λ made. IsShortestOf
         asked.now.choice sets.now asked.now.level (chars text.now) made.1 made.0) }
@@ -113,10 +63,10 @@ fn code_among(
     match symbol_among(alloc, asked.choice, sets, asked.level, text) {
         Ok(made) => Ok(made),
         Err(QrError::UnsupportedCharacterSet) => match place_lacked(sets, text) {
-            Some(place) => Err(Uncoded::NotInSet(place)),
-            None => Err(Uncoded::Other(Refusal::NoMode)),
+            Some(place) => Err(Fault::At(place, Refusal::NotInSet)),
+            None => Err(Fault::Other(Refusal::NoMode)),
         },
-        Err(error) => Err(Uncoded::Other(Refusal::from(error))),
+        Err(error) => Err(Fault::Other(Refusal::from(error))),
     }
 }
 
@@ -132,35 +82,35 @@ fn place_lacked(sets: &[Charset], text: &str) -> Option<usize>
     sets[0].lacks(text)
 }
 
-// Returns the sets with these numbers, or without numbers those of `CHARSETS`. Errors: the index of
-// the first number that no set has, or `None` if memory runs out.
-fn sets_of(alloc: Global, numbers: &[u32]) -> Result<Vec<Charset>, Option<usize>>
+// Returns the sets with these numbers, or without numbers those of `CHARSETS`. Errors: `NoSuchSet`
+// at the first number that no set has; or `OutOfMemory`.
+fn sets_of(alloc: Global, numbers: &[u32]) -> Result<Vec<Charset>, Fault>
     ensures value { IfOk result (λ sets.
         map number_of sets.items ≡ numbers_tried numbers.now) }
     ensures some { IfOk result (λ sets. 0 < length sets.items) }
-    ensures unknown { IfErr result (λ place. IfSome place (IsFirstUnknown numbers.now)) }
+    ensures unknown { IfErr result (HasUnknown numbers.now) }
 {
     if !numbers.is_empty() {
         return sets_numbered(alloc, numbers);
     }
     match CHARSETS.to_vec(alloc) {
         Ok(sets) => Ok(sets),
-        Err(_) => Err(None),
+        Err(_) => Err(Fault::Other(Refusal::OutOfMemory)),
     }
 }
 
 // Returns the sets with these numbers. Errors: as for `sets_of`.
-fn sets_numbered(alloc: Global, numbers: &[u32]) -> Result<Vec<Charset>, Option<usize>>
+fn sets_numbered(alloc: Global, numbers: &[u32]) -> Result<Vec<Charset>, Fault>
     ensures value { IfOk result (λ sets. map number_of sets.items ≡ numbers.now) }
-    ensures unknown { IfErr result (λ place. IfSome place (IsFirstUnknown numbers.now)) }
+    ensures unknown { IfErr result (HasUnknown numbers.now) }
 {
     let mut sets = Vec::new(alloc);
     for place in 0..numbers.len() {
         let Some(set) = set_numbered(numbers[place]) else {
-            return Err(Some(place));
+            return Err(Fault::At(place, Refusal::NoSuchSet));
         };
         if sets.push(set).is_err() {
-            return Err(None);
+            return Err(Fault::Other(Refusal::OutOfMemory));
         }
     }
     Ok(sets)

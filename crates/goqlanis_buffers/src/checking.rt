@@ -7,14 +7,14 @@ ghost use Rattle.goqlanis_buffers.specs.Checking.{flag, letter_of, told_content,
 use crate::answers::Refusal;
 use crate::names::{level_number, version_number};
 use crate::reading::mask_number;
-use crate::scanning::{MOST, picture_refusal};
-use crate::symbols::{colors_of, fill};
+use crate::scanning::MOST;
+use crate::symbols::{colors_of, fill, put};
 use qrcode_check::correction::{Grade, grade_of};
 use qrcode_check::masks::Rank;
 use qrcode_check::modules::WrongModules;
 use qrcode_check::segments::Taken;
 use qrcode_check::{Check, Content, check_square};
-use qrcode_reader::{Unread, version_of};
+use qrcode_reader::version_of;
 use qrcode_scan::check_codes;
 use std::alloc::{AllocError, Global};
 
@@ -133,17 +133,11 @@ fn told_in(alloc: Global, picture: &[u8], size: u32) -> Result<Told, Refusal>
     if picture.len() > MOST {
         return Err(Refusal::LargePicture);
     }
-    let found = match check_codes(alloc, picture) {
-        Ok(found) => found,
-        Err(unread) => return Err(picture_refusal(unread)),
-    };
-    match (
-        checks_in(alloc, &found.checks),
-        wrong_in(alloc, &found.checks),
-    ) {
-        (Ok(checks), Ok(wrong)) => Ok(Told { checks, wrong }),
-        _ => Err(Refusal::OutOfMemory),
-    }
+    let found = check_codes(alloc, picture)?;
+    Ok(Told {
+        checks: checks_in(alloc, &found.checks)?,
+        wrong: wrong_in(alloc, &found.checks)?,
+    })
 }
 
 // Converts each check.
@@ -264,16 +258,7 @@ pub fn check_square_into(
         return Err(Refusal::NoSuchSide);
     }
     let colors = colors_of(alloc, modules)?;
-    let check = match check_square(alloc, &colors) {
-        Ok(check) => check,
-        Err(Unread::NoSuchSide) => return Err(Refusal::NoSuchSide),
-        Err(Unread::NoFormat) => return Err(Refusal::NoFormat),
-        Err(Unread::Damaged(_)) => return Err(Refusal::Damaged),
-        Err(_) => return Err(Refusal::OutOfMemory),
-    };
-    if wrong.len() < check.wrong.len() {
-        return Err(Refusal::SmallBuffer);
-    }
-    fill(wrong, &check.wrong);
+    let check = check_square(alloc, &colors)?;
+    put(wrong, &check.wrong)?;
     Ok(told_check(&check))
 }

@@ -55,10 +55,7 @@ pub fn damage(alloc: Global, modules: &mut [u8], wrong: &Wrong) -> Result<Promis
     if wrong.size != SIZE {
         return Err(Refusal::NoSuchStruct);
     }
-    let format = match format_of(alloc, modules) {
-        Ok(format) => format,
-        Err(refusal) => return Err(refusal),
-    };
+    let format = format_of(alloc, modules)?;
     let (version, level) = (format.version, format.level);
     let colors = colors_of(alloc, modules)?;
     let asked = wanted(wrong);

@@ -1,12 +1,11 @@
 //! Joins the data of several symbols (structured append), given as squares of modules.
 
-ghost use Rattle.std.specs.Prelude.{◌≡◌, ◌≢◌, ℕ, Some, length, map, IfOk, IfErr, IfSome, OnErr};
+ghost use Rattle.std.specs.Prelude.{◌≡◌, map, IfOk, IfErr, IfSome};
 ghost use Rattle.goqlanis_buffers.specs.Shades.{colors_of};
-ghost use Rattle.goqlanis_buffers.specs.Answers.{refusal_of};
-ghost use Rattle.goqlanis_buffers.specs.Joining.{part_of, found_part, place_reported, refusal_reported, ArePartsOf, IsNoPart, IsPartOf, IsUnjoined, IsJoinedInto};
+ghost use Rattle.goqlanis_buffers.specs.Joining.{part_of, found_part, join_fault, ArePartsOf, HasNoPart, IsNoPart, IsPartOf, WritesJoined};
 
-use crate::answers::Refusal;
-use crate::symbols::{colors_of, fill};
+use crate::answers::{Fault, Refusal};
+use crate::symbols::{colors_of, put};
 use qrcode_append::errors::JoinError;
 use qrcode_append::{Part, join};
 use qrcode_reader::spell::{Header, Part as Piece};
@@ -29,91 +28,53 @@ pub struct Found {
     pub bytes: Vec<u8>,
 }
 
-/// Why squares cannot be joined.
-#[derive(Clone, Copy, Drop)]
-pub enum Unjoined {
-    /// The square at this index is the first that is not a part.
-    Square(usize, Refusal),
-    /// The parts are not all the parts of the same data.
-    Parts(JoinError),
-    /// The buffer is too small for the data.
-    SmallBuffer,
-    /// Memory ran out.
-    OutOfMemory,
-}
-
-impl Unjoined {
-    /// Returns the number that C gets.
-    pub fn number(self) -> u32
-        ensures value { refusal_of result ≡ Some (refusal_reported self) }
-        ensures not_made { result ≢ 0 }
-    {
-        let refusal = match self {
-            Unjoined::Square(_, refusal) => refusal,
-            Unjoined::Parts(JoinError::Stranger(_)) => Refusal::Stranger,
-            Unjoined::Parts(JoinError::Missing(_)) => Refusal::Missing,
-            Unjoined::Parts(JoinError::Twice(_)) => Refusal::Twice,
-            Unjoined::Parts(JoinError::Parity) => Refusal::Parity,
-            Unjoined::SmallBuffer => Refusal::SmallBuffer,
-            Unjoined::Parts(JoinError::OutOfMemory) | Unjoined::OutOfMemory => Refusal::OutOfMemory,
-        };
-        refusal.number()
-    }
-
-    /// Returns the index of the wrong square, or the number of the wrong part; `before` if there is
-    /// none.
-    pub fn place(self, before: usize) -> usize
-        ensures value { result ≡ place_reported self before }
-    {
-        match self {
-            Unjoined::Square(place, _) => place,
-            Unjoined::Parts(
-                JoinError::Stranger(place) | JoinError::Missing(place) | JoinError::Twice(place),
-            ) => place,
-            _ => before,
-        }
-    }
-}
-
 /// Joins the data of several symbols, whose squares may come in any order. Writes it to the start
-/// of `out`, and returns its length. After an error `out` is unchanged.
-pub fn join_into(alloc: Global, squares: &[Square<'_>], out: &mut [u8]) -> Result<usize, Unjoined>
-    ensures made { IfOk result (IsJoinedInto squares.now out.old out.new) }
-    ensures unchanged { OnErr result (out.new ≡ out.old) }
-    ensures causes { IfErr result (IsUnjoined squares.now (length out.old)) }
+/// of `out`, and returns its length.
+///
+/// Errors, the first that applies: at the first square that is not a part `NoSuchSide`, `NoFormat`,
+/// `Damaged`, `NotSpelled` or `NotSeveral`; at a part `Stranger`, `Missing` or `Twice`; `Parity`,
+/// `SmallBuffer`; or `OutOfMemory`. After an error `out` is unchanged.
+pub fn join_into(alloc: Global, squares: &[Square<'_>], out: &mut [u8]) -> Result<usize, Fault>
+    ensures { WritesJoined squares.now out.old out.new result }
 {
-    let found = match decode_squares(alloc, squares) {
-        Ok(found) => found,
-        Err(why) => return Err(why),
-    };
+    let found = decode_squares(alloc, squares)?;
     let Ok(parts) = borrowed_parts(alloc, &found) else {
-        return Err(Unjoined::OutOfMemory);
+        return Err(Fault::Other(Refusal::OutOfMemory));
     };
     let bytes = match join(alloc, &parts) {
         Ok(bytes) => bytes,
-        Err(error) => return Err(Unjoined::Parts(error)),
+        Err(error) => return Err(join_fault(error)),
     };
-    if out.len() < bytes.len() {
-        return Err(Unjoined::SmallBuffer);
-    }
-    fill(out, &bytes);
-    Ok(bytes.len())
+    Ok(put(out, &bytes)?)
 }
 
-// Decodes each square.
-fn decode_squares(alloc: Global, squares: &[Square<'_>]) -> Result<Vec<Found>, Unjoined>
+// Converts the error of parts that are not all the parts of the same data.
+fn join_fault(error: JoinError) -> Fault
+    ensures { result ≡ join_fault error }
+{
+    match error {
+        JoinError::Stranger(part) => Fault::At(part, Refusal::Stranger),
+        JoinError::Missing(part) => Fault::At(part, Refusal::Missing),
+        JoinError::Twice(part) => Fault::At(part, Refusal::Twice),
+        JoinError::Parity => Fault::Other(Refusal::Parity),
+        JoinError::OutOfMemory => Fault::Other(Refusal::OutOfMemory),
+    }
+}
+
+// Decodes each square. Errors: at the first that is not a part; or `OutOfMemory`.
+fn decode_squares(alloc: Global, squares: &[Square<'_>]) -> Result<Vec<Found>, Fault>
     ensures read { IfOk result (λ found. ArePartsOf squares.now (map found_part found.items)) }
-    ensures causes { (room : ℕ) → IfErr result (IsUnjoined squares.now room) }
+    ensures causes { IfErr result (HasNoPart squares.now) }
 {
     let mut all = Vec::new(alloc);
     for place in 0..squares.len() {
         let found = match decode_square(alloc, squares[place].modules) {
             Ok(found) => found,
-            Err(None) => return Err(Unjoined::OutOfMemory),
-            Err(Some(refusal)) => return Err(Unjoined::Square(place, refusal)),
+            Err(None) => return Err(Fault::Other(Refusal::OutOfMemory)),
+            Err(Some(refusal)) => return Err(Fault::At(place, refusal)),
         };
         if all.push(found).is_err() {
-            return Err(Unjoined::OutOfMemory);
+            return Err(Fault::Other(Refusal::OutOfMemory));
         }
     }
     Ok(all)

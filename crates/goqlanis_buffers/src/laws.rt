@@ -7,17 +7,13 @@ ghost use Rattle.qrcode_formats.specs.declared.Format.{Format};
 ghost use Rattle.qrcode_formats.specs.declared.Format.TheVariants.{Pdf, Png, SvgPath, Zpl};
 ghost use Rattle.goqlanis_buffers.specs.Drawings.{IsPictureIn};
 ghost use Rattle.goqlanis_buffers.specs.declared.answers.Refusal.{Refusal};
-ghost use Rattle.goqlanis_buffers.specs.declared.contents.answers.Refusal as of_contents;
 ghost use Rattle.goqlanis_buffers.specs.declared.pictures.Drawing.{Drawing};
 
 use crate::answers::Refusal;
-use crate::contents::answers::Refusal as ContentRefusal;
 
 /// Theorem: two errors are equal by `==` exactly if they are the same.
 pub fn equality()
-    ensures refusals { (a b : Refusal) → IsTrue (⟦<Refusal as PartialEq>⟧.eq a b) ↔ (a ≡ b) }
-    ensures of_contents { (a b : of_contents.Refusal)
-        → IsTrue (⟦<ContentRefusal as PartialEq>⟧.eq a b) ↔ (a ≡ b) }
+    ensures { (a b : Refusal) → IsTrue (⟦<Refusal as PartialEq>⟧.eq a b) ↔ (a ≡ b) }
 {}
 
 /// Theorem: a drawing has only one picture in each format, except PNG, PDF, ZPL and SVG of one

@@ -9,6 +9,7 @@ pub mod checking;
 mod colours;
 pub mod contents;
 pub mod damaging;
+pub mod elements;
 pub mod joining;
 pub mod laws;
 mod lengths;

@@ -5,8 +5,8 @@ ghost use Rattle.qrcode_scan.specs.Codes.{IsMissedOf};
 ghost use Rattle.goqlanis_buffers.specs.Missing.{IsToldMissed, IsToldOf, WritesMissed};
 
 use crate::answers::Refusal;
-use crate::scanning::{MOST, picture_refusal, square_refusal};
-use crate::symbols::fill;
+use crate::scanning::MOST;
+use crate::symbols::put;
 use qrcode_scan::{Codes, Missed as Found, read_codes};
 use std::alloc::{AllocError, Global};
 
@@ -36,18 +36,9 @@ pub fn missed_into(alloc: Global, picture: &[u8], missed: &mut [Missed]) -> Resu
     if picture.len() > MOST {
         return Err(Refusal::LargePicture);
     }
-    let codes = match read_codes(alloc, picture) {
-        Ok(codes) => codes,
-        Err(unread) => return Err(picture_refusal(unread)),
-    };
-    let Ok(told) = missed_in(alloc, &codes) else {
-        return Err(Refusal::OutOfMemory);
-    };
-    if missed.len() < told.len() {
-        return Err(Refusal::SmallBuffer);
-    }
-    fill(missed, &told);
-    Ok(told.len())
+    let codes = read_codes(alloc, picture)?;
+    let told = missed_in(alloc, &codes)?;
+    put(missed, &told)
 }
 
 // Converts the squares that do not decode, unless a decoded code overlaps them.
@@ -73,6 +64,6 @@ fn told_missed(missed: &Found) -> Missed
         width: missed.grid.count,
         left,
         top,
-        why: square_refusal(missed.cause).number(),
+        why: Refusal::from(missed.cause).number(),
     }
 }

@@ -61,10 +61,7 @@ pub fn encode_with(
 ) -> Result<Symbol, Refusal>
     ensures { WritesWith options.now bytes.now modules.old modules.new result }
 {
-    let asked = match asked_by(options) {
-        Ok(asked) => asked,
-        Err(refusal) => return Err(refusal),
-    };
+    let asked = asked_by(options)?;
     if !is_sound(asked.manner, bytes) {
         return Err(Refusal::NotText);
     }

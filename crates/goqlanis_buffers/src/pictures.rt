@@ -86,18 +86,12 @@ pub fn put_picture(alloc: Global, asked: &Asked<'_>, out: &mut [u8]) -> Result<u
     ensures { WritesPicture asked.now.modules.now asked.now.width asked.now.drawing.now
         out.old out.new result }
 {
-    let format = match format_of(asked) {
-        Ok(format) => format,
-        Err(refusal) => return Err(refusal),
-    };
-    match known_length(alloc, asked, format) {
-        Ok(Some(length)) if out.len() < length => return Err(Refusal::SmallBuffer),
-        Ok(_) => {}
-        Err(_) => return Err(Refusal::OutOfMemory),
+    let format = format_of(asked)?;
+    match known_length(alloc, asked, format)? {
+        Some(length) if out.len() < length => return Err(Refusal::SmallBuffer),
+        _ => {}
     }
-    let Ok(bytes) = drawn(alloc, asked, format, Overlay::Nothing) else {
-        return Err(Refusal::OutOfMemory);
-    };
+    let bytes = drawn(alloc, asked, format, Overlay::Nothing)?;
     if out.len() < bytes.len() {
         return Err(Refusal::SmallBuffer);
     }
@@ -116,14 +110,9 @@ pub fn length_of(alloc: Global, asked: &Asked<'_>) -> Result<usize, Refusal>
         Ok(format) => format,
         Err(refusal) => return Err(refusal),
     };
-    match known_length(alloc, asked, format) {
-        Ok(Some(length)) => return Ok(length),
-        Ok(None) => {}
-        Err(_) => return Err(Refusal::OutOfMemory),
-    }
-    match drawn(alloc, asked, format, Overlay::Nothing) {
-        Ok(bytes) => Ok(bytes.len()),
-        Err(_) => Err(Refusal::OutOfMemory),
+    match known_length(alloc, asked, format)? {
+        Some(length) => Ok(length),
+        None => Ok(drawn(alloc, asked, format, Overlay::Nothing)?.len()),
     }
 }
 

@@ -1,23 +1,20 @@
 //! Decodes squares of modules into buffers.
 
-ghost use Rattle.std.specs.Prelude.{◌≡◌, ◌*◌, ℕ, length, IsTrue, IfOk, IfErr};
+ghost use Rattle.std.specs.Prelude.{◌≡◌, ◌*◌, length, IsTrue, IfOk, IfErr};
 ghost use Rattle.qrcode_types.specs.Versions.{has_level, side};
-ghost use Rattle.qrcode.specs.Reading.{ReadsOnly};
 ghost use Rattle.qrcode_reader.specs.Formats.{HasFormat};
-ghost use Rattle.qrcode_reader.specs.Readings.{IsReading};
-ghost use Rattle.goqlanis_buffers.specs.Answers.{IsMaskCause, IsReadingCause};
+ghost use Rattle.goqlanis_buffers.specs.Answers.{IsMaskCause};
 ghost use Rattle.goqlanis_buffers.specs.Calls.{TellsMask, WritesAnyReading, WritesReading, WritesTextReading};
 ghost use Rattle.goqlanis_buffers.specs.Shades.{colors_of};
 ghost use Rattle.goqlanis_buffers.specs.Readings.{mask_number_in, position_number, IsReported};
 
 use crate::answers::Refusal;
 use crate::names::{level_number, version_number};
-use crate::symbols::{colors_of, fill};
+use crate::symbols::{colors_of, put};
 use qrcode::canvas::MaskPattern;
 use qrcode::types::{EcLevel, Version};
 use qrcode_reader::{
-    Position, Reading as Found, Unread, UnreadText, read, read_any, read_format, read_text,
-    version_of,
+    Position, Reading as Found, UnreadText, read, read_any, read_format, read_text, version_of,
 };
 use std::alloc::Global;
 
@@ -51,24 +48,17 @@ pub struct AnyReading {
 ///
 /// Errors: `NoSuchSide`, `NoFormat`, `Damaged`, `NotSpelled`, `SmallBuffer` or `OutOfMemory`. After
 /// an error `bytes` is unchanged.
+#[tactic(auto, using(crate::proofs::Known::only_these, crate::proofs::Known::existing, crate::proofs::Known::no_side))]
 pub fn read_into(alloc: Global, modules: &[u8], bytes: &mut [u8]) -> Result<Reading, Refusal>
     ensures { WritesReading modules.now bytes.old bytes.new result }
 {
-    let found = match read_square(alloc, modules) {
-        Ok(found) => found,
-        Err(refusal) => return Err(refusal),
-    };
-    if bytes.len() < found.data.len() {
-        return Err(Refusal::SmallBuffer);
+    if version_of(modules.len()).is_none() {
+        return Err(Refusal::NoSuchSide);
     }
-    fill(bytes, &found.data);
-    Ok(reported(
-        found.version,
-        found.ec_level,
-        found.mask,
-        found.wrong.len(),
-        found.data.len(),
-    ))
+    let colors = colors_of(alloc, modules)?;
+    let found = read(alloc, &colors)?;
+    put(bytes, &found.data)?;
+    Ok(reported(&found))
 }
 
 /// Decodes like `read_into`, but a square in any position: in the first of the sixteen in which it
@@ -88,19 +78,9 @@ pub fn read_any_into(alloc: Global, modules: &[u8], bytes: &mut [u8]) -> Result<
         Ok(None) => return Err(Refusal::NotRead),
         Err(_) => return Err(Refusal::OutOfMemory),
     };
-    let read = &found.reading;
-    if bytes.len() < read.data.len() {
-        return Err(Refusal::SmallBuffer);
-    }
-    fill(bytes, &read.data);
+    put(bytes, &found.reading.data)?;
     Ok(AnyReading {
-        reading: reported(
-            read.version,
-            read.ec_level,
-            read.mask,
-            read.wrong.len(),
-            read.data.len(),
-        ),
+        reading: reported(&found.reading),
         position: position_number(found.position, found.is_inverted),
     })
 }
@@ -120,24 +100,17 @@ pub fn read_text_into(alloc: Global, modules: &[u8], text: &mut [u8]) -> Result<
     let colors = colors_of(alloc, modules)?;
     let found = match read_text(alloc, &colors) {
         Ok(found) => found,
-        Err(UnreadText::NoBits(Unread::NoSuchSide)) => return Err(Refusal::NoSuchSide),
-        Err(UnreadText::NoBits(Unread::NoFormat)) => return Err(Refusal::NoFormat),
-        Err(UnreadText::NoBits(Unread::Damaged(_))) => return Err(Refusal::Damaged),
+        Err(UnreadText::NoBits(cause)) => return Err(Refusal::from(cause)),
         Err(UnreadText::NotShown) => return Err(Refusal::NotShown),
-        Err(UnreadText::NoBits(_)) => return Err(Refusal::OutOfMemory),
     };
-    let bytes = found.text.as_bytes();
-    if text.len() < bytes.len() {
-        return Err(Refusal::SmallBuffer);
-    }
-    fill(text, bytes);
-    Ok(reported(
-        found.version,
-        found.ec_level,
-        found.mask,
-        found.wrong.len(),
-        bytes.len(),
-    ))
+    let length = put(text, found.text.as_bytes())?;
+    Ok(Reading {
+        version: version_number(found.version),
+        level: level_number(found.ec_level),
+        mask: mask_number(found.version, found.mask),
+        wrong: found.wrong.len(),
+        length,
+    })
 }
 
 /// Returns the number of the mask of a square of modules.
@@ -148,29 +121,6 @@ pub fn mask_of(alloc: Global, modules: &[u8]) -> Result<u32, Refusal>
 {
     let format = format_of(alloc, modules)?;
     Ok(mask_number(format.version, format.mask))
-}
-
-// Decodes a square.
-#[tactic(auto, using(crate::proofs::Known::only_these, crate::proofs::Known::existing, crate::proofs::Known::no_side))]
-fn read_square(alloc: Global, modules: &[u8]) -> Result<Found, Refusal>
-    ensures reading { IfOk result (λ read. IsReading (colors_of modules.now)
-        read.version read.ec_level read.mask read.data.items read.wrong.items) }
-    ensures only { IfOk result (λ read. ReadsOnly (colors_of modules.now) read.data.items) }
-    ensures exists { IfOk result (λ read. IsTrue (has_level read.version read.ec_level)) }
-    ensures causes { (room : ℕ) → IfErr result (IsReadingCause modules.now room) }
-{
-    if version_of(modules.len()).is_none() {
-        return Err(Refusal::NoSuchSide);
-    }
-    let colors = colors_of(alloc, modules)?;
-    match read(alloc, &colors) {
-        Ok(found) => Ok(found),
-        Err(Unread::NoSuchSide) => Err(Refusal::NoSuchSide),
-        Err(Unread::NoFormat) => Err(Refusal::NoFormat),
-        Err(Unread::Damaged(_)) => Err(Refusal::Damaged),
-        Err(Unread::NotSpelled) => Err(Refusal::NotSpelled),
-        Err(Unread::OutOfMemory) => Err(Refusal::OutOfMemory),
-    }
 }
 
 // The version of a square, and what its format information names.
@@ -204,22 +154,17 @@ pub(crate) fn format_of(alloc: Global, modules: &[u8]) -> Result<Format, Refusal
 }
 
 // Converts a reading, except its bytes.
-pub(crate) fn reported(
-    version: Version,
-    ec_level: EcLevel,
-    mask: MaskPattern,
-    wrong: usize,
-    length: usize,
-) -> Reading
-    requires exists { IsTrue (has_level version ec_level) }
-    ensures value { IsReported version ec_level mask wrong length result }
+pub(crate) fn reported(read: &Found) -> Reading
+    requires exists { IsTrue (has_level read.now.version read.now.ec_level) }
+    ensures value { IsReported read.now.version read.now.ec_level read.now.mask
+        (length read.now.wrong.items) (length read.now.data.items) result }
 {
     Reading {
-        version: version_number(version),
-        level: level_number(ec_level),
-        mask: mask_number(version, mask),
-        wrong,
-        length,
+        version: version_number(read.version),
+        level: level_number(read.ec_level),
+        mask: mask_number(read.version, read.mask),
+        wrong: read.wrong.len(),
+        length: read.data.len(),
     }
 }
 

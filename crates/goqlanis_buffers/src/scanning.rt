@@ -1,15 +1,15 @@
 //! Decodes the codes in pictures.
 
-ghost use Rattle.std.specs.Prelude.{◌≡◌, ◌++◌, All, flat_map, length, map, IfErr, IfNone, IfOk, IfSome, OnOk};
+ghost use Rattle.std.specs.Prelude.{◌≡◌, ◌++◌, All, flat_map, map, IfErr, IfOk, OnOk};
 ghost use Rattle.qrcode_scan.specs.Scans.{IsReadAs};
-ghost use Rattle.goqlanis_buffers.specs.Scanning.{bytes_in, differ, mode_kind, parts_in, picture_refusal, square_refusal, told_part, AreCodesOf, ExceedsRoom, IsPut, IsToldOf, IsToldIn, IsUnreadFor};
+ghost use Rattle.goqlanis_buffers.specs.Scanning.{bytes_in, differ, mode_kind, parts_in, told_part, AreCodesOf, IsToldOf, IsToldIn, IsUnreadFor, ScansPicture};
 
 use crate::answers::Refusal;
 use crate::reading::{Reading, position_number, reported};
 use crate::symbols::fill;
 use qrcode::types::Mode;
 use qrcode_reader::spell::{Header, Part as Piece};
-use qrcode_scan::{Scan as Found, Unread, Unscanned, read_codes};
+use qrcode_scan::{Scan as Found, read_codes};
 use std::alloc::{AllocError, Global};
 
 /// How many items have been written to the start of each buffer.
@@ -67,12 +67,44 @@ const SIZE: u32 = 32;
 // The size of the largest picture, in bytes.
 pub(crate) const MOST: usize = 67_108_864;
 
-/// Decodes the codes in a picture, for a `Scan` of this size.
+/// Decodes the codes in a picture, for a `Scan` of this size. Writes the codes, their parts and their
+/// bytes to the start of the buffers, and returns how many there are.
 ///
 /// Errors, the first that applies: `NoSuchStruct`, `LargePicture`, `NotPicture` or `BrokenPicture`,
-/// `NoSquare`, `NoSuchSide`, `NoFormat`, `Damaged` or `NotSpelled`; or `OutOfMemory`.
+/// `NoSquare`, `NoSuchSide`, `NoFormat`, `Damaged` or `NotSpelled`, `SmallBuffer`; or `OutOfMemory`.
+/// After an error the buffers are unchanged.
+pub fn scan_into(
+    alloc: Global,
+    picture: &[u8],
+    size: u32,
+    codes: &mut [Code],
+    parts: &mut [Part],
+    bytes: &mut [u8],
+) -> Result<Scan, Refusal>
+    ensures { ScansPicture picture.now size codes.old codes.new parts.old parts.new
+        bytes.old bytes.new result }
+{
+    let told = codes_of(alloc, picture, size)?;
+    if codes.len() < told.codes.len()
+        || parts.len() < told.parts.len()
+        || bytes.len() < told.bytes.len()
+    {
+        return Err(Refusal::SmallBuffer);
+    }
+    fill(codes, &told.codes);
+    fill(parts, &told.parts);
+    fill(bytes, &told.bytes);
+    Ok(Scan {
+        size: SIZE,
+        codes: told.codes.len(),
+        parts: told.parts.len(),
+        length: told.bytes.len(),
+    })
+}
+
+// Decodes the codes in a picture.
 #[tactic(auto, using(crate::proofs::Told::all_read))]
-pub fn codes_of(alloc: Global, picture: &[u8], size: u32) -> Result<Told, Refusal>
+fn codes_of(alloc: Global, picture: &[u8], size: u32) -> Result<Told, Refusal>
     ensures told { IfOk result (IsToldIn picture.now size) }
     ensures causes { IfErr result (IsUnreadFor picture.now size) }
 {
@@ -82,81 +114,12 @@ pub fn codes_of(alloc: Global, picture: &[u8], size: u32) -> Result<Told, Refusa
     if picture.len() > MOST {
         return Err(Refusal::LargePicture);
     }
-    let codes = match read_codes(alloc, picture) {
-        Ok(codes) => codes,
-        Err(unread) => return Err(picture_refusal(unread)),
-    };
-    let scans = &codes.scans;
-    match (
-        codes_in(alloc, scans),
-        parts_in(alloc, scans),
-        bytes_in(alloc, scans),
-    ) {
-        (Ok(codes), Ok(parts), Ok(bytes)) => Ok(Told {
-            codes,
-            parts,
-            bytes,
-        }),
-        _ => Err(Refusal::OutOfMemory),
-    }
-}
-
-impl Told {
-    /// Writes the codes, parts and bytes to the start of the buffers, and returns how many there
-    /// are. `None` if a buffer is too small; then all are unchanged.
-    pub fn put(&self, codes: &mut [Code], parts: &mut [Part], bytes: &mut [u8]) -> Option<Scan>
-        ensures put { IfSome result (IsPut self.now codes.old codes.new parts.old parts.new
-            bytes.old bytes.new) }
-        ensures room { IfNone result
-            (ExceedsRoom self.now (length codes.old) (length parts.old) (length bytes.old)) }
-        ensures codes_unchanged { IfNone result (codes.new ≡ codes.old) }
-        ensures parts_unchanged { IfNone result (parts.new ≡ parts.old) }
-        ensures bytes_unchanged { IfNone result (bytes.new ≡ bytes.old) }
-    {
-        if codes.len() < self.codes.len()
-            || parts.len() < self.parts.len()
-            || bytes.len() < self.bytes.len()
-        {
-            return None;
-        }
-        fill(codes, &self.codes);
-        fill(parts, &self.parts);
-        fill(bytes, &self.bytes);
-        Some(Scan {
-            size: SIZE,
-            codes: self.codes.len(),
-            parts: self.parts.len(),
-            length: self.bytes.len(),
-        })
-    }
-}
-
-// Converts the error of a picture that does not decode.
-pub(crate) fn picture_refusal(unread: Unread) -> Refusal
-    ensures { result ≡ picture_refusal unread }
-{
-    match unread {
-        Unread::Unscanned(Unscanned::NotPicture) | Unread::Jpeg => Refusal::NotPicture,
-        Unread::OutOfMemory
-        | Unread::Unscanned(Unscanned::OutOfMemory)
-        | Unread::Png(qrcode_png::Unread::OutOfMemory) => Refusal::OutOfMemory,
-        Unread::Unscanned(_) | Unread::Png(_) => Refusal::BrokenPicture,
-        Unread::NoSquare => Refusal::NoSquare,
-        Unread::NoSymbol(_, cause) => square_refusal(cause),
-    }
-}
-
-// Converts the error of a square that does not decode.
-pub(crate) fn square_refusal(cause: qrcode_reader::Unread) -> Refusal
-    ensures { result ≡ square_refusal cause }
-{
-    match cause {
-        qrcode_reader::Unread::NoSuchSide => Refusal::NoSuchSide,
-        qrcode_reader::Unread::NoFormat => Refusal::NoFormat,
-        qrcode_reader::Unread::Damaged(_) => Refusal::Damaged,
-        qrcode_reader::Unread::NotSpelled => Refusal::NotSpelled,
-        qrcode_reader::Unread::OutOfMemory => Refusal::OutOfMemory,
-    }
+    let scans = read_codes(alloc, picture)?.scans;
+    Ok(Told {
+        codes: codes_in(alloc, &scans)?,
+        parts: parts_in(alloc, &scans)?,
+        bytes: bytes_in(alloc, &scans)?,
+    })
 }
 
 // Converts each code, except its parts and bytes.
@@ -201,16 +164,9 @@ fn told_code(scan: &Found) -> Code
     requires { IsReadAs scan.now }
     ensures { IsToldOf scan.now result }
 {
-    let read = &scan.any.reading;
     let is_inverted = differ(scan.is_inverted, scan.any.is_inverted);
     Code {
-        reading: reported(
-            read.version,
-            read.ec_level,
-            read.mask,
-            read.wrong.len(),
-            read.data.len(),
-        ),
+        reading: reported(&scan.any.reading),
         position: position_number(scan.any.position, is_inverted),
         parts: scan.parts.len(),
     }

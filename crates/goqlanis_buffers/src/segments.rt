@@ -77,10 +77,8 @@ pub fn encode_segments(
 ) -> Result<Symbol, Refusal>
     ensures { WritesSegments version level segments.now modules.old modules.new result }
 {
-    match of_segments(alloc, segments, version, level) {
-        Ok(code) => write_symbol(code, modules),
-        Err(refusal) => Err(refusal),
-    }
+    let code = of_segments(alloc, segments, version, level)?;
+    write_symbol(code, modules)
 }
 
 // Encodes segments in the version and at the level of these numbers.

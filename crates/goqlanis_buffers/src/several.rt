@@ -3,12 +3,12 @@
 ghost use Rattle.std.specs.Prelude.{◌≡◌, ◌⊎◌, ◌<◌, ◌++◌, ℕ, List, length, IfOk, IfErr, OnOk, OnErr, IsOkUnless};
 ghost use Rattle.qrcode_types.specs.declared.types.QrError.TheVariants.{OutOfMemory};
 ghost use Rattle.goqlanis_buffers.specs.Outputs.{module_bytes};
-ghost use Rattle.goqlanis_buffers.specs.Several.{modules_of, AreAsked, AreOf, AreSymbolsWith, AreUnheld, AreWritten, IsSeveralCause};
+ghost use Rattle.goqlanis_buffers.specs.Several.{modules_of, AreAsked, AreOf, AreUnheld, IsSeveralCause, WritesSeveral};
 
 use crate::answers::Refusal;
 use crate::names::level_named;
 use crate::options::is_sound;
-use crate::symbols::{Symbol, described, fill};
+use crate::symbols::{Symbol, described, put};
 use qrcode::QrCode;
 use qrcode::bits::Manner;
 use qrcode::types::{Color, EcLevel, QrError, QrResult};
@@ -43,34 +43,24 @@ pub struct Named {
     pub versions: Versions,
 }
 
-/// Version, level and width of each symbol, and how many symbols there are.
-#[derive(Clone, Copy)]
-pub struct Made {
-    pub symbol: Symbol,
-    pub count: usize,
-}
-
 /// Splits `bytes` over several symbols as `options` ask. Writes their modules, symbol after symbol,
-/// to the start of `modules`; returns version, level and width of each, and how many there are.
+/// to the start of `modules`, and how many there are to `count`; returns version, level and width of
+/// each.
 ///
 /// Errors, the first that applies: `NoSuchStruct`, `NoSuchLevel`, `NoSuchVersion`, `NoSuchManner`,
 /// `NoSuchNumber`, `NotText`, `NoRoom`, `SmallBuffer`; or `OutOfMemory`. After an error `modules`
-/// is unchanged.
+/// and `count` are unchanged.
 pub fn encode_several(
     alloc: Global,
     bytes: &[u8],
     options: &Several,
     modules: &mut [u8],
-) -> Result<Made, Refusal>
-    ensures made { IfOk result (λ made. AreWritten (AreSymbolsWith options.now bytes.now)
-        modules.old modules.new made.symbol made.count) }
-    ensures unchanged { OnErr result (modules.new ≡ modules.old) }
-    ensures causes { IfErr result (IsSeveralCause options.now bytes.now (length modules.old)) }
+    count: &mut usize,
+) -> Result<Symbol, Refusal>
+    ensures writes { WritesSeveral options.now bytes.now count.new modules.old modules.new result }
+    ensures count_unchanged { OnErr result (count.new ≡ count.old) }
 {
-    let asked = match look_up(options) {
-        Ok(asked) => asked,
-        Err(refusal) => return Err(refusal),
-    };
+    let asked = look_up(options)?;
     if !is_sound(asked.manner, bytes) {
         return Err(Refusal::NotText);
     }
@@ -80,14 +70,9 @@ pub fn encode_several(
         Err(_) => return Err(Refusal::NoRoom),
     };
     let all = modules_of(alloc, &codes)?;
-    if modules.len() < all.len() {
-        return Err(Refusal::SmallBuffer);
-    }
-    fill(modules, &all);
-    Ok(Made {
-        symbol: described(&codes[0]),
-        count: codes.len(),
-    })
+    put(modules, &all)?;
+    *count = codes.len();
+    Ok(described(&codes[0]))
 }
 
 // Encodes `bytes` in `count` symbols, or in as few as possible if that is 0.

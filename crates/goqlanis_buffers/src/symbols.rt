@@ -1,6 +1,6 @@
 //! Copies symbols and other items into buffers.
 
-ghost use Rattle.std.specs.Prelude.{◌≡◌, ◌<◌, ◌≤◌, length, IfOk, IfErr, IsOkUnless, OnErr};
+ghost use Rattle.std.specs.Prelude.{◌≡◌, ◌<◌, ◌≤◌, length, IfOk, IfErr, IsOkUnless, OnErr, OnOk};
 ghost use Rattle.qrcode_types.specs.declared.types.QrError.TheVariants.{OutOfMemory};
 ghost use Rattle.goqlanis_buffers.specs.Shades.{colors_of};
 ghost use Rattle.goqlanis_buffers.specs.Outputs.{module_bytes, IsDescribed, IsFilled, IsWritten, IsWrittenAs};
@@ -117,6 +117,23 @@ fn color_all(colors: &mut [Color], modules: &[u8])
             Color::Dark
         };
     }
+}
+
+/// Copies items to the start of a buffer, and returns how many there are.
+///
+/// Errors: `SmallBuffer`; then the buffer is unchanged.
+pub(crate) fn put<T: Copy>(out: &mut [T], items: &[T]) -> Result<usize, Refusal>
+    ensures filled { OnOk result (IsFilled out.old out.new items.now) }
+    ensures counted { IfOk result (λ count. count ≡ length items.now) }
+    ensures unchanged { OnErr result (out.new ≡ out.old) }
+    ensures causes { IfErr result (λ refusal. refusal ≡ SmallBuffer) }
+    ensures no_room { OnErr result (length out.old < length items.now) }
+{
+    if out.len() < items.len() {
+        return Err(Refusal::SmallBuffer);
+    }
+    fill(out, items);
+    Ok(items.len())
 }
 
 /// Copies items to the start of a buffer that has room for them.

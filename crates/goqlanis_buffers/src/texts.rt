@@ -6,7 +6,7 @@ ghost use Rattle.goqlanis_buffers.specs.Texts.{piece_of, WritesDecoded, WritesTe
 
 use crate::answers::Refusal;
 use crate::scanning::Part;
-use crate::symbols::fill;
+use crate::symbols::put;
 use qrcode::types::Mode;
 use qrcode_charsets::eci::read_in;
 use qrcode_reader::spell::{Header, Part as Piece};
@@ -27,10 +27,8 @@ pub fn text_into(
     ensures { WritesText (IsShownText (map piece_of parts.now) bytes.now)
         text.old text.new result }
 {
-    match pieces_of(alloc, parts) {
-        Ok(pieces) => write_text(alloc, bytes, &pieces, text),
-        Err(_) => Err(Refusal::OutOfMemory),
-    }
+    let pieces = pieces_of(alloc, parts)?;
+    write_text(alloc, bytes, &pieces, text)
 }
 
 /// Writes the text of bytes under an ECI designator, or in UTF-8 if it is 0, like `text_into`.
@@ -68,12 +66,7 @@ fn write_text(
         Ok(None) => return Err(Refusal::NotInSet),
         Err(_) => return Err(Refusal::OutOfMemory),
     };
-    let utf8 = found.as_str().as_bytes();
-    if text.len() < utf8.len() {
-        return Err(Refusal::SmallBuffer);
-    }
-    fill(text, utf8);
-    Ok(utf8.len())
+    put(text, found.as_str().as_bytes())
 }
 
 // Converts parts from the form that C has.

@@ -1,10 +1,9 @@
 //! Calls for areas of a symbol that may show anything, such as a logo.
 
-ghost use Rattle.std.specs.Prelude.{◌≡◌, ◌≢◌};
-ghost use Rattle.goqlanis_buffers.specs.Areas.{IsCovered, IsCoverRefusal, TellsLargest, WritesReserve};
-ghost use Rattle.goqlanis_buffers.specs.Calls.{IsReported};
+ghost use Rattle.goqlanis_buffers.specs.Areas.{CoversArea, TellsLargest, WritesReserve};
+ghost use Rattle.goqlanis_buffers.specs.Calls.{IsReported, IsReportedAt};
 
-use goqlanis_buffers::answers::answer;
+use goqlanis_buffers::answers::{answer, answer_at};
 use goqlanis_buffers::areas::{Taken, Wish, cover, largest, reserve_into};
 use qrcode_area::areas::Rectangle;
 use std::alloc::Global;
@@ -66,16 +65,8 @@ pub extern "C" fn goq_cover(
     rectangles: &[Rectangle],
     place: &mut usize,
 ) -> u32
-    ensures made { result ≡ 0 → IsCovered rectangles.now modules.old modules.new }
-    ensures place_unchanged { result ≡ 0 → place.new ≡ place.old }
-    ensures unchanged { result ≢ 0 → modules.new ≡ modules.old }
-    ensures causes { result ≢ 0
-        → IsCoverRefusal rectangles.now modules.old result place.old place.new }
+    ensures { IsReportedAt (CoversArea rectangles.now modules.old modules.new)
+        result tt tt place.old place.new }
 {
-    let why = match cover(alloc, modules, rectangles) {
-        Ok(()) => return 0,
-        Err(why) => why,
-    };
-    *place = why.place(*place);
-    why.number()
+    answer_at(cover(alloc, modules, rectangles), &mut (), place)
 }

@@ -1,11 +1,10 @@
 //! Calls that encode bytes or text.
 
-ghost use Rattle.std.specs.Prelude.{◌≡◌, ◌≢◌, length};
-ghost use Rattle.goqlanis_buffers.specs.Calls.{IsReported, WritesWith};
-ghost use Rattle.goqlanis_buffers.specs.Charsets.{IsCodedSymbol, IsCodingRefusal};
-ghost use Rattle.goqlanis_buffers.specs.Outputs.{IsWrittenAs};
+ghost use Rattle.std.specs.Prelude.{◌≡◌, ◌≢◌};
+ghost use Rattle.goqlanis_buffers.specs.Calls.{IsReported, IsReportedAt, WritesWith};
+ghost use Rattle.goqlanis_buffers.specs.Charsets.{WritesCoded};
 
-use goqlanis_buffers::answers::answer;
+use goqlanis_buffers::answers::{answer, answer_at};
 use goqlanis_buffers::charsets::encode_charset;
 use goqlanis_buffers::options::{Options, encode_with};
 use goqlanis_buffers::symbols::Symbol;
@@ -52,24 +51,10 @@ pub extern "C" fn goq_encode_charset(
     designator: &mut u32,
     place: &mut usize,
 ) -> u32
-    ensures made { result ≡ 0 → IsWrittenAs
-        (IsCodedSymbol options.now designators.now text.now designator.new)
-        modules.old modules.new symbol.new }
-    ensures place_unchanged { result ≡ 0 → place.new ≡ place.old }
-    ensures unchanged { result ≢ 0 → modules.new ≡ modules.old }
-    ensures symbol_unchanged { result ≢ 0 → symbol.new ≡ symbol.old }
+    ensures reported { IsReportedAt (WritesCoded options.now designators.now text.now designator.new
+        modules.old modules.new) result symbol.old symbol.new place.old place.new }
     ensures designator_unchanged { result ≢ 0 → designator.new ≡ designator.old }
-    ensures causes { result ≢ 0 → IsCodingRefusal options.now designators.now text.now
-        (length modules.old) result place.old place.new }
 {
-    let why = match encode_charset(alloc, text, designators, options, modules) {
-        Ok((made, number)) => {
-            *symbol = made;
-            *designator = number;
-            return 0;
-        }
-        Err(why) => why,
-    };
-    *place = why.place(*place);
-    why.number()
+    let written = encode_charset(alloc, text, designators, options, modules, designator);
+    answer_at(written, symbol, place)
 }

@@ -1,20 +1,19 @@
 //! Calls that decode squares of modules and pictures.
 
-ghost use Rattle.std.specs.Prelude.{◌≡◌, ◌≢◌, ◌≤◌, drop, length, map, IsSomeAnd};
+ghost use Rattle.std.specs.Prelude.{◌≤◌, drop, length, map};
 ghost use Rattle.qrcode_scan.specs.Several.{IsBehind};
 ghost use Rattle.qrcode_scan.specs.Texts.{IsShownText};
-ghost use Rattle.goqlanis_buffers.specs.Answers.{refusal_of};
-ghost use Rattle.goqlanis_buffers.specs.Scanning.{IsScanCause, IsScanned};
+ghost use Rattle.goqlanis_buffers.specs.Scanning.{ScansPicture};
 ghost use Rattle.goqlanis_buffers.specs.Calls.{IsReported, TellsMask, WritesAnyReading, WritesReading, WritesTextReading};
 ghost use Rattle.goqlanis_buffers.specs.Missing.{WritesMissed};
 ghost use Rattle.goqlanis_buffers.specs.Texts.{piece_of, WritesDecoded, WritesText};
 
-use goqlanis_buffers::answers::{Refusal, answer};
+use goqlanis_buffers::answers::answer;
 use goqlanis_buffers::missing::{Missed, missed_into};
 use goqlanis_buffers::reading::{
     AnyReading, Reading, mask_of, read_any_into, read_into, read_text_into,
 };
-use goqlanis_buffers::scanning::{Code, Part, Scan, codes_of};
+use goqlanis_buffers::scanning::{Code, Part, Scan, scan_into};
 use goqlanis_buffers::texts::{decode_into, text_into};
 use qrcode_scan::behind_picture;
 use std::alloc::Global;
@@ -153,26 +152,11 @@ pub extern "C" fn goq_read_picture(
     bytes: &mut [u8],
     scan: &mut Scan,
 ) -> u32
-    ensures made { result ≡ 0 → IsScanned picture.now scan.old.size codes.old codes.new
-        parts.old parts.new bytes.old bytes.new scan.new }
-    ensures codes_unchanged { result ≢ 0 → codes.new ≡ codes.old }
-    ensures parts_unchanged { result ≢ 0 → parts.new ≡ parts.old }
-    ensures bytes_unchanged { result ≢ 0 → bytes.new ≡ bytes.old }
-    ensures scan_unchanged { result ≢ 0 → scan.new ≡ scan.old }
-    ensures causes { result ≢ 0 → IsSomeAnd (refusal_of result) (IsScanCause picture.now
-        scan.old.size (length codes.old) (length parts.old) (length bytes.old)) }
+    ensures { IsReported (ScansPicture picture.now scan.old.size codes.old codes.new
+        parts.old parts.new bytes.old bytes.new) result scan.old scan.new }
 {
-    let told = match codes_of(alloc, picture, scan.size) {
-        Ok(told) => told,
-        Err(refusal) => return refusal.number(),
-    };
-    match told.put(codes, parts, bytes) {
-        Some(found) => {
-            *scan = found;
-            0
-        }
-        None => Refusal::SmallBuffer.number(),
-    }
+    let written = scan_into(alloc, picture, scan.size, codes, parts, bytes);
+    answer(written, scan)
 }
 
 /// Tells of squares in a picture that look like codes but do not decode, and that no decoded code

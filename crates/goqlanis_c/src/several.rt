@@ -1,10 +1,11 @@
 //! Calls that split data over several symbols (structured append), and join it again.
 
-ghost use Rattle.std.specs.Prelude.{◌≡◌, ◌≢◌, length, IsSomeAnd};
-ghost use Rattle.goqlanis_buffers.specs.Answers.{refusal_of};
-ghost use Rattle.goqlanis_buffers.specs.Joining.{IsJoinedInto, IsJoinRefusal};
-ghost use Rattle.goqlanis_buffers.specs.Several.{AreSymbolsWith, AreWritten, IsSeveralCause};
+ghost use Rattle.std.specs.Prelude.{◌≡◌, ◌≢◌};
+ghost use Rattle.goqlanis_buffers.specs.Calls.{IsReported, IsReportedAt};
+ghost use Rattle.goqlanis_buffers.specs.Joining.{WritesJoined};
+ghost use Rattle.goqlanis_buffers.specs.Several.{WritesSeveral};
 
+use goqlanis_buffers::answers::{answer, answer_at};
 use goqlanis_buffers::joining::{Square, join_into};
 use goqlanis_buffers::several::{Several, encode_several};
 use goqlanis_buffers::symbols::Symbol;
@@ -26,22 +27,14 @@ pub extern "C" fn goq_encode_several(
     symbol: &mut Symbol,
     count: &mut usize,
 ) -> u32
-    ensures made { result ≡ 0 → AreWritten (AreSymbolsWith options.now bytes.now)
-        modules.old modules.new symbol.new count.new }
-    ensures unchanged { result ≢ 0 → modules.new ≡ modules.old }
-    ensures symbol_unchanged { result ≢ 0 → symbol.new ≡ symbol.old }
+    ensures reported { IsReported (WritesSeveral options.now bytes.now count.new modules.old modules.new)
+        result symbol.old symbol.new }
     ensures count_unchanged { result ≢ 0 → count.new ≡ count.old }
-    ensures causes { result ≢ 0 → IsSomeAnd (refusal_of result)
-        (IsSeveralCause options.now bytes.now (length modules.old)) }
 {
-    match encode_several(alloc, bytes, options, modules) {
-        Ok(made) => {
-            *symbol = made.symbol;
-            *count = made.count;
-            0
-        }
-        Err(refusal) => refusal.number(),
-    }
+    answer(
+        encode_several(alloc, bytes, options, modules, count),
+        symbol,
+    )
 }
 
 /// Joins the data of several symbols, whose squares may come in any order. Writes it to the start
@@ -60,20 +53,8 @@ pub extern "C" fn goq_join(
     count: &mut usize,
     place: &mut usize,
 ) -> u32
-    ensures made { result ≡ 0 → IsJoinedInto squares.now out.old out.new count.new }
-    ensures place_unchanged { result ≡ 0 → place.new ≡ place.old }
-    ensures unchanged { result ≢ 0 → out.new ≡ out.old }
-    ensures count_unchanged { result ≢ 0 → count.new ≡ count.old }
-    ensures causes { result ≢ 0
-        → IsJoinRefusal squares.now (length out.old) result place.old place.new }
+    ensures { IsReportedAt (WritesJoined squares.now out.old out.new)
+        result count.old count.new place.old place.new }
 {
-    let why = match join_into(alloc, squares, out) {
-        Ok(length) => {
-            *count = length;
-            return 0;
-        }
-        Err(why) => why,
-    };
-    *place = why.place(*place);
-    why.number()
+    answer_at(join_into(alloc, squares, out), count, place)
 }

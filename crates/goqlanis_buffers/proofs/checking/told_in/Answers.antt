@@ -5,5 +5,5 @@ use Rattle.goqlanis_buffers.proofs.checking.told_in.Goals as goal
 
 pub checks_in-requires : goal.checks_in-requires
 checks_in-requires c =
-    let found = c.in-Ok.found in
-    subst (All HasLevel) (sym c.deref.ensures.value) (levels_exist c.args.picture.now found.codes.scans.items found.checks.items c.in-Ok.ensures.each)
+    let found = c.in_ok-found.found in
+    subst (All HasLevel) (sym c.deref.ensures.value) (levels_exist c.args.picture.now found.codes.scans.items found.checks.items c.in_ok-found.ensures.each)

@@ -1,5 +1,6 @@
-use Rattle.std.proofs.Common.{length}
+use Rattle.std.proofs.Common.{length, refl}
+use Rattle.goqlanis_buffers.proofs.Fields.{handed_back}
 use Rattle.goqlanis_buffers.proofs.several.encode_several.Goals as goal
 
-pub returns-in-Err-clause-causes : goal.returns-in-Err-clause-causes
-returns-in-Err-clause-causes c = c.in-Err.ensures.causes c.args.bytes.now (length c.args.modules.now)
+pub returns-in_err-asked-clause-writes : goal.returns-in_err-asked-clause-writes
+returns-in_err-asked-clause-writes c = handed_back _ _ _ _ _ _ c.from_residual.ensures refl (c.in_err-asked.ensures.causes c.args.bytes.now (length c.args.modules.now))

@@ -1,5 +1,5 @@
-use Rattle.goqlanis_buffers.specs.contents.Given.{AreTaken}
-use Rattle.goqlanis_buffers.proofs.contents.checks.check.Given as goal
+use Rattle.goqlanis_buffers.specs.Contents.{AreTaken}
+use Rattle.goqlanis_buffers.proofs.contents.check.Given as goal
 
 -- the fields so far pass their check
 abbrev pub invariant-loop-place : goal.invariant-loop-place

@@ -1,7 +1,7 @@
 use Rattle.std.proofs.Common.{arith}
 use Rattle.std.proofs.lemmas.Grind.{common_steps}
 use Rattle.goqlanis_buffers.proofs.Parts.{texts_more}
-use Rattle.goqlanis_buffers.proofs.contents.elements.elements_of.Goals as goal
+use Rattle.goqlanis_buffers.proofs.elements.elements_of.Goals as goal
 
 pub loop-place-preserved : goal.loop-place-preserved
 loop-place-preserved c = record {

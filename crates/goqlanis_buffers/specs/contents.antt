@@ -1,4 +1,0 @@
-pub mod Answers
-pub mod Contents
-pub mod Elements
-pub mod Given
