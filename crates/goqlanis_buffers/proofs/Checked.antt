@@ -22,6 +22,5 @@ levels_exist picture scans checks are = elim are [
 ] where
   each : (scans : List Scan) (checks : List Check) → AllZip IsCheckOfScan scans checks → All HasLevel checks
   each [] [] said = All-nil HasLevel
-  each [] (check ∷ checks) said = absurd said
-  each (scan ∷ scans) [] said = absurd said
   each (scan ∷ scans) (check ∷ checks) said = All-cons HasLevel check checks (level_exists _ check said.0) (each scans checks said.1)
+  each scans checks said = absurd said

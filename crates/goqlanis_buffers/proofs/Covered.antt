@@ -17,9 +17,8 @@ use Rattle.qrcode_area.specs.declared.excess.Excess.{Excess}
 use Rattle.qrcode_area.specs.declared.reserve.Reserve.{Reserve}
 use Rattle.qrcode_area.proofs.Bounds.{agrees_along, excess_is_not, length_counts}
 use Rattle.qrcode_area.proofs.Shown.{area_is_read, area_keeps_bits}
-use Rattle.goqlanis_buffers.specs.Areas.{covered_byte, told, IsCovered, IsTaken, IsUncovered, IsUncoveredCause}
-use Rattle.goqlanis_buffers.specs.declared.answers.Fault.TheVariants.{At}
-use Rattle.goqlanis_buffers.specs.declared.answers.Refusal.TheVariants.{AreaBlock, AreaFormat}
+use Rattle.goqlanis_buffers.specs.Areas.{covered_byte, told, IsCovered, IsTaken, IsUncoveredCause}
+use Rattle.goqlanis_buffers.specs.declared.answers.Refusal.TheVariants.{AreaFormat}
 use Rattle.goqlanis_buffers.specs.declared.areas.Taken.{Taken}
 
 -- bytes that were made light in an area agree with the old ones outside of it
@@ -62,21 +61,6 @@ covered v l k rectangles area old new w square format inside may is across same 
       read_bits = λ bits other encodes beside.
           area_keeps_bits v l bits (covers rectangles) (colors_of old) other encodes may (shown other light beside);
     }
-
--- a block with more touched codewords than may be lost is a cause of the error
-pub lost_block : (v : Version) (l : EcLevel) (k : MaskPattern) (rectangles : List Rectangle) (modules : List ℕ) (r : Reserve)
-    → length (colors_of modules) ≡ side v * side v → HasFormat v (colors_of modules) l k → IsTrue (is_inside (side v) rectangles)
-    → IsReserve v l (covers rectangles) r → r.allowed < r.most → IsUncovered rectangles modules (At r.worst AreaBlock)
-lost_block v l k rectangles modules r square format inside h over = (
-  v,
-  (
-    l,
-    (
-      record { named = record { square = square; mask = k; format = format }; inside = inside },
-      record { inside = h.inside; value = refl; bound = refl; over = omega (arith, over, h.most, h.allowed); worst = h.worst; earlier = h.earlier },
-    ),
-  ),
-)
 
 -- an area within all bounds may show anything
 pub may_show : (v : Version) (l : EcLevel) (area : ℕ → ℕ → Bool) (o : Option Excess) → IsItsExcess v l area o → is_some o ≡ false → MayShowAnything v l area

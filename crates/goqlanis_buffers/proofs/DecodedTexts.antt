@@ -1,20 +1,13 @@
 -- Texts of decoded data, in buffers.
-use Rattle.std.proofs.Common.{◌≡◌, inr, ℕ, List, [], ◌∷◌, Option, Some, false, sym, ap, subst, cond}
-use Rattle.std.specs.Prelude.{◌==◌, chars, MatchOption, Result, Ok, Err}
+use Rattle.std.proofs.Common.{◌≡◌, inr, ℕ, List, [], ◌∷◌, false, sym, ap, subst, cond}
+use Rattle.std.specs.Prelude.{◌==◌, Result, Ok, Err}
 use Rattle.qrcode_charsets.specs.Eci.{IsReadIn}
 use Rattle.qrcode_charsets.specs.declared.sets.Charset.{Charset}
-use Rattle.qrcode_charsets.proofs.Leasts.{match_some}
 use Rattle.qrcode_reader.specs.declared.spell.headers.Header.TheVariants.{Eci}
 use Rattle.qrcode_reader.specs.declared.spell.parts.Part.TheVariants.{Front}
 use Rattle.qrcode_scan.specs.Texts.{IsShownText}
 use Rattle.goqlanis_buffers.specs.Texts.{parts_under, IsKnown, WritesDecoded, WritesText}
 use Rattle.goqlanis_buffers.specs.declared.answers.Refusal.{Refusal}
-
--- what was found is the text
-pub is_found : {T : Type 0} (bytes_of : T → List ℕ) (IsText : List ℕ → Type 0) (o : Option T) (found : T) (utf8 : List ℕ) → o ≡ Some found
-    → MatchOption o ((text : List ℕ) → ¬ IsText text) (λ text. IsText (chars (bytes_of text))) → utf8 ≡ bytes_of found → IsText (chars utf8)
-is_found bytes_of IsText o found utf8 is shown same =
-    subst (λ u. IsText (chars u)) (sym same) (match_some ((text : List ℕ) → ¬ IsText text) (λ text. IsText (chars (bytes_of text))) o found is shown)
 
 known_decoded : (n : ℕ) (bytes old new : List ℕ) (result : Result ℕ Refusal) → IsKnown n → WritesText (IsShownText (parts_under n) bytes) old new result → WritesDecoded n bytes old new result
 known_decoded n bytes old new (Ok count) known w = record { made = w.made; unchanged = w.unchanged; causes = tt }

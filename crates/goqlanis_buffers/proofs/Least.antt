@@ -19,13 +19,11 @@ use Rattle.goqlanis_buffers.specs.declared.segments.Segment.{Segment}
 
 -- segments without room are not held
 not_held : (v : Version) (l : EcLevel) (segments : List Segment) → HasNoRoom v l segments → ¬ AreHeld v l segments
-not_held v l segments why held = elim why [
-  | inl first ↦
-      let none = held.taken first.place (slice_get_within segments first.place first.segment first.at) first.segment first.at in
-      let same = sym none ∙ first.refused in
-      absurd cc
-  | inr c ↦ absurd (omega (arith, c.1, held.room))
-]
+not_held v l segments (inl first) held =
+    let none = held.taken first.place (slice_get_within segments first.place first.segment first.at) first.segment first.at in
+    let same = sym none ∙ first.refused in
+    absurd cc
+not_held v l segments (inr c) held = absurd (omega (arith, c.1, held.room))
 
 -- the test `refusal != NoRoom` found another error
 pub not_room : (r : Refusal) → true ≡ not (sameb the_type r NoRoom) → r ≢ NoRoom
@@ -36,16 +34,10 @@ is_room r found = differs_false the_type tt r NoRoom (sym found)
 
 -- if a version has the level and the error is `NoRoom`, it has no room for the segments
 no_room : (v : Version) (l : EcLevel) (segments : List Segment) → IsTrue (has_level v l) → AreUnheld v l segments NoRoom → HasNoRoom v l segments
-no_room v l segments exists why = elim why [
-  | inl memory ↦ let same : NoRoom ≡ OutOfMemory = memory in absurd cc
-  | inr c ↦ elim c [
-    | inl first ↦ inl first
-    | inr c ↦ elim c [
-      | inl c ↦ absurd (true≢false (sym exists ∙ c.1))
-      | inr c ↦ inr c.1
-    ]
-  ]
-]
+no_room v l segments exists (inl memory) = let same : NoRoom ≡ OutOfMemory = memory in absurd cc
+no_room v l segments exists (inr (inl first)) = inl first
+no_room v l segments exists (inr (inr (inl c))) = absurd (true≢false (sym exists ∙ c.1))
+no_room v l segments exists (inr (inr (inr c))) = inr c.1
 
 -- one more version has no room for the segments
 pub no_room_more : (number : ℕ) (v : Version) (l : EcLevel) (segments : List Segment) (r : Refusal) → v ≡ Normal (pos number) → 1 ≤ number → number ≤ 40
@@ -86,13 +78,9 @@ pub lasting : (number level : ℕ) (v : Version) (l : EcLevel) (segments : List 
     → ((n : ℕ) → 1 ≤ n → n < number → HasNoRoom (Normal (pos n)) l segments) → IsLeastCause level segments r
 lasting number level v l segments r named some most is other why lesser = elim (subst (λ w. AreUnheld w l segments r) named why) [
   | inl memory ↦ inl memory
-  | inr c ↦ elim c [
-    | inl first ↦ inr (inr (l, (is, inl (other, record { number = number; some = some; most = most; before = lesser; refused = first }))))
-    | inr c ↦ elim c [
-      | inl c ↦ absurd (true≢false (sym (normal_level number l some most) ∙ c.1))
-      | inr c ↦ absurd (other c.0)
-    ]
-  ]
+  | inr (inl first) ↦ inr (inr (l, (is, inl (other, record { number = number; some = some; most = most; before = lesser; refused = first }))))
+  | inr (inr (inl c)) ↦ absurd (true≢false (sym (normal_level number l some most) ∙ c.1))
+  | inr (inr (inr c)) ↦ absurd (other c.0)
 ]
 
 -- if no version has room, the error is `NoRoom`

@@ -4,7 +4,7 @@ use Rattle.std.proofs.lemmas.Bool.{ne_eqb}
 use Rattle.std.specs.List.{list_all}
 use Rattle.qrcode_formats.specs.Formats.{row}
 use Rattle.qrcode_formats.specs.declared.Colours.{Colours}
-use Rattle.qrcode_formats.specs.declared.Colours.TheVariants.{Any, Fixed, Opaque}
+use Rattle.qrcode_formats.specs.declared.Colours.TheVariants.{Fixed}
 use Rattle.qrcode_formats.specs.declared.Format.{Format}
 use Rattle.goqlanis_buffers.specs.Colours.{has_colours}
 use Rattle.goqlanis_buffers.specs.Drawings.{has_density, is_sayable}
@@ -25,8 +25,7 @@ none_of test same (t ∷ ts) all =
 
 third : (a b c : Bool) → IsTrue (a && b && c) → c ≡ true
 third true true c is = is
-third true false c is = absurd (true≢false (sym is))
-third false b c is = absurd (true≢false (sym is))
+third a b c is = absurd (true≢false (sym is))
 
 -- a format without colours of parts draws none
 pub no_paints : (f : Format) (d : Drawing) → (row f).parts ≡ Fixed → IsTrue (is_sayable f d) → paints d ≡ []
@@ -39,8 +38,7 @@ are_taken f d [] sayable same = refl
 are_taken f d (k ∷ inks) sayable same =
     subst (λ b. IsTrue (b || are_own (row f).parts)) (sym (ne_eqb (suc (length inks)) 0 (λ e. absurd (omega (arith, e))))) (go (row f).parts refl) where
       go : (c : Colours) → (row f).parts ≡ c → IsTrue (are_own c)
-      go Any is = refl
-      go Opaque is = refl
       go Fixed is =
           let none : suc (length (map ink_paint inks)) ≡ 0 = ap length (same ∙ no_paints f d is sayable) in
           absurd (omega (arith, none))
+      go c is = refl

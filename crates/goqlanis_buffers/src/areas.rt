@@ -180,8 +180,8 @@ fn pair_named(version: u32, level: u32) -> Result<(Version, EcLevel), Refusal>
 /// Makes the modules of an area of a symbol light. The area may then show anything. After an error
 /// `modules` is unchanged.
 ///
-/// Errors, the first that applies: `NoSuchSide`, `NoFormat`, `NoSuchArea`, `AreaBlock` at the block,
-/// `AreaFormat`; or `OutOfMemory`.
+/// Errors, the first that applies: `NoSuchSide`, `NoFormat`, `NoSuchArea`, `AreaBlock` at the
+/// block, `AreaFormat`; or `OutOfMemory`.
 pub fn cover(alloc: Global, modules: &mut [u8], rectangles: &[Rectangle]) -> Result<(), Fault>
     ensures { CoversArea rectangles.now modules.old modules.new result }
 {

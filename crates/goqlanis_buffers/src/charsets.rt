@@ -22,9 +22,9 @@ use std::alloc::Global;
 /// options' manner is ignored.
 ///
 /// Errors, the first that applies: `NoSuchStruct`, `NoSuchLevel`, `NoSuchVersion`, `NoSuchManner`,
-/// `NoSuchSet` at the number, `NotText`, `NotInSet` at the first character that the first set lacks,
-/// `LevelNotInVersion`, `NoMode`, `NoRoom`, `NoSuchMask`, `SmallBuffer`; or `OutOfMemory`. After an
-/// error `modules` and `designator` are unchanged.
+/// `NoSuchSet` at the number, `NotText`, `NotInSet` at the first character that the first set
+/// lacks, `LevelNotInVersion`, `NoMode`, `NoRoom`, `NoSuchMask`, `SmallBuffer`; or `OutOfMemory`.
+/// After an error `modules` and `designator` are unchanged.
 pub fn encode_charset(
     alloc: Global,
     text: &[u8],

@@ -12,7 +12,6 @@ use std::alloc::Global;
 /// Returns the length of a picture in a format that stores each pixel or each eight. `None` for
 /// other formats: their pictures take few bytes per module, or have few pixels. Errors: only
 /// `OutOfMemory`.
-#[tactic(auto, using(crate::proofs::BySide::has_length))]
 pub(crate) fn known_length(
     alloc: Global,
     asked: &Asked<'_>,

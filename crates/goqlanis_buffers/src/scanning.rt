@@ -67,12 +67,12 @@ const SIZE: u32 = 32;
 // The size of the largest picture, in bytes.
 pub(crate) const MOST: usize = 67_108_864;
 
-/// Decodes the codes in a picture, for a `Scan` of this size. Writes the codes, their parts and their
-/// bytes to the start of the buffers, and returns how many there are.
+/// Decodes the codes in a picture, for a `Scan` of this size. Writes the codes, their parts and
+/// their bytes to the start of the buffers, and returns how many there are.
 ///
 /// Errors, the first that applies: `NoSuchStruct`, `LargePicture`, `NotPicture` or `BrokenPicture`,
-/// `NoSquare`, `NoSuchSide`, `NoFormat`, `Damaged` or `NotSpelled`, `SmallBuffer`; or `OutOfMemory`.
-/// After an error the buffers are unchanged.
+/// `NoSquare`, `NoSuchSide`, `NoFormat`, `Damaged` or `NotSpelled`, `SmallBuffer`; or
+/// `OutOfMemory`. After an error the buffers are unchanged.
 pub fn scan_into(
     alloc: Global,
     picture: &[u8],

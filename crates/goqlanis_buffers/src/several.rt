@@ -44,8 +44,8 @@ pub struct Named {
 }
 
 /// Splits `bytes` over several symbols as `options` ask. Writes their modules, symbol after symbol,
-/// to the start of `modules`, and how many there are to `count`; returns version, level and width of
-/// each.
+/// to the start of `modules`, and how many there are to `count`; returns version, level and width
+/// of each.
 ///
 /// Errors, the first that applies: `NoSuchStruct`, `NoSuchLevel`, `NoSuchVersion`, `NoSuchManner`,
 /// `NoSuchNumber`, `NotText`, `NoRoom`, `SmallBuffer`; or `OutOfMemory`. After an error `modules`

@@ -12,8 +12,9 @@ use std::alloc::Global;
 ///
 /// Returns 0, or the number of the first `Refusal` that applies: `NoSuchContent`; for the first
 /// field with an error `NoSuchField` or `NotText`; one of `FieldEmpty` to `FieldWord` if the format
-/// rejects a field; `SmallBuffer`; or of `OutOfMemory`. After an error `out` and `count` are unchanged. If a field
-/// is wrong, `place` gets its index; if the text as a whole is, the number of fields of the kind.
+/// rejects a field; `SmallBuffer`; or of `OutOfMemory`. After an error `out` and `count` are
+/// unchanged. If a field is wrong, `place` gets its index; if the text as a whole is, the number of
+/// fields of the kind.
 #[unsafe(no_mangle)]
 pub extern "C" fn goq_content(
     alloc: Global,

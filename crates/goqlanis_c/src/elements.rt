@@ -15,8 +15,8 @@ use std::alloc::Global;
 ///
 /// Returns 0, or the number of the first `Refusal` that applies: `NotText`; for a wrong element
 /// `FieldCharacter`, `FieldCheckDigits`, `FieldRange`, `NoSuchIdentifier` or `ElementLength`;
-/// `SmallBuffer`; or of `OutOfMemory`. After an error `out` and `count` are unchanged, and `place` gets the index of the
-/// wrong element, if one is wrong.
+/// `SmallBuffer`; or of `OutOfMemory`. After an error `out` and `count` are unchanged, and `place`
+/// gets the index of the wrong element, if one is wrong.
 #[unsafe(no_mangle)]
 pub extern "C" fn goq_gs1(
     alloc: Global,
@@ -35,10 +35,9 @@ pub extern "C" fn goq_gs1(
 /// row, 1 for a dark one, to the start of `modules`, and the rest to `symbol`. The options' manner
 /// and boost are ignored.
 ///
-/// Returns 0, or the number of the first `Refusal` that applies: those of the options, of `goq_gs1`,
-/// `NoRoom`, `NoSuchMask`, `SmallBuffer`; or of `OutOfMemory`.
-/// After an error `modules` and `symbol` are unchanged, and `place` gets the index of the wrong
-/// element, if one is wrong.
+/// Returns 0, or the number of the first `Refusal` that applies: those of the options, of
+/// `goq_gs1`, `NoRoom`, `NoSuchMask`, `SmallBuffer`; or of `OutOfMemory`. After an error `modules`
+/// and `symbol` are unchanged, and `place` gets the index of the wrong element, if one is wrong.
 #[unsafe(no_mangle)]
 pub extern "C" fn goq_encode_gs1(
     alloc: Global,

@@ -27,8 +27,8 @@ pub extern "C" fn goq_encode_several(
     symbol: &mut Symbol,
     count: &mut usize,
 ) -> u32
-    ensures reported { IsReported (WritesSeveral options.now bytes.now count.new modules.old modules.new)
-        result symbol.old symbol.new }
+    ensures reported { IsReported (WritesSeveral options.now bytes.now count.new
+        modules.old modules.new) result symbol.old symbol.new }
     ensures count_unchanged { result ≢ 0 → count.new ≡ count.old }
 {
     answer(
