@@ -13,7 +13,7 @@ use goqlanis_tables::fields::Line;
 use goqlanis_tables::inputs::next_line;
 use goqlanis_tables::names::{Pattern, check_made, common_form};
 use goqlanis_tables::pages::Pages;
-use goqlanis_tables::rows::{Row, loose};
+use goqlanis_tables::rows::{Row, is_loose, loose};
 use goqlanis_tables::tables::Table;
 use std::alloc::Global;
 use std::collections::BTreeSet;
@@ -204,6 +204,11 @@ fn draw_data(
         _ if table.is_whole => draw(rt, asked, line.bytes),
         _ => {
             let data = table.data(rt.alloc(), line)?;
+            if table.field.is_some() && is_loose(data.as_str()) {
+                doubted!(rt, asked.doubts;
+                    "the space or quotation mark at the start or end of the field is encoded"
+                )?;
+            }
             draw(rt, asked, data.as_str().as_bytes())
         }
     }

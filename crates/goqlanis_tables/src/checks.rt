@@ -2,7 +2,7 @@
 
 use crate::columns::{Columns, field_called, identifier_in, is_identifier};
 use crate::tables::Table;
-use goqlanis_files::failure::Failure;
+use goqlanis_files::failure::{Doubts, Failure};
 use goqlanis_files::streams::shown;
 use goqlanis_files::{doubted, usage};
 use goqlanis_options::asked::{Asked, Target, Work};
@@ -34,12 +34,34 @@ pub fn check_columns(
             "lines are encoded whole, with all columns; for one of them, add --field"
         )?;
     }
+    check_number(rt, asked.doubts, table)?;
     for (place, name) in columns.names.iter().enumerate() {
+        let number = place.saturating_add(1);
         let is_named = is_in_path(rt.alloc(), asked.target, name.as_str())?;
-        if let Some(why) = left_out(&asked.work, table, place.saturating_add(1), is_named) {
-            let name = shown(name.as_str());
-            doubted!(rt, asked.doubts; "column {name} {why} is not encoded")?;
+        match left_out(&asked.work, table, number, is_named) {
+            Some(_) if name.as_str().trim().is_empty() => doubted!(rt, asked.doubts;
+                "column {number} has no name, so it is not encoded"
+            )?,
+            Some(why) => {
+                let name = shown(name.as_str());
+                doubted!(rt, asked.doubts; "column {name} {why} is not encoded")?;
+            }
+            None => {}
         }
+    }
+    Ok(())
+}
+
+// Warns if `--field` is the name of a column and also the number of another one.
+fn check_number(rt: &HostRuntime, doubts: Doubts<'_>, table: &Table<'_>) -> Result<(), Failure> {
+    let (Some(name), Some(number)) = (table.lines.field, table.field) else {
+        return Ok(());
+    };
+    let count = name.parse::<usize>().unwrap_or(0);
+    if count > 0 && count != number && count <= table.columns.names.len() {
+        doubted!(rt, doubts;
+            "--field {name}: this is column {number}, which has that name, not column {count}"
+        )?;
     }
     Ok(())
 }
@@ -119,7 +141,10 @@ fn check_spelling(
         .collect::<Vec<&'static str>>(alloc)?;
     for name in &columns.names {
         let name = name.as_str().trim();
-        if field_called(kind, name).is_some() || is_in_path(alloc, target, name)? {
+        if name.is_empty()
+            || field_called(kind, name).is_some()
+            || is_in_path(alloc, target, name)?
+        {
             continue;
         }
         if let Some(meant) = nearest(alloc, name, &known)? {
@@ -156,8 +181,9 @@ fn left_out(
     }
 }
 
-// Whether the path of the output has the column as a placeholder.
+// Whether the path of the output has the column as a placeholder. (`{}` is the number of a code.)
 fn is_in_path(alloc: Global, target: Target<'_>, name: &str) -> Result<bool, AllocError> {
     let place = format!(in alloc; "{{{name}}}")?;
-    Ok(matches!(target, Target::File(path) if path.contains(place.as_str())))
+    let is_there = matches!(target, Target::File(path) if path.contains(place.as_str()));
+    Ok(is_there && !name.is_empty())
 }

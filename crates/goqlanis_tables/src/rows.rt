@@ -82,13 +82,17 @@ pub fn loose(alloc: Global, columns: &Columns, line: &Line<'_>) -> Result<Option
         let Some(number) = number else {
             continue;
         };
-        let text = line.field(alloc, *number)?;
-        let is_mark = |sign: char| sign == '"' || sign.is_whitespace();
-        if text.starts_with(is_mark) || text.ends_with(is_mark) {
+        if is_loose(line.field(alloc, *number)?) {
             return Ok(Some(*field));
         }
     }
     Ok(None)
+}
+
+/// Whether a field has a space or a quotation mark at its start or end.
+pub fn is_loose(text: &str) -> bool {
+    let is_mark = |sign: char| sign == '"' || sign.is_whitespace();
+    text.starts_with(is_mark) || text.ends_with(is_mark)
 }
 
 // Returns the text of a column; refuses an empty one if that changes what the payload means. (An
