@@ -19,7 +19,7 @@ pub record IsToldOf (square : found.Missed) (told : Missed) : Type 0 where
   pub top : told.top ≡ (place_of square.grid).top
   pub why : refusal_of told.why ≡ Some (square_refusal square.cause)
 
--- a square of a picture that was found by its finder patterns and decodes in no position; no code overlaps it
+-- a square of a picture that decodes in no position, but has format information; no code overlaps it
 pub record IsToldMissed (picture : List ℕ) (codes : List Scan) (told : Missed) : Type 0 where
   pub square : found.Missed
   pub missed : IsMissedOf picture square
