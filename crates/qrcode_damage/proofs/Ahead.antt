@@ -1,6 +1,7 @@
 -- Which modules of patterns are ahead, in the order in which loops come to them.
 use mir.Val.{bool_byte}
 use Rattle.std.proofs.Common.{◌≡◌, ℕ, zero, suc, ◌+◌, ◌-◌, ◌*◌, ◌/◌, ◌%◌, ◌<◌, ◌==◌, not, Bool, true, false, cond, List, [], ◌∷◌, ◌++◌, length, map, refl, sym, ap, ◌∙◌, arith}
+use Rattle.std.proofs.lemmas.Bool.Decides.{nat_tests}
 use Rattle.std.specs.List.{filter, range_with_len}
 use Rattle.qrcode_types.specs.Versions.{side}
 use Rattle.qrcode_types.specs.declared.types.Version.{Version}
@@ -33,8 +34,7 @@ unfolding pattern_places
 ahead_all v = let all : side v * side v - 0 ≡ side v * side v = omega arith in ap (λ n. length (among v 0 n)) all
 
 pub bit_as_number : (b : Bool) → bool_byte b ≡ cond b 1 0
-bit_as_number true = refl
-bit_as_number false = refl
+bit_as_number b = grind (arith, nat_tests)
 
 -- one byte more, which is zero where it must be
 pub others_more : (p : ℕ → Bool) (bytes : List ℕ) (x : ℕ) → ((j : ℕ) → p j ≡ false → is_set bytes j ≡ false) → (p (length bytes) ≡ false → not (x == 0) ≡ false)

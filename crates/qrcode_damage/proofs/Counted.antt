@@ -1,7 +1,8 @@
 -- What differs is what is flipped: counts along lists of places.
 use Rattle.std.proofs.Common.{◌≡◌, ℕ, zero, suc, ◌+◌, ◌<◌, ◌==◌, Bool, true, false, not, cond, ◌&&◌, List, [], ◌∷◌, length, map, get_or, refl, sym, ap, ap₂, ◌∙◌, arith}
 use Rattle.std.specs.List.{count_by, AllByRecursion, AllZip, filter, list_all, range_with_len}
-use Rattle.std.proofs.lemmas.Bool.{and_parts}
+use Rattle.std.proofs.lemmas.Bool.{and_parts, not-true}
+use Rattle.std.proofs.lemmas.Bool.Decides.{nat_tests}
 use Rattle.qrcode_types.specs.Bits.{bit_distance}
 use Rattle.qrcode_layout.specs.Masks.{turned_if}
 use Rattle.qrcode_area.proofs.Beside.{count-cons}
@@ -9,16 +10,14 @@ use Rattle.qrcode_damage.specs.Flips.{count_wrong}
 use Rattle.qrcode_damage.specs.Errors.{is_set}
 
 -- exactly the flipped bits differ
+flipped_differs : (a b : Bool) → cond {A = ℕ} b (cond (turned_if a b) 0 1) (cond (turned_if a b) 1 0) ≡ cond {A = ℕ} a 1 0
+flipped_differs a b = grind (arith, nat_tests)
+
 pub bits_flipped : {X : Type 0} (m f g : X → Bool) (places : List X) → AllByRecursion (λ p. g p ≡ turned_if (m p) (f p)) places
     → bit_distance (map f places) (map g places) ≡ count_by m places
 bits_flipped m f g [] h = refl
 bits_flipped m f g (p ∷ places) h =
-    ap₂ (λ x y. x + y) (ap (λ c. cond {A = ℕ} (f p) (cond c 0 1) (cond c 1 0)) h.0 ∙ go (m p) (f p)) (bits_flipped m f g places h.1) ∙ sym (count-cons m p places) where
-      go : (a b : Bool) → cond {A = ℕ} b (cond (turned_if a b) 0 1) (cond (turned_if a b) 1 0) ≡ cond {A = ℕ} a 1 0
-      go true true = refl
-      go true false = refl
-      go false true = refl
-      go false false = refl
+    ap₂ (λ x y. x + y) (ap (λ c. cond {A = ℕ} (f p) (cond c 0 1) (cond c 1 0)) h.0 ∙ flipped_differs (m p) (f p)) (bits_flipped m f g places h.1) ∙ sym (count-cons m p places)
 
 -- places that take their bits from a list, one after the other
 counted_from : {X : Type 0} (m : X → Bool) (place : ℕ → X) (a : ℕ) (xs : List ℕ) → ((i : ℕ) → i < length xs → m (place (a + i)) ≡ is_set xs i)
@@ -80,8 +79,5 @@ zip_mapped R S (x ∷ xs) (y ∷ ys) h all = (h x y all.0, zip_mapped R S xs ys 
 -- no bit of a list of zeros is 1
 pub none_at : (xs : List Bool) (i : ℕ) → list_all not xs ≡ true → get_or xs i false ≡ false
 none_at [] i h = refl
-none_at (x ∷ xs) zero h = go x (and_parts (not x) (list_all not xs) h).0 where
-  go : (b : Bool) → not b ≡ true → b ≡ false
-  go true e = sym e
-  go false e = refl
+none_at (x ∷ xs) zero h = not-true x (and_parts (not x) (list_all not xs) h).0
 none_at (x ∷ xs) (suc i) h = none_at xs i (and_parts (not x) (list_all not xs) h).1

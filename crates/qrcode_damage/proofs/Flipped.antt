@@ -1,7 +1,8 @@
 -- A square in which some modules are reversed: exactly the codewords and bits with such a module differ.
-use Rattle.std.proofs.Common.{◌≡◌, ℕ, ◌+◌, ◌-◌, ◌*◌, ◌<◌, ◌≤◌, not, Bool, true, false, true≢false, cond, List, [], ◌∷◌, ◌++◌, length, map, drop, get_or, slice_index, refl, sym, ap, ap₂, ◌∙◌, arith, IsTrue, length-append}
+use Rattle.std.proofs.Common.{◌≡◌, ℕ, ◌+◌, ◌-◌, ◌*◌, ◌<◌, ◌≤◌, not, Bool, true, false, cond, List, [], ◌∷◌, ◌++◌, length, map, drop, get_or, slice_index, refl, sym, ap, ap₂, ◌∙◌, arith, IsTrue, length-append}
 use Rattle.std.specs.List.{AllByRecursion, count_by, range_with_len}
 use Rattle.std.proofs.lemmas.Nat.{div-mul-add, mod-mul-add, mul-add-lt}
+use Rattle.std.proofs.lemmas.Bool.{not-true}
 use Rattle.std.proofs.lemmas.Bool.Decides.{nat_tests}
 use Rattle.std.proofs.lemmas.List.{get_or-drop}
 use Rattle.std.proofs.lemmas.List.FromFn.{get_or-map-range_with_len, length-map-range_with_len, map-range_with_len_more}
@@ -10,7 +11,7 @@ use Rattle.qrcode_types.specs.Versions.{is_valid, side, block_lengths, ec_length
 use Rattle.qrcode_types.specs.declared.types.Version.{Version}
 use Rattle.qrcode_types.specs.declared.types.EcLevel.{EcLevel}
 use Rattle.qrcode_types.specs.declared.types.Color.{Color}
-use Rattle.qrcode_types.specs.declared.types.Color.TheVariants.{Light, Dark}
+use Rattle.qrcode_types.specs.declared.types.Color.TheVariants.{Light}
 use Rattle.qrcode_ec.specs.Blocks.{codewords, block, blocks, interleaved_place}
 use Rattle.qrcode_ec.specs.Codes.{distance}
 use Rattle.qrcode_layout.specs.Laws.{IsInside, IsFormatCopy}
@@ -65,11 +66,7 @@ color_flipped v wrong s other f x y i j =
 -- Codewords.
 
 differs : (a t : Bool) (c : Color) → turned_if t (is_dark c) ≡ turned_if t (is_dark (opposite_if a c)) → a ≡ false
-differs false t c e = refl
-differs true true Light e = absurd (true≢false e)
-differs true true Dark e = absurd (true≢false (sym e))
-differs true false Light e = absurd (true≢false (sym e))
-differs true false Dark e = absurd (true≢false e)
+differs a t c e = grind (arith, nat_tests)
 
 length_block : (v : Version) (l : EcLevel) (words others : List ℕ) (b : ℕ) → length (block v l words b) ≡ length (block v l others b)
 unfolding block
@@ -108,10 +105,7 @@ marks_are v e =
     let free = λ (p : ℕ × ℕ). not (is_functional_place v p.0 p.1) in
     map_alike (λ (p : ℕ × ℕ). is_wrong v e p.0 p.1) (λ p. is_free_wrong v e p.0 p.1) (free_places v)
     (all_mapped (λ p. free p ≡ true) (λ p. is_wrong v e p.0 p.1 ≡ is_free_wrong v e p.0 p.1) (free_places v)
-    (λ p h. free_wrong v e p.0 p.1 (go (is_functional_place v p.0 p.1) h)) (all_pass free (zigzag v))) where
-      go : (b : Bool) → not b ≡ true → b ≡ false
-      go true h = sym h
-      go false h = refl
+    (λ p h. free_wrong v e p.0 p.1 (not-true (is_functional_place v p.0 p.1) h)) (all_pass free (zigzag v)))
 
 block_counted : (v : Version) (l : EcLevel) (d : Damage) (e : Errors) → AreErrors v l d e → (b : ℕ) → b < length (block_lengths v l)
     → counted (block v l (codewords v l (marks v (is_wrong v e))) b) ≡ d.codewords
@@ -120,17 +114,16 @@ block_counted v l d e are b below =
 
 -- Bits of words.
 
+dark_if : (a : Bool) (c : Color) → is_dark (opposite_if a c) ≡ turned_if a (is_dark c)
+dark_if a c = grind (arith, nat_tests)
+
 bits_wrong : (v : Version) (wrong : ℕ → ℕ → Bool) (s other : List Color) → IsFlipped v wrong s other → (places : List (ℕ × ℕ)) → AllByRecursion (λ p. IsInside v p.0 p.1) places
     → wrong_bits v s other places ≡ count_by (λ p. wrong p.0 p.1) places
 bits_wrong v wrong s other f places inside =
     let dark = λ (t : List Color) (p : ℕ × ℕ). is_dark (color_at v t p.0 p.1) in
     bits_flipped (λ (p : ℕ × ℕ). wrong p.0 p.1) (dark s) (dark other) places
     (all_mapped (λ p. IsInside v p.0 p.1) (λ p. dark other p ≡ turned_if (wrong p.0 p.1) (dark s p)) places
-    (λ p i. ap is_dark (color_flipped v wrong s other f p.0 p.1 i.0 i.1) ∙ go (wrong p.0 p.1) (color_at v s p.0 p.1)) inside) where
-      go : (a : Bool) (c : Color) → is_dark (opposite_if a c) ≡ turned_if a (is_dark c)
-      go true Light = refl
-      go true Dark = refl
-      go false c = refl
+    (λ p i. ap is_dark (color_flipped v wrong s other f p.0 p.1 i.0 i.1) ∙ dark_if (wrong p.0 p.1) (color_at v s p.0 p.1)) inside)
 
 formats_inside : (v : Version) → IsTrue (is_valid v) → AllByRecursion (λ places. AllByRecursion (λ p. IsInside v p.0 p.1) places) (format_copies v)
 formats_inside v valid =

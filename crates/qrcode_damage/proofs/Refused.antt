@@ -1,6 +1,6 @@
 -- Which counts are refused.
-use Rattle.std.proofs.Common.{ℕ, ◌≤◌, Bool, true, false, nat_le, cond, arith}
-use Rattle.qrcode_types.specs.Versions.{side}
+use Rattle.std.proofs.Common.{◌≤◌, arith}
+use Rattle.std.proofs.lemmas.Bool.Decides.{nat_tests}
 use Rattle.qrcode_types.specs.declared.types.Version.{Version}
 use Rattle.qrcode_types.specs.declared.types.EcLevel.{EcLevel}
 use Rattle.qrcode_damage.specs.Damage.{HasRoomFor, IsTooMuch, version_word_length}
@@ -17,7 +17,4 @@ too_much_is_not v l d (PatternModules most) x room = absurd (omega (arith, x.0, 
 too_much_is_not v l d OutOfMemory x room = x
 
 pub at_most_18 : (v : Version) → version_word_length v ≤ 18
-at_most_18 v = go (nat_le 45 (side v)) where
-  go : (b : Bool) → cond {A = ℕ} b 18 0 ≤ 18
-  go true = omega arith
-  go false = omega arith
+at_most_18 v = grind (arith, nat_tests)

@@ -1,45 +1,24 @@
 -- Squares turned and mirrored, and back.
-use Rattle.std.proofs.Common.{◌≡◌, ◌+◌, ◌-◌, ◌*◌, ◌/◌, ◌%◌, ◌<◌, ◌≤◌, ℕ, false, List, length, get_or, refl, sym, ap, ap₂, ◌∙◌, arith}
+use Rattle.std.proofs.Common.{◌≡◌, ◌+◌, ◌-◌, ◌*◌, ◌/◌, ◌%◌, ◌<◌, ◌≤◌, ℕ, false, List, length, get_or, sym, ap, ap₂, ◌∙◌, arith}
 use Rattle.std.proofs.Math.Nat.{div-lt_iff_lt-mul, mod-lt}
+use Rattle.std.proofs.lemmas.Bool.Decides.{nat_tests}
 use Rattle.std.proofs.lemmas.List.FromFn.{fill_by_all, get_or-map-range_with_len}
 use Rattle.std.proofs.lemmas.Nat.{div-add-mod', div-mul-add, mod-mul-add, mul-add-lt}
 use Rattle.qrcode_types.specs.declared.types.Color.{Color}
-use Rattle.qrcode_types.specs.declared.types.Color.TheVariants.{Light, Dark}
+use Rattle.qrcode_types.specs.declared.types.Color.TheVariants.{Light}
 use Rattle.qrcode_reader.specs.Positions.{place_in_square, seen, seen_at, seen_color}
 use Rattle.qrcode_reader.specs.declared.positions.Position.{Position}
-use Rattle.qrcode_reader.specs.declared.positions.Position.TheVariants.{Upright, TurnedLeft, UpsideDown, TurnedRight, Mirrored, Flipped, Transposed, Antitransposed}
 use Rattle.qrcode_damage.specs.Laid.{opposite}
 
-less : (w x : ℕ) → x < w → w - 1 - x < w
-less w x i = omega arith
-
-again : (w x : ℕ) → x < w → w - 1 - (w - 1 - x) ≡ x
-again w x i = omega arith
-
 inside : (p : Position) (w x y : ℕ) → x < w → y < w → ((place_in_square p w x y).0 < w) × ((place_in_square p w x y).1 < w)
-inside Upright w x y i j = (i, j)
-inside TurnedLeft w x y i j = (j, less w x i)
-inside UpsideDown w x y i j = (less w x i, less w y j)
-inside TurnedRight w x y i j = (less w y j, i)
-inside Mirrored w x y i j = (less w x i, j)
-inside Flipped w x y i j = (i, less w y j)
-inside Transposed w x y i j = (j, i)
-inside Antitransposed w x y i j = (less w y j, less w x i)
+inside p w x y i j = grind (arith, nat_tests)
 
 -- the opposite position leads back to the same place
 back : (p : Position) (w x y : ℕ) → x < w → y < w → place_in_square (opposite p) w (place_in_square p w x y).0 (place_in_square p w x y).1 ≡ (x, y)
-back Upright w x y i j = refl
-back TurnedLeft w x y i j = ap (λ (a : ℕ). (a, y)) (again w x i)
-back UpsideDown w x y i j = ap₂ (λ (a b : ℕ). (a, b)) (again w x i) (again w y j)
-back TurnedRight w x y i j = ap (λ (b : ℕ). (x, b)) (again w y j)
-back Mirrored w x y i j = ap (λ (a : ℕ). (a, y)) (again w x i)
-back Flipped w x y i j = ap (λ (b : ℕ). (x, b)) (again w y j)
-back Transposed w x y i j = refl
-back Antitransposed w x y i j = ap₂ (λ (a b : ℕ). (a, b)) (again w x i) (again w y j)
+back p w x y i j = grind (arith, nat_tests)
 
 same_color : (c : Color) → seen_color false c ≡ c
-same_color Light = refl
-same_color Dark = refl
+same_color c = grind (arith, nat_tests)
 
 -- a square laid so and seen so is the same
 pub laid_and_seen : (w : ℕ) (p : Position) (s : List Color) → 1 ≤ w → length s ≡ w * w → seen w p false (seen w (opposite p) false s) ≡ s

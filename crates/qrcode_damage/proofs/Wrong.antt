@@ -2,7 +2,7 @@
 use Rattle.std.proofs.Common.{◌≡◌, ◌≢◌, ℕ, ◌+◌, ◌-◌, ◌*◌, ◌/◌, ◌%◌, ◌<◌, ◌≤◌, nat_le, nat_lt, Bool, true, false, not, cond, ◌&&◌, ◌||◌, List, [], ◌∷◌, ◌++◌, map, Option, Some, None, is_some, pos, negsuc, true≢false, refl, sym, ap, ap₂, ◌∙◌, arith, subst, IsTrue}
 use Rattle.std.specs.List.{range_with_len, count_by, AllByRecursion}
 use Rattle.std.proofs.Math.Nat.{div-lt_iff_lt-mul, mod-lt}
-use Rattle.std.proofs.lemmas.Bool.{and_parts, or_left, or_right, le-ltb}
+use Rattle.std.proofs.lemmas.Bool.{and_parts, not-true, or_left, or_right, le-ltb}
 use Rattle.std.proofs.lemmas.Bool.Decides.{nat_tests}
 use Rattle.std.proofs.lemmas.List.FromFn.{get_or-map-range_with_len}
 use Rattle.std.proofs.lemmas.Nat.{div-add-mod', div-mul-add, mod-mul-add}
@@ -52,31 +52,26 @@ other_wrong v e x y none functional =
 is_version_right : (e : Errors) (w x y : ℕ) → cond (nat_le 45 w) (any_has x y (word_figures w)) false ≡ false → is_version_wrong e w x y ≡ false
 is_version_right e w x y apart = grind (arith, nat_tests)
 
+or_is_and : (b : Bool) → (b || false) ≡ (b && true)
+or_is_and b = grind (arith, nat_tests)
+
 pub other_is : (v : Version) (x y : ℕ) → is_some (format_index v x y) ≡ false → is_version_place v x y ≡ false → is_functional_place v x y ≡ is_pattern_place v x y
 unfolding is_functional_place
-other_is v x y none apart = ap₂ (λ a b. is_some (pattern v x y) || a) none apart ∙ go (is_some (pattern v x y)) ∙ ap (λ b. is_some (pattern v x y) && not b) (sym apart) where
-  go : (b : Bool) → (b || false) ≡ (b && true)
-  go true = refl
-  go false = refl
+other_is v x y none apart = ap₂ (λ a b. is_some (pattern v x y) || a) none apart ∙ or_is_and (is_some (pattern v x y)) ∙ ap (λ b. is_some (pattern v x y) && not b) (sym apart)
+
+or_false : (b : Bool) → (b || false) ≡ b
+or_false b = grind (arith, nat_tests)
 
 pattern_wrong : (v : Version) (e : Errors) (x y : ℕ) → IsTrue (is_valid v) → is_pattern_place v x y ≡ true → is_wrong v e x y ≡ is_pattern_wrong e (side v) x y
 unfolding is_functional_place
 pattern_wrong v e x y valid is =
     let parts = and_parts (is_some (pattern v x y)) (not (is_version_place v x y)) is in
     other_wrong v e x y (go parts.0 (format_index v x y) refl) (ap (λ b. b || is_some (format_index v x y)) parts.0)
-    ∙ ap (λ b. is_pattern_wrong e (side v) x y || b) (is_version_right e (side v) x y (negated (is_version_place v x y) parts.1))
+    ∙ ap (λ b. is_pattern_wrong e (side v) x y || b) (is_version_right e (side v) x y (not-true (is_version_place v x y) parts.1))
     ∙ or_false (is_pattern_wrong e (side v) x y) where
       go : is_some (pattern v x y) ≡ true → (o : Option ℕ) → format_index v x y ≡ o → format_index v x y ≡ None
       go some (Some i) here = absurd (true≢false (sym some ∙ ap is_some (format_places_are_no_patterns v x y i valid here)))
       go some None none = none
-
-      negated : (b : Bool) → not b ≡ true → b ≡ false
-      negated true h = sym h
-      negated false h = refl
-
-      or_false : (b : Bool) → (b || false) ≡ b
-      or_false true = refl
-      or_false false = refl
 
 -- all places of patterns are those of the bytes that are not zero
 pub patterns_counted : (v : Version) (l : EcLevel) (d : Damage) (e : Errors) → IsTrue (is_valid v) → AreErrors v l d e
@@ -186,11 +181,7 @@ lower_takes e w r j wide p q =
 
 -- a place of a version word is none of a pattern
 word_apart : (v : Version) (x y : ℕ) → any_has x y (version_figures (side v)) ≡ true → is_pattern_place v x y ≡ false
-word_apart v x y has = go (has_version_word v) (is_some (pattern v x y)) has where
-  go : (a b : Bool) → any_has x y (cond a (word_figures (side v)) []) ≡ true → (b && not (cond a (any_has x y (word_figures (side v))) false)) ≡ false
-  go true true has = ap not has
-  go true false has = refl
-  go false b has = absurd (true≢false (sym has))
+word_apart v x y has = grind (arith, nat_tests)
 
 -- no byte outside of the patterns is set
 abbrev OthersRight : Version → Errors → Type 0
