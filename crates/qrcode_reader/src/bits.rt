@@ -1,6 +1,6 @@
 //! Splits data bytes into data bits.
 
-ghost use Rattle.std.specs.Prelude.{◌≡◌, ◌++◌, length, take, IsTrue, OnOk, IfOk};
+ghost use Rattle.std.specs.Prelude.{◌≡◌, ◌++◌, take, IsTrue, OnOk, IfOk};
 ghost use Rattle.qrcode_types.specs.Bits as numbers;
 ghost use Rattle.qrcode_types.specs.Versions as tables;
 ghost use Rattle.qrcode_types.specs.Versions.{has_level};
@@ -33,18 +33,6 @@ fn push_byte(bits: &mut Vec<bool>, byte: u8) -> Result<(), AllocError>
     Ok(())
 }
 
-// Returns the first `count` bits of `bytes`.
-fn bits_of(alloc: Global, bytes: &[u8], count: usize) -> Result<Vec<bool>, AllocError>
-    ensures { IfOk result (λ bits. bits.items ≡ take count (numbers.bits_of bytes.now)) }
-{
-    let mut bits = Vec::with_capacity(alloc, bytes.len().saturating_mul(8))?;
-    for byte in bytes {
-        push_byte(&mut bits, *byte)?;
-    }
-    bits.truncate(count);
-    Ok(bits)
-}
-
 /// Returns the data bits of the data bytes of all blocks, block by block: all their bits, without
 /// the last four if the last data codeword has only four (ISO/IEC 18004:2006, 6.4.10).
 pub(crate) fn data_bits(
@@ -57,6 +45,10 @@ pub(crate) fn data_bits(
     ensures value { IfOk result (λ bits. bits.items
         ≡ take (tables.capacity version ec_level) (numbers.bits_of bytes.now)) }
 {
-    let capacity = capacity(version, ec_level).unwrap();
-    bits_of(alloc, bytes, capacity)
+    let mut bits = Vec::with_capacity(alloc, bytes.len().saturating_mul(8))?;
+    for byte in bytes {
+        push_byte(&mut bits, *byte)?;
+    }
+    bits.truncate(capacity(version, ec_level).unwrap());
+    Ok(bits)
 }

@@ -5,19 +5,11 @@ ghost use Rattle.std.specs.Prelude.{◌≡◌, ◌*◌, ◌<◌, ◌≤◌, leng
 ghost use Rattle.std.specs.List.{list_all};
 ghost use Rattle.qrcode_types.specs.Versions.{is_valid, side};
 ghost use Rattle.qrcode_layout.specs.Figures.{fits};
-ghost use Rattle.qrcode_reader.specs.Figures.{difference, wrong_at, wrong_in_row, wrong_in, wrong_of, finder_figures, timing_figures, dark_figures, has_finders};
+ghost use Rattle.qrcode_reader.specs.Figures.{wrong_at, wrong_in_row, wrong_in, wrong_of, finder_figures, timing_figures, dark_figures, has_finders};
 
 use qrcode_layout::figures::{Figure, micro_figures, normal_figures};
 use qrcode_types::types::{Color, Version};
 use qrcode_types::versions::side;
-
-// Returns 1 if two colours differ, else 0.
-fn difference(a: Color, b: Color) -> usize
-    ensures value { result ≡ difference a b }
-    ensures at_most { result ≤ 1 }
-{
-    usize::from(a != b)
-}
 
 // Returns 1 if the module of the figure in this row and column has the wrong colour, else 0.
 fn wrong_at(
@@ -36,10 +28,8 @@ fn wrong_at(
     ensures at_most { result ≤ 1 }
 {
     let (x, y) = (figure.left + column, figure.top + row);
-    difference(
-        modules[y * side(version) + x],
-        figure.color(version, column, row),
-    )
+    let color = figure.color(version, column, row);
+    usize::from(modules[y * side(version) + x] != color)
 }
 
 // Counts the wrong modules in a row of a figure.

@@ -1,12 +1,9 @@
 //! Decodes squares to bits and to bytes.
 
-ghost use Rattle.std.specs.Prelude.{◌≡◌, ℕ, ◌*◌, Bool, List, length, IsTrue, IfOk, IfErr, IsOkUnless};
-ghost use Rattle.qrcode_types.specs.Versions.{has_level, side};
+ghost use Rattle.std.specs.Prelude.{◌≡◌, ℕ, Bool, List, IfOk, IfErr, IsOkUnless};
 ghost use Rattle.qrcode_types.specs.declared.types.Version.{Version};
 ghost use Rattle.qrcode_types.specs.declared.types.EcLevel.{EcLevel};
 ghost use Rattle.qrcode_types.specs.declared.types.Color.{Color};
-ghost use Rattle.qrcode_ec.specs.Blocks as interleaved;
-ghost use Rattle.qrcode_layout.specs.Stream as walked;
 ghost use Rattle.qrcode_symbol.specs.Symbol.{IsDamaged};
 ghost use Rattle.qrcode_symbol.specs.Reading.{ReadsBits};
 ghost use Rattle.qrcode.specs.Reading.{Reads, EncodesBits, EncodesBytes};
@@ -23,7 +20,7 @@ use crate::walk::stream;
 use crate::words::codewords;
 use qrcode_layout::masks::MaskPattern;
 use qrcode_types::types::{Color, EcLevel, Version};
-use std::alloc::{AllocError, Global};
+use std::alloc::Global;
 
 /// A square decoded to bits.
 #[derive(Drop)]
@@ -55,23 +52,6 @@ pub struct Reading {
     pub wrong: Vec<WrongCodeword>,
 }
 
-// Returns the codewords of a square, not yet corrected.
-fn words_of(
-    alloc: Global,
-    version: Version,
-    ec_level: EcLevel,
-    mask: MaskPattern,
-    modules: &[Color],
-) -> Result<Vec<u8>, AllocError>
-    requires exists { IsTrue (has_level version ec_level) }
-    requires square { length modules.now ≡ side version * side version }
-    ensures value { IfOk result (λ words. words.items ≡ interleaved.codewords version ec_level
-        (walked.stream version mask modules.now)) }
-{
-    let bits = stream(alloc, version, mask, modules)?;
-    codewords(alloc, &bits, version, ec_level)
-}
-
 /// Decodes a square of modules, given row by row from the top left corner, to its data bits
 /// (ISO/IEC 18004:2006, 6.9 and Annex B). There is no quiet zone. Each copy of the format word may
 /// have three wrong bits, and each block half as many wrong codewords as it has error correction
@@ -98,7 +78,8 @@ pub fn read_bits(alloc: Global, modules: &[Color]) -> Result<BitReading, Unread>
     let Some((ec_level, mask)) = read_format(version, modules) else {
         return Err(Unread::NoFormat);
     };
-    let words = words_of(alloc, version, ec_level, mask, modules)?;
+    let walked = stream(alloc, version, mask, modules)?;
+    let words = codewords(alloc, &walked, version, ec_level)?;
     let blocks = correct_blocks(alloc, &words, version, ec_level)?;
     let bits = data_bits(alloc, &blocks.data, version, ec_level)?;
     Ok(BitReading {

@@ -28,8 +28,8 @@ returns-in_default-read_format-clause-gives_back c =
 -- ---- blocks that cannot be corrected
 cause : (c : In_err-blocks) → IsBitCause c.args.modules.now c.in_err-blocks.field-0.0
 cause c =
-    blocked c.args.modules.now c.in-Some.version c.in-Some-read_format.ec_level c.in-Some-read_format.mask c.deref.result.now _ c.in-Some.ensures.some.1 c.in-Some-read_format.ensures.some
-    (c.deref.ensures.value ∙ c.in_ok-words.ensures.value) c.in_err-blocks.ensures.refused
+    blocked c.args.modules.now c.in-Some.version c.in-Some-read_format.ec_level c.in-Some-read_format.mask c.deref-2.result.now _ c.in-Some.ensures.some.1 c.in-Some-read_format.ensures.some
+    (c.deref-2.ensures.value ∙ c.in_ok-words.ensures.value ∙ ap (codewords c.in-Some.version c.in-Some-read_format.ec_level) (c.deref.ensures.value ∙ c.in_ok-walked.ensures)) c.in_err-blocks.ensures.refused
 
 pub returns-in_err-blocks-clause-accepts : goal.returns-in_err-blocks-clause-accepts
 returns-in_err-blocks-clause-accepts c =
@@ -53,7 +53,8 @@ corrected c =
     let v = c.in-Some.version in
     let l = c.in-Some-read_format.ec_level in
     let held = c.in_ok-blocks.blocks in
-    subst (λ words. AreCorrected v l words (length (block_lengths v l)) held.data.items held.wrong.items) (c.deref.ensures.value ∙ c.in_ok-words.ensures.value) c.in_ok-blocks.ensures.value
+    subst (λ words. AreCorrected v l words (length (block_lengths v l)) held.data.items held.wrong.items)
+    (c.deref-2.ensures.value ∙ c.in_ok-words.ensures.value ∙ ap (codewords v l) (c.deref.ensures.value ∙ c.in_ok-walked.ensures)) c.in_ok-blocks.ensures.value
 
 pub returns-clause-value : goal.returns-clause-value
 returns-clause-value c =
@@ -61,7 +62,7 @@ returns-clause-value c =
     let l = c.in-Some-read_format.ec_level in
     let held = c.in_ok-blocks.blocks in
     bit_reading c.args.modules.now v l c.in-Some-read_format.mask held.data.items held.wrong.items c.in_ok-bits.bits.items c.in-Some.ensures.some.1 c.in-Some-read_format.ensures.some
-    (corrected (goal.at.returns-clause-value c).In_ok-blocks) (c.in_ok-bits.ensures.value ∙ ap (λ b. take (capacity v l) (bits_of b)) c.deref-2.ensures.value)
+    (corrected (goal.at.returns-clause-value c).In_ok-blocks) (c.in_ok-bits.ensures.value ∙ ap (λ b. take (capacity v l) (bits_of b)) c.deref-3.ensures.value)
 
 pub returns-clause-gives_back : goal.returns-clause-gives_back
 returns-clause-gives_back c =
@@ -72,5 +73,5 @@ returns-clause-gives_back c =
     let held = c.in_ok-blocks.blocks in
     let bits = c.in_ok-bits.bits.items in
     let is = bit_reading s v l k held.data.items held.wrong.items bits c.in-Some.ensures.some.1 c.in-Some-read_format.ensures.some
-    (corrected (goal.at.returns-clause-gives_back c).In_ok-blocks) (c.in_ok-bits.ensures.value ∙ ap (λ b. take (capacity v l) (bits_of b)) c.deref-2.ensures.value) in
+    (corrected (goal.at.returns-clause-gives_back c).In_ok-blocks) (c.in_ok-bits.ensures.value ∙ ap (λ b. take (capacity v l) (bits_of b)) c.deref-3.ensures.value) in
     λ u m others symbol encodes damaged. (tt, bits_given_back s v l k bits held.wrong.items is u m others symbol encodes damaged)
