@@ -1,8 +1,9 @@
 -- The copies of the format word.
-use Rattle.std.proofs.Common.{◌≡◌, ◌<◌, ◌≤◌, ℕ, ◌+◌, List, [], ◌∷◌, Bool, true, false, map, length, get_or, take, drop, subst, ◌-◌, sym, ap, ◌∙◌, arith, ext_get_or}
+use Rattle.std.proofs.Common.{◌≡◌, ◌<◌, ◌≤◌, ℕ, ◌+◌, List, [], ◌∷◌, Bool, false, map, length, get_or, take, drop, subst, ◌-◌, sym, ap, ◌∙◌, arith, ext_get_or}
 use Rattle.std.specs.List.{range_with_len}
 use Rattle.std.proofs.lemmas.List.FromFn.{length-map-range_with_len, get_or-map-range_with_len}
 use Rattle.std.proofs.lemmas.Simd.{map-map}
+use Rattle.std.proofs.lemmas.Bool.Decides.{nat_tests}
 use Rattle.std.proofs.lemmas.List.{take_all}
 use Rattle.qrcode_types.specs.Bits.{has_bit, number_bits, bit_distance}
 use Rattle.qrcode_types.specs.Colors.{is_dark}
@@ -52,8 +53,7 @@ names_format v s l k first last e f h =
 
 -- one more bit
 distance_more : (a b : Bool) (us ws : List Bool) → bit_distance (a ∷ us) (b ∷ ws) ≡ bit_distance (a ∷ []) (b ∷ []) + bit_distance us ws
-distance_more true b us ws = omega arith
-distance_more false b us ws = omega arith
+distance_more a b us ws = grind (arith, nat_tests)
 
 -- the bits after the first
 behind_is : (bit : Bool) (more : List Bool) → take (length (bit ∷ more) - 1) (drop 1 (bit ∷ more)) ≡ more

@@ -1,7 +1,8 @@
 -- Blocks are corrected one after the other.
-use Rattle.std.proofs.Common.{◌≡◌, ◌≢◌, ℕ, zero, suc, ◌+◌, ◌-◌, ◌<◌, cond, List, [], ◌∷◌, ◌++◌, length, get_or, slice_index, take, sym, ap, subst, ◌∙◌, arith, append-nil, append_assoc}
+use Rattle.std.proofs.Common.{◌≡◌, ◌≢◌, ℕ, ◌+◌, ◌-◌, ◌<◌, cond, List, [], ◌∷◌, ◌++◌, length, get_or, slice_index, take, sym, ap, subst, ◌∙◌, arith, append-nil, append_assoc}
 use Rattle.std.specs.List.{range_with_len, flat_map, AllZip}
 use Rattle.std.proofs.lemmas.Bool.{eq-eqb, ne_eqb}
+use Rattle.std.proofs.lemmas.List.{flat_map_more}
 use Rattle.std.proofs.lemmas.List.Concat.{flat_map-append}
 use Rattle.std.proofs.lemmas.List.Elements.{AllZip-push, AllZip-get_or, length_all_zip}
 use Rattle.std.proofs.lemmas.List.FromFn.{map-range_with_len_more, length-map-range_with_len, get_or-map-range_with_len}
@@ -9,29 +10,19 @@ use Rattle.qrcode_types.specs.Versions.{block_lengths, ec_length}
 use Rattle.qrcode_types.specs.declared.types.Version.{Version}
 use Rattle.qrcode_types.specs.declared.types.EcLevel.{EcLevel}
 use Rattle.qrcode_ec.specs.Blocks.{block, data_bytes}
+use Rattle.qrcode_render.proofs.Grids.{range_append}
 use Rattle.qrcode_ec.specs.Codes.{Corrects}
 use Rattle.qrcode_reader.specs.Corrected.{wrong_at, wrong_in, wrong_from, first_blocks, AreCorrected, AppendsBlock, IsFirstDamaged}
 use Rattle.qrcode_reader.specs.declared.correction.WrongCodeword.{WrongCodeword}
 
--- a range with one more number
-range_more : (n a : ℕ) → range_with_len a (suc n) ≡ range_with_len a n ++ (a + n) ∷ []
-range_more zero a = let e : a ≡ a + 0 = omega arith in ap (λ x. x ∷ []) e
-range_more (suc n) a = let e : a + 1 + n ≡ a + suc n = omega arith in ap (λ l. a ∷ l) (range_more n (a + 1) ∙ ap (λ x. range_with_len (a + 1) n ++ x ∷ []) e)
-
 -- one more place
-wrong_more : (b : ℕ) (r c : List ℕ) (i : ℕ) → flat_map (wrong_at b r c) (range_with_len 0 (i + 1)) ≡ flat_map (wrong_at b r c) (range_with_len 0 i) ++ wrong_at b r c i
-wrong_more b r c i =
-    let e : i + 1 ≡ suc i = omega arith in
-    let z : 0 + i ≡ i = omega arith in
-    ap (λ n. flat_map (wrong_at b r c) (range_with_len 0 n)) e ∙ ap (flat_map (wrong_at b r c)) (range_more i 0 ∙ ap (λ n. range_with_len 0 i ++ n ∷ []) z)
-    ∙ flat_map-append (wrong_at b r c) (range_with_len 0 i) (i ∷ [])
-    ∙ ap (λ x. flat_map (wrong_at b r c) (range_with_len 0 i) ++ x) (append-nil (wrong_at b r c i))
-
 pub wrong_step : (b : ℕ) (r c : List ℕ) (i : ℕ) (old now new : List WrongCodeword) → now ≡ old ++ flat_map (wrong_at b r c) (range_with_len 0 i) → new ≡ now ++ wrong_at b r c i
     → new ≡ old ++ flat_map (wrong_at b r c) (range_with_len 0 (i + 1))
 wrong_step b r c i old now new e f =
-    let front = flat_map (wrong_at b r c) (range_with_len 0 i) in
-    f ∙ ap (λ x. x ++ wrong_at b r c i) e ∙ append_assoc old front (wrong_at b r c i) ∙ ap (λ x. old ++ x) (sym (wrong_more b r c i))
+    let longer : range_with_len 0 (i + 1) ≡ range_with_len 0 i ++ i ∷ [] =
+    range_append 0 i 1 ∙ ap (λ k. range_with_len 0 i ++ k ∷ []) (let z : 0 + i ≡ i = omega arith in z) in
+    f ∙ ap (λ x. x ++ wrong_at b r c i) e ∙ flat_map_more (wrong_at b r c) old (range_with_len 0 i) i
+    ∙ ap (λ places. old ++ flat_map (wrong_at b r c) places) (sym longer)
 
 -- a place where the correction differs, and one where it does not
 pub wrong_here : (b : ℕ) (r c : List ℕ) (i : ℕ) → slice_index r i ≢ slice_index c i → record { block = b; place = i } ∷ [] ≡ wrong_at b r c i

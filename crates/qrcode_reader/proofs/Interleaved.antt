@@ -1,7 +1,7 @@
 -- The blocks by rows and columns are those of the definition.
-use Rattle.std.proofs.Common.{◌≡◌, ℕ, zero, suc, ◌+◌, ◌*◌, ◌-◌, ◌<◌, ◌≤◌, cond, Bool, true, false, leb, List, [], ◌∷◌, ◌++◌, length, length-append, map, get_or, replicate, slice_index, inl, inr, refl, sym, ap, ap₂, ◌∙◌, arith}
+use Rattle.std.proofs.Common.{◌≡◌, ℕ, zero, suc, ◌+◌, ◌*◌, ◌-◌, ◌<◌, ◌≤◌, cond, Bool, leb, List, [], ◌∷◌, ◌++◌, length, length-append, map, get_or, replicate, slice_index, inl, inr, refl, sym, ap, ap₂, ◌∙◌, arith}
 use Rattle.std.specs.List.{range_with_len}
-use Rattle.std.proofs.lemmas.Bool.Decides.{leb_tells}
+use Rattle.std.proofs.lemmas.Bool.Decides.{leb_tells, nat_tests}
 use Rattle.std.proofs.lemmas.List.{append-nil}
 use Rattle.std.proofs.lemmas.List.FromFn.{map-range_with_len_more, length-map-range_with_len}
 use Rattle.qrcode_types.specs.Blocks.{AreBlocks, count_of, data_length_of}
@@ -32,7 +32,26 @@ data_length_is v l b e = data_length-is v l ∙ ap (λ t. t.1 * t.2 + t.3 * (t.2
 pub ec_length_is : (v : Version) (l : EcLevel) (b : Blocks) → AreBlocks v l b → ec_length v l ≡ b.ec_length
 ec_length_is v l b e = ap (λ t. t.0) e
 
--- the data bytes
+-- the data bytes, by the places of rows and of the last byte of a long block
+pub data_by : (b : Blocks) (words : List ℕ) (k : ℕ) (f : ℕ → ℕ) → ((i : ℕ) → i < b.short_length → f i ≡ slice_index words (i * count_of b + k))
+    → (b.short_blocks ≤ k → f b.short_length ≡ slice_index words (b.short_length * count_of b + (k - b.short_blocks)))
+    → map f (range_with_len 0 (b.short_length + cond (leb b.short_blocks k) 1 0)) ≡ data_part b words k
+data_by b words k f rows last =
+    let s = b.short_length in
+    let g = λ (i : ℕ). slice_index words (i * count_of b + k) in
+    let end = slice_index words (s * count_of b + (k - b.short_blocks)) in
+    let front : map f (range_with_len 0 s) ≡ map g (range_with_len 0 s) = map_same f g 0 s (λ i low high. rows i (omega arith)) in
+    elim (leb_tells b.short_blocks k) [
+      | inl most ↦
+          ap (λ t. map f (range_with_len 0 (s + cond t 1 0))) most.0 ∙ map-range_with_len_more f 0 s s (omega arith)
+          ∙ ap₂ (λ xs x. xs ++ x ∷ []) front (last most.1)
+          ∙ ap (λ t. map g (range_with_len 0 s) ++ cond t (end ∷ []) []) (sym most.0)
+      | inr less ↦
+          ap (λ t. map f (range_with_len 0 (s + cond t 1 0))) less.0 ∙ ap (λ n. map f (range_with_len 0 n)) (let e : s + 0 ≡ s = omega arith in e) ∙ front
+          ∙ sym (append-nil (map g (range_with_len 0 s)))
+          ∙ ap (λ t. map g (range_with_len 0 s) ++ cond t (end ∷ []) []) (sym less.0)
+    ]
+
 data_is : (b : Blocks) (words : List ℕ) (k : ℕ) → k < count_of b
     → map (λ i. slice_index words (interleaved_place (short_and_long b.short_blocks b.long_blocks b.short_length) i k))
     (range_with_len 0 (get_or (short_and_long b.short_blocks b.long_blocks b.short_length) k 0))
@@ -42,20 +61,8 @@ data_is b words k exists =
     let long = b.long_blocks in
     let s = b.short_length in
     let f = λ (i : ℕ). slice_index words (interleaved_place (short_and_long short long s) i k) in
-    let g = λ (i : ℕ). slice_index words (i * count_of b + k) in
-    let rows : map f (range_with_len 0 s) ≡ map g (range_with_len 0 s) =
-    map_same f g 0 s (λ i low high. ap (slice_index words) (row_place short long s i k (omega arith) exists)) in
-    let whole = ap (λ n. map f (range_with_len 0 n)) (length_at short long s k exists) in
-    whole ∙ elim (leb_tells short k) [
-      | inl most ↦
-          ap (λ t. map f (range_with_len 0 (s + cond t 1 0))) most.0 ∙ map-range_with_len_more f 0 s s (omega arith)
-          ∙ ap₂ (λ xs x. xs ++ x ∷ []) rows (ap (slice_index words) (end_place short long s k most.1 exists))
-          ∙ ap (λ t. map g (range_with_len 0 s) ++ cond t (slice_index words (s * count_of b + (k - short)) ∷ []) []) (sym most.0)
-      | inr less ↦
-          ap (λ t. map f (range_with_len 0 (s + cond t 1 0))) less.0 ∙ ap (λ n. map f (range_with_len 0 n)) (let e : s + 0 ≡ s = omega arith in e) ∙ rows
-          ∙ sym (append-nil (map g (range_with_len 0 s)))
-          ∙ ap (λ t. map g (range_with_len 0 s) ++ cond t (slice_index words (s * count_of b + (k - short)) ∷ []) []) (sym less.0)
-    ]
+    ap (λ n. map f (range_with_len 0 n)) (length_at short long s k exists)
+    ∙ data_by b words k f (λ i below. ap (slice_index words) (row_place short long s i k below exists)) (λ most. ap (slice_index words) (end_place short long s k most exists))
 
 pub block_is : (v : Version) (l : EcLevel) (b : Blocks) (words : List ℕ) (k : ℕ) → AreBlocks v l b → k < count_of b
     → block v l words k ≡ data_part b words k ++ ec_part b words k
@@ -67,8 +74,7 @@ block_is v l b words k entry exists =
     ∙ ap (λ n. map (λ i. slice_index words (data_length_of b + i * count_of b + k)) (range_with_len 0 n)) (ec_length_is v l b entry))
 
 one_or_none : (t : Bool) (x : ℕ) → length (cond t (x ∷ []) []) ≤ 1
-one_or_none true x = omega arith
-one_or_none false x = omega arith
+one_or_none t x = grind (arith, nat_tests)
 
 -- the most bytes of a block
 pub length-parts : (b : Blocks) (words : List ℕ) (k : ℕ) → length (data_part b words k ++ ec_part b words k) ≤ b.short_length + 1 + b.ec_length

@@ -1,6 +1,6 @@
 -- Polynomials that are zero at given places, and quotients by x - point.
-use Rattle.std.proofs.Common.{◌≡◌, ◌≢◌, ℕ, zero, suc, ◌+◌, ◌*◌, ◌<◌, ◌≤◌, ◌⊎◌, inl, inr, refl, sym, ap, ap₂, ◌∙◌, arith, subst, Bool, true, false, eqb, cond, List, [], ◌∷◌, length, get_or}
-use Rattle.std.proofs.lemmas.Bool.{cases_lt, eq-eqb, eqb-true}
+use Rattle.std.proofs.Common.{◌≡◌, ◌≢◌, ℕ, zero, suc, ◌+◌, ◌*◌, ◌<◌, ◌≤◌, ◌⊎◌, inl, inr, refl, sym, ap, ap₂, ◌∙◌, arith, subst, eqb, cond, List, [], ◌∷◌, length, get_or}
+use Rattle.std.proofs.lemmas.Bool.{cases_lt, eq-eqb, ne_eqb}
 use Rattle.std.specs.Int.Bits.{bit_xor, xor_assoc, xor_self, xor_lt, xor_zero_r}
 use Rattle.qrcode_types.specs.Polynomials.{xor_sum}
 use Rattle.qrcode_ec.specs.Field.{product, power}
@@ -190,14 +190,7 @@ without_here p errors = ap (λ t. cond t 0 (errors p)) (eq-eqb p p refl)
 
 pub without_other : (p l : ℕ) (errors : ℕ → ℕ) → l ≢ p → without p errors l ≡ errors l
 unfolding without
-without_other p l errors other = elim (test_cases (eqb l p)) [
-  | inl t ↦ absurd (other (eqb-true l p t))
-  | inr t ↦ ap (λ t. cond t 0 (errors l)) t
-]
-  where
-    test_cases : (t : Bool) → (t ≡ true) ⊎ (t ≡ false)
-    test_cases true = inl refl
-    test_cases false = inr refl
+without_other p l errors other = ap (λ t. cond t 0 (errors l)) (ne_eqb l p other)
 
 pub weight_same : (m : ℕ) (xs ys : ℕ → ℕ) → ((l : ℕ) → l < m → xs l ≡ ys l) → weight m xs ≡ weight m ys
 unfolding weight

@@ -1,6 +1,6 @@
 -- Sums of errors times powers of their places, which are the syndromes of a block that can be corrected.
-use Rattle.std.proofs.Common.{◌≡◌, ◌≢◌, ℕ, suc, ◌+◌, ◌-◌, ◌*◌, ◌<◌, ◌⊎◌, inl, inr, refl, sym, ap, ap₂, ◌∙◌, arith, Bool, true, false, eqb, cond, List, [], ◌∷◌, length, get_or}
-use Rattle.std.proofs.lemmas.Bool.{eq-eqb, eqb-true}
+use Rattle.std.proofs.Common.{◌≡◌, ◌≢◌, ℕ, suc, ◌+◌, ◌-◌, ◌*◌, ◌<◌, inl, inr, refl, sym, ap, ap₂, ◌∙◌, arith, eqb, cond, List, [], ◌∷◌, length, get_or}
+use Rattle.std.proofs.lemmas.Bool.{cases_eq, eq-eqb, ne_eqb}
 use Rattle.std.specs.Int.Bits.{bit_xor, xor_self, xor_comm}
 use Rattle.qrcode_types.specs.Polynomials.{xor_sum}
 use Rattle.qrcode_ec.specs.Field.{product, power}
@@ -82,20 +82,13 @@ moments_errors i (r ∷ rs) (c ∷ cs) same =
     ∙ ap₂ bit_xor (sym (syndrome_cons i r rs)) (ap (λ n. bit_xor (product c (power (i * n))) (syndrome i cs)) k ∙ sym (syndrome_cons i c cs))
 
 counted_differs : (r c : ℕ) → counted (bit_xor r c) ≡ cond (eqb r c) 0 1
-counted_differs r c = elim (test_cases (eqb r c)) [
-  | inl t ↦ ap counted (ap (bit_xor r) (sym (eqb-true r c t)) ∙ xor_self r) ∙ counted_none ∙ ap (λ u. cond u 0 1) (sym t)
-  | inr t ↦ counted_one (bit_xor r c) (positive t) ∙ ap (λ u. cond u 0 1) (sym t)
+counted_differs r c = elim (cases_eq r c) [
+  | inl same ↦ ap counted (ap (bit_xor r) (sym same) ∙ xor_self r) ∙ counted_none ∙ ap (λ u. cond u 0 1) (sym (eq-eqb r c same))
+  | inr other ↦ elim (zero_or_some (bit_xor r c)) [
+    | inl none ↦ absurd (other (same_from_xor r c none))
+    | inr some ↦ counted_one (bit_xor r c) some ∙ ap (λ u. cond u 0 1) (sym (ne_eqb r c other))
+  ]
 ]
-  where
-    test_cases : (t : Bool) → (t ≡ true) ⊎ (t ≡ false)
-    test_cases true = inl refl
-    test_cases false = inr refl
-
-    positive : eqb r c ≡ false → 0 < bit_xor r c
-    positive t = elim (zero_or_some (bit_xor r c)) [
-      | inl none ↦ absurd (let e : true ≡ false = sym (eq-eqb r c (same_from_xor r c none)) ∙ t in cc)
-      | inr some ↦ some
-    ]
 
 -- there are as many errors as places in which the lists differ
 pub weight_errors : (rs cs : List ℕ) → length rs ≡ length cs → weight (length rs) (error_at rs cs) ≡ distance rs cs

@@ -5,7 +5,7 @@ use Rattle.qrcode_types.specs.declared.types.Version.{Version}
 use Rattle.qrcode_bits.proofs.Numbers.{same_number, length-number_bits}
 use Rattle.qrcode_reader.specs.spell.Steps.{BeginsWithNumber}
 use Rattle.qrcode_reader.specs.declared.spell.headers.Header.{Header}
-use Rattle.qrcode_reader.specs.declared.spell.headers.Header.TheVariants.{Eci, Fnc1First, Fnc1Second, StructuredAppend}
+use Rattle.qrcode_reader.specs.declared.spell.headers.Header.TheVariants.{Eci, Fnc1Second, StructuredAppend}
 use Rattle.qrcode_reader.specs.spell.Parts.{IsPrefixed, BeginsWithArgument, BeginsWithHeader, header_indicator}
 use Rattle.qrcode_reader.proofs.Headings.{flat, same_prefixed, small}
 
@@ -38,9 +38,7 @@ no_eci bits one two three (Eci n) rest is b = elim b.is_argument [
     | inr p ↦ three n b.argument rest p.0 p.1 b.whole
   ]
 ]
-no_eci bits one two three Fnc1First rest is b = absurd (omega (arith, is))
-no_eci bits one two three (Fnc1Second n) rest is b = absurd (omega (arith, is))
-no_eci bits one two three (StructuredAppend n l k) rest is b = absurd (omega (arith, is))
+no_eci bits one two three h rest is b = absurd (omega (arith, is))
 
 -- a number of 1,000,000 or more is no ECI number
 pub great_number : (bits found behind : List Bool) (m : ℕ) → IsPrefixed 3 6 21 m found → bits ≡ found ++ behind → 1000000 ≤ m
@@ -49,17 +47,13 @@ great_number bits found behind m is e great n front rest small also f =
     omega (arith, great, small, (same_prefixed 3 6 21 m n found front behind rest (omega arith) is also (sym e ∙ f)).0)
 
 pub no_second : (bits : List Bool) → length bits < 8 → (h : Header) (rest : List Bool) → header_indicator h ≡ 9 → ¬ BeginsWithArgument h bits rest
-no_second bits short (Eci n) rest is b = absurd (omega (arith, is))
-no_second bits short Fnc1First rest is b = absurd (omega (arith, is))
 no_second bits short (Fnc1Second n) rest is b = too_few 8 n bits rest short (b.whole ∙ ap (λ r. r ++ rest) b.is_argument.1)
-no_second bits short (StructuredAppend n l k) rest is b = absurd (omega (arith, is))
+no_second bits short h rest is b = absurd (omega (arith, is))
 
 pub no_append : (bits : List Bool) → length bits < 16 → (h : Header) (rest : List Bool) → header_indicator h ≡ 3 → ¬ BeginsWithArgument h bits rest
-no_append bits short (Eci n) rest is b = absurd (omega (arith, is))
-no_append bits short Fnc1First rest is b = absurd (omega (arith, is))
-no_append bits short (Fnc1Second n) rest is b = absurd (omega (arith, is))
 no_append bits short (StructuredAppend n l k) rest is b =
     too_few 16 (4096 * n + 256 * l + k) bits rest short (b.whole ∙ ap (λ r. r ++ rest) b.is_argument.3)
+no_append bits short h rest is b = absurd (omega (arith, is))
 
 -- too few bits for a mode indicator
 pub no_indicator : (v : Version) (bits : List Bool) → length bits < 4 → (h : Header) (rest : List Bool) → ¬ BeginsWithHeader v h bits rest

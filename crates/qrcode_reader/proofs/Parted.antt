@@ -1,6 +1,7 @@
 -- The parts of bits begin with their first part.
 use Rattle.std.proofs.Common.{◌≡◌, ◌^◌, ◌<◌, ◌-◌, ℕ, ◌++◌, drop, List, [], ◌∷◌, Bool, true, false, length, refl, sym, ap, ap₂, subst, ◌∙◌, arith, append_assoc, append-nil, length-append, true≢false}
 use Rattle.std.proofs.Math.Seq.{drop-append_seam}
+use Rattle.std.proofs.lemmas.Bool.Decides.{nat_tests}
 use Rattle.std.specs.Prelude.{flat_map, map}
 use Rattle.std.specs.List.{AllByRecursion}
 use Rattle.qrcode_types.specs.Bits.{number_bits}
@@ -8,14 +9,12 @@ use Rattle.qrcode_types.specs.Modes.{mode_number}
 use Rattle.qrcode_types.specs.declared.types.Version.{Version}
 use Rattle.qrcode_types.specs.declared.types.Version.TheVariants.{Normal, Micro}
 use Rattle.qrcode_types.specs.declared.types.Mode.{Mode}
-use Rattle.qrcode_types.specs.declared.types.Mode.TheVariants.{Numeric, Alphanumeric, Byte, Kanji}
 use Rattle.qrcode_bits.specs.Written.{Piece}
 use Rattle.qrcode_bits.specs.Spelling.{is_end, IsReadAs, Spells}
 use Rattle.qrcode_bits.proofs.Numbers.{same_number, length-number_bits}
 use Rattle.qrcode_bits.proofs.Spellings.{same_piece, normal_small}
 use Rattle.qrcode_reader.specs.spell.Steps.{BeginsWithPiece}
 use Rattle.qrcode_reader.specs.declared.spell.headers.Header.{Header}
-use Rattle.qrcode_reader.specs.declared.spell.headers.Header.TheVariants.{Eci, Fnc1First, Fnc1Second, StructuredAppend}
 use Rattle.qrcode_reader.specs.declared.spell.parts.Part.{Part}
 use Rattle.qrcode_reader.specs.declared.spell.parts.Part.TheVariants.{Front, Bytes}
 use Rattle.qrcode_reader.specs.spell.Parts.{BeginsWithHeader, BeginsWithPart, AreParts, IsBehindParts, HaveNoParts, IsSegment, header_indicator}
@@ -24,30 +23,7 @@ use Rattle.qrcode_reader.proofs.Spelled.{piece_shortens}
 
 -- no mode has the indicator of a header
 no_mode : (h : Header) (m : Mode) → header_indicator h ≡ 2 ^ mode_number m → ⊥
-no_mode (Eci n) m e = of_seven m e where
-  of_seven : (m : Mode) → 7 ≡ 2 ^ mode_number m → ⊥
-  of_seven Numeric e = omega arith
-  of_seven Alphanumeric e = omega arith
-  of_seven Byte e = omega arith
-  of_seven Kanji e = omega arith
-no_mode Fnc1First m e = of_five m e where
-  of_five : (m : Mode) → 5 ≡ 2 ^ mode_number m → ⊥
-  of_five Numeric e = omega arith
-  of_five Alphanumeric e = omega arith
-  of_five Byte e = omega arith
-  of_five Kanji e = omega arith
-no_mode (Fnc1Second n) m e = of_nine m e where
-  of_nine : (m : Mode) → 9 ≡ 2 ^ mode_number m → ⊥
-  of_nine Numeric e = omega arith
-  of_nine Alphanumeric e = omega arith
-  of_nine Byte e = omega arith
-  of_nine Kanji e = omega arith
-no_mode (StructuredAppend n l k) m e = of_three m e where
-  of_three : (m : Mode) → 3 ≡ 2 ^ mode_number m → ⊥
-  of_three Numeric e = omega arith
-  of_three Alphanumeric e = omega arith
-  of_three Byte e = omega arith
-  of_three Kanji e = omega arith
+no_mode h m e = grind (arith, nat_tests)
 
 -- no bits begin both with a header and with a segment
 pub header_or_piece : (v : Version) (h : Header) (p : Piece) (bits x y : List Bool) → BeginsWithHeader v h bits x → BeginsWithPiece v bits p y → ⊥

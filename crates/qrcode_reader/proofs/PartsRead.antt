@@ -1,5 +1,5 @@
 -- What headers and segments squares decode to, and that each error has its cause.
-use Rattle.std.proofs.Common.{◌≡◌, ℕ, Bool, List, sym, subst, ◌⊎◌, inl, inr}
+use Rattle.std.proofs.Common.{◌≡◌, ℕ, Bool, List, sym, subst, ◌⊎◌}
 use Rattle.qrcode_types.specs.declared.types.Version.{Version}
 use Rattle.qrcode_types.specs.declared.types.EcLevel.{EcLevel}
 use Rattle.qrcode_types.specs.declared.types.Color.{Color}
@@ -13,7 +13,7 @@ use Rattle.qrcode_reader.specs.Readings.{IsBitReading, IsPartsReading, IsPartsCa
 use Rattle.qrcode_reader.specs.declared.correction.WrongCodeword.{WrongCodeword}
 use Rattle.qrcode_reader.specs.declared.refusals.Unread.{Unread}
 use Rattle.qrcode_reader.specs.declared.refusals.Unread.TheVariants.{NotSpelled, OutOfMemory}
-use Rattle.qrcode_reader.proofs.Refused.{only_memory}
+use Rattle.qrcode_reader.proofs.Refused.{only_memory, caused}
 
 -- what a square decodes to, and why to nothing, by its only bits
 parts_of_bits : (s : List Color) (v : Version) (l : EcLevel) (bits : List Bool) (bytes : List ℕ) (parts : List Part) → ReadsBitsOnly s v l bits → (q : ReadsParts s bytes parts) → AreParts v bits bytes parts
@@ -39,9 +39,6 @@ parts_reading s v l k bits given bytes parts wrong read e holds alone = record {
 -- if the bits decode to none, that is the cause
 pub unparted : (s : List Color) (v : Version) (l : EcLevel) (bits given : List Bool) (e : spelling.Unspelled) → ReadsBitsOnly s v l bits → given ≡ bits
     → (e ≡ spelling.TheVariants.OutOfMemory) ⊎ ((e ≡ spelling.TheVariants.NotSpelled) × HaveNoParts v given) → IsPartsCause s (unread_of e)
-unparted s v l bits given e only same why = elim why [
-  | inl memory ↦ subst (λ e. IsPartsCause s (unread_of e)) (sym memory) tt
-  | inr none ↦
-      let nothing : IsPartsCause s NotSpelled = record { version = v; level = l; bits = bits; only = only; none = subst (HaveNoParts v) same none.1 } in
-      subst (λ e. IsPartsCause s (unread_of e)) (sym none.0) nothing
-]
+unparted s v l bits given e only same why =
+    caused (λ e. IsPartsCause s (unread_of e)) (HaveNoParts v given) spelling.TheVariants.OutOfMemory spelling.TheVariants.NotSpelled e tt
+    (λ none. record { version = v; level = l; bits = bits; only = only; none = subst (HaveNoParts v) same none }) why

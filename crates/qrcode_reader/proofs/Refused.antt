@@ -62,6 +62,11 @@ block_corrects : (s : List Color) (v : Version) (l : EcLevel) (k : MaskPattern) 
 unfolding blocks
 block_corrects s v l k cs b all less = corrects_at v l (codewords v l (stream v k s)) (length (block_lengths v l)) cs b all less
 
+-- a refusal is that memory ran out, or the other one for its cause
+pub caused : {E : Type 0} (P : E → Type 0) (Q : Type 0) (memory other e : E) → P memory → (Q → P other) → (e ≡ memory) ⊎ ((e ≡ other) × Q) → P e
+caused P Q memory other e m o (inl is) = subst P (sym is) m
+caused P Q memory other e m o (inr is) = subst P (sym is.0) (o is.1)
+
 -- a square with a cause other than memory does not decode
 pub only_memory : (s : List Color) (e : Unread) → IsBitCause s e → (v : Version) (l : EcLevel) (bits : List Bool) → ReadsBits s v l bits → e ≡ OutOfMemory
 only_memory s NoSuchSide cause v l bits q = absurd (cause v (valid_of v l q.exists) q.square)
@@ -111,12 +116,9 @@ reading s v l k bits given bytes wrong read e spells =
 -- if the bits decode to no bytes, that is the cause
 pub unspelled : (s : List Color) (v : Version) (l : EcLevel) (bits given : List Bool) (e : spelling.Unspelled) → ReadsBitsOnly s v l bits → given ≡ bits
     → (e ≡ spelling.TheVariants.OutOfMemory) ⊎ ((e ≡ spelling.TheVariants.NotSpelled) × ((bytes : List ℕ) → ¬ Spells v given bytes)) → IsCause s (unread_of e)
-unspelled s v l bits given e only same why = elim why [
-  | inl memory ↦ subst (λ e. IsCause s (unread_of e)) (sym memory) tt
-  | inr none ↦
-      let nothing : IsCause s NotSpelled = record { version = v; level = l; bits = bits; only = only; none = subst (λ b. (bytes : List ℕ) → ¬ Spells v b bytes) same none.1 } in
-      subst (λ e. IsCause s (unread_of e)) (sym none.0) nothing
-]
+unspelled s v l bits given e only same why =
+    caused (λ e. IsCause s (unread_of e)) ((bytes : List ℕ) → ¬ Spells v given bytes) spelling.TheVariants.OutOfMemory spelling.TheVariants.NotSpelled e tt
+    (λ none. record { version = v; level = l; bits = bits; only = only; none = subst (λ b. (bytes : List ℕ) → ¬ Spells v b bytes) same none }) why
 
 -- a damaged symbol decodes to the bytes that the symbol encodes
 pub given_back : (s : List Color) (v : Version) (l : EcLevel) (k : MaskPattern) (bytes : List ℕ) (wrong : List WrongCodeword) → IsReading s v l k bytes wrong

@@ -1,5 +1,5 @@
 -- What text a reader shows, and that each error has its cause.
-use Rattle.std.proofs.Common.{◌≡◌, ℕ, Bool, List, sym, ap, subst, ◌⊎◌, inl, inr}
+use Rattle.std.proofs.Common.{◌≡◌, ℕ, Bool, List, ap, subst, ◌⊎◌}
 use Rattle.qrcode_types.specs.declared.types.Version.{Version}
 use Rattle.qrcode_types.specs.declared.types.EcLevel.{EcLevel}
 use Rattle.qrcode_types.specs.declared.types.Color.{Color}
@@ -14,7 +14,7 @@ use Rattle.qrcode_reader.specs.declared.correction.WrongCodeword.{WrongCodeword}
 use Rattle.qrcode_reader.specs.declared.refusals.UnreadText.{UnreadText}
 use Rattle.qrcode_reader.specs.declared.refusals.UnreadText.TheVariants.{NoBits, NotShown}
 use Rattle.qrcode_reader.specs.declared.refusals.Unread.TheVariants.{OutOfMemory}
-use Rattle.qrcode_reader.proofs.Refused.{only_memory}
+use Rattle.qrcode_reader.proofs.Refused.{only_memory, caused}
 
 -- what a reader shows for a square, and why nothing, by its only bits
 shown_of_bits : (s : List Color) (v : Version) (l : EcLevel) (bits : List Bool) (text : List ℕ) → ReadsBitsOnly s v l bits → (q : ShowsText s text) → Shows v bits text
@@ -45,9 +45,6 @@ text_reading s v l k bits given text wrong read e shows =
 -- if the bits show no text, that is the cause
 pub unshown : (s : List Color) (v : Version) (l : EcLevel) (bits given : List Bool) (e : showing.Unshown) → ReadsBitsOnly s v l bits → given ≡ bits
     → (e ≡ showing.TheVariants.OutOfMemory) ⊎ ((e ≡ showing.TheVariants.NotShown) × ((text : List ℕ) → ¬ Shows v given text)) → IsTextCause s (unread_text_of e)
-unshown s v l bits given e only same why = elim why [
-  | inl memory ↦ subst (λ e. IsTextCause s (unread_text_of e)) (sym memory) tt
-  | inr none ↦
-      let nothing : IsTextCause s NotShown = record { version = v; level = l; bits = bits; only = only; none = subst (λ b. (text : List ℕ) → ¬ Shows v b text) same none.1 } in
-      subst (λ e. IsTextCause s (unread_text_of e)) (sym none.0) nothing
-]
+unshown s v l bits given e only same why =
+    caused (λ e. IsTextCause s (unread_text_of e)) ((text : List ℕ) → ¬ Shows v given text) showing.TheVariants.OutOfMemory showing.TheVariants.NotShown e tt
+    (λ none. record { version = v; level = l; bits = bits; only = only; none = subst (λ b. (text : List ℕ) → ¬ Shows v b text) same none }) why

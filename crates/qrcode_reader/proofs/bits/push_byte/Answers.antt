@@ -1,29 +1,18 @@
-use Rattle.std.proofs.Common.{◌≡◌, ℕ, zero, suc, ◌+◌, ◌*◌, ◌<◌, ◌/◌, ◌%◌, ◌^◌, ◌++◌, [], slice_index_or, ap, ap₂, ◌∙◌, sym, refl, append_assoc, arith}
+use Rattle.std.proofs.Common.{◌≡◌, ℕ, ◌+◌, ◌*◌, ◌<◌, ◌/◌, ◌%◌, ◌^◌, ◌++◌, [], map, slice_index_or, ap, ap₂, ◌∙◌, sym, refl, append_assoc, arith}
+use Rattle.std.specs.List.{range_with_len}
+use Rattle.std.proofs.lemmas.List.FromFn.{get_or-map-range_with_len}
 use Rattle.qrcode_types.specs.Bits.{number_bits}
 use Rattle.qrcode_bits.proofs.Packing.{number_bits-cat}
 use Rattle.qrcode_reader.specs.declared.bits.TheConstants.{HALVES}
 use Rattle.qrcode_reader.proofs.bits.push_byte.Goals as goal
 
 -- the table `HALVES`
-half : (n : ℕ) → n < 16 → slice_index_or HALVES n [] ≡ number_bits 4 n
+table : map (number_bits 4) (range_with_len 0 16) ≡ HALVES
 unfolding number_bits
-half zero h = refl
-half (suc zero) h = refl
-half (suc (suc zero)) h = refl
-half (suc (suc (suc zero))) h = refl
-half (suc (suc (suc (suc zero)))) h = refl
-half (suc (suc (suc (suc (suc zero))))) h = refl
-half (suc (suc (suc (suc (suc (suc zero)))))) h = refl
-half (suc (suc (suc (suc (suc (suc (suc zero))))))) h = refl
-half (suc (suc (suc (suc (suc (suc (suc (suc zero)))))))) h = refl
-half (suc (suc (suc (suc (suc (suc (suc (suc (suc zero))))))))) h = refl
-half (suc (suc (suc (suc (suc (suc (suc (suc (suc (suc zero)))))))))) h = refl
-half (suc (suc (suc (suc (suc (suc (suc (suc (suc (suc (suc zero))))))))))) h = refl
-half (suc (suc (suc (suc (suc (suc (suc (suc (suc (suc (suc (suc zero)))))))))))) h = refl
-half (suc (suc (suc (suc (suc (suc (suc (suc (suc (suc (suc (suc (suc zero))))))))))))) h = refl
-half (suc (suc (suc (suc (suc (suc (suc (suc (suc (suc (suc (suc (suc (suc zero)))))))))))))) h = refl
-half (suc (suc (suc (suc (suc (suc (suc (suc (suc (suc (suc (suc (suc (suc (suc zero))))))))))))))) h = refl
-half (suc (suc (suc (suc (suc (suc (suc (suc (suc (suc (suc (suc (suc (suc (suc (suc n)))))))))))))))) h = absurd (omega (arith, h))
+table = refl
+
+half : (n : ℕ) → n < 16 → slice_index_or HALVES n [] ≡ number_bits 4 n
+half n h = ap (λ rows. slice_index_or rows n []) (sym table) ∙ get_or-map-range_with_len (number_bits 4) 0 16 n n [] h (omega arith)
 
 -- the bits of a byte are those of its two halves
 halves : (byte high low : ℕ) → byte < 256 → high ≡ byte / 16 → low ≡ byte % 16 → slice_index_or HALVES high [] ++ slice_index_or HALVES low [] ≡ number_bits 8 byte

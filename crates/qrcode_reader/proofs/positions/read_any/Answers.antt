@@ -1,10 +1,10 @@
-use Rattle.std.proofs.Common.{◌≡◌, ◌≢◌, ◌%◌, ◌<◌, IfSome, IfNone, sym, subst, ◌∙◌, true≢false}
+use Rattle.std.proofs.Common.{◌≡◌, ◌≢◌, ℕ, ◌%◌, ◌<◌, List, IfSome, IfNone, sym, subst, ◌∙◌, true≢false}
 use Rattle.qrcode_types.specs.Versions.{side}
 use Rattle.qrcode.specs.Reading.{Reads}
 use Rattle.qrcode.proofs.Sides.{same_root}
 use Rattle.qrcode_reader.specs.Positions.{seen, nth_position, turn, IsUnreadIn, IsFirstReading}
 use Rattle.qrcode_reader.specs.Readings.{IsReading}
-use Rattle.qrcode_reader.proofs.Positioned.{version_seen, turns_more, turn_below, unread_of_no_version, unread_in_all}
+use Rattle.qrcode_reader.proofs.Positioned.{version_seen, turns_more, turn_below, unread_of_no_version, in_all}
 use Rattle.qrcode_reader.proofs.positions.read_any.Goals as goal
 use Rattle.qrcode_reader.proofs.positions.read_any.Goals.{in-Some-2+in-Err+else-is_memory, in_default-2}
 
@@ -54,4 +54,4 @@ returns-clause-none c =
     let v = c.in-Some.version in
     λ w square.
     let same = same_root (side v) w (sym c.in-Some.ensures.some.1 ∙ sym square) in
-    unread_in_all w s (λ n below. subst (λ m. IsUnreadIn m s n) same (c.loop-at.invariant n below (turn_below v (side v) s n c.loop-at.at below c.loop-at-test.false)))
+    in_all (λ p is_inverted. (bytes : List ℕ) → ¬ Reads (seen w p is_inverted s) bytes) (λ n below. subst (λ m. IsUnreadIn m s n) same (c.loop-at.invariant n below (turn_below v (side v) s n c.loop-at.at below c.loop-at-test.false)))

@@ -1,15 +1,20 @@
-use Rattle.std.proofs.Common.{◌≡◌, ◌≢◌, ◌+◌, ◌%◌, ◌<◌, IfSome, IfNone, sym, ap, subst, ◌∙◌, true≢false, inr, arith}
+use Rattle.std.proofs.Common.{◌≡◌, ◌≢◌, ℕ, ◌+◌, ◌%◌, ◌<◌, List, IfSome, IfNone, sym, ap, subst, ◌∙◌, true≢false, inr, arith}
 use Rattle.qrcode_types.specs.Versions.{side}
 use Rattle.qrcode.proofs.Sides.{same_root}
 use Rattle.qrcode_reader.specs.Positions.{seen, nth_position, turn, IsPartlessIn, IsFirstPartsReading}
 use Rattle.qrcode_reader.specs.Readings.{IsPartsReading, IsPartsCause, ReadsParts}
+use Rattle.qrcode_reader.specs.declared.spell.parts.Part.{Part}
 use Rattle.qrcode_reader.proofs.PartsRead.{parts_only_memory}
-use Rattle.qrcode_reader.proofs.Positioned.{version_seen, turns_more, first_turn_more, turn_below, seen_upright, partless_of_no_version, partless_in_all}
+use Rattle.qrcode_reader.proofs.Positioned.{version_seen, turns_more, first_turn_more, turn_below, seen_upright, no_version, in_all}
 use Rattle.qrcode_reader.proofs.positions.read_any_parts.Goals as goal
 use Rattle.qrcode_reader.proofs.positions.read_any_parts.Goals.{in-Some-2+in-Err+else-is_memory, in_default-2, then-at-eq0, else-at-eq0}
 
 pub returns-in_default-clause-causes : goal.returns-in_default-clause-causes
-returns-in_default-clause-causes c = inr (c.in_default.ensures.none, partless_of_no_version c.args.modules.now c.in_default.ensures.none)
+returns-in_default-clause-causes c = inr (
+  c.in_default.ensures.none,
+  λ w square p is_inverted bytes parts reads.
+      no_version c.args.modules.now c.in_default.ensures.none w square p is_inverted reads.version reads.level reads.bits reads.read,
+)
 
 pub returns-in-Ok-clause-value : goal.returns-in-Ok-clause-value
 returns-in-Ok-clause-value c =
@@ -73,5 +78,5 @@ returns-clause-causes c =
       c.loop-at.invariant.why (turn_below v (side v) s 0 c.loop-at.at (omega arith) c.loop-at-test.false),
       λ w square.
           let same = same_root (side v) w (sym c.in-Some.ensures.some.1 ∙ sym square) in
-          partless_in_all w s (λ n below. subst (λ m. IsPartlessIn m s n) same (c.loop-at.invariant.first n below (turn_below v (side v) s n c.loop-at.at below c.loop-at-test.false))),
+          in_all (λ p is_inverted. (bytes : List ℕ) (parts : List Part) → ¬ ReadsParts (seen w p is_inverted s) bytes parts) (λ n below. subst (λ m. IsPartlessIn m s n) same (c.loop-at.invariant.first n below (turn_below v (side v) s n c.loop-at.at below c.loop-at-test.false))),
     )

@@ -1,6 +1,6 @@
-use Rattle.std.proofs.Common.{◌≡◌, ◌≢◌, ℕ, ◌+◌, ◌<◌, Bool, true, false, cond, eqb, List, ◌∷◌, [], length, drop, get_or, refl, ap, ap₂, add-one, arith}
+use Rattle.std.proofs.Common.{◌≡◌, ℕ, ◌+◌, ◌<◌, cond, eqb, List, ◌∷◌, [], length, drop, get_or, ap, ap₂, add-one, arith}
 use Rattle.std.proofs.Math.Seq.{drop-cons}
-use Rattle.std.proofs.lemmas.Bool.{eq-eqb, eqb-true}
+use Rattle.std.proofs.lemmas.Bool.{eq-eqb, ne_eqb}
 use Rattle.std.proofs.lemmas.List.{drop_all}
 use Rattle.qrcode_ec.specs.Codes.{distance}
 use Rattle.qrcode_reader.proofs.correct.errors.distance.Goals as goal
@@ -14,13 +14,6 @@ step xs ys i a b = ap₂ distance (from xs a) (from ys b)
     from : (zs : List ℕ) → i < length zs → drop i zs ≡ get_or zs i 0 ∷ drop (i + 1) zs
     from zs less = rw (add-one, drop-cons zs i 0)
 
-other : (x y : ℕ) → x ≢ y → cond {A = ℕ} (eqb x y) 0 1 ≡ 1
-other x y differ = go (eqb x y) refl
-  where
-    go : (b : Bool) → eqb x y ≡ b → cond {A = ℕ} (eqb x y) 0 1 ≡ 1
-    go true e = absurd (differ (eqb-true x y e))
-    go false e = ap (λ t. cond {A = ℕ} t 0 1) e
-
 pub loop-i-preserved : goal.loop-i-preserved
 loop-i-preserved c =
     let i = c.loop-i.i in
@@ -30,7 +23,7 @@ loop-i-preserved c =
     elim c.if-byte-second.branch [
       | then-byte-second w ↦ record {
         at_most = omega arith;
-        rest = omega (arith, c.loop-i.invariant.rest, more, other (get_or xs i 0) (get_or ys i 0) w.if-byte-second.true, w.count-is);
+        rest = omega (arith, c.loop-i.invariant.rest, more, ap {B = ℕ} (λ t. cond t 0 1) (ne_eqb (get_or xs i 0) (get_or ys i 0) w.if-byte-second.true), w.count-is);
       }
       | else-byte-second w ↦ record {
         at_most = omega arith;
