@@ -4,7 +4,7 @@ use Rattle.std.specs.List.{range_with_len}
 use Rattle.std.proofs.Math.ListN.{set}
 use Rattle.std.proofs.lemmas.Bool.{cases_lt, cases_eq}
 use Rattle.std.proofs.lemmas.Bool.Decides.{leb_tells, nat_tests}
-use Rattle.std.proofs.lemmas.List.{append-nil, get_or-take, get_or_past, length-take}
+use Rattle.std.proofs.lemmas.List.{append-nil, map-append, get_or-take, get_or_past, length-take}
 use Rattle.std.proofs.lemmas.List.FromFn.{map-range_with_len_more, length-map-range_with_len, get_or-map-range_with_len, fill_by_all}
 use Rattle.std.proofs.lemmas.List.Sums.{sum_by-append}
 use Rattle.std.proofs.lemmas.Nat.{mul-add-lt, div-mul-add, mod-mul-add}
@@ -16,6 +16,7 @@ use Rattle.qrcode_types.specs.Versions.{block_lengths}
 use Rattle.qrcode_ec.specs.Blocks.{block}
 use Rattle.qrcode_ec.proofs.Places.{short_and_long, length_at}
 use Rattle.qrcode_reader.specs.Parts.{data_part, ec_part}
+use Rattle.qrcode_render.proofs.Grids.{range_append}
 use Rattle.qrcode_reader.proofs.Interleaved.{block_is}
 use Rattle.qrcode_area.proofs.Beside.{count-cons}
 use Rattle.qrcode_damage.specs.Flips.{count_wrong, AreHigh, shortest_block, length_in, place_of}
@@ -31,15 +32,7 @@ ec_at b k i = grind (arith, nat_tests)
 
 -- a range in two parts
 split : (f : ℕ → ℕ) (a m n : ℕ) → map f (range_with_len a (m + n)) ≡ map f (range_with_len a m) ++ map f (range_with_len (a + m) n)
-split f a zero n =
-    let none : 0 + n ≡ n = omega arith in
-    let start : a ≡ a + 0 = omega arith in
-    ap₂ (λ (x y : ℕ). map f (range_with_len x y)) start none
-split f a (suc m) n =
-    let more : suc m + n ≡ suc (m + n) = omega arith in
-    let start : a + 1 + m ≡ a + suc m = omega arith in
-    ap (λ k. map f (range_with_len a k)) more
-    ∙ ap (λ xs. f a ∷ xs) (split f (a + 1) m n ∙ ap (λ k. map f (range_with_len (a + 1) m) ++ map f (range_with_len k n)) start)
+split f a m n = ap (map f) (range_append a m n) ∙ map-append f (range_with_len a m) (range_with_len (a + m) n)
 
 pub same_range : (f g : ℕ → ℕ) (a n : ℕ) → ((i : ℕ) → i < n → f (a + i) ≡ g i) → map f (range_with_len a n) ≡ map g (range_with_len 0 n)
 same_range f g a n h =

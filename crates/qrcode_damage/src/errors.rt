@@ -2,7 +2,7 @@
 
 ghost use Rattle.std.specs.Prelude.{◌≡◌, ◌*◌, ◌<◌, length, None, IsTrue, IfOk};
 ghost use Rattle.qrcode_types.specs.Versions.{is_valid, side};
-ghost use Rattle.qrcode_damage.specs.Errors.{is_set, is_version_wrong, is_format_wrong, is_pattern_wrong, is_free_wrong, wrong_in, is_wrong, opposite_if, flipped};
+ghost use Rattle.qrcode_damage.specs.Errors.{is_set, is_version_wrong, is_format_wrong, is_free_wrong, wrong_in, is_wrong, opposite_if, flipped};
 
 use qrcode_layout::masks::nth_mask;
 use qrcode_layout::patterns::{format_index, is_functional_place};
@@ -66,16 +66,6 @@ impl Errors {
         }
     }
 
-    // Returns whether a place of a pattern is wrong.
-    fn is_pattern_wrong(&self, width: usize, x: usize, y: usize) -> bool
-        requires width { width < 1000 }
-        requires column { x < 1000 }
-        requires row { y < 1000 }
-        ensures { result ≡ is_pattern_wrong self.now width x y }
-    {
-        is_set(&self.patterns, y * width + x)
-    }
-
     // Returns whether a free place is wrong.
     fn is_free_wrong(&self, version: Version, x: usize, y: usize) -> bool
         requires valid { IsTrue (is_valid version) }
@@ -98,7 +88,7 @@ impl Errors {
     {
         let width = side(version);
         if is_functional_place(version, width, x, y) {
-            self.is_pattern_wrong(width, x, y) || self.is_version_wrong(width, x, y)
+            is_set(&self.patterns, y * width + x) || self.is_version_wrong(width, x, y)
         } else {
             self.is_free_wrong(version, x, y)
         }

@@ -1,4 +1,4 @@
-use Rattle.std.proofs.Common.{◌≡◌, ◌+◌, ◌-◌, ◌/◌, ◌%◌, ◌<◌, ◌≤◌, ◌++◌, ◌∷◌, [], ℕ, nat_lt, Bool, true, false, cond, List, length, refl, sym, ap, subst, ◌∙◌, arith}
+use Rattle.std.proofs.Common.{◌≡◌, ◌+◌, ◌-◌, ◌/◌, ◌%◌, ◌<◌, ◌≤◌, ◌++◌, ◌∷◌, [], ℕ, nat_lt, Bool, true, false, cond, List, length, sym, ap, subst, ◌∙◌, arith, true≢false}
 use Rattle.std.proofs.lemmas.Bool.Decides.{nat_tests}
 use Rattle.qrcode_types.specs.Versions.{side}
 use Rattle.qrcode_damage.specs.Damage.{is_pattern_place}
@@ -16,14 +16,11 @@ record IsChoice (place chosen : Bool) (left ahead : ℕ) : Type 0 where
   only : place ≡ false → chosen ≡ false
 
 at_place : (place chosen : Bool) (left ahead k : ℕ) → place ≡ true → k < ahead → left ≤ ahead → chosen ≡ nat_lt k left → IsChoice place chosen left ahead
-at_place true true left ahead k is below few e = record { some = grind (arith, nat_tests); enough = omega (arith, few); only = λ none. none }
-at_place true false left ahead k is below few e = record { some = omega arith; enough = grind (arith, nat_tests); only = λ none. refl }
-at_place false chosen left ahead k is below few e = absurd (cc)
+at_place place chosen left ahead k is below few e =
+    record { some = grind (arith, nat_tests); enough = grind (arith, nat_tests); only = λ none. absurd (true≢false (sym is ∙ none)) }
 
 beside : (place chosen : Bool) (left ahead : ℕ) → place ≡ false → left ≤ ahead → chosen ≡ false → IsChoice place chosen left ahead
-beside true chosen left ahead is few e = absurd (cc)
-beside false true left ahead is few e = absurd (cc)
-beside false false left ahead is few e = record { some = omega arith; enough = omega (arith, few); only = λ none. refl }
+beside place chosen left ahead is few e = record { some = grind (arith, nat_tests); enough = grind (arith, nat_tests); only = λ none. e }
 
 pub loop-i-init : goal.loop-i-init
 loop-i-init c = record {
