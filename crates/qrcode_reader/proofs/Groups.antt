@@ -52,30 +52,24 @@ group_of m front behind first others bits l = record {
 }
 
 first_group : (m : Mode) (bytes : List ℕ) → can_write m bytes ≡ true → FirstGroup m bytes
-first_group Numeric [] h = all_of Numeric [] h refl refl (omega arith)
-first_group Numeric (a ∷ []) h = all_of Numeric (a ∷ []) h refl refl (omega (arith, length-data Numeric (a ∷ [])))
-first_group Numeric (a ∷ b ∷ []) h = all_of Numeric (a ∷ b ∷ []) h refl refl (omega (arith, length-data Numeric (a ∷ b ∷ [])))
 first_group Numeric (a ∷ b ∷ c ∷ more) h =
     let pa = and_parts (is_digit a) (list_all is_digit (b ∷ c ∷ more)) h in
     let pb = and_parts (is_digit b) (list_all is_digit (c ∷ more)) pa.1 in
     let pc = and_parts (is_digit c) (list_all is_digit more) pb.1 in
     group_of Numeric (a ∷ b ∷ c ∷ []) more (ap₂ (λ x y. x && y) pa.0 (ap₂ (λ x y. x && y) pb.0 (ap (λ x. x && true) pc.0))) pc.1
     (ap (λ r. r ++ numeric_bits more) (sym (append-nil (number_bits 10 (100 * (a - 48) + 10 * (b - 48) + (c - 48)))))) (omega (arith, length-data Numeric (a ∷ b ∷ c ∷ [])))
-first_group Alphanumeric [] h = all_of Alphanumeric [] h refl refl (omega arith)
-first_group Alphanumeric (a ∷ []) h = all_of Alphanumeric (a ∷ []) h refl refl (omega (arith, length-data Alphanumeric (a ∷ [])))
 first_group Alphanumeric (a ∷ b ∷ more) h =
     let pa = and_parts (is_alphanumeric a) (list_all is_alphanumeric (b ∷ more)) h in
     let pb = and_parts (is_alphanumeric b) (list_all is_alphanumeric more) pa.1 in
     group_of Alphanumeric (a ∷ b ∷ []) more (ap₂ (λ x y. x && y) pa.0 (ap (λ x. x && true) pb.0)) pb.1 (ap (λ r. r ++ alphanumeric_bits more) (sym (append-nil (number_bits 11 (45 * alphanumeric_number a + alphanumeric_number b))))) (omega (arith, length-data Alphanumeric (a ∷ b ∷ [])))
-first_group Byte [] h = all_of Byte [] h refl refl (omega arith)
 first_group Byte (a ∷ more) h =
     let pa = and_parts (nat_lt a 256) (list_all (λ b. nat_lt b 256) more) h in
     group_of Byte (a ∷ []) more (ap (λ x. x && true) pa.0) pa.1 (ap (λ r. r ++ flat_map (number_bits 8) more) (sym (append-nil (number_bits 8 a)))) (omega (arith, length-data Byte (a ∷ [])))
-first_group Kanji [] h = all_of Kanji [] h refl refl (omega arith)
 first_group Kanji (a ∷ []) h = absurd (true≢false (sym h))
 first_group Kanji (a ∷ b ∷ more) h =
     let pa = and_parts (is_kanji a b) (are_kanji more) h in
     group_of Kanji (a ∷ b ∷ []) more (ap (λ x. x && true) pa.0) pa.1 (ap (λ r. r ++ kanji_bits more) (sym (append-nil (number_bits 13 (kanji_number a b))))) (omega (arith, length-data Kanji (a ∷ b ∷ [])))
+first_group m bytes h = all_of m bytes h refl refl (omega (arith, length-data m bytes))
 
 -- bytes split like their bits: into those of one group and the rest
 pub record Splits (m : Mode) (group behind : List Bool) (bytes : List ℕ) : Type 0 where
@@ -126,9 +120,6 @@ none_written Kanji = record { writable = refl; written = refl }
 
 full_group : (m : Mode) (group behind : List Bool) (chunk more : List ℕ) → length group ≡ group_bits m → AreWrittenAs m group chunk → AreWrittenAs m behind more
     → AreWrittenAs m (group ++ behind) (chunk ++ more)
-full_group Numeric group behind [] more l w v = absurd (omega (arith, l, length_of_written Numeric group [] w))
-full_group Numeric group behind (a ∷ []) more l w v = absurd (omega (arith, l, length_of_written Numeric group (a ∷ []) w))
-full_group Numeric group behind (a ∷ b ∷ []) more l w v = absurd (omega (arith, l, length_of_written Numeric group (a ∷ b ∷ []) w))
 full_group Numeric group behind (a ∷ b ∷ c ∷ []) more l w v =
     let pa = and_parts (is_digit a) (list_all is_digit (b ∷ c ∷ [])) w.writable in
     let pb = and_parts (is_digit b) (list_all is_digit (c ∷ [])) pa.1 in
@@ -137,9 +128,6 @@ full_group Numeric group behind (a ∷ b ∷ c ∷ []) more l w v =
       writable = ap₂ (λ x y. x && y) pa.0 (ap₂ (λ x y. x && y) pb.0 (ap₂ (λ x y. x && y) pc.0 v.writable));
       written = ap₂ (λ (x y : List Bool). x ++ y) (sym (append-nil (number_bits 10 (100 * (a - 48) + 10 * (b - 48) + (c - 48)))) ∙ w.written) v.written;
     }
-full_group Numeric group behind (a ∷ b ∷ c ∷ d ∷ u) more l w v = absurd (omega (arith, l, length_of_written Numeric group (a ∷ b ∷ c ∷ d ∷ u) w))
-full_group Alphanumeric group behind [] more l w v = absurd (omega (arith, l, length_of_written Alphanumeric group [] w))
-full_group Alphanumeric group behind (a ∷ []) more l w v = absurd (omega (arith, l, length_of_written Alphanumeric group (a ∷ []) w))
 full_group Alphanumeric group behind (a ∷ b ∷ []) more l w v =
     let pa = and_parts (is_alphanumeric a) (list_all is_alphanumeric (b ∷ [])) w.writable in
     let pb = and_parts (is_alphanumeric b) true pa.1 in
@@ -147,21 +135,16 @@ full_group Alphanumeric group behind (a ∷ b ∷ []) more l w v =
       writable = ap₂ (λ x y. x && y) pa.0 (ap₂ (λ x y. x && y) pb.0 v.writable);
       written = ap₂ (λ (x y : List Bool). x ++ y) (sym (append-nil (number_bits 11 (45 * alphanumeric_number a + alphanumeric_number b))) ∙ w.written) v.written;
     }
-full_group Alphanumeric group behind (a ∷ b ∷ c ∷ u) more l w v = absurd (omega (arith, l, length_of_written Alphanumeric group (a ∷ b ∷ c ∷ u) w))
-full_group Byte group behind [] more l w v = absurd (omega (arith, l, length_of_written Byte group [] w))
 full_group Byte group behind (a ∷ []) more l w v = record {
   writable = ap₂ (λ x y. x && y) (and_parts (nat_lt a 256) true w.writable).0 v.writable;
   written = ap₂ (λ (x y : List Bool). x ++ y) (sym (append-nil (number_bits 8 a)) ∙ w.written) v.written;
 }
-full_group Byte group behind (a ∷ b ∷ u) more l w v = absurd (omega (arith, l, length_of_written Byte group (a ∷ b ∷ u) w))
-full_group Kanji group behind [] more l w v = absurd (omega (arith, l, length_of_written Kanji group [] w))
-full_group Kanji group behind (a ∷ []) more l w v = absurd (true≢false (sym w.writable))
 full_group Kanji group behind (a ∷ b ∷ []) more l w v = record {
   writable = ap₂ (λ x y. x && y) (and_parts (is_kanji a b) true w.writable).0 v.writable;
   written = ap₂ (λ (x y : List Bool). x ++ y) (sym (append-nil (number_bits 13 (kanji_number a b))) ∙ w.written) v.written;
 }
 full_group Kanji group behind (a ∷ b ∷ c ∷ []) more l w v = absurd (true≢false (sym (and_parts (is_kanji a b) Rattle.std.proofs.Common.false w.writable).1))
-full_group Kanji group behind (a ∷ b ∷ c ∷ d ∷ u) more l w v = absurd (omega (arith, l, length_of_written Kanji group (a ∷ b ∷ c ∷ d ∷ u) w))
+full_group m group behind chunk more l w v = absurd (omega (arith, l, length_of_written m group chunk w))
 
 -- a group and the rest are written as their bits in turn, if the group is full or the last
 group_joins : (m : Mode) (group behind : List Bool) (chunk more : List ℕ) → length group ≡ min (length (group ++ behind)) (group_bits m)

@@ -1,5 +1,5 @@
 -- Bits that no group of characters is written as.
-use Rattle.std.proofs.Common.{◌≡◌, ◌≢◌, ◌≤◌, ◌<◌, ◌^◌, ℕ, ◌+◌, ◌-◌, ◌*◌, ◌/◌, List, [], ◌∷◌, ◌++◌, Bool, true, false, length, sym, ap, subst, ◌∙◌, arith, append-nil, true≢false}
+use Rattle.std.proofs.Common.{◌≡◌, ◌≢◌, ◌≤◌, ◌<◌, ◌^◌, ℕ, ◌+◌, ◌-◌, ◌*◌, List, [], ◌∷◌, ◌++◌, Bool, true, false, length, sym, ap, subst, ◌∙◌, arith, append-nil, true≢false}
 use Rattle.std.proofs.lemmas.Bool.{and_parts}
 use Rattle.std.specs.List.{list_all}
 use Rattle.qrcode_types.specs.Bits.{number_bits}
@@ -35,7 +35,6 @@ digit b t h = omega (arith, (in_range 48 57 b (and_parts (is_digit b) t h).0).1)
 
 pub no_digits : (bits : List Bool) (n : ℕ) (bytes : List ℕ) → AreOfNumber bits n → 0 < length bits → length bits ≤ 10
     → (length bits ≡ 10 → 1000 ≤ n) → (length bits ≡ 7 → 100 ≤ n) → (length bits ≡ 4 → 10 ≤ n) → ¬ AreWrittenAs Numeric bits bytes
-no_digits bits n [] are some most ten seven four w = omega (arith, length_of_written Numeric bits [] w)
 no_digits bits n (a ∷ []) are some most ten seven four w =
     let ha = digit a true w.writable in
     let r = one_number bits n 4 (a - 48) are (omega (arith, ha)) w.written in
@@ -54,11 +53,10 @@ no_digits bits n (a ∷ b ∷ c ∷ []) are some most ten seven four w =
     let m = 100 * (a - 48) + 10 * (b - 48) + (c - 48) in
     let r = one_number bits n 10 m are (omega (arith, ha, hb, hc)) (sym (append-nil (number_bits 10 m)) ∙ w.written) in
     omega (arith, ten r.0, r.1, ha, hb, hc)
-no_digits bits n (a ∷ b ∷ c ∷ d ∷ u) are some most ten seven four w = omega (arith, length_of_written Numeric bits (a ∷ b ∷ c ∷ d ∷ u) w)
+no_digits bits n bytes are some most ten seven four w = omega (arith, length_of_written Numeric bits bytes w)
 
 pub no_letters : (bits : List Bool) (n : ℕ) (bytes : List ℕ) → AreOfNumber bits n → 0 < length bits → length bits ≤ 11
     → (length bits ≡ 11 → 2025 ≤ n) → (length bits ≡ 6 → 45 ≤ n) → ¬ AreWrittenAs Alphanumeric bits bytes
-no_letters bits n [] are some most eleven six w = omega (arith, length_of_written Alphanumeric bits [] w)
 no_letters bits n (a ∷ []) are some most eleven six w =
     let ha = (digit_at a (and_parts (is_alphanumeric a) true w.writable).0).0 in
     let r = one_number bits n 6 (alphanumeric_number a) are (omega (arith, ha)) w.written in
@@ -70,7 +68,7 @@ no_letters bits n (a ∷ b ∷ []) are some most eleven six w =
     let m = 45 * alphanumeric_number a + alphanumeric_number b in
     let r = one_number bits n 11 m are (omega (arith, ha, hb)) (sym (append-nil (number_bits 11 m)) ∙ w.written) in
     omega (arith, eleven r.0, r.1, ha, hb)
-no_letters bits n (a ∷ b ∷ c ∷ u) are some most eleven six w = omega (arith, length_of_written Alphanumeric bits (a ∷ b ∷ c ∷ u) w)
+no_letters bits n bytes are some most eleven six w = omega (arith, length_of_written Alphanumeric bits bytes w)
 
 pub no_byte : (bits : List Bool) (bytes : List ℕ) → 0 < length bits → length bits ≤ 8 → length bits ≢ 8 → ¬ AreWrittenAs Byte bits bytes
 no_byte bits bytes some most other w = omega (arith, length_of_written Byte bits bytes w)
@@ -81,11 +79,9 @@ no_pair bits bytes some most other w = omega (arith, length_of_written Kanji bit
 -- the pair that is written as the bits of a number
 pub pair_of_bits : (bits : List Bool) (n : ℕ) (bytes : List ℕ) → AreOfNumber bits n → length bits ≡ 13 → AreWrittenAs Kanji bits bytes
     → (b : ℕ) × (c : ℕ) × ((bytes ≡ b ∷ c ∷ []) × ((is_kanji b c ≡ true) × (kanji_number b c ≡ n)))
-pair_of_bits bits n [] are long w = absurd (omega (arith, length_of_written Kanji bits [] w))
-pair_of_bits bits n (b ∷ []) are long w = absurd (true≢false (sym w.writable))
 pair_of_bits bits n (b ∷ c ∷ []) are long w =
     let h = (and_parts (is_kanji b c) true w.writable).0 in
     let r = one_number bits n 13 (kanji_number b c) are (omega (arith, (pair_at b c h).small)) (sym (append-nil (number_bits 13 (kanji_number b c))) ∙ w.written) in
     (b, c, (Rattle.std.proofs.Common.refl, (h, sym r.1)))
 pair_of_bits bits n (b ∷ c ∷ d ∷ []) are long w = absurd (true≢false (sym (and_parts (is_kanji b c) false w.writable).1))
-pair_of_bits bits n (b ∷ c ∷ d ∷ e ∷ u) are long w = absurd (omega (arith, length_of_written Kanji bits (b ∷ c ∷ d ∷ e ∷ u) w))
+pair_of_bits bits n bytes are long w = absurd (omega (arith, length_of_written Kanji bits bytes w))
