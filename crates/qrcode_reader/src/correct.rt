@@ -1,7 +1,6 @@
 //! Corrects blocks of Reed-Solomon codes, as QR codes use them (ISO/IEC 18004:2006, Annex B).
 
 mod errors;
-pub mod laws;
 mod recurrences;
 mod residues;
 

@@ -3,7 +3,6 @@
 mod characters;
 mod fields;
 mod headers;
-pub mod laws;
 mod parts;
 mod refusals;
 mod segments;
