@@ -1,5 +1,5 @@
 -- In how many bits lists differ, piece by piece.
-use Rattle.std.proofs.Common.{◌≡◌, ◌+◌, ◌≤◌, Bool, true, false, List, [], ◌∷◌, ◌++◌, length, arith}
+use Rattle.std.proofs.Common.{◌≡◌, ◌+◌, Bool, List, [], ◌∷◌, ◌++◌, length, arith}
 use Rattle.qrcode_types.specs.Bits.{bit_distance}
 
 pub distance_append : (xs ys us vs : List Bool) → length xs ≡ length ys → bit_distance (xs ++ us) (ys ++ vs) ≡ bit_distance xs ys + bit_distance us vs
@@ -7,11 +7,3 @@ distance_append [] [] us vs e = omega arith
 distance_append [] (y ∷ ys) us vs e = absurd (omega arith)
 distance_append (x ∷ xs) [] us vs e = absurd (omega arith)
 distance_append (x ∷ xs) (y ∷ ys) us vs e = omega (arith, distance_append xs ys us vs (omega arith))
-
-pub distance_most : (xs ys : List Bool) → bit_distance xs ys ≤ length xs
-distance_most [] ys = omega arith
-distance_most (x ∷ xs) [] = omega arith
-distance_most (true ∷ xs) (true ∷ ys) = omega (arith, distance_most xs ys)
-distance_most (true ∷ xs) (false ∷ ys) = omega (arith, distance_most xs ys)
-distance_most (false ∷ xs) (true ∷ ys) = omega (arith, distance_most xs ys)
-distance_most (false ∷ xs) (false ∷ ys) = omega (arith, distance_most xs ys)

@@ -1,5 +1,5 @@
 -- The wrong bits of the copies of the format word.
-use Rattle.std.proofs.Common.{◌≡◌, ◌≤◌, ◌+◌, ℕ, List, Bool, true, false, length, map, ap, ap₂, ◌∙◌, arith}
+use Rattle.std.proofs.Common.{◌≡◌, ◌+◌, ℕ, List, Bool, true, false, length, map, ap, ap₂, ◌∙◌, arith}
 use Rattle.std.specs.List.{range_with_len}
 use Rattle.std.proofs.lemmas.List.{length-map}
 use Rattle.std.proofs.lemmas.List.FromFn.{length-map-range_with_len}
@@ -19,7 +19,6 @@ use Rattle.qrcode_reader.specs.Formats.{copy_place}
 use Rattle.qrcode_reader.specs.declared.formats.FormatCopy.{FormatCopy}
 use Rattle.qrcode_reader.specs.declared.formats.FormatCopy.TheVariants.{First, Last}
 use Rattle.qrcode_check.specs.Modules.{wrong_format}
-use Rattle.qrcode_check.proofs.Distances.{distance_most}
 
 -- the bits of a copy
 abbrev pub copy_at : FormatCopy → Version → List Color → List Bool
@@ -33,9 +32,6 @@ pub copy_is : (c : FormatCopy) (v : Version) (s : List Color) (bits : List Bool)
     → d ≡ bit_distance (copy_at c v s) (number_bits 15 word)
 copy_is c v s bits w word d e f h =
     h ∙ ap (λ (n : ℕ). bit_distance bits (number_bits n w)) (long c v s bits e) ∙ ap₂ (λ (b : List Bool) (x : ℕ). bit_distance b (number_bits 15 x)) e f
-
-pub copy_most : (c : FormatCopy) (v : Version) (s : List Color) (bits : List Bool) (w d : ℕ) → bits ≡ copy_at c v s → d ≡ bit_distance bits (number_bits (length bits) w) → d ≤ 15
-copy_most c v s bits w d e h = omega (arith, h, long c v s bits e, distance_most bits (number_bits (length bits) w))
 
 -- the wrong bits of all copies
 pub micro_format : (v : Version) (l : EcLevel) (k : MaskPattern) (s : List Color) (d : ℕ) → is_micro v ≡ true → d ≡ bit_distance (copy_at First v s) (number_bits 15 (format_word v l k)) → d ≡ wrong_format v l k s

@@ -38,7 +38,8 @@ fn difference(bit: bool, word: u16, place: usize) -> usize
 /// `bits`.
 pub fn distance(bits: &[bool], word: u16) -> usize
     requires { length bits.now ≤ 15 }
-    ensures { result ≡ bit_distance bits.now (number_bits (length bits.now) word) }
+    ensures value { result ≡ bit_distance bits.now (number_bits (length bits.now) word) }
+    ensures at_most { result ≤ length bits.now }
 {
     let mut rest = bits;
     let mut count = 0;

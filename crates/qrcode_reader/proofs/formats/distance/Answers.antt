@@ -8,7 +8,6 @@ loop-rest-preserved c =
     let some = c.in-len1-up.len_at_least in
     let l = length_behind rest some in
     record {
-      short = omega (arith, l);
       value = distance_step rest c.args.word c.loop-rest.count c.difference-count.result _ some c.difference-count.ensures.value c.loop-rest.invariant.value;
-      fits = omega (arith, l, c.difference-count.ensures.at_most);
+      at_most = omega (arith, l, c.difference-count.ensures.at_most);
     }

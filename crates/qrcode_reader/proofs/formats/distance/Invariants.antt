@@ -4,9 +4,8 @@ use Rattle.qrcode_reader.proofs.formats.distance.Given as goal
 
 abbrev pub invariant-loop-rest : goal.invariant-loop-rest
 invariant-loop-rest l = record {
-  short : length l.rest ≤ 15;
   value : l.count + bit_distance l.rest (number_bits (length l.rest) l.word) ≡ bit_distance l.bits (number_bits (length l.bits) l.word);
-  fits : l.count + length l.rest ≤ 15;
+  at_most : l.count + length l.rest ≤ length l.bits;
 }
 
 abbrev pub decreases-loop-rest : goal.decreases-loop-rest
