@@ -1,10 +1,12 @@
-//! Calls for areas of a symbol that may show anything, such as a logo.
+//! Calls for areas of a symbol that may show anything, such as a logo, and for damage.
 
 ghost use Rattle.goqlanis_buffers.specs.Areas.{CoversArea, TellsLargest, WritesReserve};
 ghost use Rattle.goqlanis_buffers.specs.Calls.{IsReported, IsReportedAt};
+ghost use Rattle.goqlanis_buffers.specs.Damaging.{WritesDamage};
 
 use goqlanis_buffers::answers::{answer, answer_at};
 use goqlanis_buffers::areas::{Taken, Wish, cover, largest, reserve_into};
+use goqlanis_buffers::damaging::{Promised, Wrong, damage};
 use qrcode_area::areas::Rectangle;
 use std::alloc::Global;
 
@@ -69,4 +71,24 @@ pub extern "C" fn goq_cover(
         result tt tt place.old place.new }
 {
     answer_at(cover(alloc, modules, rectangles), &mut (), place)
+}
+
+/// Makes exactly so much of a symbol wrong, and writes how much is within the promise to
+/// `promised`. Within it, the result decodes to the data and headers of the symbol, and to nothing
+/// else.
+///
+/// Returns 0, or the number of the first `Refusal` that applies: `NoSuchStruct`, `NoSuchSide`,
+/// `NoFormat`, `ManyCodewords`, `ManyFormatBits`, `ManyVersionBits`, `ManyPatternModules`; or of
+/// `OutOfMemory`. After an error the outputs are unchanged.
+#[unsafe(no_mangle)]
+pub extern "C" fn goq_damage(
+    alloc: Global,
+    modules: &mut [u8],
+    wrong: &Wrong,
+    promised: &mut Promised,
+) -> u32
+    ensures { IsReported (WritesDamage wrong.now modules.old modules.new)
+        result promised.old promised.new }
+{
+    answer(damage(alloc, modules, wrong), promised)
 }

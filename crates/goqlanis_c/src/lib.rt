@@ -3,14 +3,8 @@
 #![tactic(auto, using(goqlanis_buffers::proofs::Reported::reported, goqlanis_buffers::proofs::Reported::reported_at))]
 
 mod areas;
-mod checking;
-mod contents;
-mod damaging;
-mod elements;
 mod encoding;
 mod pictures;
 mod reading;
 mod release;
-mod segments;
-mod several;
 mod shape;

@@ -1,14 +1,18 @@
-//! Calls that decode squares of modules and pictures.
+//! Calls that decode and check squares of modules and pictures.
 
 ghost use Rattle.std.specs.Prelude.{◌≤◌, drop, length, map};
 ghost use Rattle.qrcode_scan.specs.Several.{IsBehind};
 ghost use Rattle.qrcode_scan.specs.Texts.{IsShownText};
-ghost use Rattle.goqlanis_buffers.specs.Scanning.{ScansPicture};
-ghost use Rattle.goqlanis_buffers.specs.Calls.{IsReported, TellsMask, WritesAnyReading, WritesReading, WritesTextReading};
+ghost use Rattle.goqlanis_buffers.specs.Calls.{IsReported, IsReportedAt, TellsMask, WritesAnyReading, WritesReading, WritesTextReading};
+ghost use Rattle.goqlanis_buffers.specs.Checking.{ChecksPicture, ChecksSquare};
+ghost use Rattle.goqlanis_buffers.specs.Joining.{WritesJoined};
 ghost use Rattle.goqlanis_buffers.specs.Missing.{WritesMissed};
+ghost use Rattle.goqlanis_buffers.specs.Scanning.{ScansPicture};
 ghost use Rattle.goqlanis_buffers.specs.Texts.{piece_of, WritesDecoded, WritesText};
 
-use goqlanis_buffers::answers::answer;
+use goqlanis_buffers::answers::{answer, answer_at};
+use goqlanis_buffers::checking::{Checked, Checks, check_into, check_square_into};
+use goqlanis_buffers::joining::{Square, join_into};
 use goqlanis_buffers::missing::{Missed, missed_into};
 use goqlanis_buffers::reading::{
     AnyReading, Reading, mask_of, read_any_into, read_into, read_text_into,
@@ -176,4 +180,69 @@ pub extern "C" fn goq_missed(
         result count.old count.new }
 {
     answer(missed_into(alloc, picture, missed), count)
+}
+
+/// Joins the data of several symbols, whose squares may come in any order. Writes it to the start
+/// of `out`, and its length to `count`.
+///
+/// Returns 0, or the number of the first `Refusal` that applies: for the first square that is not a
+/// part `NoSuchSide`, `NoFormat`, `Damaged`, `NotSpelled` or `NotSeveral`; then `Stranger`,
+/// `Missing`, `Twice`, `Parity`, `SmallBuffer`; or of `OutOfMemory`. After an error `out` and
+/// `count` are unchanged; `place` gets the index of a wrong square, or the number of a part that is
+/// missing or there twice.
+#[unsafe(no_mangle)]
+pub extern "C" fn goq_join(
+    alloc: Global,
+    squares: &[Square<'_>],
+    out: &mut [u8],
+    count: &mut usize,
+    place: &mut usize,
+) -> u32
+    ensures { IsReportedAt (WritesJoined squares.now out.old out.new)
+        result count.old count.new place.old place.new }
+{
+    answer_at(join_into(alloc, squares, out), count, place)
+}
+
+/// Reports where the codes in a picture depart from the standard, in the order of
+/// `goq_read_picture`. Writes one item per code to the start of `checks`; how many codewords of
+/// each block are wrong, code after code, to the start of `wrong`; and the numbers of codes and
+/// blocks to `counts`, of which only the size is read. If no code decodes, and the bits of a square
+/// in a margin are not headers and segments, that square is checked.
+///
+/// Returns 0, or the number of the first `Refusal` that applies: `NoSuchStruct`; `LargePicture`;
+/// `NotPicture` or `BrokenPicture`; `NoSquare`; `NoSuchSide`, `NoFormat` or `Damaged`;
+/// `SmallBuffer`; or of `OutOfMemory`. After an error the outputs are unchanged.
+#[unsafe(no_mangle)]
+pub extern "C" fn goq_check(
+    alloc: Global,
+    picture: &[u8],
+    checks: &mut [Checked],
+    wrong: &mut [usize],
+    counts: &mut Checks,
+) -> u32
+    ensures { IsReported (ChecksPicture picture.now counts.old.size checks.old checks.new
+        wrong.old wrong.new) result counts.old counts.new }
+{
+    let written = check_into(alloc, picture, counts.size, checks, wrong);
+    answer(written, counts)
+}
+
+/// Reports where a square of modules, given as to `goq_read`, departs from the standard. Writes how
+/// many codewords of each block are wrong to the start of `wrong` (81 items are always enough), and
+/// the rest to `check`.
+///
+/// Returns 0, or the number of a `Refusal`: `NoSuchSide`, `NoFormat`, `Damaged`, `SmallBuffer` or
+/// `OutOfMemory`. After an error the outputs are unchanged.
+#[unsafe(no_mangle)]
+pub extern "C" fn goq_check_square(
+    alloc: Global,
+    modules: &[u8],
+    wrong: &mut [usize],
+    check: &mut Checked,
+) -> u32
+    ensures { IsReported (ChecksSquare modules.now wrong.old wrong.new)
+        result check.old check.new }
+{
+    answer(check_square_into(alloc, modules, wrong), check)
 }
