@@ -10,10 +10,10 @@ use Rattle.goqlanis_buffers.specs.Outputs.{IsFilled}
 use Rattle.goqlanis_buffers.specs.Scanning.{most, square_refusal, IsPictureCause}
 use Rattle.goqlanis_buffers.specs.declared.answers.Refusal.{Refusal}
 use Rattle.goqlanis_buffers.specs.declared.answers.Refusal.TheVariants.{SmallBuffer}
-use Rattle.goqlanis_buffers.specs.declared.missing.Missed.{Missed}
+use Rattle.goqlanis_buffers.specs.declared.scanning.Missed.{Missed}
 
 -- a square in the form that C gets
-pub record IsToldOf (square : found.Missed) (told : Missed) : Type 0 where
+pub record IsToldSquare (square : found.Missed) (told : Missed) : Type 0 where
   pub width : told.width ≡ square.grid.count
   pub left : told.left ≡ (place_of square.grid).left
   pub top : told.top ≡ (place_of square.grid).top
@@ -24,7 +24,7 @@ pub record IsToldMissed (picture : List ℕ) (codes : List Scan) (told : Missed)
   pub square : found.Missed
   pub missed : IsMissedOf picture square
   pub apart : All (IsApartFrom square.grid) codes
-  pub told_of : IsToldOf square told
+  pub told_of : IsToldSquare square told
 
 -- such squares of a picture, and its codes
 pub record AreMissed (picture : List ℕ) (told : List Missed) : Type 0 where

@@ -8,8 +8,7 @@ ghost use Rattle.goqlanis_buffers.specs.Asking.{IsDrawable};
 ghost use Rattle.goqlanis_buffers.specs.Logos.{logo_place, logo_refusal, IsPlaceCause, IsWithLogo, MayHaveLogo, WritesLogo};
 
 use crate::answers::Refusal;
-use crate::lengths::side_of;
-use crate::pictures::{Asked, drawn, format_of};
+use crate::pictures::{Asked, drawn, format_of, side_of};
 use crate::symbols::fill;
 use goqlanis_request::overlays::window_of;
 use goqlanis_request::places::place_at;

@@ -1,15 +1,17 @@
-//! Decodes the codes in pictures.
+//! Decodes the codes in pictures, and tells of squares that look like codes but do not decode.
 
-ghost use Rattle.std.specs.Prelude.{◌≡◌, ◌++◌, All, flat_map, map, IfErr, IfOk, OnOk};
+ghost use Rattle.std.specs.Prelude.{◌≡◌, ◌++◌, ℕ, List, All, flat_map, map, IfErr, IfOk, OnOk};
+ghost use Rattle.qrcode_scan.specs.Codes.{IsMissedOf};
 ghost use Rattle.qrcode_scan.specs.Scans.{IsReadAs};
+ghost use Rattle.goqlanis_buffers.specs.Missing.{IsToldMissed, IsToldSquare, WritesMissed};
 ghost use Rattle.goqlanis_buffers.specs.Scanning.{bytes_in, differ, mode_kind, parts_in, told_part, AreCodesOf, IsToldOf, IsToldIn, IsUnreadFor, ScansPicture};
 
 use crate::answers::Refusal;
 use crate::reading::{Reading, position_number, reported};
-use crate::symbols::fill;
+use crate::symbols::{fill, put};
 use qrcode::types::Mode;
 use qrcode_reader::spell::{Header, Part as Piece};
-use qrcode_scan::{Scan as Found, read_codes};
+use qrcode_scan::{Codes, Missed as Square, Scan as Found, read_codes};
 use std::alloc::{AllocError, Global};
 
 /// How many items have been written to the start of each buffer.
@@ -35,6 +37,20 @@ pub struct Code {
     pub position: u32,
     /// How many parts it has.
     pub parts: usize,
+}
+
+/// A square in a picture that looks like a code but does not decode.
+#[repr(C)]
+#[derive(Clone, Copy)]
+pub struct Missed {
+    /// The number of modules along a side.
+    pub width: usize,
+    /// The pixel column of its upper left corner.
+    pub left: usize,
+    /// The pixel row of its upper left corner.
+    pub top: usize,
+    /// The number of the `Refusal` that says why it does not decode.
+    pub why: u32,
 }
 
 /// A header or a segment of a code. Fields that its kind does not have are 0.
@@ -239,4 +255,48 @@ fn mode_kind(mode: Mode) -> u32
     ensures { result ≡ mode_kind mode }
 {
     mode as u32
+}
+
+/// Writes the squares in a picture that look like codes but do not decode, and that no decoded code
+/// overlaps, to the start of `missed`. Returns their number.
+///
+/// Errors, the first that applies: `LargePicture`, `NotPicture` or `BrokenPicture`, `NoSquare`, or
+/// if no code decodes `NoSuchSide`, `NoFormat`, `Damaged` or `NotSpelled`; `SmallBuffer`; or
+/// `OutOfMemory`. After an error `missed` is unchanged.
+pub fn missed_into(alloc: Global, file: &[u8], missed: &mut [Missed]) -> Result<usize, Refusal>
+    ensures { WritesMissed file.now missed.old missed.new result }
+{
+    if file.len() > MOST {
+        return Err(Refusal::LargePicture);
+    }
+    let codes = read_codes(alloc, file)?;
+    let told = missed_in(alloc, &codes)?;
+    put(missed, &told)
+}
+
+// Converts the squares that do not decode, unless a decoded code overlaps them.
+fn missed_in(alloc: Global, codes: &Codes) -> Result<Vec<Missed>, AllocError>
+    ensures { (picture : List ℕ) → All (IsMissedOf picture) codes.now.missed.items
+        → IfOk result (λ all. All (IsToldMissed picture codes.now.scans.items) all.items) }
+{
+    let mut all = Vec::new(alloc);
+    for i in 0..codes.missed.len() {
+        if !codes.has_read(&codes.missed[i].grid) {
+            all.push(told_missed(&codes.missed[i]))?;
+        }
+    }
+    Ok(all)
+}
+
+// Converts a square that does not decode.
+fn told_missed(missed: &Square) -> Missed
+    ensures { IsToldSquare missed.now result }
+{
+    let (left, top) = missed.corner();
+    Missed {
+        width: missed.grid.count,
+        left,
+        top,
+        why: Refusal::from(missed.cause).number(),
+    }
 }

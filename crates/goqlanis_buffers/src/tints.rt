@@ -1,16 +1,20 @@
-//! The colours that parts of a code have of their own.
+//! Colours of pictures, and those that parts of a code have of their own. A colour is transparency,
+//! red, green and blue, 0 to 255 each, in the bytes of a number, from the highest down.
 
-ghost use Rattle.std.specs.Prelude.{◌≡◌, ◌++◌, flat_map, map, IfOk, IfSome, IsOkUnless, IsTrue, OnOk};
+ghost use Rattle.std.specs.Prelude.{◌≡◌, ◌++◌, flat_map, map, string_bytes, IfOk, IfSome, IsOkUnless, IsTrue, OnOk};
 ghost use Rattle.qrcode_types.specs.Versions.{is_valid, side};
 ghost use Rattle.qrcode_types.specs.declared.types.QrError.TheVariants.{OutOfMemory};
+ghost use Rattle.qrcode_sheets.specs.Sheets.{shade_of};
+ghost use Rattle.goqlanis_buffers.specs.Colours.{blue_of, colour_name, green_of, has_colours, hex_text, named_shade, opacity_of, red_of};
 ghost use Rattle.goqlanis_buffers.specs.Tints.{has_parts, have_tints, ink_paint, is_plain, is_same, may_be, named_paint, paint_in, paints, tints, version_across, version_for};
 
-use crate::colours::{CLEAR, ink_of, name_of};
 use crate::pictures::Drawing;
 use qrcode::types::{Color, QrResult, Version};
 use qrcode_formats::{Colours, Format};
+use qrcode_sheets::sheet::Ink;
 use qrcode_sheets::{Part, PartInk};
 use std::alloc::{AllocError, Global};
+use std::fmt::Write;
 
 /// The colour of the dark or the light modules of a part, as C gives it.
 #[derive(Clone, Copy)]
@@ -27,6 +31,13 @@ pub struct NamedTint {
     pub tint: Tint,
     pub name: String,
 }
+
+const BLACK: u32 = 0;
+
+const WHITE: u32 = 0x00ff_ffff;
+
+// The first colour that is not opaque.
+const CLEAR: u32 = 1 << 24;
 
 // No colour of its own.
 const SAME: u32 = 0xffff_ffff;
@@ -178,4 +189,67 @@ fn part_ink<'a>(own: &'a NamedTint) -> PartInk<'a>
         tone: own.tint.tone,
         ink: ink_of(&own.name, own.tint.colour),
     }
+}
+
+/// Returns whether a format supports these colours of dark and light modules.
+pub(crate) fn has_colours(format: Format, dark: u32, light: u32) -> bool
+    ensures value { result ≡ has_colours format dark light }
+{
+    match format.row().colours {
+        Colours::Any => true,
+        Colours::Opaque => dark < CLEAR && light < CLEAR,
+        Colours::Fixed => dark == BLACK && light == WHITE,
+    }
+}
+
+/// Returns the channels of a colour, with its name.
+pub(crate) fn ink_of<'a>(name: &'a str, colour: u32) -> Ink<'a>
+    ensures value { shade_of result ≡ named_shade name.now colour }
+    ensures red { result.red ≡ red_of colour }
+    ensures green { result.green ≡ green_of colour }
+    ensures blue { result.blue ≡ blue_of colour }
+    ensures opacity { result.opacity ≡ opacity_of colour }
+{
+    Ink {
+        name,
+        red: (colour / 65_536 % 256) as u8,
+        green: (colour / 256 % 256) as u8,
+        blue: (colour % 256) as u8,
+        opacity: (255 - colour / 16_777_216) as u8,
+    }
+}
+
+/// Returns the name of a colour in SVG. Errors: only `OutOfMemory`.
+pub(crate) fn name_of(alloc: Global, colour: u32) -> QrResult<String>
+    ensures value { IfOk result (λ name. string_bytes name ≡ colour_name colour) }
+    ensures memory { IsOkUnless result OutOfMemory }
+{
+    if colour == BLACK {
+        return Ok(String::from_str(alloc, "#000")?);
+    }
+    if colour == WHITE {
+        return Ok(String::from_str(alloc, "#fff")?);
+    }
+    let ink = ink_of("", colour);
+    if ink.opacity == 0 {
+        return Ok(String::from_str(alloc, "none")?);
+    }
+    let mut text = String::from_str(alloc, "#")?;
+    push_byte(&mut text, ink.red)?;
+    push_byte(&mut text, ink.green)?;
+    push_byte(&mut text, ink.blue)?;
+    if ink.opacity != 255 {
+        push_byte(&mut text, ink.opacity)?;
+    }
+    Ok(text)
+}
+
+// Appends a byte as two hexadecimal digits.
+#[tactic(auto, using(std::proofs::lemmas::Fmt::hex_byte))]
+fn push_byte(text: &mut String, byte: u8) -> QrResult<()>
+    ensures appends { OnOk result (string_bytes text.new ≡ string_bytes text.old ++ hex_text byte) }
+    ensures memory { IsOkUnless result OutOfMemory }
+{
+    write!(text, "{byte:02x}")?;
+    Ok(())
 }

@@ -13,11 +13,10 @@ ghost use Rattle.goqlanis_buffers.specs.Texts.{piece_of, WritesDecoded, WritesTe
 use goqlanis_buffers::answers::{answer, answer_at};
 use goqlanis_buffers::checking::{Checked, Checks, check_into, check_square_into};
 use goqlanis_buffers::joining::{Square, join_into};
-use goqlanis_buffers::missing::{Missed, missed_into};
 use goqlanis_buffers::reading::{
     AnyReading, Reading, mask_of, read_any_into, read_into, read_text_into,
 };
-use goqlanis_buffers::scanning::{Code, Part, Scan, scan_into};
+use goqlanis_buffers::scanning::{Code, Missed, Part, Scan, missed_into, scan_into};
 use goqlanis_buffers::texts::{decode_into, text_into};
 use qrcode_scan::behind_picture;
 use std::alloc::Global;

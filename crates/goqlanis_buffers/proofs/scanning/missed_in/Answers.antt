@@ -5,15 +5,15 @@ use Rattle.std.proofs.lemmas.List.Elements.{All-get_or, All-push}
 use Rattle.qrcode_scan.specs.Codes.{IsApartFrom, IsMissedOf}
 use Rattle.qrcode_scan.specs.declared.codes.Missed as found
 use Rattle.qrcode_scan.specs.declared.scanning.Scan.{Scan}
-use Rattle.goqlanis_buffers.specs.Missing.{IsToldMissed, IsToldOf}
-use Rattle.goqlanis_buffers.specs.declared.missing.Missed.{Missed}
-use Rattle.goqlanis_buffers.proofs.missing.missed_in.Goals.{then-not-has_read+in_ok-push, else-not-has_read}
-use Rattle.goqlanis_buffers.proofs.missing.missed_in.Goals as goal
+use Rattle.goqlanis_buffers.specs.Missing.{IsToldMissed, IsToldSquare}
+use Rattle.goqlanis_buffers.specs.declared.scanning.Missed.{Missed}
+use Rattle.goqlanis_buffers.proofs.scanning.missed_in.Goals.{then-not-has_read+in_ok-push, else-not-has_read}
+use Rattle.goqlanis_buffers.proofs.scanning.missed_in.Goals as goal
 
 -- one more square of a picture is told of; it was read twice from the list
 told_more : (picture : List ℕ) (codes : List Scan) (squares : List found.Missed) (i : ℕ) (seen square : found.Missed) (old new : List Missed) (told : Missed)
     → i < length squares → seen ≡ get_or squares i seen → square ≡ get_or squares i square → All (IsMissedOf picture) squares
-    → All (IsApartFrom seen.grid) codes → IsToldOf square told → All (IsToldMissed picture codes) old → new ≡ old ++ told ∷ []
+    → All (IsApartFrom seen.grid) codes → IsToldSquare square told → All (IsToldMissed picture codes) old → new ≡ old ++ told ∷ []
     → All (IsToldMissed picture codes) new
 told_more picture codes squares i seen square old new told below seen_is is are apart of before pushed =
     let same : seen ≡ square = get_or_read squares i seen below seen_is square ∙ sym is in

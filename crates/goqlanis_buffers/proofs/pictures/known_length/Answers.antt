@@ -3,7 +3,7 @@ use Rattle.std.specs.Prelude.{IfSome}
 use Rattle.std.proofs.lemmas.Result.{IfOk-weaker}
 use Rattle.goqlanis_buffers.proofs.BySide.{has_length}
 use Rattle.goqlanis_buffers.specs.Asking.{known_length, HasLength}
-use Rattle.goqlanis_buffers.proofs.lengths.known_length.Goals as goal
+use Rattle.goqlanis_buffers.proofs.pictures.known_length.Goals as goal
 
 pub returns-clause-length : goal.returns-clause-length
 returns-clause-length c =

@@ -2,20 +2,20 @@ use Rattle.std.proofs.Common.{List, length, refl, ap, inr, subst, ◌∙◌, ari
 use Rattle.goqlanis_buffers.proofs.Fields.{put_as}
 use Rattle.goqlanis_buffers.specs.Missing.{AreMissed}
 use Rattle.goqlanis_buffers.specs.Outputs.{IsFilled}
-use Rattle.goqlanis_buffers.specs.declared.missing.Missed.{Missed}
-use Rattle.goqlanis_buffers.proofs.missing.missed_into.Goals as goal
+use Rattle.goqlanis_buffers.specs.declared.scanning.Missed.{Missed}
+use Rattle.goqlanis_buffers.proofs.scanning.missed_into.Goals as goal
 
 pub returns : goal.returns
 returns c =
     let told = c.in_ok-told.told.items in
     let read = c.in_ok-codes.ensures in
-    let are : AreMissed c.args.picture.now told = record {
+    let are : AreMissed c.args.file.now told = record {
       limited = omega arith;
       codes = c.in_ok-codes.codes.scans.items;
       read = read.value;
       some = read.some;
       whole = read.whole;
-      each = c.in_ok-told.ensures c.args.picture.now read.missed;
+      each = c.in_ok-told.ensures c.args.file.now read.missed;
     } in
     let same = c.deref.ensures.value in
     let e = c.put.ensures in
