@@ -1,6 +1,5 @@
 -- What the calls for C return: 0, or the number of an error; and the cause of each error.
 use Rattle.std.specs.Prelude.{◌≡◌, ◌≢◌, ◌⊎◌, ◌+◌, ◌*◌, ◌^◌, ◌<◌, ◌≤◌, ◌-◌, ◌==◌, ⊤, ℕ, pos, List, [], ◌∷◌, length, chars, false, IsTrue, Option, Some, None, slice_get, if◌then◌else◌}
-use Rattle.qrcode_types.specs.Versions.{has_level}
 use Rattle.qrcode_types.specs.declared.types.EcLevel.{EcLevel}
 use Rattle.qrcode_types.specs.declared.types.Version.{Version}
 use Rattle.qrcode_types.specs.declared.types.Version.TheVariants.{Normal}
@@ -12,7 +11,7 @@ use Rattle.qrcode_formats.specs.Formats.{format_numbered}
 use Rattle.goqlanis_buffers.specs.Drawings.{has_side, is_sayable, IsPictureIn}
 use Rattle.goqlanis_buffers.specs.declared.pictures.Drawing.{Drawing}
 use Rattle.qrcode_formats.specs.declared.Format.{Format}
-use Rattle.goqlanis_buffers.specs.Names.{level_named, version_named}
+use Rattle.goqlanis_buffers.specs.Names.{level_named, IsLevelNamed, IsPairCause}
 use Rattle.goqlanis_buffers.specs.Readings.{Anywhere, IsReadAnywhere, IsReadNowhere}
 use Rattle.goqlanis_buffers.specs.Segments.{HasNoRoom, HaveNoRoom, IsFirstRefused}
 use Rattle.goqlanis_buffers.specs.Symbols.{ExceedsRoom, IsSegmentsSymbol}
@@ -37,20 +36,14 @@ refusal_of n = if n == 0 then None else slice_get refusals (n - 1)
 
 -- the first segment with an error, in a version that has the level, has this one
 abbrev pub IsSegmentCause : ℕ → ℕ → List by_hand.Segment → Refusal → Type 0
-IsSegmentCause version level segments refusal =
-    (l : EcLevel) × ((v : Version) × ((level_named level ≡ Some l) × ((version_named version ≡ Some v) × (IsTrue (has_level v l) × IsFirstRefused v segments refusal))))
+IsSegmentCause version level segments refusal = (v : Version) × ((l : EcLevel) × (IsLevelNamed version level v l × IsFirstRefused v segments refusal))
 
 -- why segments are not encoded, other than an error of one segment, into a buffer of `room` items
 abbrev pub IsJointCause : ℕ → ℕ → List by_hand.Segment → ℕ → Refusal → Type 0
-IsJointCause version level segments room NoSuchLevel = level_named level ≡ None
-IsJointCause version level segments room NoSuchVersion = (level_named level ≢ None) × (version_named version ≡ None)
-IsJointCause version level segments room LevelNotInVersion =
-    (l : EcLevel) × ((v : Version) × ((level_named level ≡ Some l) × ((version_named version ≡ Some v) × (has_level v l ≡ false))))
-IsJointCause version level segments room NoRoom =
-    (l : EcLevel) × ((v : Version) × ((level_named level ≡ Some l) × ((version_named version ≡ Some v) × (IsTrue (has_level v l) × HaveNoRoom v l segments))))
+IsJointCause version level segments room NoRoom = (v : Version) × ((l : EcLevel) × (IsLevelNamed version level v l × HaveNoRoom v l segments))
 IsJointCause version level segments room SmallBuffer = ExceedsRoom (IsSegmentsSymbol version level segments) room
 IsJointCause version level segments room OutOfMemory = ⊤
-IsJointCause version level segments room refusal = ⊥
+IsJointCause version level segments room refusal = IsPairCause version level refusal
 
 -- why segments are not encoded in a version and at a level, into a buffer of `room` items
 abbrev pub IsSegmentsCause : ℕ → ℕ → List by_hand.Segment → ℕ → Refusal → Type 0

@@ -1,7 +1,7 @@
 -- What the calls for C report of areas.
 use Rattle.std.specs.Prelude.{◌≡◌, ◌≢◌, ◌⊎◌, ◌*◌, ◌/◌, ◌%◌, ◌<◌, ◌≤◌, ◌==◌, ⊤, ℕ, Bool, false, List, length, map, Option, Some, None, Result, slice_index, if◌then◌else◌, IsTrue}
 use Rattle.std.specs.List.{range_with_len}
-use Rattle.qrcode_types.specs.Versions.{block_lengths, ec_length, has_level, side}
+use Rattle.qrcode_types.specs.Versions.{block_lengths, ec_length, side}
 use Rattle.qrcode_types.specs.declared.types.Color.{Color}
 use Rattle.qrcode_types.specs.declared.types.EcLevel.{EcLevel}
 use Rattle.qrcode_types.specs.declared.types.Version.{Version}
@@ -21,28 +21,14 @@ use Rattle.qrcode_area.specs.declared.rectangles.Kept.TheVariants.{AllPatterns, 
 use Rattle.qrcode_area.specs.declared.rectangles.Wish as asked
 use Rattle.goqlanis_buffers.specs.Answers.{IsMaskCause}
 use Rattle.goqlanis_buffers.specs.Calls.{Tells, Writes}
-use Rattle.goqlanis_buffers.specs.Names.{level_named, version_named}
+use Rattle.goqlanis_buffers.specs.Names.{IsLevelNamed, IsPairCause}
 use Rattle.goqlanis_buffers.specs.Outputs.{IsFilled}
 use Rattle.goqlanis_buffers.specs.declared.answers.Fault.{Fault}
 use Rattle.goqlanis_buffers.specs.declared.answers.Fault.TheVariants.{At, Other}
 use Rattle.goqlanis_buffers.specs.declared.answers.Refusal.{Refusal}
-use Rattle.goqlanis_buffers.specs.declared.answers.Refusal.TheVariants.{AreaBlock, AreaFormat, LevelNotInVersion, NoArea, NoSuchArea, NoSuchLevel, NoSuchStruct, NoSuchVersion, OutOfMemory, SmallBuffer}
+use Rattle.goqlanis_buffers.specs.declared.answers.Refusal.TheVariants.{AreaBlock, AreaFormat, NoArea, NoSuchArea, NoSuchStruct, OutOfMemory, SmallBuffer}
 use Rattle.goqlanis_buffers.specs.declared.areas.Taken.{Taken}
 use Rattle.goqlanis_buffers.specs.declared.areas.Wish.{Wish}
-
--- the version and level with these numbers; the version has the level
-pub record IsLevelNamed (version level : ℕ) (v : Version) (l : EcLevel) : Type 0 where
-  pub named_version : version_named version ≡ Some v
-  pub named_level : level_named level ≡ Some l
-  pub exists : IsTrue (has_level v l)
-
--- why there is no such pair: the first of these causes that applies
-abbrev pub IsPairCause : ℕ → ℕ → Refusal → Type 0
-IsPairCause version level NoSuchLevel = level_named level ≡ None
-IsPairCause version level NoSuchVersion = (level_named level ≢ None) × (version_named version ≡ None)
-IsPairCause version level LevelNotInVersion =
-    (v : Version) × ((l : EcLevel) × ((version_named version ≡ Some v) × ((level_named level ≡ Some l) × (has_level v l ≡ false))))
-IsPairCause version level refusal = ⊥
 
 abbrev pub told : ℕ → ℕ → Option ℕ  -- the number n, or none if the flag is 0
 told is_there n = if is_there == 0 then None else Some n

@@ -1,15 +1,15 @@
 //! Areas of symbols that may show anything.
 
-ghost use Rattle.std.specs.Prelude.{◌≡◌, ◌<◌, ℕ, Bool, length, slice_index, IsTrue, IfErr, IfOk};
+ghost use Rattle.std.specs.Prelude.{◌≡◌, ◌<◌, ℕ, Bool, length, slice_index, IsTrue};
 ghost use Rattle.qrcode_types.specs.Versions.{has_level};
 ghost use Rattle.qrcode_types.specs.declared.types.EcLevel.{EcLevel};
 ghost use Rattle.qrcode_types.specs.declared.types.Version.{Version};
 ghost use Rattle.qrcode_area.specs.Areas.{covers};
 ghost use Rattle.qrcode_area.specs.Reserves.{IsReserve};
-ghost use Rattle.goqlanis_buffers.specs.Areas.{covered_byte, told, wanted, CoversArea, IsLevelNamed, IsPairCause, IsTaken, TellsLargest, WritesReserve};
+ghost use Rattle.goqlanis_buffers.specs.Areas.{covered_byte, told, wanted, CoversArea, IsTaken, TellsLargest, WritesReserve};
 
 use crate::answers::{Fault, Refusal};
-use crate::names::{level_named, version_named};
+use crate::names::pair_named;
 use crate::reading::format_of;
 use crate::symbols::put;
 use qrcode::types::{EcLevel, Version};
@@ -157,23 +157,6 @@ fn wish_of(version: Version, level: EcLevel, wish: &Wish) -> Wanted
         } else {
             Kept::AllPatterns
         },
-    }
-}
-
-// The version and level of these numbers, if the version has the level.
-fn pair_named(version: u32, level: u32) -> Result<(Version, EcLevel), Refusal>
-    ensures named { IfOk result (λ pair. IsLevelNamed version level pair.0 pair.1) }
-    ensures causes { IfErr result (IsPairCause version level) }
-{
-    let Some(level) = level_named(level) else {
-        return Err(Refusal::NoSuchLevel);
-    };
-    let Some(version) = version_named(version) else {
-        return Err(Refusal::NoSuchVersion);
-    };
-    match Blocks::of(version, level) {
-        Some(_) => Ok((version, level)),
-        None => Err(Refusal::LevelNotInVersion),
     }
 }
 

@@ -1,10 +1,12 @@
 //! The numbers of levels and versions in C.
 
-ghost use Rattle.std.specs.Prelude.{◌≡◌, Some, IfSome, IsTrue};
+ghost use Rattle.std.specs.Prelude.{◌≡◌, Some, IfErr, IfOk, IfSome, IsTrue};
 ghost use Rattle.qrcode_types.specs.Versions.{is_valid};
-ghost use Rattle.goqlanis_buffers.specs.Names.{level_named, version_named};
+ghost use Rattle.goqlanis_buffers.specs.Names.{level_named, version_named, IsLevelNamed, IsPairCause};
 
+use crate::answers::Refusal;
 use qrcode::types::{EcLevel, Version};
+use qrcode_types::tables::Blocks;
 
 /// Returns the level of a number: 0 for `L`, 1 for `M`, 2 for `Q`, 3 for `H`.
 pub fn level_named(number: u32) -> Option<EcLevel>
@@ -46,5 +48,24 @@ pub fn version_number(version: Version) -> u32
     match version {
         Version::Normal(number) => number as u32,
         Version::Micro(number) => 40 + number as u32,
+    }
+}
+
+/// Returns the version and the level of these numbers, if the version has the level.
+///
+/// Errors, the first that applies: `NoSuchLevel`, `NoSuchVersion`, `LevelNotInVersion`.
+pub(crate) fn pair_named(version: u32, level: u32) -> Result<(Version, EcLevel), Refusal>
+    ensures named { IfOk result (λ pair. IsLevelNamed version level pair.0 pair.1) }
+    ensures causes { IfErr result (IsPairCause version level) }
+{
+    let Some(level) = level_named(level) else {
+        return Err(Refusal::NoSuchLevel);
+    };
+    let Some(version) = version_named(version) else {
+        return Err(Refusal::NoSuchVersion);
+    };
+    match Blocks::of(version, level) {
+        Some(_) => Ok((version, level)),
+        None => Err(Refusal::LevelNotInVersion),
     }
 }

@@ -9,7 +9,7 @@ ghost use Rattle.goqlanis_buffers.specs.Segments.{kind_named, segment_bits, segm
 ghost use Rattle.goqlanis_buffers.specs.declared.answers.Refusal.TheVariants.{OutOfMemory};
 
 use crate::answers::Refusal;
-use crate::names::{level_named, version_named};
+use crate::names::{level_named, pair_named};
 use crate::symbols::{Symbol, write_symbol};
 use goqlanis_request::push_data;
 use qrcode::QrCode;
@@ -94,14 +94,8 @@ fn of_segments(
         IsSymbolOfSegments code.version code.level segments.now code.modules) }
     ensures causes { (room : ℕ) → IfErr result (IsSegmentsCause version level segments.now room) }
 {
-    let Some(ec_level) = level_named(level) else {
-        return Err(Refusal::NoSuchLevel);
-    };
-    let Some(version) = version_named(version) else {
-        return Err(Refusal::NoSuchVersion);
-    };
+    let (version, ec_level) = pair_named(version, level)?;
     let mut bits = Bits::new(alloc, version);
-    bits.max_len(ec_level)?;
     push_all(&mut bits, segments)?;
     bits.push_terminator(ec_level)?;
     Ok(QrCode::with_bits(alloc, bits, ec_level)?)
