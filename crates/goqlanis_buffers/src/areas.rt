@@ -6,7 +6,7 @@ ghost use Rattle.qrcode_types.specs.declared.types.EcLevel.{EcLevel};
 ghost use Rattle.qrcode_types.specs.declared.types.Version.{Version};
 ghost use Rattle.qrcode_area.specs.Areas.{covers};
 ghost use Rattle.qrcode_area.specs.Reserves.{IsReserve};
-ghost use Rattle.goqlanis_buffers.specs.Areas.{covered_byte, told, wanted, CoversArea, IsTaken, TellsLargest, WritesReserve};
+ghost use Rattle.goqlanis_buffers.specs.Areas.{covered_byte, wanted, CoversArea, IsTaken, TellsLargest, WritesReserve};
 
 use crate::answers::{Fault, Refusal};
 use crate::names::pair_named;
@@ -98,25 +98,15 @@ fn made_of(reserve: &Reserve) -> Taken
         → IsReserve version level area reserve.now
         → IsTaken version level area reserve.now.touched.items result }
 {
-    let (least, may_show_anything) = told(reserve.least());
+    let least = reserve.least();
     Taken {
         blocks: reserve.touched.len(),
         allowed: reserve.allowed,
         worst: reserve.worst,
         first: reserve.first,
         last: reserve.last,
-        least,
-        may_show_anything,
-    }
-}
-
-// Converts a number that may be missing: the number and 1, or 0 and 0.
-fn told(number: Option<usize>) -> (usize, u32)
-    ensures { told result.1 result.0 ≡ number }
-{
-    match number {
-        Some(number) => (number, 1),
-        None => (0, 0),
+        least: least.unwrap_or(0),
+        may_show_anything: least.is_some() as u32,
     }
 }
 
@@ -131,11 +121,8 @@ pub fn largest(alloc: Global, version: u32, level: u32, wish: &Wish) -> Result<R
         return Err(Refusal::NoSuchStruct);
     }
     let (version, level) = pair_named(version, level)?;
-    match largest_rectangle(alloc, version, level, wish_of(version, level, wish)) {
-        Ok(Some(rectangle)) => Ok(rectangle),
-        Ok(None) => Err(Refusal::NoArea),
-        Err(_) => Err(Refusal::OutOfMemory),
-    }
+    let wish = wish_of(version, level, wish);
+    largest_rectangle(alloc, version, level, wish)?.ok_or(Refusal::NoArea)
 }
 
 // Converts a wish; the version and level give the number for `HALF`.
