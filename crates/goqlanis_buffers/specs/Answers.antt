@@ -101,14 +101,17 @@ IsDrawingCause modules width d room OutOfMemory =
     (f : Format) × (IsOfSquare modules width d f × (HasSize width d f × (IsTrue (is_sayable f d) × IsTrue (has_parts width d))))
 IsDrawingCause modules width d room refusal = ⊥
 
+abbrev pub IsSquareCause : List ℕ → Refusal → Type 0  -- why modules are not decoded to bits
+IsSquareCause modules NoSuchSide = HasNoVersion (colors_of modules)
+IsSquareCause modules NoFormat = HasNoFormat (colors_of modules)
+IsSquareCause modules Damaged = (block : ℕ) × HasDamagedBlock (colors_of modules) block
+IsSquareCause modules OutOfMemory = ⊤
+IsSquareCause modules refusal = ⊥
+
 abbrev pub IsReadingCause : List ℕ → ℕ → Refusal → Type 0  -- why modules are not decoded into a buffer of `room` bytes
-IsReadingCause modules room NoSuchSide = HasNoVersion (colors_of modules)
-IsReadingCause modules room NoFormat = HasNoFormat (colors_of modules)
-IsReadingCause modules room Damaged = (block : ℕ) × HasDamagedBlock (colors_of modules) block
 IsReadingCause modules room NotSpelled = SpellsNothing (colors_of modules)
 IsReadingCause modules room SmallBuffer = (bytes : List ℕ) × (ReadsOnly (colors_of modules) bytes × (room < length bytes))
-IsReadingCause modules room OutOfMemory = ⊤
-IsReadingCause modules room refusal = ⊥
+IsReadingCause modules room refusal = IsSquareCause modules refusal
 
 -- why modules are not decoded in any position, into a buffer of `room` bytes
 abbrev pub IsAnyReadingCause : List ℕ → ℕ → Refusal → Type 0
@@ -118,14 +121,10 @@ IsAnyReadingCause modules room OutOfMemory = ⊤
 IsAnyReadingCause modules room refusal = ⊥
 
 abbrev pub IsTextReadingCause : List ℕ → ℕ → Refusal → Type 0  -- why modules are not decoded as a text into a buffer of `room` bytes
-IsTextReadingCause modules room NoSuchSide = HasNoVersion (colors_of modules)
-IsTextReadingCause modules room NoFormat = HasNoFormat (colors_of modules)
-IsTextReadingCause modules room Damaged = (block : ℕ) × HasDamagedBlock (colors_of modules) block
 IsTextReadingCause modules room NotShown = ShowsNothing (colors_of modules)
 IsTextReadingCause modules room SmallBuffer =
     (text : List ℕ) × (ShowsTextOnly (colors_of modules) (chars text) × (room < length text))
-IsTextReadingCause modules room OutOfMemory = ⊤
-IsTextReadingCause modules room refusal = ⊥
+IsTextReadingCause modules room refusal = IsSquareCause modules refusal
 
 abbrev pub IsMaskCause : List ℕ → Refusal → Type 0  -- why the mask of modules cannot be read
 IsMaskCause modules NoSuchSide = HasNoVersion (colors_of modules)

@@ -1,9 +1,8 @@
 -- What the calls for C report of codes that are checked.
-use Rattle.std.specs.Prelude.{◌≡◌, ◌⊎◌, ◌<◌, ◌≤◌, ⊤, ℕ, Bool, List, flat_map, length, Option, Some, None, Result, IfOk, IfErr, OnErr, IsTrue, if◌then◌else◌}
+use Rattle.std.specs.Prelude.{◌≡◌, ◌⊎◌, ◌<◌, ◌≤◌, ℕ, Bool, List, flat_map, length, Option, Some, None, Result, IfOk, IfErr, OnErr, IsTrue, if◌then◌else◌}
 use Rattle.std.specs.List.{AllZip}
 use Rattle.qrcode_types.specs.Versions.{has_level}
 use Rattle.goqlanis_buffers.specs.Shades.{colors_of}
-use Rattle.qrcode_reader.specs.Readings.{HasNoVersion, HasNoFormat, HasDamagedBlock}
 use Rattle.qrcode_check.specs.Checks.{is_standard, IsCheck}
 use Rattle.qrcode_check.specs.Correction.{grade}
 use Rattle.qrcode_check.specs.declared.checking.Check.{Check}
@@ -13,6 +12,7 @@ use Rattle.qrcode_check.specs.declared.correction.Grade.TheVariants.{A, B, C, D,
 use Rattle.qrcode_check.specs.declared.segments.Taken.{Taken}
 use Rattle.qrcode_scan.specs.Checked.{AreChecksOf, IsUncheckedPicture}
 use Rattle.qrcode_scan.specs.declared.scanning.Scan.{Scan}
+use Rattle.goqlanis_buffers.specs.Answers.{IsSquareCause}
 use Rattle.goqlanis_buffers.specs.Calls.{Writes}
 use Rattle.goqlanis_buffers.specs.Names.{level_named, version_named}
 use Rattle.goqlanis_buffers.specs.Outputs.{IsFilled}
@@ -119,17 +119,10 @@ pub record IsSquareCheckInto (modules wrong new_wrong : List ℕ) (told : Checke
   pub filled : IsFilled wrong new_wrong check.wrong.items
   pub told_of : IsToldCheck check told
 
-abbrev pub IsSquareRefusal : List ℕ → Refusal → Type 0  -- why a square is not checked
-IsSquareRefusal modules refusals.NoSuchSide = HasNoVersion (colors_of modules)
-IsSquareRefusal modules refusals.NoFormat = HasNoFormat (colors_of modules)
-IsSquareRefusal modules refusals.Damaged = (block : ℕ) × HasDamagedBlock (colors_of modules) block
-IsSquareRefusal modules refusals.OutOfMemory = ⊤
-IsSquareRefusal modules refusal = ⊥
-
 -- why a square is not checked, or the result not written to a buffer of `room` items
 abbrev pub IsSquareCheckCause : List ℕ → ℕ → Refusal → Type 0
 IsSquareCheckCause modules room refusal =
-    IsSquareRefusal modules refusal ⊎ ((refusal ≡ refusals.SmallBuffer) × ((check : Check) × (IsCheck (colors_of modules) check × (room < length check.wrong.items))))
+    IsSquareCause modules refusal ⊎ ((refusal ≡ refusals.SmallBuffer) × ((check : Check) × (IsCheck (colors_of modules) check × (room < length check.wrong.items))))
 
 abbrev pub ChecksSquare : List ℕ → List ℕ → List ℕ → Result Checked Refusal → Type 0  -- a call checks a square of modules
 ChecksSquare modules old new result = Writes (IsSquareCheckInto modules old) (IsSquareCheckCause modules (length old)) old new result
