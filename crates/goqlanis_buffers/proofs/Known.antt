@@ -1,7 +1,8 @@
 -- Facts about readings.
 use Rattle.std.proofs.Common.{◌≢◌, ◌*◌, ℕ, List, length, sym, ◌∙◌}
 use Rattle.std.proofs.lemmas.List.{length-map}
-use Rattle.std.specs.Prelude.{IsTrue}
+use Rattle.std.proofs.lemmas.List.Elements.{All-weaker}
+use Rattle.std.specs.Prelude.{All, IsTrue}
 use Rattle.qrcode_types.specs.Versions.{has_level, is_valid, side}
 use Rattle.qrcode_types.specs.declared.types.Color.{Color}
 use Rattle.qrcode_types.specs.declared.types.EcLevel.{EcLevel}
@@ -13,6 +14,8 @@ use Rattle.goqlanis_buffers.specs.Shades.{colors_of}
 use Rattle.qrcode_reader.specs.Readings.{IsReading, IsTextReading, HasNoVersion}
 use Rattle.qrcode_reader.specs.declared.correction.WrongCodeword.{WrongCodeword}
 use Rattle.qrcode_reader.proofs.Positioned.{unread_of_no_version}
+use Rattle.qrcode_scan.specs.Scans.{IsReadAs, IsScanOf}
+use Rattle.qrcode_scan.specs.declared.scanning.Scan.{Scan}
 use Rattle.goqlanis_buffers.specs.Readings.{IsReadNowhere}
 
 -- the square decodes to no other bytes
@@ -42,3 +45,11 @@ no_side bytes none v valid same = none v valid (sym (length-map bytes _) ∙ sam
 -- and they do not decode in any position
 pub nowhere : (bytes : List ℕ) → ((v : Version) → IsTrue (is_valid v) → length bytes ≢ side v * side v) → IsReadNowhere (colors_of bytes)
 nowhere bytes none = record { none = λ w square. unread_of_no_version (colors_of bytes) (no_side bytes none) w square }
+
+-- the version of a code in a picture has its level
+pub read_existing : (scan : Scan) → IsReadAs scan → IsTrue (has_level scan.any.reading.version scan.any.reading.ec_level)
+read_existing scan read = read.first.read.read.only.found.exists
+
+-- each code of a picture has a reading
+pub all_read : (picture : List ℕ) (scans : List Scan) → All (IsScanOf picture) scans → All IsReadAs scans
+all_read picture scans all = All-weaker (IsScanOf picture) IsReadAs (λ scan is. is.read) scans all

@@ -12,9 +12,7 @@ pub mod OnePicture
 pub mod Parts
 pub mod Refused
 pub mod Squares
-pub mod Told
 pub mod Tinted
 pub mod Masked
 pub mod Coded
-pub mod Damaged
 pub mod DecodedTexts

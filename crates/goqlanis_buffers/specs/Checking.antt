@@ -1,10 +1,12 @@
 -- What the calls for C report of codes that are checked.
-use Rattle.std.specs.Prelude.{◌≡◌, ◌⊎◌, ◌<◌, ◌≤◌, ℕ, Bool, List, flat_map, length, Option, Some, None, Result, IfOk, IfErr, OnErr, IsTrue, if◌then◌else◌}
+use Rattle.std.specs.Prelude.{◌≡◌, ◌⊎◌, ◌<◌, ◌≤◌, ℕ, List, flat_map, length, Option, Some, None, Result, IfOk, IfErr, OnErr, IsTrue}
+use Rattle.std.specs.Int.{from_bool}
 use Rattle.std.specs.List.{AllZip}
 use Rattle.qrcode_types.specs.Versions.{has_level}
 use Rattle.goqlanis_buffers.specs.Shades.{colors_of}
 use Rattle.qrcode_check.specs.Checks.{is_standard, IsCheck}
 use Rattle.qrcode_check.specs.Correction.{grade}
+use Rattle.qrcode_check.specs.Masks.{place_of}
 use Rattle.qrcode_check.specs.declared.checking.Check.{Check}
 use Rattle.qrcode_check.specs.declared.checking.Content.{Content}
 use Rattle.qrcode_check.specs.declared.correction.Grade.{Grade}
@@ -16,7 +18,6 @@ use Rattle.goqlanis_buffers.specs.Answers.{IsSquareCause}
 use Rattle.goqlanis_buffers.specs.Calls.{Writes}
 use Rattle.goqlanis_buffers.specs.Names.{level_named, version_named}
 use Rattle.goqlanis_buffers.specs.Outputs.{IsFilled}
-use Rattle.goqlanis_buffers.specs.Readings.{mask_number_in}
 use Rattle.goqlanis_buffers.specs.Scanning.{IsPictureCause, most}
 use Rattle.goqlanis_buffers.specs.declared.answers.Refusal.{Refusal}
 use Rattle.goqlanis_buffers.specs.declared.answers.Refusal.TheVariants as refusals
@@ -26,9 +27,6 @@ use Rattle.goqlanis_buffers.specs.declared.checking.DataBits.{DataBits}
 
 abbrev pub HasLevel : Check → Type 0  -- the version has the level
 HasLevel check = IsTrue (has_level check.version check.ec_level)
-
-abbrev pub flag : Bool → ℕ  -- 1 for true, 0 for false
-flag holds = if holds then 1 else 0
 
 abbrev pub letter_of : Grade → ℕ  -- the letter of a grade in ASCII
 letter_of A = 65
@@ -51,15 +49,15 @@ told_content (Some c) = with_taken c.taken (record nothing {
   terminator = c.ending.terminator;
   padding = c.ending.padding;
   guessed = c.guesses.segments;
-  are_utf8 = flag c.guesses.are_utf8;
+  are_utf8 = from_bool c.guesses.are_utf8;
 })
 
 -- a check in the form that C gets, except the wrong codewords of its blocks
 pub record IsToldCheck (check : Check) (told : Checked) : Type 0 where
   pub version : version_named told.version ≡ Some check.version
   pub level : level_named told.level ≡ Some check.ec_level
-  pub mask : told.mask ≡ mask_number_in check.version check.mask
-  pub standard : told.standard ≡ flag (is_standard check)
+  pub mask : told.mask ≡ place_of check.version check.mask
+  pub standard : told.standard ≡ from_bool (is_standard check)
   pub grade : told.grade ≡ letter_of (grade check.unused)
   pub blocks : told.blocks ≡ length check.wrong.items
   pub allowed : told.allowed ≡ check.allowed

@@ -2,9 +2,8 @@
 use Rattle.std.specs.Prelude.{◌≡◌, ℕ, ◌+◌, ◌*◌, Bool, List, length, chars, Some, if◌then◌else◌}
 use Rattle.qrcode_types.specs.declared.types.EcLevel.{EcLevel}
 use Rattle.qrcode_types.specs.declared.types.Version.{Version}
-use Rattle.qrcode_types.specs.declared.types.Version.TheVariants.{Normal, Micro}
 use Rattle.qrcode_types.specs.Versions.{side}
-use Rattle.qrcode_layout.specs.Masks.{mask_number, micro_mask_number}
+use Rattle.qrcode_check.specs.Masks.{place_of}
 use Rattle.qrcode_layout.specs.declared.masks.MaskPattern.{MaskPattern}
 use Rattle.qrcode_types.specs.declared.types.Color.{Color}
 use Rattle.qrcode.specs.Reading.{Reads}
@@ -21,28 +20,24 @@ use Rattle.goqlanis_buffers.specs.Outputs.{IsFilled}
 use Rattle.goqlanis_buffers.specs.declared.reading.AnyReading.{AnyReading}
 use Rattle.goqlanis_buffers.specs.declared.reading.Reading.{Reading}
 
-abbrev pub mask_number_in : Version → MaskPattern → ℕ  -- the number of a mask in a version: 0 to 7, in Micro 0 to 3
-mask_number_in (Normal v) mask = mask_number mask
-mask_number_in (Micro v) mask = micro_mask_number mask
-
-abbrev pub place_of : Position → ℕ  -- the number of a position
-place_of Upright = 0
-place_of TurnedLeft = 1
-place_of UpsideDown = 2
-place_of TurnedRight = 3
-place_of Mirrored = 4
-place_of Flipped = 5
-place_of Transposed = 6
-place_of Antitransposed = 7
+abbrev pub plain_number : Position → ℕ  -- the number of a position
+plain_number Upright = 0
+plain_number TurnedLeft = 1
+plain_number UpsideDown = 2
+plain_number TurnedRight = 3
+plain_number Mirrored = 4
+plain_number Flipped = 5
+plain_number Transposed = 6
+plain_number Antitransposed = 7
 
 abbrev pub position_number : Position → Bool → ℕ  -- the number of a position, plus 8 if inverted
-position_number p is_inverted = if is_inverted then place_of p + 8 else place_of p
+position_number p is_inverted = if is_inverted then plain_number p + 8 else plain_number p
 
 -- a reading in the form that C gets, except its bytes
-pub record IsReported (v : Version) (l : EcLevel) (mask : MaskPattern) (wrong count : ℕ) (reading : Reading) : Type 0 where
+pub record IsReadingOf (v : Version) (l : EcLevel) (mask : MaskPattern) (wrong count : ℕ) (reading : Reading) : Type 0 where
   pub version : version_named reading.version ≡ Some v
   pub level : level_named reading.level ≡ Some l
-  pub mask_reported : reading.mask ≡ mask_number_in v mask
+  pub mask_reported : reading.mask ≡ place_of v mask
   pub wrong_reported : reading.wrong ≡ wrong
   pub counted : reading.length ≡ count
 
@@ -55,7 +50,7 @@ pub record IsReadInto (modules old new : List ℕ) (reading : Reading) : Type 0 
   pub wrong : List WrongCodeword
   pub read : IsReading (colors_of modules) version level mask bytes wrong
   pub filled : IsFilled old new bytes
-  pub reported : IsReported version level mask (length wrong) (length bytes) reading
+  pub reported : IsReadingOf version level mask (length wrong) (length bytes) reading
 
 -- a square does not decode in any position
 pub record IsReadNowhere (s : List Color) : Type 0 where
@@ -93,7 +88,7 @@ pub record IsAnyReadInto (modules old new : List ℕ) (any : AnyReading) : Type 
   pub found : Anywhere
   pub read : IsReadAnywhere (colors_of modules) found
   pub filled : IsFilled old new found.bytes
-  pub reported : IsReported found.version found.level found.mask (length found.wrong) (length found.bytes) any.reading
+  pub reported : IsReadingOf found.version found.level found.mask (length found.wrong) (length found.bytes) any.reading
   pub position_reported : any.position ≡ position_number found.position found.is_inverted
 
 -- the only text that readers show of a square of modules, at the start of a buffer, and the rest of its reading
@@ -105,7 +100,7 @@ pub record IsTextReadInto (modules old new : List ℕ) (reading : Reading) : Typ
   pub wrong : List WrongCodeword
   pub read : IsTextReading (colors_of modules) version level mask (chars bytes) wrong
   pub filled : IsFilled old new bytes
-  pub reported : IsReported version level mask (length wrong) (length bytes) reading
+  pub reported : IsReadingOf version level mask (length wrong) (length bytes) reading
 
 -- the number of the mask that the format information of a square of modules names
 pub record IsMaskNumber (modules : List ℕ) (number : ℕ) : Type 0 where
@@ -114,4 +109,4 @@ pub record IsMaskNumber (modules : List ℕ) (number : ℕ) : Type 0 where
   pub mask : MaskPattern
   pub square : length (colors_of modules) ≡ side version * side version
   pub named : HasFormat version (colors_of modules) level mask
-  pub reported : number ≡ mask_number_in version mask
+  pub reported : number ≡ place_of version mask

@@ -2,7 +2,7 @@
 
 ghost use Rattle.std.specs.Prelude.{◌≡◌, All, flat_map, IfErr, IfOk};
 ghost use Rattle.goqlanis_buffers.specs.Shades.{colors_of};
-ghost use Rattle.goqlanis_buffers.specs.Checking.{flag, letter_of, told_content, wrong_in, AreToldChecks, ChecksPicture, ChecksSquare, HasLevel, IsChecked, IsToldCheck, IsUncheckedFor};
+ghost use Rattle.goqlanis_buffers.specs.Checking.{letter_of, told_content, wrong_in, AreToldChecks, ChecksPicture, ChecksSquare, HasLevel, IsChecked, IsToldCheck, IsUncheckedFor};
 
 use crate::answers::Refusal;
 use crate::names::{level_number, version_number};
@@ -50,7 +50,7 @@ pub struct Checked {
 
 /// The findings on data bits. All are 0 if the bits are not segments and a terminator.
 #[repr(C)]
-#[derive(Clone, Copy)]
+#[derive(Clone, Copy, Default)]
 pub struct DataBits {
     /// 1 if the bits are segments and a terminator.
     pub segments: u32,
@@ -84,7 +84,7 @@ pub struct Checks {
 
 // The findings on each code, and the wrong codewords of all blocks, code after code.
 #[derive(Drop)]
-struct Told {
+struct Report {
     checks: Vec<Checked>,
     wrong: Vec<usize>,
 }
@@ -122,7 +122,7 @@ pub fn check_into(
 }
 
 // Checks the codes in a picture.
-fn told_in(alloc: Global, picture: &[u8], size: u32) -> Result<Told, Refusal>
+fn told_in(alloc: Global, picture: &[u8], size: u32) -> Result<Report, Refusal>
     ensures told { IfOk result (λ told.
         IsChecked picture.now size told.checks.items told.wrong.items) }
     ensures causes { IfErr result (IsUncheckedFor picture.now size) }
@@ -134,7 +134,7 @@ fn told_in(alloc: Global, picture: &[u8], size: u32) -> Result<Told, Refusal>
         return Err(Refusal::LargePicture);
     }
     let found = check_codes(alloc, picture)?;
-    Ok(Told {
+    Ok(Report {
         checks: checks_in(alloc, &found.checks)?,
         wrong: wrong_in(alloc, &found.checks)?,
     })
@@ -173,7 +173,7 @@ fn told_check(check: &Check) -> Checked
         version: version_number(check.version),
         level: level_number(check.ec_level),
         mask: mask_number(check.version, check.mask),
-        standard: flag(check.is_standard()),
+        standard: check.is_standard() as u32,
         grade: letter_of(grade_of(check.unused)),
         blocks: check.wrong.len(),
         allowed: check.allowed,
@@ -183,13 +183,6 @@ fn told_check(check: &Check) -> Checked
         masks: check.stepped,
         masks_here: check.own,
     }
-}
-
-// 1 for `true`, 0 for `false`.
-pub(crate) fn flag(holds: bool) -> u32
-    ensures { result ≡ flag holds }
-{
-    if holds { 1 } else { 0 }
 }
 
 // The letter of a grade in ASCII.
@@ -209,16 +202,7 @@ fn letter_of(grade: Grade) -> u32
 fn told_content(content: Option<Content>) -> DataBits
     ensures { result ≡ told_content content }
 {
-    let none = DataBits {
-        segments: 0,
-        compared: 0,
-        bits: 0,
-        fewest: 0,
-        terminator: 0,
-        padding: 0,
-        guessed: 0,
-        are_utf8: 0,
-    };
+    let none = DataBits::default();
     let Some(content) = content else {
         return none;
     };
@@ -227,7 +211,7 @@ fn told_content(content: Option<Content>) -> DataBits
         terminator: content.ending.terminator,
         padding: content.ending.padding,
         guessed: content.guesses.segments,
-        are_utf8: flag(content.guesses.are_utf8),
+        are_utf8: content.guesses.are_utf8 as u32,
         ..none
     };
     match content.taken {

@@ -1,11 +1,9 @@
 //! Symbols with exactly so much damage.
 
 ghost use Rattle.std.specs.Prelude.{◌≡◌, Some};
-ghost use Rattle.goqlanis_buffers.specs.Checking.{flag};
 ghost use Rattle.goqlanis_buffers.specs.Damaging.{excess_refusal, wanted, WritesDamage};
 
 use crate::answers::Refusal;
-use crate::checking::flag;
 use crate::reading::format_of;
 use crate::symbols::{colors_of, fill_modules};
 use qrcode_damage::damage::{Damage, TooMuch, damaged, most_codewords};
@@ -66,7 +64,7 @@ pub fn damage(alloc: Global, modules: &mut [u8], wrong: &Wrong) -> Result<Promis
     fill_modules(modules, &made);
     Ok(Promised {
         codewords: most_codewords(version, level),
-        is_promised: flag(asked.is_promised(version, level)),
+        is_promised: asked.is_promised(version, level) as u32,
     })
 }
 

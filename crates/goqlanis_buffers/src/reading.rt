@@ -6,13 +6,15 @@ ghost use Rattle.qrcode_reader.specs.Formats.{HasFormat};
 ghost use Rattle.goqlanis_buffers.specs.Answers.{IsMaskCause};
 ghost use Rattle.goqlanis_buffers.specs.Calls.{TellsMask, WritesAnyReading, WritesReading, WritesTextReading};
 ghost use Rattle.goqlanis_buffers.specs.Shades.{colors_of};
-ghost use Rattle.goqlanis_buffers.specs.Readings.{mask_number_in, position_number, IsReported};
+ghost use Rattle.qrcode_check.specs.Masks.{place_of};
+ghost use Rattle.goqlanis_buffers.specs.Readings.{position_number, IsReadingOf};
 
 use crate::answers::Refusal;
 use crate::names::{level_number, version_number};
 use crate::symbols::{colors_of, put};
 use qrcode::canvas::MaskPattern;
 use qrcode::types::{EcLevel, Version};
+use qrcode_check::masks::place_of;
 use qrcode_reader::{
     Position, Reading as Found, UnreadText, read, read_any, read_format, read_text, version_of,
 };
@@ -156,7 +158,7 @@ pub(crate) fn format_of(alloc: Global, modules: &[u8]) -> Result<Format, Refusal
 // Converts a reading, except its bytes.
 pub(crate) fn reported(read: &Found) -> Reading
     requires exists { IsTrue (has_level read.now.version read.now.ec_level) }
-    ensures value { IsReported read.now.version read.now.ec_level read.now.mask
+    ensures value { IsReadingOf read.now.version read.now.ec_level read.now.mask
         (length read.now.wrong.items) (length read.now.data.items) result }
 {
     Reading {
@@ -178,12 +180,7 @@ pub(crate) fn position_number(position: Position, is_inverted: bool) -> u32
 
 // The number of a mask in a version: 0 to 7, in Micro 0 to 3.
 pub(crate) fn mask_number(version: Version, mask: MaskPattern) -> u32
-    ensures { result ≡ mask_number_in version mask }
+    ensures { result ≡ place_of version mask }
 {
-    let number = if version.is_micro() {
-        mask.micro_number()
-    } else {
-        mask.number()
-    };
-    number as u32
+    place_of(version, mask) as u32
 }

@@ -4,7 +4,7 @@ ghost use Rattle.std.specs.Prelude.{◌≡◌, ◌++◌, ℕ, List, All, flat_ma
 ghost use Rattle.qrcode_scan.specs.Codes.{IsMissedOf};
 ghost use Rattle.qrcode_scan.specs.Scans.{IsReadAs};
 ghost use Rattle.goqlanis_buffers.specs.Missing.{IsToldMissed, IsToldSquare, WritesMissed};
-ghost use Rattle.goqlanis_buffers.specs.Scanning.{bytes_in, differ, mode_kind, parts_in, told_part, AreCodesOf, IsToldOf, IsToldIn, IsUnreadFor, ScansPicture};
+ghost use Rattle.goqlanis_buffers.specs.Scanning.{bytes_in, mode_kind, parts_in, told_part, AreCodesOf, IsToldOf, IsToldIn, IsUnreadFor, ScansPicture};
 
 use crate::answers::Refusal;
 use crate::reading::{Reading, position_number, reported};
@@ -55,7 +55,7 @@ pub struct Missed {
 
 /// A header or a segment of a code. Fields that its kind does not have are 0.
 #[repr(C)]
-#[derive(Clone, Copy)]
+#[derive(Clone, Copy, Default)]
 pub struct Part {
     /// The number of its kind, as in a `Segment`; 7 for the structured append header.
     pub kind: u32,
@@ -71,7 +71,7 @@ pub struct Part {
 
 /// What a picture decodes to: the codes, and the parts and bytes of all, code after code.
 #[derive(Drop)]
-pub struct Told {
+pub struct Report {
     pub codes: Vec<Code>,
     pub parts: Vec<Part>,
     pub bytes: Vec<u8>,
@@ -119,8 +119,8 @@ pub fn scan_into(
 }
 
 // Decodes the codes in a picture.
-#[tactic(auto, using(crate::proofs::Told::all_read))]
-fn codes_of(alloc: Global, picture: &[u8], size: u32) -> Result<Told, Refusal>
+#[tactic(auto, using(crate::proofs::Known::all_read))]
+fn codes_of(alloc: Global, picture: &[u8], size: u32) -> Result<Report, Refusal>
     ensures told { IfOk result (IsToldIn picture.now size) }
     ensures causes { IfErr result (IsUnreadFor picture.now size) }
 {
@@ -131,7 +131,7 @@ fn codes_of(alloc: Global, picture: &[u8], size: u32) -> Result<Told, Refusal>
         return Err(Refusal::LargePicture);
     }
     let scans = read_codes(alloc, picture)?.scans;
-    Ok(Told {
+    Ok(Report {
         codes: codes_in(alloc, &scans)?,
         parts: parts_in(alloc, &scans)?,
         bytes: bytes_in(alloc, &scans)?,
@@ -174,26 +174,19 @@ fn bytes_in(alloc: Global, scans: &[Found]) -> Result<Vec<u8>, AllocError>
     Ok(all)
 }
 
-// Converts a code, except its parts and bytes.
-#[tactic(auto, using(crate::proofs::Told::read_existing))]
+// Converts a code, except its parts and bytes. The picture may be read inverted, and the square in
+// it inverted again.
+#[tactic(auto, using(crate::proofs::Known::read_existing))]
 fn told_code(scan: &Found) -> Code
     requires { IsReadAs scan.now }
     ensures { IsToldOf scan.now result }
 {
-    let is_inverted = differ(scan.is_inverted, scan.any.is_inverted);
+    let is_inverted = scan.is_inverted != scan.any.is_inverted;
     Code {
         reading: reported(&scan.any.reading),
         position: position_number(scan.any.position, is_inverted),
         parts: scan.parts.len(),
     }
-}
-
-// Whether dark modules are light in a picture: the picture may be read inverted, and the square in
-// it inverted again.
-fn differ(a: bool, b: bool) -> bool
-    ensures { result ≡ differ a b }
-{
-    if a { !b } else { b }
 }
 
 // Appends parts in the form that C gets.
@@ -210,13 +203,7 @@ fn push_parts(all: &mut Vec<Part>, parts: &[Piece]) -> Result<(), AllocError>
 fn told_part(part: Piece) -> Part
     ensures { result ≡ told_part part }
 {
-    let none = Part {
-        kind: 0,
-        number: 0,
-        place: 0,
-        symbols: 0,
-        length: 0,
-    };
+    let none = Part::default();
     match part {
         Piece::Bytes(mode, length) => Part {
             kind: mode_kind(mode),
