@@ -37,14 +37,8 @@ pub fn put_with_logo(
 ) -> Result<usize, Refusal>
     ensures { WritesLogo asked.now logo.now area out.old out.new result }
 {
-    let format = match format_of(asked) {
-        Ok(format) => format,
-        Err(refusal) => return Err(refusal),
-    };
-    let place = match place_of(asked, format, area) {
-        Ok(place) => place,
-        Err(refusal) => return Err(refusal),
-    };
+    let format = format_of(asked)?;
+    let place = place_of(asked, format, area)?;
     let picture = match read(alloc, logo) {
         Ok(picture) => picture,
         Err(unread) => return Err(logo_refusal(unread)),

@@ -20,7 +20,7 @@ use crate::answers::Refusal;
 use crate::symbols::{colors_of, fill};
 use crate::tints::{
     NamedTint, has_colours, has_parts, have_tints, ink_of, inks_of, is_plain, name_of, own_tints,
-    version_for,
+    tints, version_for,
 };
 use qrcode::types::{Color, QrError, QrResult};
 use qrcode_formats::{Density, Format, format_numbered};
@@ -208,7 +208,7 @@ pub(crate) fn drawn(
     let colors = colors_of(alloc, asked.modules)?;
     let dark = name_of(alloc, asked.drawing.dark)?;
     let light = name_of(alloc, asked.drawing.light)?;
-    let own = own_tints(alloc, asked.drawing)?;
+    let own = own_tints(alloc, &tints(asked.drawing))?;
     let names = Names {
         dark: &dark,
         light: &light,

@@ -6,7 +6,7 @@ ghost use Rattle.qrcode_types.specs.Versions.{is_valid, side};
 ghost use Rattle.qrcode_types.specs.declared.types.QrError.TheVariants.{OutOfMemory};
 ghost use Rattle.qrcode_sheets.specs.Sheets.{shade_of};
 ghost use Rattle.goqlanis_buffers.specs.Colours.{blue_of, colour_name, green_of, has_colours, hex_text, named_shade, opacity_of, red_of};
-ghost use Rattle.goqlanis_buffers.specs.Tints.{has_parts, have_tints, ink_paint, is_plain, is_same, may_be, named_paint, paint_in, paints, tints, version_across, version_for};
+ghost use Rattle.goqlanis_buffers.specs.Tints.{has_parts, have_tints, ink_paint, is_plain, is_same, may_be, named_paint, paint_in, tints, version_across, version_for};
 
 use crate::pictures::Drawing;
 use qrcode::types::{Color, QrResult, Version};
@@ -42,9 +42,9 @@ const CLEAR: u32 = 1 << 24;
 // No colour of its own.
 const SAME: u32 = 0xffff_ffff;
 
-// The colours of a drawing, for the dark and the light modules of each part.
+/// Returns the colours of a drawing, for the dark and the light modules of each part.
 #[rattlefmt::skip]
-fn tints(drawing: &Drawing) -> [Tint; 12]
+pub(crate) fn tints(drawing: &Drawing) -> [Tint; 12]
     ensures { result ≡ tints drawing.now }
 {
     [
@@ -111,10 +111,7 @@ pub(crate) fn version_for(width: u32) -> Version
     ensures value { result ≡ version_for width }
     ensures valid { IsTrue (is_valid result) }
 {
-    match version_across(width) {
-        Some(version) => version,
-        None => Version::Normal(1),
-    }
+    version_across(width).unwrap_or(Version::Normal(1))
 }
 
 // The version with so many modules along a side.
@@ -132,17 +129,10 @@ fn version_across(width: u32) -> Option<Version>
     None
 }
 
-/// Returns the colours that parts have of their own, with their names. Errors: only `OutOfMemory`.
-pub(crate) fn own_tints(alloc: Global, drawing: &Drawing) -> QrResult<Vec<NamedTint>>
-    ensures value { IfOk result (λ own. map named_paint own.items ≡ paints drawing.now) }
-    ensures memory { IsOkUnless result OutOfMemory }
-{
-    named(alloc, &tints(drawing))
-}
-
-// Those of the tints that are colours of their own, with their names.
+/// Returns those of the tints that are colours of their own, with their names. Errors: only
+/// `OutOfMemory`.
 #[tactic(auto, using(crate::proofs::Joined::flat_map_more))]
-fn named(alloc: Global, tints: &[Tint]) -> QrResult<Vec<NamedTint>>
+pub(crate) fn own_tints(alloc: Global, tints: &[Tint]) -> QrResult<Vec<NamedTint>>
     ensures value { IfOk result (λ own. map named_paint own.items ≡ flat_map paint_in tints.now) }
     ensures memory { IsOkUnless result OutOfMemory }
 {

@@ -1,6 +1,6 @@
 use Rattle.std.proofs.Common.{◌≡◌, flat_map, map, take}
 use Rattle.goqlanis_buffers.specs.Tints.{named_paint, paint_in}
-use Rattle.goqlanis_buffers.proofs.tints.named.Given as goal
+use Rattle.goqlanis_buffers.proofs.tints.own_tints.Given as goal
 
 -- the colours so far are named
 abbrev pub invariant-loop-tint : goal.invariant-loop-tint
