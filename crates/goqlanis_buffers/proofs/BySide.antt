@@ -13,14 +13,14 @@ use Rattle.qrcode_formats.specs.declared.Format.{Format}
 use Rattle.qrcode_formats.specs.declared.Format.TheVariants.{EscPos, Grey, Pbm, Pgm, Ppm, Tspl, Xbm}
 use Rattle.qrcode_sheets.specs.Formats.{IsDrawn}
 use Rattle.qrcode_sheets.specs.Sheets.{rgb}
-use Rattle.goqlanis_buffers.specs.Asking.{known_length, side_of, HasLength, IsDrawable}
+use Rattle.goqlanis_buffers.specs.Asking.{grey_head, known_length, side_of, HasLength, IsDrawable}
 use Rattle.goqlanis_buffers.specs.Colours.{colour_shade}
 use Rattle.goqlanis_buffers.specs.Drawings.{sheet}
 use Rattle.goqlanis_buffers.proofs.Tinted.{no_paints}
 use Rattle.std.proofs.Math.Nat.{zero-mul}
 use Rattle.goqlanis_buffers.specs.declared.pictures.Asked.{Asked}
 use Rattle.qrcode_render.specs.Bitmap.{row_of}
-use Rattle.qrcode_sheets.specs.Files.{inked, packed, pbm_file, pgm_file, ppm_file}
+use Rattle.qrcode_sheets.specs.Files.{inked, packed, pbm_file, pbm_head, pgm_file, ppm_file}
 use Rattle.qrcode_render.specs.Layout.{Layout, layout, pixels_across, pixels_down}
 use Rattle.qrcode_render.specs.Picture.{picture}
 use Rattle.qrcode_sheets.specs.Printers.{bytes_across, escpos_file, escpos_head, hex_pair, packed_file, tspl_file_at, tspl_head, tspl_head_at, tspl_row, tspl_tail, turned, xbm_file, xbm_head, xbm_row, xbm_tail}
@@ -31,10 +31,8 @@ use Rattle.qrcode_render.specs.Texts.{marks_text, raw_bytes}
 length_of_pieces : (f : ℕ → List ℕ) (size n a : ℕ) → ((y : ℕ) → a ≤ y → y < a + n → length (f y) ≡ size) → length (flat_map f (range_with_len a n)) ≡ n * size
 length_of_pieces f size zero a each = sym (zero-mul size)
 length_of_pieces f size (suc n) a each =
-    let more : size + n * size ≡ suc n * size = omega arith in
     length-append (f a) (flat_map f (range_with_len (a + 1) n))
-    ∙ ap₂ (λ x y. x + y) (each a (omega arith) (omega arith)) (length_of_pieces f size n (a + 1) (λ y low high. each y (omega (arith, low)) (omega (arith, high))))
-    ∙ more
+    ∙ omega (arith, each a (omega arith) (omega arith), length_of_pieces f size n (a + 1) (λ y low high. each y (omega (arith, low)) (omega (arith, high))))
 
 -- a picture has one mark (dark or light) per pixel
 length_of_marks : (at : Layout) (s : List Color) → length (picture at s).marks ≡ pixels_across at * pixels_down at
@@ -44,25 +42,19 @@ length_of_marks at s = length-map-range_with_len _ 0 (pixels_across at * pixels_
 length_of_texts : (dark light : List ℕ) (size : ℕ) (marks : List Bool) → length dark ≡ size → length light ≡ size → length (marks_text dark light marks) ≡ length marks * size
 length_of_texts dark light size [] one other = sym (zero-mul size)
 length_of_texts dark light size (true ∷ marks) one other =
-    let more : size + length marks * size ≡ suc (length marks) * size = omega arith in
-    length-append dark (marks_text dark light marks) ∙ ap₂ (λ x y. x + y) one (length_of_texts dark light size marks one other) ∙ more
+    length-append dark (marks_text dark light marks) ∙ omega (arith, one, length_of_texts dark light size marks one other)
 length_of_texts dark light size (false ∷ marks) one other =
-    let more : size + length marks * size ≡ suc (length marks) * size = omega arith in
-    length-append light (marks_text dark light marks) ∙ ap₂ (λ x y. x + y) other (length_of_texts dark light size marks one other) ∙ more
+    length-append light (marks_text dark light marks) ∙ omega (arith, other, length_of_texts dark light size marks one other)
 
-pub length_of_grey : (dark light : ℕ) (at : Layout) (s : List Color) → length (raw_bytes (dark ∷ []) (light ∷ []) (picture at s)) ≡ pixels_across at * pixels_down at
-length_of_grey dark light at s =
-    let marks = (picture at s).marks in
-    let one : length marks * 1 ≡ length marks = omega arith in
-    length_of_texts (dark ∷ []) (light ∷ []) 1 marks refl refl ∙ one ∙ length_of_marks at s
+length_of_grey : (dark light : ℕ) (at : Layout) (s : List Color) → length (raw_bytes (dark ∷ []) (light ∷ []) (picture at s)) ≡ pixels_across at * pixels_down at
+length_of_grey dark light at s = length_of_texts (dark ∷ []) (light ∷ []) 1 (picture at s).marks refl refl ∙ omega (arith, length_of_marks at s)
 
 -- a row of a picture has one mark per pixel across
 length_of_row : (at : Layout) (s : List Color) (y : ℕ) → y < pixels_down at → length (row_of (picture at s) y) ≡ pixels_across at
 length_of_row at s y inside =
     let w = pixels_across at in
     let marks = (picture at s).marks in
-    let rows : y * w + w ≤ w * pixels_down at = row_fits_turned y w w (pixels_down at) inside (omega arith) in
-    let less : y * w + w ≤ length marks = omega (arith, rows, length_of_marks at s) in
+    let less : y * w + w ≤ length marks = omega (arith, row_fits_turned y w w (pixels_down at) inside (omega arith), length_of_marks at s) in
     length-take-le (y * w + w - y * w) (drop (y * w) marks) (omega (arith, less, length-drop (y * w) marks)) ∙ omega arith
 
 -- the length of a row of pixels packed into bytes, eight per byte
@@ -70,31 +62,9 @@ length_of_packed : (blacks : List Bool) → length (packed blacks) ≡ (length b
 unfolding packed
 length_of_packed blacks = length-map-range_with_len _ 0 ((length blacks + 7) / 8)
 
-pub length_of_pbm : (marked other : Bool) (at : Layout) (s : List Color)
-    → length (pbm_file marked other (picture at s)) ≡ length (codes "P4\n" ++ (decimal (pixels_across at) ++ (codes " " ++ (decimal (pixels_down at) ++ codes "\n")))) + pixels_down at * ((pixels_across at + 7) / 8)
-unfolding pbm_file
-length_of_pbm marked other at s =
-    let b = picture at s in
-    let head = codes "P4\n" ++ (decimal b.across ++ (codes " " ++ (decimal b.down ++ codes "\n"))) in
-    length-append head _
-    ∙ ap (λ n. length head + n) (length_of_pieces _ ((b.across + 7) / 8) b.down 0 (λ y low high.
-    length_of_packed (inked marked other (row_of b y)) ∙ ap (λ n. (n + 7) / 8) (length-map (row_of b y) _ ∙ length_of_row at s y (omega (arith, high)))))
-
-length_of_pgm : (dark light : ℕ) (at : Layout) (s : List Color)
-    → length (pgm_file dark light (picture at s)) ≡ length (codes "P5\n" ++ (decimal (pixels_across at) ++ (codes " " ++ (decimal (pixels_down at) ++ codes "\n255\n")))) + pixels_across at * pixels_down at
-unfolding pgm_file
-length_of_pgm dark light at s =
-    let b = picture at s in
-    let head = codes "P5\n" ++ (decimal b.across ++ (codes " " ++ (decimal b.down ++ codes "\n255\n"))) in
-    length-append head _ ∙ ap (λ n. length head + n) (length_of_grey dark light at s)
-
-length_of_ppm : (dark light : List ℕ) (at : Layout) (s : List Color) → length dark ≡ 3 → length light ≡ 3
-    → length (ppm_file dark light (picture at s)) ≡ length (codes "P6\n" ++ (decimal (pixels_across at) ++ (codes " " ++ (decimal (pixels_down at) ++ codes "\n255\n")))) + pixels_across at * pixels_down at * 3
-unfolding ppm_file
-length_of_ppm dark light at s one other =
-    let b = picture at s in
-    let head = codes "P6\n" ++ (decimal b.across ++ (codes " " ++ (decimal b.down ++ codes "\n255\n"))) in
-    length-append head _ ∙ ap (λ n. length head + n) (length_of_texts dark light 3 b.marks one other ∙ ap (λ n. n * 3) (length_of_marks at s))
+-- the length of a head and what follows it
+length_behind : (head behind : List ℕ) {n : ℕ} → length behind ≡ n → length (head ++ behind) ≡ length head + n
+length_behind head behind long = length-append head behind ∙ ap (λ n. length head + n) long
 
 -- the length of a head, rows of black and white pixels that take `size` bytes each, and a tail
 length_of_file : (before : ℕ → ℕ → List ℕ) (row : List ℕ → List ℕ) (behind : List ℕ) (marked other : Bool) (at : Layout) (s : List Color) (size : ℕ)
@@ -103,20 +73,16 @@ length_of_file : (before : ℕ → ℕ → List ℕ) (row : List ℕ → List �
 unfolding packed_file
 length_of_file before row behind marked other at s size each =
     let b = picture at s in
-    let head = before b.across b.down in
     let text = λ (y : ℕ). row (packed (inked marked other (row_of b y))) in
-    let rows : length (flat_map text (range_with_len 0 b.down)) ≡ b.down * size = length_of_pieces text size b.down 0 (λ y low high.
+    length-append (before b.across b.down ++ flat_map text (range_with_len 0 b.down)) behind
+    ∙ ap (λ n. n + length behind) (length_behind (before b.across b.down) _ (length_of_pieces text size b.down 0 (λ y low high.
     each (packed (inked marked other (row_of b y)))
-    (length_of_packed (inked marked other (row_of b y)) ∙ ap (λ n. (n + 7) / 8) (length-map (row_of b y) _ ∙ length_of_row at s y (omega (arith, high))))) in
-    length-append (head ++ flat_map text (range_with_len 0 b.down)) behind
-    ∙ ap (λ n. n + length behind) (length-append head _ ∙ ap (λ n. length head + n) rows)
+    (length_of_packed (inked marked other (row_of b y)) ∙ ap (λ n. (n + 7) / 8) (length-map (row_of b y) _ ∙ length_of_row at s y (omega (arith, high)))))))
 
 -- bytes in XBM take five characters each
 length_of_numbers : (bytes : List ℕ) → length (flat_map (λ b. codes "0x" ++ hex_pair (turned b) ++ codes ",") bytes) ≡ 5 * length bytes
 length_of_numbers [] = refl
-length_of_numbers (b ∷ bytes) =
-    let more : 5 + 5 * length bytes ≡ 5 * suc (length bytes) = omega arith in
-    length-append (codes "0x" ++ hex_pair (turned b) ++ codes ",") _ ∙ ap (λ n. 5 + n) (length_of_numbers bytes) ∙ more
+length_of_numbers (b ∷ bytes) = length-append (codes "0x" ++ hex_pair (turned b) ++ codes ",") _ ∙ omega (arith, length_of_numbers bytes)
 
 length_of_xbm_row : (bytes : List ℕ) → length (xbm_row bytes) ≡ 5 * length bytes + 1
 length_of_xbm_row bytes = length-append (flat_map (λ b. codes "0x" ++ hex_pair (turned b) ++ codes ",") bytes) _ ∙ ap (λ n. n + 1) (length_of_numbers bytes)
@@ -151,12 +117,20 @@ at_corner w h =
 
 -- a picture has the length that is known by its side
 pub has_length : (a : Asked) (f : Format) → IsDrawable a f → IfSome (known_length f (side_of a)) (HasLength a)
+unfolding pbm_file pgm_file ppm_file
 has_length a Grey h = drawn_length a Grey _ _ refl h refl (length_of_grey 0 255 (at_of a) (colors_of a.modules.now))
-has_length a Pbm h = drawn_length a Pbm _ _ refl h refl (length_of_pbm true false (at_of a) (colors_of a.modules.now))
-has_length a Pgm h = drawn_length a Pgm _ _ refl h refl (length_of_pgm 0 255 (at_of a) (colors_of a.modules.now))
+has_length a Pbm h =
+    let b = picture (at_of a) (colors_of a.modules.now) in
+    drawn_length a Pbm _ _ refl h refl (length_behind (pbm_head (side_of a) (side_of a)) _ (length_of_pieces _ (bytes_across (side_of a)) (side_of a) 0 (λ y low high.
+    length_of_packed (inked true false (row_of b y)) ∙ ap bytes_across (length-map (row_of b y) _ ∙ length_of_row (at_of a) (colors_of a.modules.now) y (omega (arith, high))))))
+has_length a Pgm h =
+    drawn_length a Pgm _ _ refl h refl (length_behind (codes "P5\n" ++ grey_head (side_of a)) _ (length_of_grey 0 255 (at_of a) (colors_of a.modules.now)))
 has_length a Ppm h =
+    let marks = (picture (at_of a) (colors_of a.modules.now)).marks in
     drawn_length a Ppm _ _ refl h refl
-    (length_of_ppm (rgb (colour_shade a.drawing.now.dark)) (rgb (colour_shade a.drawing.now.light)) (at_of a) (colors_of a.modules.now) refl refl)
+    (length_behind (codes "P6\n" ++ grey_head (side_of a)) _
+    (length_of_texts (rgb (colour_shade a.drawing.now.dark)) (rgb (colour_shade a.drawing.now.light)) 3 marks refl refl
+    ∙ ap (λ n. n * 3) (length_of_marks (at_of a) (colors_of a.modules.now))))
 has_length a EscPos h =
     drawn_length a EscPos _ _ refl h refl
     (length_of_file escpos_head (λ bytes. bytes) [] true false (at_of a) (colors_of a.modules.now) (bytes_across (side_of a)) (λ bytes long. long))

@@ -9,7 +9,6 @@ pub mod Fields
 mod Joined
 pub mod BySide
 pub mod OnePicture
-pub mod Parts
 pub mod Refused
 pub mod Squares
 pub mod Tinted

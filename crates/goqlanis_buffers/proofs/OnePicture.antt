@@ -30,12 +30,8 @@ layer_alike t us ws j k same =
 layers_alike : (t : Sheet) (us ws js ks : List PartInk) (a b : List ℕ) → map ink_paint js ≡ map ink_paint ks
     → AreLayers Eps (record t { parts = us }) js a → AreLayers Eps (record t { parts = ws }) ks b → a ≡ b
 layers_alike t us ws [] [] a b same x y = x ∙ sym y
-layers_alike t us ws [] (k ∷ ks) a b same x y =
-    let none : 0 ≡ suc (length (map ink_paint ks)) = ap length same in
-    absurd (omega (arith, none))
-layers_alike t us ws (j ∷ js) [] a b same x y =
-    let none : suc (length (map ink_paint js)) ≡ 0 = ap length same in
-    absurd (omega (arith, none))
+layers_alike t us ws [] (k ∷ ks) a b same x y = let none : [] ≡ ink_paint k ∷ map ink_paint ks = same in absurd cc
+layers_alike t us ws (j ∷ js) [] a b same x y = let none : ink_paint j ∷ map ink_paint js ≡ [] = same in absurd cc
 layers_alike t us ws (j ∷ js) (k ∷ ks) a b same x y =
     let first : ink_paint j ≡ ink_paint k = ap (λ (l : List Paint). get_or l 0 (ink_paint j)) same in
     let rest : map ink_paint js ≡ map ink_paint ks = ap (λ (l : List Paint). drop 1 l) same in

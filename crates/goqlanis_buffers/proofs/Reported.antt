@@ -16,9 +16,7 @@ numbered r = refl
 
 -- 0 is not the number of an error
 not_zero : (number : ℕ) (refusal : Refusal) → refusal_of number ≡ Some refusal → number ≡ 0 → ⊥
-not_zero number refusal is zero =
-    let none : None ≡ Some refusal = sym (ap refusal_of zero) ∙ is in
-    absurd cc
+not_zero number refusal is zero = let none : None ≡ Some refusal = sym (ap refusal_of zero) ∙ is in absurd cc
 
 -- what holds of a result also holds of what C gets of it
 pub reported : {T : Type 0} (Does : Result T Refusal → Type 0) (result : Result T Refusal) (number : ℕ) (old new : T)

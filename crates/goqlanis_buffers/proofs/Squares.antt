@@ -1,11 +1,7 @@
--- Squares that are decoded one by one.
-use Rattle.std.proofs.Common.{ℕ, ◌+◌, ◌<◌, List, [], ◌∷◌, ◌++◌, length, map, take, get_or, sym, subst}
+-- Relations that hold item by item.
+use Rattle.std.proofs.Common.{ℕ, ◌+◌, ◌<◌, List, [], ◌∷◌, ◌++◌, length, take, get_or, sym, subst}
 use Rattle.std.specs.List.{AllZip}
-use Rattle.std.proofs.lemmas.List.{take_more, map-append}
-use Rattle.goqlanis_buffers.specs.Shades.{colors_of}
-use Rattle.goqlanis_buffers.specs.Joining.{found_part, ArePartsOf, IsPartOf}
-use Rattle.goqlanis_buffers.specs.declared.joining.Found.{Found}
-use Rattle.goqlanis_buffers.specs.declared.joining.Square.{Square}
+use Rattle.std.proofs.lemmas.List.{take_more}
 
 -- a relation that holds item by item also holds with one more item in each list
 pub zip_more : {A B : Type 0} (R : A → B → Type 0) (xs : List A) (ys : List B) (x : A) (y : B) → AllZip R xs ys → R x y → AllZip R (xs ++ x ∷ []) (ys ++ y ∷ [])
@@ -18,12 +14,3 @@ pub zip_taken : {A B : Type 0} (R : A → B → Type 0) (xs : List A) (ys : List
     → AllZip R (take (i + 1) xs) (ys ++ y ∷ [])
 zip_taken R xs ys i d y inside before here =
     subst (λ taken. AllZip R taken (ys ++ y ∷ [])) (sym (take_more xs i d inside)) (zip_more R (take i xs) ys (get_or xs i d) y before here)
-
--- one more square is decoded
-pub parts_more : (squares : List Square) (found : List Found) (i : ℕ) (d : Square) (f : Found) → i < length squares
-    → ArePartsOf (take i squares) (map found_part found) → IsPartOf (colors_of (get_or squares i d).modules.now) (found_part f)
-    → ArePartsOf (take (i + 1) squares) (map found_part (found ++ f ∷ []))
-parts_more squares found i d f inside before here =
-    subst (λ s. ArePartsOf s (map found_part (found ++ f ∷ []))) (sym (take_more squares i d inside))
-    (subst (ArePartsOf (take i squares ++ get_or squares i d ∷ [])) (sym (map-append found_part found (f ∷ [])))
-    (zip_more (λ s p. IsPartOf (colors_of s.modules.now) p) (take i squares) (map found_part found) (get_or squares i d) (found_part f) before here))

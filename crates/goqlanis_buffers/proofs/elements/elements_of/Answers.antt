@@ -1,10 +1,11 @@
-use Rattle.std.proofs.Common.{arith}
+use Rattle.std.proofs.Common.{arith, below_more, subst}
 use Rattle.std.proofs.lemmas.Grind.{common_steps}
-use Rattle.goqlanis_buffers.proofs.Parts.{texts_more}
+use Rattle.std.proofs.lemmas.Option.{get_or_from_slice_get}
+use Rattle.goqlanis_buffers.specs.Elements.{IsText}
 use Rattle.goqlanis_buffers.proofs.elements.elements_of.Goals as goal
 
 pub loop-place-preserved : goal.loop-place-preserved
 loop-place-preserved c = record {
   made = grind (arith, common_steps);
-  texts = texts_more c.args.parts.now c.loop-place.place _ c.loop-place.invariant.texts c.in-Some.ensures.text;
+  texts = below_more _ _ c.loop-place.invariant.texts (λ part at. subst IsText (get_or_from_slice_get c.args.parts.now _ part _ at) c.in-Some.ensures.text);
 }
