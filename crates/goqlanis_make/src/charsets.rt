@@ -4,12 +4,12 @@ use goqlanis_files::failure::Failure;
 use goqlanis_files::{refused, usage};
 use goqlanis_options::asked::{Asked, Report};
 use goqlanis_options::charsets::{CharsetName, Coded, charset_named};
-use goqlanis_request::{Choice, Request, VersionName, symbol_among, symbol_in};
+use goqlanis_request::{
+    Choice, Content, Request, VersionName, refusal_text, symbol_among, symbol_in,
+};
 use qrcode::QrCode;
 use qrcode::bits::Manner;
-use qrcode::types::{EcLevel, QrError, Version};
 use qrcode_charsets::sets::{CHARSETS, Charset};
-use qrcode_types::tables;
 use std::alloc::Global;
 
 /// Makes a code of a text in the character set called `name`, or for `shortest` in the one that
@@ -71,45 +71,11 @@ fn made(
 ) -> Result<(QrCode, Charset), Failure> {
     match symbol_among(alloc, request.choice, sets, request.level, text) {
         Ok(made) => Ok(made),
-        Err(QrError::OutOfMemory) => Err(Failure::OutOfMemory),
-        Err(_) => refuse(alloc, request, sets, text),
-    }
-}
-
-// Says why no allowed version holds the text, and what would.
-fn refuse(
-    alloc: Global,
-    request: &Request<'_>,
-    sets: &[Charset],
-    text: &str,
-) -> Result<(QrCode, Charset), Failure> {
-    let level = request.level;
-    if let Choice::At(version) = request.choice {
-        let name = VersionName(version);
-        if tables::capacity(version, level).is_none() {
-            return refused!(alloc; "version {name} has no level {level:?}");
-        }
-        if version.is_micro() && sets.len() == 1 {
-            return refused!(alloc; "version {name} has no ECI; use a version of 1 to 40");
-        }
-        if let Ok((code, _)) = symbol_among(alloc, Choice::From(version), sets, level, text) {
-            let least = VersionName(code.version());
-            return refused!(alloc;
-                "version {name} at level {level:?} does not hold the text; version {least} does"
-            );
+        Err(error) => {
+            let content = Content::Text(sets, text);
+            Err(Failure::Refused(refusal_text(alloc, request, content, error)?))
         }
     }
-    let least = Choice::From(Version::Normal(1));
-    for lower in [EcLevel::Q, EcLevel::M, EcLevel::L] {
-        if symbol_among(alloc, least, sets, lower, text).is_ok() {
-            return refused!(alloc;
-                "no version holds the text at level {level:?}; level {lower:?} holds it"
-            );
-        }
-    }
-    refused!(alloc;
-        "no version holds the text; without --charset, goqlanis split splits it over several codes"
-    )
 }
 
 // Returns the version that the text takes in UTF-8 without ECI, if there is one.

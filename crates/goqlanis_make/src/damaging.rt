@@ -7,7 +7,7 @@ use goqlanis_files::{doubted, refused};
 use goqlanis_options::asked::Asked;
 use goqlanis_options::damage::{AskedDamage, Wrong};
 use goqlanis_request::masking::modules_under;
-use goqlanis_request::{Request, drawn, refusal_text};
+use goqlanis_request::{Request, drawn, mask_refusal_text};
 use qrcode::QrCode;
 use qrcode::types::Color;
 use qrcode_damage::damage::{Damage, TooMuch, damaged, most_codewords};
@@ -72,7 +72,7 @@ fn damaged_modules(
     let _width = code.width();
     let modules = match modules_under(alloc, code, request.mask) {
         Ok(modules) => modules,
-        Err(error) => return Err(Failure::Refused(refusal_text(alloc, request, error)?)),
+        Err(error) => return Err(Failure::Refused(mask_refusal_text(alloc, error)?)),
     };
     let (version, level) = (code.version(), code.error_correction_level());
     match damaged(alloc, version, level, &modules, damage) {

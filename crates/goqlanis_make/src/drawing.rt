@@ -20,14 +20,13 @@ use goqlanis_options::asked::{Asked, Target, Work};
 use goqlanis_options::charsets::Coded;
 use goqlanis_options::report::show_report;
 use goqlanis_request::{
-    Choice, Extent, Request, Segment, application_refusal_text, data_refusal_text, drawing_of,
-    elements_refusal_text, manner_of, quiet_zone, refusal_text, scale, segments_refusal_text,
-    symbol_for_application, symbol_in, symbol_of, symbol_of_elements, unwritable,
+    Choice, Content, Extent, Request, Segment, drawing_of, manner_of, mask_refusal_text,
+    quiet_zone, refusal_text, scale, symbol_for_application, symbol_in, symbol_of,
+    symbol_of_elements, unwritable,
 };
 use goqlanis_tables::pages::Pages;
 use qrcode::QrCode;
 use qrcode::bits::Manner;
-use qrcode::types::QrError;
 use qrcode_area::areas::Rectangle;
 use qrcode_formats::{Format, Middle};
 use qrcode_gs1::errors::Gs1Error;
@@ -83,7 +82,7 @@ fn bytes_code(alloc: Global, asked: &Asked<'_, '_>, bytes: &[u8]) -> Result<QrCo
     let (request, manner) = (&asked.request, manner(alloc, asked, bytes)?);
     match symbol_in(alloc, request.choice, manner, request.level, bytes) {
         Ok(code) => Ok(code),
-        Err(error) => refuse(data_refusal_text(alloc, request, manner, bytes, error)),
+        Err(error) => refuse(refusal_text(alloc, request, Content::Bytes(manner, bytes), error)),
     }
 }
 
@@ -122,7 +121,7 @@ fn draw_code(
     }
     match drawing_of(alloc, &asked.request, code) {
         Ok(bytes) => Ok(bytes),
-        Err(error) => refuse(refusal_text(alloc, &asked.request, error)),
+        Err(error) => refuse(mask_refusal_text(alloc, error)),
     }
 }
 
@@ -207,7 +206,7 @@ fn segments_code(alloc: Global, asked: &Asked<'_, '_>, words: &[&str]) -> Result
     let request = &asked.request;
     match symbol_of(alloc, request.choice, request.level, &segments) {
         Ok(code) => Ok(code),
-        Err(error) => refuse(segments_refusal_text(alloc, request, &segments, error)),
+        Err(error) => refuse(refusal_text(alloc, request, Content::Segments(&segments), error)),
     }
 }
 
@@ -246,10 +245,10 @@ fn elements_code(alloc: Global, request: &Request<'_>, text: &str) -> Result<QrC
         Err(SymbolError::Elements(Gs1Error::Refused(index, cause))) => {
             refuse(read.refusal(alloc, index, cause))
         }
-        Err(SymbolError::Symbol(QrError::DataTooLong)) => {
-            refuse(elements_refusal_text(alloc, request, &elements))
+        Err(SymbolError::Symbol(error)) => {
+            refuse(refusal_text(alloc, request, Content::Elements(&elements), error))
         }
-        Err(SymbolError::Elements(_) | SymbolError::Symbol(_)) => Err(Failure::OutOfMemory),
+        Err(SymbolError::Elements(_)) => Err(Failure::OutOfMemory),
     }
 }
 
@@ -277,8 +276,10 @@ fn application_code(
     let bytes = text.as_bytes();
     match symbol_for_application(alloc, request.choice, request.level, application, bytes) {
         Ok(code) => Ok(code),
-        Err(QrError::OutOfMemory) => Err(Failure::OutOfMemory),
-        Err(_) => refuse(application_refusal_text(alloc, request, application, bytes)),
+        Err(error) => {
+            let content = Content::Application(application, bytes);
+            refuse(refusal_text(alloc, request, content, error))
+        }
     }
 }
 

@@ -1,237 +1,182 @@
 //! Messages for refusals: what was asked for, why it fails, and what would help.
 
+use crate::charsets::symbol_among;
 use crate::drawing::symbol_in;
 use crate::elements::{symbol_for_application, symbol_of_elements};
 use crate::request::{Choice, Request};
 use crate::segments::{Segment, first_of, last_of, symbol_of};
-use qrcode::QrCode;
 use qrcode::bits::Manner;
 use qrcode::types::{EcLevel, Mode, QrError, Version};
+use qrcode_charsets::sets::Charset;
 use qrcode_gs1::elements::Element;
 use qrcode_types::tables;
 use std::alloc::{AllocError, Global};
 use std::fmt;
 
-/// Says why `bytes`, written in this manner, have no symbol, and what would hold them.
-///
-/// Errors: only `AllocError`, if memory runs out or `error` is `OutOfMemory`.
-pub fn data_refusal_text(
-    alloc: Global,
-    request: &Request<'_>,
-    manner: Manner,
-    bytes: &[u8],
-    error: QrError,
-) -> Result<String, AllocError> {
-    match (error, request.choice) {
-        (QrError::DataTooLong, _) => too_long_text(alloc, request, manner, bytes),
-        (QrError::UnsupportedCharacterSet, Choice::At(version)) => {
-            no_mode_text(alloc, manner, version)
+/// What a symbol is to hold.
+#[derive(Clone, Copy)]
+pub enum Content<'a> {
+    /// Bytes, written in this manner.
+    Bytes(Manner, &'a [u8]),
+    /// A text, in one of these character sets.
+    Text(&'a [Charset], &'a str),
+    /// Segments that the user chose.
+    Segments(&'a [Segment<'a>]),
+    /// GS1 elements.
+    Elements(&'a [Element<'a>]),
+    /// Data in an application's own format, after its indicator.
+    Application(u8, &'a [u8]),
+}
+
+impl Content<'_> {
+    // Returns the version of its symbol, if there is one.
+    fn version_in(self, alloc: Global, choice: Choice, level: EcLevel) -> Option<Version> {
+        let code = match self {
+            Content::Bytes(manner, bytes) => symbol_in(alloc, choice, manner, level, bytes).ok(),
+            Content::Text(sets, text) => {
+                let (code, _) = symbol_among(alloc, choice, sets, level, text).ok()?;
+                Some(code)
+            }
+            Content::Segments(segments) => symbol_of(alloc, choice, level, segments).ok(),
+            Content::Elements(elements) => symbol_of_elements(alloc, choice, level, elements).ok(),
+            Content::Application(indicator, bytes) => {
+                symbol_for_application(alloc, choice, level, indicator, bytes).ok()
+            }
+        };
+        Some(code?.version())
+    }
+
+    // Returns what it needs that Micro QR lacks, if anything.
+    fn beyond_micro(self) -> Option<&'static str> {
+        match self {
+            Content::Bytes(Manner::MarkedText, _) => Some("ECI: leave out --eci, or"),
+            Content::Text([_], _) => Some("ECI;"),
+            Content::Segments(segments) => segments
+                .iter()
+                .any(|segment| matches!(segment, Segment::CharacterSet(_)))
+                .then_some("ECI;"),
+            Content::Elements(_) | Content::Application(..) => Some("FNC1, like all of Micro QR;"),
+            Content::Bytes(..) | Content::Text(..) => None,
         }
-        (error, _) => refusal_text(alloc, request, error),
     }
 }
 
-/// Says why there is no such symbol or picture, whatever the data.
+/// Says why the content has no symbol, and what would hold it.
 ///
 /// Errors: only `AllocError`, if memory runs out or `error` is `OutOfMemory`.
 pub fn refusal_text(
     alloc: Global,
     request: &Request<'_>,
+    content: Content<'_>,
     error: QrError,
 ) -> Result<String, AllocError> {
-    match (error, request.choice) {
-        (QrError::InvalidVersion, Choice::At(version))
-            if tables::capacity(version, request.level).is_none() => {
-            no_level_text(alloc, version, request.level)
+    if error == QrError::OutOfMemory {
+        return Err(AllocError);
+    }
+    if let Choice::At(version) = request.choice {
+        let (name, level) = (VersionName(version), request.level);
+        if let Some(what) = content.beyond_micro().filter(|_| version.is_micro()) {
+            return format!(in alloc; "version {name} has no {what} use a version of 1 to 40");
         }
-        (QrError::InvalidVersion, _) => String::from_str(
+        if tables::capacity(version, level).is_none() {
+            let levels = match version {
+                Version::Micro(1) => "only L",
+                Version::Micro(4) => "L, M and Q",
+                _ => "L and M",
+            };
+            return format!(in alloc; "version {name} has no level {level:?}; it has {levels}");
+        }
+    }
+    match (error, content, request.choice) {
+        (QrError::DataTooLong, ..) | (_, Content::Text(..), _) => {
+            too_long_text(alloc, request, content)
+        }
+        (QrError::UnsupportedCharacterSet, Content::Segments(_), Choice::At(version)) => {
+            let name = VersionName(version);
+            format!(in alloc;
+                "version {name} lacks a mode of the segments; M3, M4 and 1 to 40 have all"
+            )
+        }
+        (QrError::UnsupportedCharacterSet, _, Choice::At(version)) => {
+            let name = VersionName(version);
+            let modes = match version {
+                Version::Micro(1) => "digits",
+                _ => "digits, capitals, spaces and $%*+-./:",
+            };
+            format!(in alloc;
+                "version {name} holds only {modes}; M3, M4 and 1 to 40 hold any bytes"
+            )
+        }
+        _ => format!(in alloc; "{error}"),
+    }
+}
+
+/// Says why a symbol has no picture under the requested mask.
+///
+/// Errors: only `AllocError`, if memory runs out or `error` is `OutOfMemory`.
+pub fn mask_refusal_text(alloc: Global, error: QrError) -> Result<String, AllocError> {
+    match error {
+        QrError::OutOfMemory => Err(AllocError),
+        _ => String::from_str(
             alloc,
             "Micro QR has masks 0 to 3; use one of these, or a version of 1 to 40",
         ),
-        (QrError::OutOfMemory, _) => Err(AllocError),
-        (error, _) => format!(in alloc; "{error}"),
     }
 }
 
-/// Says why segments have no symbol. If one version was asked for and has no room, it names the
-/// smallest larger one that has.
-///
-/// Errors: only `AllocError`, if memory runs out or `error` is `OutOfMemory`.
-pub fn segments_refusal_text(
-    alloc: Global,
-    request: &Request<'_>,
-    segments: &[Segment<'_>],
-    error: QrError,
-) -> Result<String, AllocError> {
-    match (error, request.choice) {
-        (QrError::DataTooLong, choice) => {
-            let from = Choice::From(first_of(choice));
-            let least = version_of(symbol_of(alloc, from, request.level, segments));
-            room_refusal_text(alloc, request, "segments", least)
-        }
-        (QrError::UnsupportedCharacterSet, Choice::At(version)) => {
-            no_segment_text(alloc, version, segments)
-        }
-        (error, _) => refusal_text(alloc, request, error),
-    }
-}
-
-// The requested version cannot write one of the segments.
-fn no_segment_text(
-    alloc: Global,
-    version: Version,
-    segments: &[Segment<'_>],
-) -> Result<String, AllocError> {
-    let name = VersionName(version);
-    if segments
-        .iter()
-        .any(|segment| matches!(segment, Segment::CharacterSet(_)))
-    {
-        return format!(in alloc; "version {name} has no ECI; use a version of 1 to 40");
-    }
-    format!(in alloc; "version {name} lacks a mode of the segments; M3, M4 and 1 to 40 have all")
-}
-
-/// Says that no allowed version holds the GS1 elements.
-///
-/// Errors: only `AllocError`, if memory runs out.
-pub fn elements_refusal_text(
-    alloc: Global,
-    request: &Request<'_>,
-    elements: &[Element<'_>],
-) -> Result<String, AllocError> {
-    let from = Choice::From(first_of(request.choice));
-    let least = version_of(symbol_of_elements(alloc, from, request.level, elements));
-    marked_refusal_text(alloc, request, "elements", least)
-}
-
-/// Says that no allowed version holds the data of an application.
-///
-/// Errors: only `AllocError`, if memory runs out.
-pub fn application_refusal_text(
-    alloc: Global,
-    request: &Request<'_>,
-    application: u8,
-    bytes: &[u8],
-) -> Result<String, AllocError> {
-    let (from, level) = (Choice::From(first_of(request.choice)), request.level);
-    let least = version_of(symbol_for_application(alloc, from, level, application, bytes));
-    marked_refusal_text(alloc, request, "data", least)
-}
-
-// The version of a symbol, if it was made.
-fn version_of<E: Drop>(made: Result<QrCode, E>) -> Option<Version> {
-    made.ok().map(|code| code.version())
-}
-
-// Says that no allowed version holds data with FNC1; `least` is the smallest that does, from the
-// requested one on.
-fn marked_refusal_text(
-    alloc: Global,
-    request: &Request<'_>,
-    what: &str,
-    least: Option<Version>,
-) -> Result<String, AllocError> {
-    match request.choice {
-        Choice::At(version) if version.is_micro() => {
-            let name = VersionName(version);
-            format!(in alloc;
-                "version {name} has no FNC1, like all of Micro QR; use a version of 1 to 40"
-            )
-        }
-        _ => room_refusal_text(alloc, request, what, least),
-    }
-}
-
-// Says that no allowed version has room; `least` is the smallest that does, from the requested one
-// on.
-fn room_refusal_text(
-    alloc: Global,
-    request: &Request<'_>,
-    what: &str,
-    least: Option<Version>,
-) -> Result<String, AllocError> {
-    let level = request.level;
-    let Choice::At(version) = request.choice else {
-        return format!(in alloc; "no version holds the {what} at level {level:?}");
-    };
-    let name = VersionName(version);
-    let mut text = format!(in alloc; "version {name} at level {level:?} does not hold the {what}")?;
-    if let Some(least) = least.filter(|least| *least != version) {
-        write!(text, "; version {} does", VersionName(least))?;
-    }
-    Ok(text)
-}
-
-// Says that no allowed version holds the bytes.
+// Says that no allowed version has room, and what would hold the content: a larger version, a lower
+// level, or several symbols.
 fn too_long_text(
     alloc: Global,
     request: &Request<'_>,
-    manner: Manner,
-    bytes: &[u8],
+    content: Content<'_>,
 ) -> Result<String, AllocError> {
-    let (level, count) = (request.level, Grouped(bytes.len()));
-    let mut text = format!(in alloc; "{count} bytes at ")?;
-    if let Choice::At(version) = request.choice {
-        write!(text, "version {} and ", VersionName(version))?;
-    }
-    write!(text, "level {level:?}: ")?;
-    match byte_room(manner, last_of(request.choice), level) {
-        0 => text.push_str("too many")?,
-        most => {
-            let most = Grouped(most);
-            write!(text, "at most {most} fit, more of digits or capitals")?;
+    let (choice, level) = (request.choice, request.level);
+    let mut text = String::new(alloc);
+    let what = match content {
+        Content::Text(..) => "characters",
+        Content::Segments(_) => "segments",
+        Content::Elements(_) => "elements",
+        Content::Bytes(..) | Content::Application(..) => "bytes",
+    };
+    match (content, choice) {
+        (Content::Bytes(manner, bytes), _) => {
+            write!(text, "{} bytes at ", Grouped(bytes.len()))?;
+            if let Choice::At(version) = choice {
+                write!(text, "version {} and ", VersionName(version))?;
+            }
+            write!(text, "level {level:?}: ")?;
+            match byte_room(manner, last_of(choice), level) {
+                0 => text.push_str("too many")?,
+                most => {
+                    let most = Grouped(most);
+                    write!(text, "at most {most} fit, more of digits or capitals")?;
+                }
+            }
         }
+        (_, Choice::At(version)) => {
+            let name = VersionName(version);
+            write!(
+                text,
+                "version {name} at level {level:?} does not hold the {what}"
+            )?;
+        }
+        _ => write!(text, "no version holds the {what} at level {level:?}")?,
     }
-    push_help(&mut text, request, manner, bytes)?;
+    if let Some(larger) = content.version_in(alloc, Choice::From(first_of(choice)), level) {
+        write!(text, "; version {} holds them", VersionName(larger))?;
+        return Ok(text);
+    }
+    let any = Choice::From(Version::Normal(1));
+    let mut lower = [EcLevel::Q, EcLevel::M, EcLevel::L].iter();
+    if let Some(lower) = lower.find(|level| content.version_in(alloc, any, **level).is_some()) {
+        write!(text, "; level {lower:?} holds them")?;
+    } else if let Content::Text(..) = content {
+        text.push_str("; without --charset, goqlanis split splits them over several codes")?;
+    } else if let Content::Bytes(..) = content {
+        text.push_str("; goqlanis split splits them over several codes")?;
+    }
     Ok(text)
-}
-
-// Appends what would hold the bytes: a larger version, a lower level, or several symbols.
-fn push_help(
-    text: &mut String,
-    request: &Request<'_>,
-    manner: Manner,
-    bytes: &[u8],
-) -> Result<(), AllocError> {
-    let alloc = *text.allocator();
-    let from = Choice::From(first_of(request.choice));
-    if let Some(version) = version_of(symbol_in(alloc, from, manner, request.level, bytes)) {
-        return write!(text, "; version {} holds them", VersionName(version));
-    }
-    for level in [EcLevel::Q, EcLevel::M, EcLevel::L] {
-        let any = Choice::From(Version::Normal(1));
-        if symbol_in(alloc, any, manner, level, bytes).is_ok() {
-            return write!(text, "; level {level:?} holds them");
-        }
-    }
-    text.push_str("; goqlanis split splits them over several codes")
-}
-
-// The requested version lacks the level.
-fn no_level_text(alloc: Global, version: Version, level: EcLevel) -> Result<String, AllocError> {
-    let name = VersionName(version);
-    let levels = match version {
-        Version::Micro(1) => "only L",
-        Version::Micro(4) => "L, M and Q",
-        _ => "L and M",
-    };
-    format!(in alloc; "version {name} has no level {level:?}; it has {levels}")
-}
-
-// The requested version cannot write the data.
-fn no_mode_text(alloc: Global, manner: Manner, version: Version) -> Result<String, AllocError> {
-    let name = VersionName(version);
-    if manner == Manner::MarkedText {
-        return format!(in alloc;
-            "version {name} has no ECI: leave out --eci, or use a version of 1 to 40"
-        );
-    }
-    let modes = match version {
-        Version::Micro(1) => "digits",
-        _ => "digits, capitals, spaces and $%*+-./:",
-    };
-    format!(in alloc; "version {name} holds only {modes}; M3, M4 and 1 to 40 hold any bytes")
 }
 
 // The most bytes that fit in a symbol as one Byte segment; 0 if the version has no such segments.
