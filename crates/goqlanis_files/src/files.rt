@@ -124,7 +124,11 @@ impl Draft {
                 Err(error) => return Err(WriteError::File(error)),
             };
             if is_open_file(rt, name, &found) {
-                return reopened(rt, inside.as_str(), &found);
+                // The owner's rights of such a link say for what the file is open.
+                if found.mode() & 0o200 == 0 {
+                    return Err(WriteError::ReadOnly);
+                }
+                return straight(rt, inside.as_str(), true);
             }
             if is_strange(rt, folder.way.as_str(), &found)? {
                 return Err(WriteError::Strange);
@@ -157,7 +161,7 @@ impl Draft {
         let Some(fresh) = &self.fresh else {
             return Ok(());
         };
-        let done = put_in_place(rt, &self.file, fresh, is_flushed);
+        let done = fresh.put_in_place(rt, &self.file, is_flushed);
         if done.is_err() {
             self.remove(rt);
         }
@@ -219,15 +223,6 @@ fn parts_of(path: &str) -> (&str, &str) {
     path.rsplit_once('/').unwrap_or((".", path))
 }
 
-// Opens a file again that is already open, to which the link `found` leads. The owner's rights of
-// such a link say for what the file is open.
-fn reopened(rt: &HostRuntime, place: &str, found: &Metadata) -> Result<Draft, WriteError> {
-    if found.mode() & 0o200 == 0 {
-        return Err(WriteError::ReadOnly);
-    }
-    straight(rt, place, true)
-}
-
 // Opens a pipe or device, or a file that is already open, at its end. A regular file that took its
 // place meanwhile is left alone.
 fn straight(rt: &HostRuntime, place: &str, is_open: bool) -> Result<Draft, WriteError> {
@@ -280,13 +275,6 @@ fn private_file(rt: &HostRuntime, path: &str) -> io::Result<(File, u32)> {
     Ok((create(rt, path, 0o600)?, usual))
 }
 
-// The permissions that are kept of an old file: the owner's, and those that both group and others
-// had. The group's bits may stand for an ACL of single users, which std cannot read.
-fn kept_rights(mode: u32) -> u32 {
-    let shared = mode & mode >> 3 & 0o7;
-    mode & 0o700 | shared << 3 | shared
-}
-
 fn create(rt: &HostRuntime, path: &str, mode: u32) -> io::Result<File> {
     OpenOptions::new()
         .write(true)
@@ -295,30 +283,30 @@ fn create(rt: &HostRuntime, path: &str, mode: u32) -> io::Result<File> {
         .open(rt, path)
 }
 
-// Gives a whole file its permissions and its name. From opening to renaming, the file is never
-// looked up by name, since others may have given that name to another file.
-fn put_in_place(
-    rt: &HostRuntime,
-    file: &File,
-    fresh: &Fresh,
-    is_flushed: bool,
-) -> Result<(), WriteError> {
-    let rights = match &fresh.old {
-        Some(old) => rights_after(file, fresh.usual, old)?,
-        None => fresh.usual,
-    };
-    file.set_permissions(Permissions::from_mode(rights))?;
-    if is_flushed {
-        file.sync_all()?;
+impl Fresh {
+    // Gives a whole file its permissions and its name. From opening to renaming, the file is never
+    // looked up by name, since others may have given that name to another file.
+    fn put_in_place(&self, rt: &HostRuntime, file: &File, flush: bool) -> Result<(), WriteError> {
+        let rights = match &self.old {
+            Some(old) => rights_after(file, self.usual, old)?,
+            None => self.usual,
+        };
+        file.set_permissions(Permissions::from_mode(rights))?;
+        if flush {
+            file.sync_all()?;
+        }
+        fs::rename(rt, self.beside.as_str(), self.path.as_str()).map_err(WriteError::Place)
     }
-    fs::rename(rt, fresh.beside.as_str(), fresh.path.as_str()).map_err(WriteError::Place)
 }
 
 // Gives a new file the owner and group of the old one if that is allowed, and returns its
 // permissions. If it replaces another user's file but stays this user's, it gets no more rights
 // than any new file, and the old owner must be able to read it.
 fn rights_after(file: &File, usual: u32, old: &Metadata) -> Result<u32, WriteError> {
-    let kept = kept_rights(old.mode());
+    // Kept are the owner's, and those that both group and others had: the group's bits may stand for
+    // an ACL of single users, which std cannot read.
+    let shared = old.mode() & old.mode() >> 3 & 0o7;
+    let kept = old.mode() & 0o700 | shared << 3 | shared;
     let is_given = fchown(file, Some(old.uid()), Some(old.gid())).is_ok();
     if is_given || file.metadata()?.uid() == old.uid() {
         return Ok(kept);
