@@ -2,7 +2,7 @@
 
 use crate::conflicts::check_place;
 use crate::habits::{advice_for, makes_a_code};
-use crate::tasks::{Task, task_words, tasks};
+use crate::tasks::{Headed, Task, tasks};
 use clap::error::{Error, ErrorKind};
 use goqlanis_files::failure::Failure;
 use goqlanis_files::usage;
@@ -16,7 +16,8 @@ use std::alloc::{AllocError, Global};
 struct Rejected<'a> {
     alloc: Global,
     task: &'a Task,
-    words: &'a [String],
+    options: &'a [Headed],
+    words: &'a [&'a str],
     // What `clap` says of it.
     text: &'a str,
     // Whether it lacks required options.
@@ -30,10 +31,13 @@ struct Rejected<'a> {
 pub fn advise(alloc: Global, task: &Task, words: &[String], error: &Error) -> Result<(), Failure> {
     let text = format!(in alloc; "{error}")?;
     let text = text.as_str();
+    let words = words.iter().map(String::as_str);
+    let (words, options) = (words.collect::<Vec<&str>>(alloc)?, task.all_options(alloc)?);
     let rejected = Rejected {
         alloc,
         task,
-        words,
+        options: &options,
+        words: &words,
         text,
         is_partial: error.kind() == ErrorKind::MissingRequiredArgument,
     };
@@ -77,9 +81,8 @@ impl Rejected<'_> {
     fn check_letters(&self) -> Result<(), Failure> {
         let fields = self.task.own_options(self.alloc)?;
         for (word, value) in self.words.iter().zip(self.words.iter().skip(1)) {
-            let pair = (word.as_str(), value.as_str());
             let mut fields = fields.iter();
-            if let Some(field) = fields.find(|field| self.is_meant(field, pair)) {
+            if let Some(field) = fields.find(|field| self.is_meant(field, (*word, *value))) {
                 let name = field.long;
                 return usage!(self.alloc; "{word}: fields have no short options; write --{name}");
             }
@@ -108,7 +111,7 @@ impl Rejected<'_> {
     // Whether the command line has the option `name`.
     fn has_option(&self, name: &str) -> bool {
         self.words.iter().any(|word| {
-            let given = word.as_str().strip_prefix("--").unwrap_or("");
+            let given = word.strip_prefix("--").unwrap_or("");
             given.split('=').next() == Some(name)
         })
     }
@@ -116,7 +119,7 @@ impl Rejected<'_> {
     // Advises on a payload without the fields that it needs, and with a file instead of them.
     fn check_file(&self) -> Result<(), Failure> {
         let mut words = self.words.iter();
-        if !self.is_partial || !words.any(|word| matches!(word.as_str(), "-i" | "--input")) {
+        if !self.is_partial || !words.any(|word| matches!(*word, "-i" | "--input")) {
             return Ok(());
         }
         let name = self.task.word;
@@ -131,27 +134,30 @@ impl Rejected<'_> {
         let Some(name) = word.strip_prefix("--") else {
             return Ok(None);
         };
-        let options = self.task.all_options(self.alloc)?;
-        let names = options
+        let names = self
+            .options
             .iter()
             .map(|(_, entry)| entry.long)
             .collect::<Vec<&'static str>>(self.alloc)?;
         nearest(self.alloc, name, &names)
     }
 
-    // Advises on a value that begins with a hyphen, which `clap` takes for an option. The value may
-    // be a password, so it is not shown.
+    // Advises on a value that begins with a hyphen, which `clap` takes for an option unless it is a
+    // number. The value may be a password, so it is not shown.
     fn check_dash(&self, word: &str) -> Result<(), Failure> {
-        let options = self.task.all_options(self.alloc)?;
         for (option, value) in self.words.iter().zip(self.words.iter().skip(1)) {
-            let (option, value) = (option.as_str(), value.as_str());
-            let takes_text = options.iter().any(|(_, entry)| {
+            let entry = self.options.iter().find(|(_, entry)| {
                 option.strip_prefix("--") == Some(entry.long) && takes_any_text(entry.takes)
             });
-            if takes_text && word.starts_with('-') && value.starts_with(word) {
-                return usage!(self.alloc;
+            let is_value = word.starts_with('-') && value.starts_with(word);
+            match entry.filter(|_| is_value) {
+                Some((_, entry)) if entry.takes.name() == "DEGREES" => return usage!(self.alloc;
+                    "{option}: write a number, with a digit before the point, e.g. -0.25"
+                ),
+                Some(_) => return usage!(self.alloc;
                     "{option}: if the value begins with -, write {option}=VALUE"
-                );
+                ),
+                None => {}
             }
         }
         Ok(())
@@ -162,7 +168,7 @@ impl Rejected<'_> {
         self.check_known(value)?;
         let is_number = self.text.contains("invalid digit");
         let name = between(self.text, "for '--", " <").filter(|_| is_number);
-        for (_, entry) in &self.task.all_options(self.alloc)? {
+        for (_, entry) in self.options {
             if let (true, Takes::Number(_, least, most)) = (Some(entry.long) == name, entry.takes) {
                 let (name, most) = (entry.long, Grouped(most as usize));
                 return usage!(self.alloc;
@@ -199,17 +205,19 @@ impl Rejected<'_> {
 
     // Advises on a first word that looks like a misspelled command, and on a command after options.
     fn check_command(&self) -> Result<(), Failure> {
-        let word = self.words.get(1).map_or("", String::as_str);
+        let word = self.words.get(1).map_or("", |word| *word);
         if word.starts_with('-') {
             for word in self.words {
-                check_place(self.alloc, word.as_str())?;
+                check_place(self.alloc, word)?;
             }
             return Ok(());
         }
         if makes_a_code(word) {
             return usage!(self.alloc; "{word}: a text needs no command: goqlanis \"some text\"");
         }
-        match nearest(self.alloc, word, &task_words(self.alloc)?)? {
+        let names = tasks().iter().map(|task| task.word);
+        let names = names.collect::<Vec<&str>>(self.alloc)?;
+        match nearest(self.alloc, word, &names)? {
             Some(name) => usage!(self.alloc;
                 "{word}: no such command; did you mean goqlanis {name}?"
             ),
@@ -242,7 +250,7 @@ impl Rejected<'_> {
             _ if word.starts_with('-') => {
                 usage!(alloc; "{word}: no such option; goqlanis{space}{name} --help lists them")
             }
-            _ if words.any(|word| matches!(word.as_str(), "--version" | "-V")) => usage!(alloc;
+            _ if words.any(|word| matches!(*word, "--version" | "-V")) => usage!(alloc;
                 "{word}: --version is the program's; for the code's version, use -v"
             ),
             _ if is_number(self.behind("--eci")) => refuse_any_value(alloc, "--eci"),
@@ -257,25 +265,15 @@ impl Rejected<'_> {
 
     // Returns the word behind `option`; empty if there is none.
     fn behind(&self, option: &str) -> &str {
-        let mut words = self.words.iter();
-        let place = words.position(|word| word.as_str() == option);
-        let next = place.map_or(usize::MAX, |place| place.saturating_add(1));
-        match self.words.get(next) {
-            Some(word) => word.as_str(),
-            None => "",
-        }
+        let mut pairs = self.words.iter().zip(self.words.iter().skip(1));
+        pairs
+            .find(|(word, _)| **word == option)
+            .map_or("", |(_, next)| *next)
     }
 
     // Explains a word without an option: names the options that the payload needs.
     fn refuse_operand(&self, word: &str) -> Result<(), Failure> {
-        let name = self.task.word;
-        let mut needed = String::new(self.alloc);
-        for entry in &self.task.own_options(self.alloc)? {
-            if let Takes::Wanted(value) = entry.takes {
-                let long = entry.long;
-                write!(needed, " --{long} {value}")?;
-            }
-        }
+        let (name, needed) = (self.task.word, self.task.needed(self.alloc)?);
         usage!(self.alloc;
             "{word}: write it after an option: goqlanis {name}{needed}; --help lists all"
         )

@@ -57,20 +57,11 @@ pub fn usage_of(alloc: Global, task: &Task) -> Result<String, AllocError> {
         let usage = "goqlanis [OPTIONS] [TEXT]\n       goqlanis <COMMAND> [OPTIONS]";
         return String::from_str(alloc, usage);
     }
-    let mut text = String::new(alloc);
-    for entry in &task.own_options(alloc)? {
-        if let Takes::Wanted(value) = entry.takes {
-            let long = entry.long;
-            if text.is_empty() {
-                write!(text, "goqlanis {name} [OPTIONS]")?;
-            }
-            write!(text, " --{long} <{value}>")?;
-        }
+    let needed = task.needed(alloc)?;
+    if needed.is_empty() {
+        return Ok(needed);
     }
-    if !text.is_empty() {
-        write!(text, "\n       goqlanis {name} --lines [OPTIONS]")?;
-    }
-    Ok(text)
+    format!(in alloc; "goqlanis {name} [OPTIONS]{needed}\n       goqlanis {name} --lines [OPTIONS]")
 }
 
 /// Returns the end of a task's help: for plain codes the list of commands, and examples; for other

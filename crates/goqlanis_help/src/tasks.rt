@@ -4,7 +4,7 @@ use crate::tables::{
     ABOUT, COLOURS, DATA, FILES, LEVELS, LINES, LOOKS, MARKS, MASKS, NORMAL_LEVELS, SEGMENTS,
     TABLES, TEXTS, entries_in,
 };
-use goqlanis_options::options::{Entry, Purpose, entry_of};
+use goqlanis_options::options::{Entry, Purpose, Takes, entry_of};
 use qrcode_payloads::kinds::{Kind, fields_of};
 use std::alloc::{AllocError, Global};
 
@@ -114,13 +114,6 @@ pub(crate) fn tasks() -> &'static [Task] {
     TASKS
 }
 
-/// Returns the names of the commands.
-///
-/// Errors: only `AllocError`.
-pub(crate) fn task_words(alloc: Global) -> Result<Vec<&'static str>, AllocError> {
-    tasks().iter().map(|task| task.word).collect(alloc)
-}
-
 /// Returns the task of a command, by its name or an older one.
 pub fn task_named(word: &str) -> Option<&'static Task> {
     let word = match word {
@@ -150,6 +143,20 @@ impl Task {
             }
             _ => entries_in(alloc, self.own),
         }
+    }
+
+    /// Returns the options that the payload needs, each behind a space and with its value.
+    ///
+    /// Errors: only `AllocError`.
+    pub(crate) fn needed(&self, alloc: Global) -> Result<String, AllocError> {
+        let mut text = String::new(alloc);
+        for entry in &self.own_options(alloc)? {
+            if let Takes::Wanted(value) = entry.takes {
+                let long = entry.long;
+                write!(text, " --{long} <{value}>")?;
+            }
+        }
+        Ok(text)
     }
 
     /// Returns all options of the task.
