@@ -2,18 +2,6 @@
 
 use qrcode_payloads::kinds::Kind;
 
-// A row of an options table: long name, what it takes, and help text.
-macro_rules! entry {
-    ($long:literal, $takes:expr, $help:literal) => {
-        Entry {
-            long: $long,
-            short: None,
-            takes: $takes,
-            help: $help,
-        }
-    };
-}
-
 pub mod fields;
 mod habits;
 mod kinds;

@@ -21,7 +21,7 @@ pub fn entry_of(kind: Kind, field: Field) -> Entry {
     Entry {
         takes,
         help,
-        ..*entry
+        ..entry
     }
 }
 
