@@ -18,11 +18,10 @@ use goqlanis_logos::areas::{area_in, version_for, warn_of_logo};
 use goqlanis_logos::middle::{draw_with_middle, has_pixels};
 use goqlanis_options::asked::{Asked, Target, Work};
 use goqlanis_options::charsets::Coded;
-use goqlanis_options::report::show_report;
+use goqlanis_options::report::{Sizes, show_report, sizes_of};
 use goqlanis_request::{
     Choice, Content, Extent, Request, Segment, drawing_of, manner_of, mask_refusal_text,
-    quiet_zone, refusal_text, scale, symbol_for_application, symbol_in, symbol_of,
-    symbol_of_elements, unwritable,
+    refusal_text, symbol_for_application, symbol_in, symbol_of, symbol_of_elements, unwritable,
 };
 use goqlanis_tables::pages::Pages;
 use qrcode::QrCode;
@@ -142,9 +141,7 @@ pub(crate) fn check_side(
     code: &QrCode,
 ) -> Result<(), Failure> {
     let request = &asked.request;
-    let modules = code.width() as u32 + 2 * quiet_zone(request, code);
-    let scale = scale(request, code);
-    let side = modules.saturating_mul(scale);
+    let Sizes { modules, side, .. } = sizes_of(request, code);
     let row = request.format.row();
     let most = if row.is_whole {
         GREATEST_WHOLE
@@ -154,13 +151,13 @@ pub(crate) fn check_side(
         row.most
     };
     let (option, limit) = match request.extent {
-        Extent::Side(size, _) if scale == 0 => return refused!(alloc;
+        Extent::Side(size, _) if u32::from(size) < modules => return refused!(alloc;
             "a side of {size} pixels is too small: the code and its quiet zone have {modules} \
             modules a side; use --size {modules} or more, or a smaller --quiet-zone"
         ),
         _ if side <= most => return Ok(()),
         Extent::Side(..) => ("size", most),
-        _ => ("scale", most / modules.max(1)),
+        _ => ("scale", (most / modules.max(1)).min(1_000)),
     };
     refused!(alloc;
         "a side of {side} pixels is too large: this format has at most {most}; use --{option} \

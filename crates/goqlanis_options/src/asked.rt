@@ -131,6 +131,13 @@ pub struct Asked<'a, 'w> {
     pub doubts: Doubts<'a>,
 }
 
+impl Asked<'_, '_> {
+    /// Whether it may make several codes.
+    pub fn is_several(&self) -> bool {
+        self.input.lines.is_some() || matches!(self.work, Work::Split(_))
+    }
+}
+
 /// Turns the options in `given` into a request, and warns on standard error of doubtful ones.
 ///
 /// Errors: an unknown format, version, size, colour or place, or an option that the format does not
@@ -170,8 +177,7 @@ pub fn asked_for<'a, 'w>(
 // Checks that what is drawn can go where it is to go: it replaces nothing that is read, and several
 // drawings go to files, can be printed one after another, or are pages of one PDF document.
 fn check_files(rt: &HostRuntime, asked: &Asked<'_, '_>) -> Result<(), Failure> {
-    let is_split = matches!(asked.work, Work::Split(_));
-    if !is_split && asked.input.lines.is_none() {
+    if !asked.is_several() {
         return check_target(rt, asked);
     }
     let is_to_files = asked.is_dry || matches!(asked.target, Target::File(_));

@@ -4,7 +4,7 @@ use crate::asked::{Asked, Report, Target};
 use crate::charsets::{CharsetName, Coded};
 use crate::json::push_file;
 use crate::sizes::pixels_per_inch;
-use crate::warnings::{Decimal, millimetres, warn_of_sizes};
+use crate::warnings::{Decimal, millimetres, warn_of_parts, warn_of_sizes};
 use goqlanis_files::failure::Failure;
 use goqlanis_files::streams::print;
 use goqlanis_request::{Extent, Request, VersionName, dots, quiet_zone, scale};
@@ -26,11 +26,11 @@ macro_rules! push_either {
 }
 
 /// Reports on a code, with the area in its middle and the character set of `--charset`, if
-/// `--verbose`, `--json` or `--dry-run` asks for it; and warns of sizes in any case. Reports go to
-/// standard error; with `--dry-run` to standard output, and with `--json` too if the drawing goes to
-/// a file.
+/// `--verbose`, `--json` or `--dry-run` asks for it; and warns of sizes and colours of parts in any
+/// case. Reports go to standard error; with `--dry-run` to standard output, and with `--json` too if
+/// the drawing goes to a file.
 ///
-/// Errors: those of `print` and `warn_of_sizes`; `OutOfMemory`.
+/// Errors: those of `print`, `warn_of_parts` and `warn_of_sizes`; `OutOfMemory`.
 pub fn show_report(
     rt: &HostRuntime,
     asked: &Asked<'_, '_>,
@@ -39,6 +39,7 @@ pub fn show_report(
     coded: Option<Coded>,
 ) -> Result<(), Failure> {
     let sizes = sizes_of(&asked.request, code);
+    warn_of_parts(rt, asked, code.version())?;
     warn_of_sizes(rt, asked, sizes)?;
     if asked.report == Report::Nothing && !asked.is_dry {
         return Ok(());
@@ -71,15 +72,15 @@ pub struct Sizes {
     pub zone: u32,
     /// Modules a side, with the quiet zone.
     pub modules: u32,
-    /// Pixels a module and a side.
+    /// Pixels a module, at least 1, and a side.
     pub scale: u32,
     pub side: u32,
     /// Pixels per inch, if known.
     pub dots: Option<u32>,
 }
 
-// Returns how large a code is drawn.
-fn sizes_of(request: &Request<'_>, code: &QrCode) -> Sizes {
+/// Returns how large a code is drawn.
+pub fn sizes_of(request: &Request<'_>, code: &QrCode) -> Sizes {
     let zone = quiet_zone(request, code);
     let modules = (code.width() as u32).saturating_add(zone.saturating_mul(2));
     let scale = scale(request, code).max(1);

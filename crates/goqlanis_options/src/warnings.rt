@@ -6,30 +6,36 @@ use crate::report::Sizes;
 use goqlanis_files::doubted;
 use goqlanis_files::failure::{Doubts, Failure};
 use goqlanis_files::streams::shown;
-use goqlanis_request::{Choice, Extent, Grouped, Request};
-use qrcode::types::Color;
+use goqlanis_request::{Choice, Extent, Grouped, Request, VersionName};
+use qrcode::types::{Color, Version};
 use qrcode_contents::fields::errors::Field;
 use qrcode_formats::Format;
 use qrcode_payloads::given::Given;
+use qrcode_sheets::Part;
 use qrcode_sheets::sheet::Ink;
 use std::{fmt, fs};
 
-/// Warns of colours with too little contrast, of UTF-8 text after the ECI of another character set,
-/// of a text that may be meant as a file, of `--micro` with an ECI, of placeholders in a title, and
-/// of a file extension that belongs to another format.
+/// Warns of colours with too little contrast (of one code with coloured parts, `warn_of_parts` does),
+/// of UTF-8 text after the ECI of another character set, of a text that may be meant as a file, of
+/// `--micro` with an ECI, of placeholders in a title, and of a file extension of another format.
 ///
 /// Errors: `Refused` with the first warning if warnings are errors; `OutOfMemory`.
 pub fn warn(rt: &HostRuntime, asked: &Asked<'_, '_>) -> Result<(), Failure> {
     let doubts = asked.doubts;
-    warn_of_colours(rt, doubts, &asked.request)?;
+    if asked.request.parts.is_empty() || asked.is_several() {
+        warn_of_colours(rt, asked, None)?;
+    }
     if let Some(words) = asked.input.segments {
         warn_of_character_set(rt, doubts, words)?;
     }
     if let Source::Text(text) = asked.input.source {
         warn_of_text(rt, asked, text)?;
     }
-    if asked.input.is_eci && begins_with_micro(asked.request.choice) {
-        doubted!(rt, doubts; "Micro QR has no ECI: with --eci, the smallest version is 1")?;
+    let choice = asked.request.choice;
+    if let (true, Choice::From(least) | Choice::Boosted(least)) = (asked.input.is_eci, choice) {
+        if least.is_micro() {
+            doubted!(rt, doubts; "Micro QR has no ECI: with --eci, the smallest version is 1")?;
+        }
     }
     let title = asked.request.frame.title;
     if asked.input.lines.is_some() && title.contains('{') && title.contains('}') {
@@ -44,14 +50,6 @@ pub fn warn(rt: &HostRuntime, asked: &Asked<'_, '_>) -> Result<(), Failure> {
         }
     }
     Ok(())
-}
-
-// Whether Micro QR is tried first.
-fn begins_with_micro(choice: Choice) -> bool {
-    match choice {
-        Choice::From(version) | Choice::Boosted(version) => version.is_micro(),
-        Choice::At(_) => false,
-    }
 }
 
 // Warns of a text that may be meant as standard input or as the name of a file.
@@ -75,16 +73,49 @@ fn warn_of_text(rt: &HostRuntime, asked: &Asked<'_, '_>, text: &str) -> Result<(
     }
 }
 
+/// Warns of colours of parts that a single code lacks, and of contrast between its other colours.
+///
+/// Errors: `Refused` with the first warning if warnings are errors; `OutOfMemory`.
+pub(crate) fn warn_of_parts(
+    rt: &HostRuntime,
+    asked: &Asked<'_, '_>,
+    version: Version,
+) -> Result<(), Failure> {
+    let parts = asked.request.parts;
+    if parts.is_empty() || asked.is_several() {
+        return Ok(());
+    }
+    if !parts.iter().all(|part| has_part(version, part.part)) {
+        let name = VersionName(version);
+        doubted!(rt, asked.doubts;
+            "version {name} lacks a part whose colour is given: alignment patterns are in versions \
+            2 to 40, version information in 7 to 40"
+        )?;
+    }
+    warn_of_colours(rt, asked, Some(version))
+}
+
+// Whether codes of a version have a part.
+fn has_part(version: Version, part: Part) -> bool {
+    match (part, version) {
+        (Part::Alignment, Version::Normal(number)) => number >= 2,
+        (Part::VersionWord, Version::Normal(number)) => number >= 7,
+        (Part::Alignment | Part::VersionWord, Version::Micro(_)) => false,
+        _ => true,
+    }
+}
+
 // Warns of a dark and a light colour that are too close, or else of a colour on the wrong side of
-// the threshold that readers use. With `--invert`, dark modules may all be lighter than the light
-// ones.
+// the threshold that readers use: of those in a code of this version, or of all. With `--invert`,
+// dark modules may all be lighter than the light ones.
 fn warn_of_colours(
     rt: &HostRuntime,
-    doubts: Doubts<'_>,
-    request: &Request<'_>,
+    asked: &Asked<'_, '_>,
+    version: Option<Version>,
 ) -> Result<(), Failure> {
-    let dark = extremes(request, Color::Dark);
-    let light = extremes(request, Color::Light);
+    let (doubts, request) = (asked.doubts, &asked.request);
+    let dark = extremes(request, Color::Dark, version);
+    let light = extremes(request, Color::Light, version);
     let is_swapped = request.is_inverted && !is_brighter(light.0, dark.1);
     let (below, above, dark, light) = if is_swapped {
         (light, dark, dark.0, light.1)
@@ -264,13 +295,14 @@ const CONTRAST: u32 = 102;
 // The darkest and the brightest colour of dark (or of light) modules.
 type Extremes<'a> = (Ink<'a>, Ink<'a>);
 
-fn extremes<'a>(request: &Request<'a>, tone: Color) -> Extremes<'a> {
+fn extremes<'a>(request: &Request<'a>, tone: Color, version: Option<Version>) -> Extremes<'a> {
     let ink = match tone {
         Color::Dark => request.dark,
         Color::Light => request.light,
     };
     let (mut darkest, mut brightest) = (ink, ink);
     let parts = request.parts.iter();
+    let parts = parts.filter(|part| version.is_none_or(|it| has_part(it, part.part)));
     for part in parts.filter(|part| (part.tone == tone) != request.is_inverted) {
         if brightness(part.ink) <= brightness(darkest) {
             darkest = part.ink;
@@ -289,17 +321,11 @@ fn is_brighter(ink: Ink<'_>, other: Ink<'_>) -> bool {
 
 // The brightness of a colour on white, 0 to 255, weighted as in ITU-R BT.601.
 fn brightness(ink: Ink<'_>) -> u32 {
-    let red = on_white(ink.red, ink.opacity).saturating_mul(299);
-    let green = on_white(ink.green, ink.opacity).saturating_mul(587);
-    let blue = on_white(ink.blue, ink.opacity).saturating_mul(114);
-    red.saturating_add(green).saturating_add(blue) / 1000
-}
-
-// The value of one channel on white, 0 to 255.
-fn on_white(part: u8, opacity: u8) -> u32 {
-    let opacity = opacity as u32;
+    let (red, green, blue) = (ink.red as u32, ink.green as u32, ink.blue as u32);
+    let grey = (299 * red + 587 * green + 114 * blue) / 1000;
+    let opacity = ink.opacity as u32;
     let white = 255 * (255 - opacity);
-    (part as u32).saturating_mul(opacity).saturating_add(white) / 255
+    white.saturating_add(grey.saturating_mul(opacity)) / 255
 }
 
 // Whether a path has the file extension of another format. A .txt file may be of any text format.
