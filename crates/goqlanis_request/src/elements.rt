@@ -5,6 +5,7 @@ ghost use Rattle.qrcode_gs1.specs.Items.{item};
 ghost use Rattle.goqlanis_request.specs.Elements.{IsElementsIn, IsElementsRefused, IsApplicationIn, IsApplicationRefused, number_of};
 
 use crate::request::Choice;
+use crate::segments::first_of;
 use qrcode::QrCode;
 use qrcode::types::{EcLevel, QrError, QrResult, Version};
 use qrcode_gs1::elements::Element;
@@ -28,18 +29,12 @@ pub fn symbol_of_elements(
     ensures symbol { IfOk result (IsElementsIn choice level (map item elements.now)) }
     ensures causes { IfErr result (IsElementsRefused choice level (map item elements.now)) }
 {
+    let code = gs1_from(alloc, elements, level, number_of(first_of(choice)))?;
     match choice {
-        Choice::From(from) | Choice::Boosted(from) => {
-            gs1_from(alloc, elements, level, number_of(from))
+        Choice::At(version) if !is_of(&code, version) => {
+            Err(SymbolError::Symbol(QrError::DataTooLong))
         }
-        Choice::At(version) => {
-            let code = gs1_from(alloc, elements, level, number_of(version))?;
-            if is_of(&code, version) {
-                Ok(code)
-            } else {
-                Err(SymbolError::Symbol(QrError::DataTooLong))
-            }
-        }
+        _ => Ok(code),
     }
 }
 
@@ -61,19 +56,11 @@ pub fn symbol_for_application(
     ensures causes { IfErr result
         (IsApplicationRefused choice application level bytes.now) }
 {
+    let from = number_of(first_of(choice));
+    let code = for_application_from(alloc, application, bytes, level, from)?;
     match choice {
-        Choice::From(from) | Choice::Boosted(from) => {
-            for_application_from(alloc, application, bytes, level, number_of(from))
-        }
-        Choice::At(version) => {
-            let from = number_of(version);
-            let code = for_application_from(alloc, application, bytes, level, from)?;
-            if is_of(&code, version) {
-                Ok(code)
-            } else {
-                Err(QrError::DataTooLong)
-            }
-        }
+        Choice::At(version) if !is_of(&code, version) => Err(QrError::DataTooLong),
+        _ => Ok(code),
     }
 }
 

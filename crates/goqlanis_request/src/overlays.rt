@@ -9,14 +9,14 @@ ghost use Rattle.qrcode_sheets.specs.Formats.{takes_overlay};
 ghost use Rattle.qrcode_sheets.specs.Sheets.{overlay_of};
 ghost use Rattle.goqlanis_request.specs.Drawings.{scale_for};
 ghost use Rattle.goqlanis_request.specs.Masks.{LacksMask};
-ghost use Rattle.goqlanis_request.specs.Overlays.{AreBeside, IsCrossSize, IsCrossWidth, IsShownWith, LacksRoom, cross_for, cross_shade, cross_text, is_black_unit, is_in_bar, lies_between, overlay_for, overlay_with, svg_element, window_of};
+ghost use Rattle.goqlanis_request.specs.Overlays.{IsCrossSize, IsCrossWidth, IsShownWith, LacksRoom, cross_for, cross_shade, cross_text, is_black_unit, is_in_bar, lies_between, overlay_for, overlay_with, svg_element, window_of};
 
 use crate::drawing::{drawn, quiet_zone, scale, unit};
 use crate::masking::modules_under;
 use crate::places::place_in;
 use crate::request::Request;
 use qrcode::QrCode;
-use qrcode::types::{Color, QrResult};
+use qrcode::types::QrResult;
 use qrcode_area::areas::{Area, Rectangle};
 use qrcode_area::covered::lightened;
 use qrcode_formats::{Format, Middle};
@@ -47,12 +47,7 @@ pub fn cross_width(request: &Request<'_>, code: &QrCode) -> u32
 fn svg_element(alloc: Global, place: Place, rest: &str) -> Result<String, AllocError>
     ensures { IfOk result (λ text. string_bytes text ≡ svg_element place rest.now) }
 {
-    let Place {
-        left,
-        top,
-        width,
-        height,
-    } = place;
+    let (left, top, width, height) = (place.left, place.top, place.width, place.height);
     format!(in alloc; "<svg x=\"{left}\" y=\"{top}\" width=\"{width}\" height=\"{height}\"{rest}")
 }
 
@@ -185,7 +180,10 @@ pub fn with_logo(
     let Some(text) = element(alloc, request, code, area, inside)? else {
         return Ok(None);
     };
-    let light = modules_beside(alloc, request, code, area)?;
+    let _width = code.width();
+    let modules = modules_under(alloc, code, request.mask)?;
+    let rectangles = [area];
+    let light = lightened(alloc, code.version(), &modules, &Area::of(&rectangles))?;
     let over = overlay_in(area, inside, &text);
     let bytes = drawn(alloc, request, code, &light, over)?;
     Ok(Some(bytes))
@@ -246,25 +244,4 @@ fn element(
         }
         _ => Ok(None),
     }
-}
-
-// Returns the modules of `code` under the requested mask, with those of `area` light.
-//
-// Errors: `InvalidVersion` if the version of `code` lacks that mask; `OutOfMemory` if memory runs
-// out.
-fn modules_beside(
-    alloc: Global,
-    request: &Request<'_>,
-    code: &QrCode,
-    area: Rectangle,
-) -> QrResult<Vec<Color>>
-    ensures beside { IfOk result (λ light. AreBeside request.now code.now area light.items) }
-    ensures square { IfOk result (λ light. length light.items ≡ length code.now.modules) }
-    ensures causes { IfErr result (λ e. (e ≡ OutOfMemory)
-        ⊎ ((e ≡ InvalidVersion) × LacksMask request.now.mask code.now.version)) }
-{
-    let _width = code.width();
-    let modules = modules_under(alloc, code, request.mask)?;
-    let rectangles = [area];
-    Ok(lightened(alloc, code.version(), &modules, &Area::of(&rectangles))?)
 }

@@ -41,36 +41,6 @@ impl Span {
     }
 }
 
-// Sums over pixels, by their parts: of the opacity, and of red, green and blue by opacity.
-#[derive(Clone, Copy)]
-struct Sums {
-    parts: u64,
-    opacity: u64,
-    levels: [u64; 3],
-}
-
-impl Sums {
-    fn add(&mut self, parts: u64, shade: [u8; 4]) {
-        let share = parts.saturating_mul(shade[3] as u64);
-        for i in 0..3usize {
-            let more = share.saturating_mul(shade[i] as u64);
-            self.levels[i] = self.levels[i].saturating_add(more);
-        }
-        self.parts = self.parts.saturating_add(parts);
-        self.opacity = self.opacity.saturating_add(share);
-    }
-
-    fn shade(&self) -> [u8; 4] {
-        let [red, green, blue] = self.levels;
-        [
-            mean(red, self.opacity),
-            mean(green, self.opacity),
-            mean(blue, self.opacity),
-            mean(self.opacity, self.parts),
-        ]
-    }
-}
-
 // Divides a sum of levels, rounded to the nearest.
 fn mean(sum: u64, parts: u64) -> u8 {
     let level = sum.saturating_add(parts / 2).checked_div(parts);
@@ -104,21 +74,30 @@ pub fn shrunk(alloc: Global, picture: Inset<'_>) -> Result<Option<Vec<[u8; 4]>>,
     Ok(Some(shades))
 }
 
-// Returns the mean of what a pixel covers: these columns and rows of the picture.
+// Returns the mean of what a pixel covers, these columns and rows of the picture: the levels are
+// weighted by opacity, and the opacity by area.
 fn shade_of(picture: Inset<'_>, columns: Span, rows: Span) -> [u8; 4] {
-    let mut sums = Sums {
-        parts: 0,
-        opacity: 0,
-        levels: [0; 3],
-    };
+    let (mut levels, mut opacity) = ([0u64; 3], 0u64);
     for row in rows.pixels() {
         let first = row.saturating_mul(picture.across as u64);
         for column in columns.pixels() {
             if let Some(shade) = picture.pixels.get(first.saturating_add(column) as usize) {
                 let parts = rows.parts_of(row).saturating_mul(columns.parts_of(column));
-                sums.add(parts, *shade);
+                let share = parts.saturating_mul(shade[3] as u64);
+                for i in 0..3usize {
+                    let level = share.saturating_mul(shade[i] as u64);
+                    levels[i] = levels[i].saturating_add(level);
+                }
+                opacity = opacity.saturating_add(share);
             }
         }
     }
-    sums.shade()
+    let [red, green, blue] = levels;
+    let parts = (picture.across as u64).saturating_mul(picture.down as u64);
+    [
+        mean(red, opacity),
+        mean(green, opacity),
+        mean(blue, opacity),
+        mean(opacity, parts),
+    ]
 }
