@@ -1,8 +1,9 @@
 -- Segments in order: why they cannot be appended, and the symbol of their bits.
 use Rattle.std.specs.Prelude.{◌≡◌, List, Result, Ok, Err, IfOk, flat_map}
 use Rattle.std.specs.List.{AllByRecursion}
+use Rattle.std.proofs.lemmas.List.{append-nil, drop_all}
 use Rattle.std.specs.Option.{option_or}
-use Rattle.std.proofs.Common.{ℕ, suc, ◌+◌, ◌<◌, [], ◌∷◌, ◌++◌, length, get_or, drop, Option, Some, None, refl, subst, sym, ap, ap₂, ◌∙◌, ◌⊎◌, inl, inr, arith, append_assoc, drop-cons, length-append}
+use Rattle.std.proofs.Common.{ℕ, suc, ◌+◌, ◌<◌, ◌≤◌, [], ◌∷◌, ◌++◌, length, get_or, drop, Option, Some, None, refl, subst, sym, ap, ap₂, ◌∙◌, ◌⊎◌, inl, inr, arith, append_assoc, drop-cons, length-append}
 use Rattle.qrcode_types.specs.declared.types.EcLevel.{EcLevel}
 use Rattle.qrcode_types.specs.declared.types.QrError.{QrError}
 use Rattle.qrcode_types.specs.declared.types.QrError.TheVariants.{OutOfMemory}
@@ -39,12 +40,16 @@ module _ (v : Version) (all : List Segment) (i : ℕ) (d : Segment) (old : BitLi
       subst (LeavesRest v all old) (drop-cons all i d inside ∙ ap (λ n. get_or all i d ∷ drop n all) same) before
 
   -- the cause for all is that for the next segment, or else for the rest
-  pub next : (r : Option QrError) → segment_refusal old.version (length old.bits) (get_or all i d) ≡ r
+  next : (r : Option QrError) → segment_refusal old.version (length old.bits) (get_or all i d) ≡ r
       → segments_refusal v 0 all ≡ option_or r (segments_refusal v (length old.bits + length (segment_bits v (get_or all i d))) (drop (i + 1) all))
   next r is =
       here.1.0
       ∙ ap (λ o. option_or o (segments_refusal v (length old.bits + length (segment_bits v (get_or all i d))) (drop (i + 1) all)))
       (ap (λ w. segment_refusal w (length old.bits) (get_or all i d)) (sym before.0) ∙ is)
+
+  -- if the next segment fails, that is the cause
+  pub fails : (l : EcLevel) (e : QrError) → segment_refusal old.version (length old.bits) (get_or all i d) ≡ Some e → refusal_in v l all ≡ Some e
+  fails l e is = ap (λ first. option_or first (terminator_refusal v l (length (written_segments v all)))) (next (Some e) is)
 
   -- one more segment is written
   pub pushed : (new : BitList) → new ≡ with_bits old (segment_bits old.version (get_or all i d)) → segment_refusal old.version (length old.bits) (get_or all i d) ≡ None
@@ -59,20 +64,20 @@ module _ (v : Version) (all : List Segment) (i : ℕ) (d : Segment) (old : BitLi
         ),
       )
 
--- the bits of all segments, behind the list `start`, which is empty
-module _ (v : Version) (l : EcLevel) (segments : List Segment) (start list : BitList) (empty : start ≡ record { version = v; bits = [] })
-    (kept : list.version ≡ start.version) (written_as : list.bits ≡ written_segments start.version segments) where
-  same : list.version ≡ v
-  same = kept ∙ ap (λ (b : BitList). b.version) empty
+-- behind the last segment nothing is left
+pub ended : (v : Version) (all : List Segment) (i : ℕ) (list : BitList) → length all ≤ i → LeavesRest v all list (drop i all) → LeavesRest v all list []
+ended v all i list end left = subst (LeavesRest v all list) (drop_all i all end) left
 
+-- a list with the bits of all segments, none of which fails
+module _ (v : Version) (l : EcLevel) (segments : List Segment) (list : BitList) (left : LeavesRest v segments list []) where
   bits : list.bits ≡ written_segments v segments
-  bits = written_as ∙ ap (λ (b : BitList). written_segments b.version segments) empty
+  bits = sym (left.1.1 ∙ append-nil list.bits)
 
-  -- if no segment fails, the cause for the terminator is the cause
-  pub at_end : (r : Option QrError) → segments_refusal start.version 0 segments ≡ None → terminator_refusal list.version l (length list.bits) ≡ r → refusal_in v l segments ≡ r
-  at_end r taken ended =
-      ap (λ first. option_or first (terminator_refusal v l (length (written_segments v segments)))) (sym (ap (λ (b : BitList). segments_refusal b.version 0 segments) empty) ∙ taken)
-      ∙ ap₂ (λ w n. terminator_refusal w l n) (sym same) (ap length (sym bits))
+  -- the cause for the terminator is the cause
+  pub at_end : (r : Option QrError) → terminator_refusal list.version l (length list.bits) ≡ r → refusal_in v l segments ≡ r
+  at_end r ended =
+      ap (λ first. option_or first (terminator_refusal v l (length (written_segments v segments)))) left.1.0
+      ∙ ap₂ (λ w n. terminator_refusal w l n) (sym left.0) (ap length (sym bits))
       ∙ ended
 
   -- a symbol of the terminated bits is the symbol of the segments
@@ -84,11 +89,11 @@ module _ (v : Version) (l : EcLevel) (segments : List Segment) (start list : Bit
   symbol_of_segments b (Ok code) is version level encodes spelled =
       let here : code.version ≡ list.version = version ∙ ap (λ (x : BitList). x.version) is in
       let all : Version → BitList = λ u. record { version = u; bits = terminated u l (written_segments u segments) } in
-      let whole : b ≡ all code.version = is ∙ ap₂ (λ u t. record { version = u; bits = terminated u l t }) same bits ∙ ap all (sym (here ∙ same)) in
+      let whole : b ≡ all code.version = is ∙ ap₂ (λ u t. record { version = u; bits = terminated u l t }) left.0 bits ∙ ap all (sym (here ∙ left.0)) in
       record {
         level = level;
         encodes = subst (λ (x : BitList). EncodesBits x.version l x.bits code.modules) whole encodes;
         spelled = λ pieces readable told.
             subst (λ (x : BitList). SpellsOnly x.version x.bits (flat_map (λ p. p.chunk) pieces)) whole (spelled pieces (subst (λ u. AllByRecursion (IsReadBack u) pieces) here readable)
-            (bits ∙ ap (λ u. written_segments u segments) (sym (here ∙ same)) ∙ told ∙ ap (λ u. written u pieces) here));
+            (bits ∙ ap (λ u. written_segments u segments) (sym (here ∙ left.0)) ∙ told ∙ ap (λ u. written u pieces) here));
       }

@@ -1,11 +1,11 @@
 //! Makes symbols of segments that the user chose.
 
-ghost use Rattle.std.specs.Prelude.{◌≡◌, ◌⊎◌, Some, None, [], length, IsTrue, IfOk, IfErr, OnOk};
+ghost use Rattle.std.specs.Prelude.{◌≡◌, ◌⊎◌, Some, None, length, IsTrue, IfOk, IfErr, OnOk};
 ghost use Rattle.std.specs.List.{position_from};
 ghost use Rattle.qrcode_types.specs.Versions.{is_valid};
 ghost use Rattle.qrcode_types.specs.declared.types.QrError.TheVariants.{OutOfMemory};
 ghost use Rattle.qrcode_bits.specs.Pushes.{Appends, PushesPiece};
-ghost use Rattle.goqlanis_request.specs.Segments.{first_of, is_unwritable, last_of, refusal_in, segment_bits, segment_refusal, segments_refusal, written_segments, AreRefused, IsLeastHeld, IsSymbolOfSegments};
+ghost use Rattle.goqlanis_request.specs.Segments.{first_of, is_unwritable, last_of, refusal_in, segment_bits, segment_refusal, AreRefused, IsLeastHeld, IsSymbolOfSegments};
 
 use crate::request::Choice;
 use qrcode::QrCode;
@@ -113,25 +113,11 @@ fn in_version(
         ⊎ (refusal_in version level segments.now ≡ Some e)) }
 {
     let mut bits = Bits::new(alloc, version);
-    push_all(&mut bits, segments)?;
+    for segment in segments {
+        push(&mut bits, segment)?;
+    }
     bits.push_terminator(level)?;
     QrCode::with_bits(alloc, bits, level)
-}
-
-// Appends all segments to an empty list of bits.
-fn push_all(bits: &mut Bits, segments: &[Segment<'_>]) -> QrResult<()>
-    requires empty { bits.old.bits ≡ [] }
-    ensures version { bits.new.version ≡ bits.old.version }
-    ensures written { OnOk result
-        (bits.new.bits ≡ written_segments bits.old.version segments.now) }
-    ensures taken { OnOk result (segments_refusal bits.old.version 0 segments.now ≡ None) }
-    ensures causes { IfErr result (λ e. (e ≡ OutOfMemory)
-        ⊎ (segments_refusal bits.old.version 0 segments.now ≡ Some e)) }
-{
-    for segment in segments {
-        push(bits, segment)?;
-    }
-    Ok(())
 }
 
 // Appends a segment, unless it is empty.
