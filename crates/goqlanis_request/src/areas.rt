@@ -167,30 +167,16 @@ pub fn roomier(
     ensures none { IfOk result (λ found. IfNone found
         (NoHigher version ec_level wish 4 × NoLarger version ec_level wish 41)) }
 {
-    if let Some(level) = higher_level(alloc, version, ec_level, wish)? {
-        return Ok(Some((version, level)));
-    }
-    match larger_version(alloc, version, ec_level, wish)? {
-        Some(larger) => Ok(Some((larger, ec_level))),
-        None => Ok(None),
-    }
-}
-
-// The lowest level above `ec_level` at which `version` has such an area.
-fn higher_level(
-    alloc: Global,
-    version: Version,
-    ec_level: EcLevel,
-    wish: LogoWish,
-) -> Result<Option<EcLevel>, AllocError>
-    ensures some { IfOk result (λ found. IfSome found (IsLowest version ec_level wish)) }
-    ensures none { IfOk result (λ found. IfNone found (NoHigher version ec_level wish 4)) }
-{
-    let first = ec_level.number() + 1;
-    for number in first..4 {
+    for number in ec_level.number() + 1..4 {
         let level = level_of(number);
         if has_area(alloc, version, level, wish)? {
-            return Ok(Some(level));
+            return Ok(Some((version, level)));
+        }
+    }
+    for number in number_of(version) + 1..41 {
+        let larger = Version::Normal(number as i16);
+        if has_area(alloc, larger, ec_level, wish)? {
+            return Ok(Some((larger, ec_level)));
         }
     }
     Ok(None)
@@ -207,26 +193,6 @@ fn level_of(number: usize) -> EcLevel
         2 => EcLevel::Q,
         _ => EcLevel::H,
     }
-}
-
-// The smallest Normal version larger than `version` that has such an area at `ec_level`.
-fn larger_version(
-    alloc: Global,
-    version: Version,
-    ec_level: EcLevel,
-    wish: LogoWish,
-) -> Result<Option<Version>, AllocError>
-    ensures some { IfOk result (λ found. IfSome found (IsSmallest version ec_level wish)) }
-    ensures none { IfOk result (λ found. IfNone found (NoLarger version ec_level wish 41)) }
-{
-    let first = number_of(version) + 1;
-    for number in first..41 {
-        let larger = Version::Normal(number as i16);
-        if has_area(alloc, larger, ec_level, wish)? {
-            return Ok(Some(larger));
-        }
-    }
-    Ok(None)
 }
 
 // Whether `version` has the level, and symbols of both have such an area.
