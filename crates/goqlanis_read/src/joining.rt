@@ -1,5 +1,6 @@
 //! `goqlanis join`: joins the data of the codes that `split` made.
 
+use crate::Done;
 use crate::checking::numbers;
 use crate::pictures::Found;
 use goqlanis_files::failure::Failure;
@@ -15,7 +16,7 @@ use std::process::ExitCode;
 
 /// Decodes the codes of a split and writes their joined data. A single code may lack the structured
 /// append header, as `split` makes it.
-pub fn join_pictures(rt: &HostRuntime, pictures: &Pictures<'_, '_>) -> Result<ExitCode, Failure> {
+pub fn join_pictures(rt: &HostRuntime, pictures: &Pictures<'_, '_>) -> Done<ExitCode> {
     let names = pictures.names.unwrap_or(STANDARD_INPUT);
     let output = pictures.output;
     let mut sources = Vec::new(rt.alloc());
@@ -35,7 +36,7 @@ pub fn join_pictures(rt: &HostRuntime, pictures: &Pictures<'_, '_>) -> Result<Ex
 }
 
 // Joins the data of codes, found in pictures of these names, in the order of their headers.
-fn join_scans(alloc: Global, names: &[&str], scans: &[Scan]) -> Result<Vec<u8>, Failure> {
+fn join_scans(alloc: Global, names: &[&str], scans: &[Scan]) -> Done<Vec<u8>> {
     let mut parts = Vec::with_capacity(alloc, scans.len())?;
     for (name, scan) in names.iter().zip(scans) {
         let Some(part) = part_of(scan) else {
@@ -45,7 +46,24 @@ fn join_scans(alloc: Global, names: &[&str], scans: &[Scan]) -> Result<Vec<u8>, 
     }
     match join(alloc, &parts) {
         Ok(data) => Ok(data),
-        Err(error) => not_joined(alloc, names, &parts, error),
+        Err(JoinError::OutOfMemory) => Err(Failure::OutOfMemory),
+        Err(JoinError::Stranger(index)) => {
+            let first = names.first().unwrap_or(&"");
+            let name = names.get(index).unwrap_or(&"");
+            refused!(alloc; "{name}: it belongs to other data than {first}")
+        }
+        Err(JoinError::Missing(_)) => {
+            let missing = missing_places(alloc, &parts)?;
+            refused!(alloc; "missing parts: {missing}; name the pictures of all parts")
+        }
+        Err(JoinError::Twice(place)) => {
+            let number = place.saturating_add(1);
+            let both = names_at(alloc, names, &parts, place)?;
+            refused!(alloc; "part {number} is there twice:{both}; leave one out")
+        }
+        Err(JoinError::Parity) => refused!(alloc;
+            "the pictures do not belong to the same data: their parity differs"
+        ),
     }
 }
 
@@ -66,35 +84,6 @@ fn part_of(scan: &Scan) -> Option<Part<'_>> {
         }),
         _ => None,
     })
-}
-
-// Fails: parts, found in pictures of these names, cannot be joined.
-fn not_joined(
-    alloc: Global,
-    names: &[&str],
-    parts: &[Part<'_>],
-    error: JoinError,
-) -> Result<Vec<u8>, Failure> {
-    match error {
-        JoinError::OutOfMemory => Err(Failure::OutOfMemory),
-        JoinError::Stranger(index) => {
-            let first = names.first().unwrap_or(&"");
-            let name = names.get(index).unwrap_or(&"");
-            refused!(alloc; "{name}: it belongs to other data than {first}")
-        }
-        JoinError::Missing(_) => {
-            let missing = missing_places(alloc, parts)?;
-            refused!(alloc; "missing parts: {missing}; name the pictures of all parts")
-        }
-        JoinError::Twice(place) => {
-            let number = place.saturating_add(1);
-            let both = names_at(alloc, names, parts, place)?;
-            refused!(alloc; "part {number} is there twice:{both}; leave one out")
-        }
-        JoinError::Parity => refused!(alloc;
-            "the pictures do not belong to the same data: their parity differs"
-        ),
-    }
 }
 
 // Lists the pictures that show the part at `place`, each after a space.

@@ -1,5 +1,6 @@
 //! Finds the codes in the pictures of files.
 
+use crate::Done;
 use goqlanis_files::failure::{Failure, WARNINGS, warn_of_more};
 use goqlanis_files::streams::{MOST_PICTURE, read_file, read_standard_input, shown};
 use goqlanis_files::{refused, warning};
@@ -37,7 +38,7 @@ impl Found {
     /// Appends what is found in the pictures in the file at `path`, or in standard input for `-`.
     /// Of several pictures, one that cannot be read is reported. Returns whether all are read and,
     /// if codes are checked, all codes decoded.
-    pub(crate) fn push_file(&mut self, rt: &HostRuntime, path: &str) -> Result<bool, Failure> {
+    pub(crate) fn push_file(&mut self, rt: &HostRuntime, path: &str) -> Done<bool> {
         let (name, bytes) = picture_of(rt, path)?;
         let pictures = pictures_in(rt, name, &bytes)?;
         let (count, mut is_whole) = (pictures.len(), true);
@@ -56,12 +57,7 @@ impl Found {
 
     // Appends what is found in a picture that messages call `name`. Warns of codes that are found
     // but not decoded.
-    fn push_picture(
-        &mut self,
-        rt: &HostRuntime,
-        name: &str,
-        picture: &[u8],
-    ) -> Result<bool, Failure> {
+    fn push_picture(&mut self, rt: &HostRuntime, name: &str, picture: &[u8]) -> Done<bool> {
         let found = codes_in(rt.alloc(), name, picture, self.is_checked)?;
         let (checks, codes) = (found.checks, found.codes);
         if codes.has_faults {
@@ -82,12 +78,7 @@ impl Found {
 }
 
 // Decodes the codes in a picture that messages call `name`, and checks them if `is_checked`.
-fn codes_in(
-    alloc: Global,
-    name: &str,
-    picture: &[u8],
-    is_checked: bool,
-) -> Result<Checks, Failure> {
+fn codes_in(alloc: Global, name: &str, picture: &[u8], is_checked: bool) -> Done<Checks> {
     let what = if is_checked { "check" } else { "read" };
     let found = if is_checked {
         check_codes(alloc, picture)
@@ -104,7 +95,7 @@ fn codes_in(
 
 // Reads the bytes of pictures from the file at `path`, or from standard input for `-`; returns them
 // with the name that messages use.
-fn picture_of<'a>(rt: &HostRuntime, path: &'a str) -> Result<(&'a str, Vec<u8>), Failure> {
+fn picture_of<'a>(rt: &HostRuntime, path: &'a str) -> Done<(&'a str, Vec<u8>)> {
     let (name, bytes) = if path == "-" {
         let bytes = read_standard_input(rt, "a picture", MOST_PICTURE)?;
         ("standard input", bytes)
@@ -121,7 +112,7 @@ fn picture_of<'a>(rt: &HostRuntime, path: &'a str) -> Result<(&'a str, Vec<u8>),
 // after another, as netpbm defines them; others have one. Warns of what follows the last.
 //
 // Errors: `Refused` if a binary PBM picture has too many pixels; `OutOfMemory`.
-fn pictures_in<'a>(rt: &HostRuntime, name: &str, file: &'a [u8]) -> Result<Vec<&'a [u8]>, Failure> {
+fn pictures_in<'a>(rt: &HostRuntime, name: &str, file: &'a [u8]) -> Done<Vec<&'a [u8]>> {
     let mut pictures = Vec::new(rt.alloc());
     let mut rest = file;
     for _ in 0..file.len() {
@@ -167,11 +158,7 @@ fn warn_of_missed(rt: &HostRuntime, codes: &Codes) -> bool {
 
 /// Reports a refusal on standard error if it is of one of several pictures; returns whether there
 /// is none, and everything went well.
-pub(crate) fn reported(
-    rt: &HostRuntime,
-    is_many: bool,
-    done: Result<bool, Failure>,
-) -> Result<bool, Failure> {
+pub(crate) fn reported(rt: &HostRuntime, is_many: bool, done: Done<bool>) -> Done<bool> {
     match done {
         Err(Failure::Refused(why)) if is_many => {
             let why = shown(why.as_str());

@@ -1,8 +1,8 @@
 //! `goqlanis read` and `check`: reports on the codes in pictures.
 
+use crate::Done;
 use crate::pictures::{Found, reported};
 use crate::reports::{other_set, report};
-use goqlanis_files::failure::Failure;
 use goqlanis_files::streams::{shown, write_data};
 use goqlanis_files::warning;
 use goqlanis_options::asked::Report;
@@ -13,22 +13,18 @@ use std::process::ExitCode;
 
 /// Decodes pictures, and writes the data of their codes. Of several pictures, one that cannot be
 /// read is reported, and the status is then 1.
-pub fn read(rt: &HostRuntime, pictures: &Pictures<'_, '_>) -> Result<ExitCode, Failure> {
+pub fn read(rt: &HostRuntime, pictures: &Pictures<'_, '_>) -> Done<ExitCode> {
     write_found(rt, pictures, false)
 }
 
 /// Checks the codes in pictures and prints a report. The status is 1 if a code departs from the
 /// standard or is not decoded, or if one of several pictures cannot be read.
-pub fn check(rt: &HostRuntime, pictures: &Pictures<'_, '_>) -> Result<ExitCode, Failure> {
+pub fn check(rt: &HostRuntime, pictures: &Pictures<'_, '_>) -> Done<ExitCode> {
     write_found(rt, pictures, true)
 }
 
 // Writes what is decoded in pictures, or the reports on their codes if they are checked.
-fn write_found(
-    rt: &HostRuntime,
-    pictures: &Pictures<'_, '_>,
-    is_checked: bool,
-) -> Result<ExitCode, Failure> {
+fn write_found(rt: &HostRuntime, pictures: &Pictures<'_, '_>, is_checked: bool) -> Done<ExitCode> {
     let is_json = pictures.report == Report::Json;
     let mut is_whole = true;
     let mut data = Vec::new(rt.alloc());
@@ -52,7 +48,7 @@ fn push_found(
     name: &str,
     is_checked: bool,
     data: &mut Vec<u8>,
-) -> Result<bool, Failure> {
+) -> Done<bool> {
     let file = if pictures.is_many { name } else { "" };
     let is_json = pictures.report == Report::Json;
     let mut found = Found::nothing(rt.alloc(), is_checked);
@@ -75,7 +71,7 @@ fn push_found(
 }
 
 // Warns of data that may be wrong, or is in a character set that is not known here.
-fn warn_of_data(rt: &HostRuntime, scan: &Scan) -> Result<(), Failure> {
+fn warn_of_data(rt: &HostRuntime, scan: &Scan) -> Done<()> {
     let read = &scan.any.reading;
     if read.version == Version::Micro(1) && !read.wrong.is_empty() {
         warning!(rt;
@@ -91,7 +87,7 @@ fn warn_of_data(rt: &HostRuntime, scan: &Scan) -> Result<(), Failure> {
 }
 
 // Appends the data of a code: its text if a header names a set of ISO/IEC 8859, else its bytes.
-fn push_data(data: &mut Vec<u8>, scan: &Scan) -> Result<(), Failure> {
+fn push_data(data: &mut Vec<u8>, scan: &Scan) -> Done<()> {
     let bytes = &scan.any.reading.data;
     if other_set(&scan.parts).is_some() {
         if let Some(text) = shown_text(*data.allocator(), bytes, &scan.parts)? {
@@ -103,7 +99,7 @@ fn push_data(data: &mut Vec<u8>, scan: &Scan) -> Result<(), Failure> {
 
 // Appends the data of a picture's only code; of several codes, or after the name of the file, each
 // on a line.
-fn push_all(data: &mut Vec<u8>, scans: &[Scan], file: &str) -> Result<(), Failure> {
+fn push_all(data: &mut Vec<u8>, scans: &[Scan], file: &str) -> Done<()> {
     if let ([only], "") = (scans, file) {
         return push_data(data, only);
     }
