@@ -1,8 +1,8 @@
 //! Checks the columns of a table (`--lines`) before its lines are encoded.
 
+use crate::Done;
 use crate::columns::{Columns, field_called, identifier_in, is_identifier};
 use crate::tables::Table;
-use goqlanis_files::failure::{Doubts, Failure};
 use goqlanis_files::streams::shown;
 use goqlanis_files::{doubted, usage};
 use goqlanis_options::asked::{Asked, Target, Work};
@@ -14,15 +14,12 @@ use qrcode_payloads::given::Given;
 use qrcode_payloads::kinds::{Kind, fields_of};
 use std::alloc::{AllocError, Global};
 
-/// Warns of columns that are neither encoded nor part of a file name, and of options that they make
-/// void; refuses payloads without names of columns, and tables in which something is surely missing.
+/// Warns of columns that are neither encoded nor part of a file name, of options that they make
+/// void, and of a `--field` that is the name of one column and the number of another; refuses
+/// payloads without names of columns, and tables in which something is surely missing.
 ///
 /// Errors: `Usage`; a warning if warnings are errors; `OutOfMemory`.
-pub fn check_columns(
-    rt: &HostRuntime,
-    asked: &Asked<'_, '_>,
-    table: &Table<'_>,
-) -> Result<(), Failure> {
+pub fn check_columns(rt: &HostRuntime, asked: &Asked<'_, '_>, table: &Table<'_>) -> Done<()> {
     let columns = &table.columns;
     match asked.work {
         Work::Payload(fields) => check_payload(rt, fields, asked, table)?,
@@ -34,7 +31,14 @@ pub fn check_columns(
             "lines are encoded whole, with all columns; for one of them, add --field"
         )?;
     }
-    check_number(rt, asked.doubts, table)?;
+    if let (Some(name), Some(number)) = (table.lines.field, table.field) {
+        let count = name.parse::<usize>().unwrap_or(0);
+        if count > 0 && count != number && count <= columns.names.len() {
+            doubted!(rt, asked.doubts;
+                "--field {name}: this is column {number}, which has that name, not column {count}"
+            )?;
+        }
+    }
     for (place, name) in columns.names.iter().enumerate() {
         let number = place.saturating_add(1);
         let is_named = is_in_path(rt.alloc(), asked.target, name.as_str())?;
@@ -52,27 +56,14 @@ pub fn check_columns(
     Ok(())
 }
 
-// Warns if `--field` is the name of a column and also the number of another one.
-fn check_number(rt: &HostRuntime, doubts: Doubts<'_>, table: &Table<'_>) -> Result<(), Failure> {
-    let (Some(name), Some(number)) = (table.lines.field, table.field) else {
-        return Ok(());
-    };
-    let count = name.parse::<usize>().unwrap_or(0);
-    if count > 0 && count != number && count <= table.columns.names.len() {
-        doubted!(rt, doubts;
-            "--field {name}: this is column {number}, which has that name, not column {count}"
-        )?;
-    }
-    Ok(())
-}
-
-// Checks the columns of a table of payloads.
+// Checks the columns of a table of payloads. Warns of options that a column makes void, or that
+// have placeholders.
 fn check_payload(
     rt: &HostRuntime,
     fields: Fields<'_, '_>,
     asked: &Asked<'_, '_>,
     table: &Table<'_>,
-) -> Result<(), Failure> {
+) -> Done<()> {
     let columns = &table.columns;
     if columns.names.is_empty() && !table.lines.has_header {
         return usage!(rt.alloc();
@@ -92,16 +83,6 @@ fn check_payload(
     if table.lines.field.is_some() {
         return usage!(rt.alloc(); "--field: a payload takes all its columns; leave it out");
     }
-    check_options(rt, fields, asked, columns)
-}
-
-// Warns of options of a payload that a column makes void, or that have placeholders.
-fn check_options(
-    rt: &HostRuntime,
-    fields: Fields<'_, '_>,
-    asked: &Asked<'_, '_>,
-    columns: &Columns,
-) -> Result<(), Failure> {
     for field in fields_of(fields.kind) {
         let (name, text) = (option_of(*field).long, fields.text(*field));
         // (A flag has a text in any case.)
@@ -118,7 +99,7 @@ fn check_options(
 }
 
 // Refuses a table of GS1 data in which no column is named by an application identifier.
-fn check_identifiers(alloc: Global, columns: &Columns) -> Result<(), Failure> {
+fn check_identifiers(alloc: Global, columns: &Columns) -> Done<()> {
     let mut names = columns.names.iter();
     if !columns.names.is_empty() && !names.any(|name| is_identifier(identifier_in(name.as_str()))) {
         return usage!(alloc;
@@ -129,12 +110,7 @@ fn check_identifiers(alloc: Global, columns: &Columns) -> Result<(), Failure> {
 }
 
 // Refuses a column that seems to be a misspelt field, which would be lost.
-fn check_spelling(
-    alloc: Global,
-    kind: Kind,
-    target: Target<'_>,
-    columns: &Columns,
-) -> Result<(), Failure> {
+fn check_spelling(alloc: Global, kind: Kind, target: Target<'_>, columns: &Columns) -> Done<()> {
     let fields = fields_of(kind).iter();
     let known = fields
         .map(|field| option_of(*field).long)

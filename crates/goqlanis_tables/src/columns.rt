@@ -1,7 +1,7 @@
 //! The names of columns.
 
+use crate::Done;
 use crate::fields::{fields_of, not_closed};
-use goqlanis_files::failure::Failure;
 use goqlanis_options::options::fields::option_of;
 use goqlanis_options::options::{OTHER_NAMES, Purpose, counts};
 use qrcode_contents::fields::errors::Field;
@@ -29,19 +29,12 @@ impl Columns {
     /// Reads the names in a line, for codes of text or of this kind of payload.
     ///
     /// Errors: `Refused` if a quotation mark is not closed; `OutOfMemory`.
-    pub fn read(
-        alloc: Global,
-        kind: Option<Kind>,
-        line: &str,
-        delimiter: &str,
-    ) -> Result<Columns, Failure> {
+    pub fn read(alloc: Global, kind: Option<Kind>, line: &str, delimiter: &str) -> Done<Columns> {
         let Some(names) = fields_of(alloc, line, delimiter)? else {
             return not_closed(alloc);
         };
-        let mut columns = Columns {
-            names,
-            fields: Vec::new(alloc),
-        };
+        let mut columns = Columns::none(alloc);
+        columns.names = names;
         if let Some(kind) = kind {
             columns.find_fields(kind)?;
         }

@@ -2,7 +2,7 @@
 
 ghost use Rattle.std.specs.Prelude.{IsErr};
 
-use goqlanis_files::failure::Failure;
+use crate::Done;
 use goqlanis_files::refused;
 use std::alloc::{AllocError, Global};
 
@@ -42,7 +42,7 @@ impl<'a> Line<'a> {
     /// Returns its fields.
     ///
     /// Errors: `Refused` if a quotation mark is not closed; `OutOfMemory`.
-    pub fn fields(&self, alloc: Global) -> Result<&[String], Failure> {
+    pub fn fields(&self, alloc: Global) -> Done<&[String]> {
         match &self.fields {
             Some(fields) => Ok(fields.as_slice()),
             None => not_closed(alloc),
@@ -52,7 +52,7 @@ impl<'a> Line<'a> {
     /// Returns a field, counted from 1.
     ///
     /// Errors: `Refused` if there is none; `OutOfMemory`.
-    pub fn field(&self, alloc: Global, number: usize) -> Result<&str, Failure> {
+    pub fn field(&self, alloc: Global, number: usize) -> Done<&str> {
         match self.fields(alloc)?.get(number.saturating_sub(1)) {
             Some(field) => Ok(field.as_str()),
             None => refused!(alloc;
@@ -63,7 +63,7 @@ impl<'a> Line<'a> {
 }
 
 /// Fails: a quotation mark is not closed.
-pub(crate) fn not_closed<T>(alloc: Global) -> Result<T, Failure>
+pub(crate) fn not_closed<T>(alloc: Global) -> Done<T>
     ensures { IsErr result }
 {
     refused!(alloc; "a field has no quotation mark at its end; a field has no line breaks")
@@ -89,17 +89,14 @@ pub(crate) fn fields_of(
             is_odd = false;
         }
         field.push_str(piece)?;
-        is_odd = is_odd != has_odd_quotes(piece);
+        let count = piece.bytes().filter(|byte| *byte == b'"').count();
+        is_odd = is_odd != (count % 2 == 1);
         is_open = is_odd && field.starts_with('"');
         if !is_open {
             fields.push(unquoted(alloc, field.as_str())?)?;
         }
     }
     Ok((!is_open).then_some(fields))
-}
-
-fn has_odd_quotes(text: &str) -> bool {
-    text.bytes().filter(|byte| *byte == b'"').count() % 2 == 1
 }
 
 // Removes the quotation marks around a field, and undoubles those inside.

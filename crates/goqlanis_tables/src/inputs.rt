@@ -1,6 +1,6 @@
 //! Reads the lines of an input.
 
-use goqlanis_files::failure::Failure;
+use crate::Done;
 use goqlanis_files::refused;
 use goqlanis_files::streams::unread;
 use goqlanis_request::Grouped;
@@ -19,7 +19,7 @@ pub fn next_line<R: BufRead>(
     from: &mut R,
     line: &mut Vec<u8>,
     number: usize,
-) -> Result<bool, Failure> {
+) -> Done<bool> {
     line.clear();
     let mut from = from.by_ref().take(MOST_IN_LINE as u64 + 2);
     match from.read_until(b'\n', line) {
@@ -69,7 +69,7 @@ fn without_ending(line: &[u8]) -> &[u8] {
 /// Returns a line as text.
 ///
 /// Errors: `Refused` if it is not UTF-8; `OutOfMemory`.
-pub(crate) fn utf8<'a>(alloc: Global, bytes: &'a [u8]) -> Result<&'a str, Failure> {
+pub(crate) fn utf8<'a>(alloc: Global, bytes: &'a [u8]) -> Done<&'a str> {
     match str::from_utf8(bytes) {
         Ok(text) => Ok(text),
         Err(_) =>

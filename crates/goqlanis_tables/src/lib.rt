@@ -10,3 +10,8 @@ pub mod names;
 pub mod pages;
 pub mod rows;
 pub mod tables;
+
+use goqlanis_files::failure::Failure;
+
+/// What was done, or why the program fails.
+type Done<T> = Result<T, Failure>;

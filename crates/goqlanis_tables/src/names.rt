@@ -1,9 +1,9 @@
 //! Names of numbered files, and of files named after lines, from the pattern in `--output`.
 
+use crate::Done;
 use crate::columns::Columns;
 use crate::fields::Line;
 use crate::inputs::is_one_of;
-use goqlanis_files::failure::Failure;
 use goqlanis_files::streams::is_unseen;
 use goqlanis_files::{refused, usage};
 use goqlanis_options::asked::{Asked, Target};
@@ -47,7 +47,7 @@ impl<'a> Pattern<'a> {
         rt: &HostRuntime,
         asked: &Asked<'a, '_>,
         columns: &Columns,
-    ) -> Result<Option<Pattern<'a>>, Failure> {
+    ) -> Done<Option<Pattern<'a>>> {
         let Target::File(path) = asked.target else {
             return Ok(None);
         };
@@ -77,7 +77,7 @@ impl<'a> Pattern<'a> {
     }
 
     // Parses a path; refuses placeholders that are unknown.
-    fn of(alloc: Global, path: &'a str, columns: &Columns) -> Result<Pattern<'a>, Failure> {
+    fn of(alloc: Global, path: &'a str, columns: &Columns) -> Done<Pattern<'a>> {
         let mut parts = parts_of(alloc, path, columns)?;
         let has_places = parts.iter().any(|part| !matches!(part, Part::Text(_)));
         if !has_places {
@@ -101,7 +101,7 @@ impl<'a> Pattern<'a> {
     ///
     /// Errors: `Refused` if the line lacks a field, or the name is none that a file may have;
     /// `OutOfMemory`.
-    pub fn name(&self, alloc: Global, line: &Line<'_>) -> Result<String, Failure> {
+    pub fn name(&self, alloc: Global, line: &Line<'_>) -> Done<String> {
         let mut name = String::new(alloc);
         for part in &self.parts {
             let number = line.number;
@@ -120,7 +120,7 @@ impl<'a> Pattern<'a> {
 }
 
 // Returns the parts of a path; refuses placeholders that are unknown.
-fn parts_of<'a>(alloc: Global, path: &'a str, columns: &Columns) -> Result<Vec<Part<'a>>, Failure> {
+fn parts_of<'a>(alloc: Global, path: &'a str, columns: &Columns) -> Done<Vec<Part<'a>>> {
     let mut parts = Vec::new(alloc);
     let mut pieces = path.split('{');
     parts.push(Part::Text(pieces.next().unwrap_or("")))?;
@@ -166,7 +166,7 @@ fn place_of<'a>(piece: &'a str, columns: &Columns) -> Option<(Part<'a>, &'a str)
 }
 
 // Fails: a placeholder is unknown.
-fn unknown<T>(alloc: Global, word: &str, columns: &Columns) -> Result<T, Failure> {
+fn unknown<T>(alloc: Global, word: &str, columns: &Columns) -> Done<T> {
     if columns.names.is_empty() {
         return usage!(alloc;
             "--output: {{{word}}} is unknown; {{}} is the number, {{:04}} the same with zeros, \
@@ -180,7 +180,7 @@ fn unknown<T>(alloc: Global, word: &str, columns: &Columns) -> Result<T, Failure
 // Checks the file name of a generated path: not too long, not empty, not `.` or `..`, none that
 // Windows changes or reserves, and unless the pattern says so, since a field was empty, neither
 // hidden nor like an option.
-fn check_name(alloc: Global, pattern: &str, path: &str) -> Result<(), Failure> {
+fn check_name(alloc: Global, pattern: &str, path: &str) -> Done<()> {
     let (name, pattern) = (file_name(path), file_name(pattern));
     if is_reserved(name) {
         return refused!(alloc; "its file would be {name}, a name that Windows reserves");
@@ -233,7 +233,7 @@ fn is_stream(rt: &HostRuntime, path: &str) -> bool {
 }
 
 /// Checks that a generated name is a plain file, and not the input: no line may write elsewhere.
-pub fn check_made(rt: &HostRuntime, asked: &Asked<'_, '_>, name: &str) -> Result<(), Failure> {
+pub fn check_made(rt: &HostRuntime, asked: &Asked<'_, '_>, name: &str) -> Done<()> {
     let what = if fs::symlink_metadata(rt, name).is_ok_and(|found| found.is_symlink()) {
         "a link"
     } else if is_stream(rt, name) {

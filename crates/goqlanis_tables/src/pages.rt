@@ -4,7 +4,7 @@
 //! document takes the page and its drawing operators from there, byte for byte; only the numbers of
 //! objects are new. What the document adds, the tree of pages and the table of objects, is tested.
 
-use goqlanis_files::failure::Failure;
+use crate::Done;
 use goqlanis_files::refused;
 use goqlanis_files::streams::Series;
 use std::alloc::{AllocError, Global};
@@ -49,7 +49,7 @@ impl<'a> Pages<'a> {
     /// Writes the page of a file that the library drew, as the next of the document.
     ///
     /// Errors: `Refused` if the document would be too long; those of `Series::write`; `OutOfMemory`.
-    pub fn add(&mut self, rt: &HostRuntime, file: &[u8]) -> Result<(), Failure> {
+    pub fn add(&mut self, rt: &HostRuntime, file: &[u8]) -> Done<()> {
         let Some((head, (before, between, after), contents)) = str::from_utf8(file)
             .ok()
             .and_then(parts_of)
@@ -75,7 +75,7 @@ impl<'a> Pages<'a> {
     }
 
     // Writes what comes before a page: the head of the document, or the last full node.
-    fn begin_page(&mut self, rt: &HostRuntime, head: Three<'_>) -> Result<(), Failure> {
+    fn begin_page(&mut self, rt: &HostRuntime, head: Three<'_>) -> Done<()> {
         if self.starts.is_empty() {
             let (version, catalog, information) = head;
             self.put(rt, version)?;
@@ -92,7 +92,7 @@ impl<'a> Pages<'a> {
     }
 
     // Writes the last node of the tree, if there is one.
-    fn end_node(&mut self, rt: &HostRuntime) -> Result<(), Failure> {
+    fn end_node(&mut self, rt: &HostRuntime) -> Done<()> {
         let Some(node) = self.nodes.last().copied() else {
             return Ok(());
         };
@@ -104,7 +104,7 @@ impl<'a> Pages<'a> {
     }
 
     // Writes an object of the tree, of which only the number is known so far.
-    fn put_at(&mut self, rt: &HostRuntime, number: usize, text: &str) -> Result<(), Failure> {
+    fn put_at(&mut self, rt: &HostRuntime, number: usize, text: &str) -> Done<()> {
         if let Some(start) = self.starts.get_mut(number.saturating_sub(1)) {
             *start = self.length;
         }
@@ -112,7 +112,7 @@ impl<'a> Pages<'a> {
     }
 
     // Writes the next object.
-    fn put_object(&mut self, rt: &HostRuntime, object: &str) -> Result<(), Failure> {
+    fn put_object(&mut self, rt: &HostRuntime, object: &str) -> Done<()> {
         self.starts.push(self.length)?;
         let number = self.starts.len();
         let text = format!(in rt.alloc(); "{number} 0 obj\n{object}")?;
@@ -120,7 +120,7 @@ impl<'a> Pages<'a> {
     }
 
     // Writes a text.
-    fn put(&mut self, rt: &HostRuntime, text: &str) -> Result<(), Failure> {
+    fn put(&mut self, rt: &HostRuntime, text: &str) -> Done<()> {
         self.series.write(rt, text.as_bytes())?;
         self.length = self.length.saturating_add(text.len());
         Ok(())
@@ -129,7 +129,7 @@ impl<'a> Pages<'a> {
     /// Writes the end of the document, if it has pages: their tree, and where each object begins.
     ///
     /// Errors: those of `Series::write`; `OutOfMemory`.
-    pub fn end(&mut self, rt: &HostRuntime) -> Result<(), Failure> {
+    pub fn end(&mut self, rt: &HostRuntime) -> Done<()> {
         if self.starts.is_empty() {
             return Ok(());
         }
@@ -137,14 +137,17 @@ impl<'a> Pages<'a> {
         let head = String::from_str(rt.alloc(), "2 0 obj\n<</Type/Pages")?;
         let root = node_of(head, &self.nodes, self.count)?;
         self.put_at(rt, 2, root.as_str())?;
-        let start = self.length;
-        let size = self.starts.len().saturating_add(1);
-        let table = table_of(rt.alloc(), &self.starts)?;
-        self.put(rt, table.as_str())?;
-        let end = format!(in rt.alloc();
-            "trailer\n<</Size {size}/Root 1 0 R/Info 3 0 R>>\nstartxref\n{start}\n%%EOF\n"
+        let (end, size) = (self.length, self.starts.len().saturating_add(1));
+        // 20 bytes for each object, and for object 0, which is free.
+        let mut table = format!(in rt.alloc(); "xref\n0 {size}\n0000000000 65535 f \n")?;
+        for start in &self.starts {
+            write!(table, "{start:010} 00000 n \n")?;
+        }
+        write!(
+            table,
+            "trailer\n<</Size {size}/Root 1 0 R/Info 3 0 R>>\nstartxref\n{end}\n%%EOF\n"
         )?;
-        self.put(rt, end.as_str())
+        self.put(rt, table.as_str())
     }
 }
 
@@ -174,15 +177,5 @@ fn node_of(head: String, kids: &[usize], count: usize) -> Result<String, AllocEr
         write!(text, "{kid} 0 R\n")?;
     }
     write!(text, "]/Count {count}>>\nendobj\n")?;
-    Ok(text)
-}
-
-// Returns the table of where objects begin: 20 bytes for each, and for object 0, which is free.
-fn table_of(alloc: Global, starts: &[usize]) -> Result<String, AllocError> {
-    let size = starts.len().saturating_add(1);
-    let mut text = format!(in alloc; "xref\n0 {size}\n0000000000 65535 f \n")?;
-    for start in starts {
-        write!(text, "{start:010} 00000 n \n")?;
-    }
     Ok(text)
 }

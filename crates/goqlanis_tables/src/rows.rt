@@ -4,10 +4,10 @@ ghost use Rattle.std.specs.Prelude.{◌≡◌, map};
 ghost use Rattle.goqlanis_options.specs.Fields.{name_of};
 ghost use Rattle.goqlanis_tables.specs.Rows.{pair_of, text_named, texts_of};
 
+use crate::Done;
 use crate::columns::Columns;
 use crate::fields::Line;
 use crate::inputs::{is_one_of, utf8};
-use goqlanis_files::failure::Failure;
 use goqlanis_files::refused;
 use goqlanis_options::fields::{DECISIVE, OPEN};
 use goqlanis_options::options::fields::option_of;
@@ -44,25 +44,31 @@ fn text_named<'a>(pairs: &'a [(String, String)], name: &str) -> &'a str
 impl Row {
     /// Returns the fields of a line: those of its columns, and the others as `options` give them.
     ///
-    /// Errors: `Refused` if the line is not UTF-8, or has fewer fields than columns; `OutOfMemory`.
+    /// Errors: `Refused` if the line is not UTF-8, has fewer fields than columns, or an empty one that
+    /// changes what the payload means; `OutOfMemory`.
     pub fn of<G: Given>(
         alloc: Global,
         columns: &Columns,
         line: &Line<'_>,
         options: &G,
-    ) -> Result<Row, Failure> {
+    ) -> Done<Row> {
         utf8(alloc, line.bytes)?;
         let mut pairs = Vec::new(alloc);
-        let is_open = is_open(alloc, columns, line)?;
+        // (An open network has no password.)
+        let is_open = match columns.field(Field::Security) {
+            Some(number) => is_one_of(line.field(alloc, number)?.trim(), OPEN),
+            None => false,
+        };
         for (field, number) in &columns.fields {
             let name = option_of(*field).long;
             let text = match number {
-                Some(number) => {
-                    let text = line.field(alloc, *number)?;
-                    decided(alloc, name, *number, text, is_open)?
-                }
+                Some(number) => line.field(alloc, *number)?,
                 None => options.text(*field),
             };
+            let may_be_empty = !DECISIVE.contains(&name) || is_open && name == "password";
+            if let (Some(number), "", false) = (*number, text, may_be_empty) {
+                return lacking(alloc, number, name);
+            }
             let text = match field {
                 Field::Hidden => truth(text),
                 _ => text,
@@ -77,13 +83,12 @@ impl Row {
 /// Returns the first field whose text in a line has a space or a quotation mark at its start or end.
 ///
 /// Errors: `Refused` if the line has fewer fields than columns; `OutOfMemory`.
-pub fn loose(alloc: Global, columns: &Columns, line: &Line<'_>) -> Result<Option<Field>, Failure> {
+pub fn loose(alloc: Global, columns: &Columns, line: &Line<'_>) -> Done<Option<Field>> {
     for (field, number) in &columns.fields {
-        let Some(number) = number else {
-            continue;
-        };
-        if is_loose(line.field(alloc, *number)?) {
-            return Ok(Some(*field));
+        if let Some(number) = number {
+            if is_loose(line.field(alloc, *number)?) {
+                return Ok(Some(*field));
+            }
         }
     }
     Ok(None)
@@ -95,25 +100,14 @@ pub fn is_loose(text: &str) -> bool {
     text.starts_with(is_mark) || text.ends_with(is_mark)
 }
 
-// Returns the text of a column; refuses an empty one if that changes what the payload means. (An
-// open network has no password.)
-fn decided<'a>(
-    alloc: Global,
-    name: &str,
-    number: usize,
-    text: &'a str,
-    is_open: bool,
-) -> Result<&'a str, Failure> {
-    let may_be_empty = !DECISIVE.contains(&name) || is_open && name == "password";
-    if text.is_empty() && !may_be_empty {
-        let help = if name == "password" {
-            "for an open network, write open in a column security"
-        } else {
-            "leave the column out for none"
-        };
-        return refused!(alloc; "column {number}, {name}: it is empty; {help}");
-    }
-    Ok(text)
+// Fails: a column is empty, which changes what the payload means.
+fn lacking<T>(alloc: Global, number: usize, name: &str) -> Done<T> {
+    let help = if name == "password" {
+        "for an open network, write open in a column security"
+    } else {
+        "leave the column out for none"
+    };
+    refused!(alloc; "column {number}, {name}: it is empty; {help}")
 }
 
 // Returns true or false for yes or no, as tables say it too, and any other word as it is.
@@ -124,13 +118,5 @@ fn truth(word: &str) -> &str {
         "false"
     } else {
         word
-    }
-}
-
-// Whether a line says that its network is open.
-fn is_open(alloc: Global, columns: &Columns, line: &Line<'_>) -> Result<bool, Failure> {
-    match columns.field(Field::Security) {
-        Some(number) => Ok(is_one_of(line.field(alloc, number)?.trim(), OPEN)),
-        None => Ok(false),
     }
 }

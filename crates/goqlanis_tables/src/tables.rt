@@ -1,5 +1,6 @@
 //! Tables: inputs with a code in each line.
 
+use crate::Done;
 use crate::columns::{Columns, identifier_in, is_identifier};
 use crate::fields::Line;
 use crate::inputs::{is_blank, next_line, text_of, utf8};
@@ -41,7 +42,7 @@ impl<'a> Table<'a> {
         asked: &Asked<'a, '_>,
         lines: Lines<'a>,
         from: &mut R,
-    ) -> Result<Table<'a>, Failure> {
+    ) -> Done<Table<'a>> {
         let (name, file) = match asked.input.source {
             Source::Text(_) => ("TEXT", None),
             Source::File(path) => (path, Some(path)),
@@ -54,7 +55,10 @@ impl<'a> Table<'a> {
         let columns = columns_of(alloc, kind, lines, place, first)?;
         let has_elements = matches!(asked.work, Work::Elements(_));
         let is_whole = !has_elements && kind.is_none() && lines.field.is_none();
-        check_delimiter(alloc, asked.target, &columns, is_whole)?;
+        let has_places = matches!(asked.target, Target::File(path) if path.contains('{'));
+        if has_places || !is_whole {
+            check_delimiter(alloc, &columns)?;
+        }
         let field = match lines.field {
             Some(name) => Some(field_number(alloc, &columns, name)?),
             None => None,
@@ -86,12 +90,7 @@ impl<'a> Table<'a> {
     /// Returns a line that was read, or `None` if its fields count and all are empty.
     ///
     /// Errors: `Refused` if its fields count and it ends within quotation marks; `OutOfMemory`.
-    pub fn line<'b>(
-        &self,
-        alloc: Global,
-        read: &'b [u8],
-        number: usize,
-    ) -> Result<Option<Line<'b>>, Failure> {
+    pub fn line<'b>(&self, alloc: Global, read: &'b [u8], number: usize) -> Done<Option<Line<'b>>> {
         let place = self.place(number).line;
         let bytes = text_of(read, place);
         if self.has_fields() && is_blank(bytes, self.lines.delimiter) {
@@ -113,12 +112,7 @@ impl<'a> Table<'a> {
     /// that has the names which `--columns` gives.
     ///
     /// Errors: `Refused`, also if warnings are errors; `OutOfMemory`.
-    pub fn check_line(
-        &self,
-        rt: &HostRuntime,
-        doubts: Doubts<'_>,
-        line: &Line<'_>,
-    ) -> Result<(), Failure> {
+    pub fn check_line(&self, rt: &HostRuntime, doubts: Doubts<'_>, line: &Line<'_>) -> Done<()> {
         if self.columns.names.is_empty() {
             return Ok(());
         }
@@ -145,7 +139,7 @@ impl<'a> Table<'a> {
     /// the elements in its fields, or all of it.
     ///
     /// Errors: `Refused` if it is not UTF-8, or lacks the field; `OutOfMemory`.
-    pub fn data(&self, alloc: Global, line: &Line<'_>) -> Result<String, Failure> {
+    pub fn data(&self, alloc: Global, line: &Line<'_>) -> Done<String> {
         let text = utf8(alloc, line.bytes)?;
         match self.field {
             Some(number) => Ok(String::from_str(alloc, line.field(alloc, number)?)?),
@@ -164,7 +158,7 @@ fn columns_of(
     lines: Lines<'_>,
     place: Place<'_>,
     first: Option<&[u8]>,
-) -> Result<Columns, Failure> {
+) -> Done<Columns> {
     if let Some(names) = lines.columns {
         let is_own = names.contains(lines.delimiter);
         let delimiter = if is_own { lines.delimiter } else { "," };
@@ -185,16 +179,9 @@ fn columns_of(
     }
 }
 
-// Refuses the only name of a column if it has another delimiter inside, unless lines are encoded
-// whole.
-fn check_delimiter(
-    alloc: Global,
-    target: Target<'_>,
-    columns: &Columns,
-    is_whole: bool,
-) -> Result<(), Failure> {
-    let has_names = matches!(target, Target::File(path) if path.contains('{'));
-    let ([name], true) = (columns.names.as_slice(), has_names || !is_whole) else {
+// Refuses the only name of a column if it has another delimiter inside.
+fn check_delimiter(alloc: Global, columns: &Columns) -> Done<()> {
+    let [name] = columns.names.as_slice() else {
         return Ok(());
     };
     let mut signs = [(';', ";"), ('\t', "tab"), ('|', "|"), (',', ",")].iter();
@@ -207,7 +194,7 @@ fn check_delimiter(
 }
 
 // Returns the number of the field that `--field` selects.
-fn field_number(alloc: Global, columns: &Columns, name: &str) -> Result<usize, Failure> {
+fn field_number(alloc: Global, columns: &Columns, name: &str) -> Done<usize> {
     match (columns.number_of(name), name.parse::<u16>()) {
         (Some(number), _) => Ok(number),
         (None, Ok(number)) if number > 0 => Ok(number as usize),
