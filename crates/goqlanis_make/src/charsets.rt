@@ -1,5 +1,6 @@
 //! `--charset`: texts in a character set.
 
+use crate::Done;
 use goqlanis_files::failure::Failure;
 use goqlanis_files::{refused, usage};
 use goqlanis_options::asked::{Asked, Report};
@@ -19,7 +20,7 @@ pub(crate) fn text_code(
     asked: &Asked<'_, '_>,
     name: &str,
     bytes: &[u8],
-) -> Result<(QrCode, Coded), Failure> {
+) -> Done<(QrCode, Coded)> {
     let Ok(text) = str::from_utf8(bytes) else {
         return refused!(alloc;
             "the data is not UTF-8, from which --charset converts it: for Latin-1, use iconv \
@@ -27,18 +28,24 @@ pub(crate) fn text_code(
         );
     };
     let request = &asked.request;
-    let made = match charset_named(name) {
+    let sets = match charset_named(name) {
         Some(set) => {
             check_characters(alloc, set, text)?;
-            made(alloc, request, &[set], text)?
+            Vec::from_slice(alloc, &[set])?
         }
-        None if name.eq_ignore_ascii_case("shortest") => made(alloc, request, &CHARSETS, text)?,
+        None if name.eq_ignore_ascii_case("shortest") => Vec::from_slice(alloc, &CHARSETS)?,
         None => return usage!(alloc;
             "--charset {name}: use shortest, utf-8, shift-jis, iso-8859-1 to iso-8859-16, \
             without 12, or windows-1250, -1251, -1252 or -1256"
         ),
     };
-    let (code, set) = made;
+    let (code, set) = match symbol_among(alloc, request.choice, &sets, request.level, text) {
+        Ok(made) => made,
+        Err(error) => {
+            let content = Content::Text(&sets, text);
+            return Err(Failure::Refused(refusal_text(alloc, request, content, error)?));
+        }
+    };
     let utf8 = if asked.is_dry || asked.report != Report::Nothing {
         utf8_version(alloc, request, bytes)
     } else {
@@ -48,7 +55,7 @@ pub(crate) fn text_code(
 }
 
 // Checks that the set has all characters of the text.
-fn check_characters(alloc: Global, set: Charset, text: &str) -> Result<(), Failure> {
+fn check_characters(alloc: Global, set: Charset, text: &str) -> Done<()> {
     let Some(place) = set.lacks(text) else {
         return Ok(());
     };
@@ -60,22 +67,6 @@ fn check_characters(alloc: Global, set: Charset, text: &str) -> Result<(), Failu
         "character {number}, {character} (U+{code:04X}), is not in {name}; --charset shortest finds \
         a set that has all"
     )
-}
-
-// Makes a code of a text in one of `sets`, which have all of its characters.
-fn made(
-    alloc: Global,
-    request: &Request<'_>,
-    sets: &[Charset],
-    text: &str,
-) -> Result<(QrCode, Charset), Failure> {
-    match symbol_among(alloc, request.choice, sets, request.level, text) {
-        Ok(made) => Ok(made),
-        Err(error) => {
-            let content = Content::Text(sets, text);
-            Err(Failure::Refused(refusal_text(alloc, request, content, error)?))
-        }
-    }
 }
 
 // Returns the version that the text takes in UTF-8 without ECI, if there is one.

@@ -2,6 +2,7 @@
 
 ghost use Rattle.std.specs.Prelude.{◌≡◌, length, IfOk};
 
+use crate::Done;
 use goqlanis_files::failure::Failure;
 use goqlanis_files::{doubted, refused};
 use goqlanis_options::asked::Asked;
@@ -41,7 +42,7 @@ pub(crate) fn draw_damaged(
     asked: &Asked<'_, '_>,
     wanted: AskedDamage,
     code: &QrCode,
-) -> Result<Vec<u8>, Failure> {
+) -> Done<Vec<u8>> {
     let alloc = rt.alloc();
     let damage = damage_in(code, wanted);
     if !damage.is_promised(code.version(), code.error_correction_level()) {
@@ -52,10 +53,7 @@ pub(crate) fn draw_damaged(
     }
     let request = &asked.request;
     let modules = damaged_modules(alloc, request, wanted.position, code, damage)?;
-    match drawn(alloc, request, code, &modules, Overlay::Nothing) {
-        Ok(drawing) => Ok(drawing),
-        Err(_) => Err(Failure::OutOfMemory),
-    }
+    drawn(alloc, request, code, &modules, Overlay::Nothing).map_err(|_| Failure::OutOfMemory)
 }
 
 // Returns the modules of a code, under the requested mask, with this damage and in this position.
@@ -65,7 +63,7 @@ fn damaged_modules(
     position: Position,
     code: &QrCode,
     damage: Damage,
-) -> Result<Vec<Color>, Failure>
+) -> Done<Vec<Color>>
     ensures { IfOk result (λ modules. length modules.items ≡ length code.now.modules) }
 {
     // Its contract says that the modules are a square.

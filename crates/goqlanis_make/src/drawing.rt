@@ -10,7 +10,8 @@ ghost use Rattle.goqlanis_make.specs.Labels.{label_text};
 use crate::charsets::text_code;
 use crate::damaging::draw_damaged;
 use crate::elements::{Elements, with_round_brackets};
-use crate::segments::{characters_of, is_empty, segments_of};
+use crate::segments::{characters_of, segment_of};
+use crate::{Done, Drawing};
 use goqlanis_files::failure::Failure;
 use goqlanis_files::streams::{print, write_data, write_file};
 use goqlanis_files::{refused, usage};
@@ -38,11 +39,7 @@ use std::process::ExitCode;
 
 /// Encodes data, and draws and reports the code as `draw_reported` does. A larger version may give
 /// a logo more room.
-pub(crate) fn draw(
-    rt: &HostRuntime,
-    asked: &Asked<'_, '_>,
-    data: &[u8],
-) -> Result<Option<Vec<u8>>, Failure> {
+pub(crate) fn draw(rt: &HostRuntime, asked: &Asked<'_, '_>, data: &[u8]) -> Done<Drawing> {
     let (code, coded) = encode(rt.alloc(), asked, data)?;
     let Some(choice) = choice_for_logo(rt.alloc(), asked, &code)? else {
         return draw_reported(rt, asked, code, coded);
@@ -55,28 +52,22 @@ pub(crate) fn draw(
 }
 
 // Encodes data, with `--charset` in a character set; with `--segment` the segments that are given.
-fn encode(
-    alloc: Global,
-    asked: &Asked<'_, '_>,
-    data: &[u8],
-) -> Result<(QrCode, Option<Coded>), Failure> {
-    let request = &asked.request;
-    match (asked.work, asked.input.segments, asked.input.charset) {
-        (Work::Elements(indicator), _, _) => {
-            Ok((gs1_code(alloc, request, indicator, data)?, None))
-        }
-        (_, Some(words), _) => Ok((segments_code(alloc, asked, words)?, None)),
+fn encode(alloc: Global, asked: &Asked<'_, '_>, data: &[u8]) -> Done<(QrCode, Option<Coded>)> {
+    let code = match (asked.work, asked.input.segments, asked.input.charset) {
+        (Work::Elements(indicator), _, _) => gs1_code(alloc, &asked.request, indicator, data)?,
+        (_, Some(words), _) => segments_code(alloc, asked, words)?,
         (_, _, Some(name)) => {
             check_empty(alloc, asked, data)?;
             let (code, coded) = text_code(alloc, asked, name, data)?;
-            Ok((code, Some(coded)))
+            return Ok((code, Some(coded)));
         }
-        _ => Ok((bytes_code(alloc, asked, data)?, None)),
-    }
+        _ => bytes_code(alloc, asked, data)?,
+    };
+    Ok((code, None))
 }
 
 // Makes a code of text or bytes.
-fn bytes_code(alloc: Global, asked: &Asked<'_, '_>, bytes: &[u8]) -> Result<QrCode, Failure> {
+fn bytes_code(alloc: Global, asked: &Asked<'_, '_>, bytes: &[u8]) -> Done<QrCode> {
     check_empty(alloc, asked, bytes)?;
     let (request, manner) = (&asked.request, manner(alloc, asked, bytes)?);
     match symbol_in(alloc, request.choice, manner, request.level, bytes) {
@@ -87,11 +78,7 @@ fn bytes_code(alloc: Global, asked: &Asked<'_, '_>, bytes: &[u8]) -> Result<QrCo
 
 // Returns the choice of a larger version in which the logo gets what it should, if there is one and
 // the version is not given.
-fn choice_for_logo(
-    alloc: Global,
-    asked: &Asked<'_, '_>,
-    code: &QrCode,
-) -> Result<Option<Choice>, Failure> {
+fn choice_for_logo(alloc: Global, asked: &Asked<'_, '_>, code: &QrCode) -> Done<Option<Choice>> {
     let (Some(logo), Choice::From(_) | Choice::Boosted(_)) = (&asked.logo, asked.request.choice)
     else {
         return Ok(None);
@@ -111,7 +98,7 @@ fn draw_code(
     asked: &Asked<'_, '_>,
     code: &QrCode,
     area: Option<Rectangle>,
-) -> Result<Vec<u8>, Failure>
+) -> Done<Vec<u8>>
     ensures shown { asked.now.logo ≡ None
         → IfOk result (λ bytes. IsShownIn asked.now.request code.now bytes.items) }
 {
@@ -125,7 +112,7 @@ fn draw_code(
 }
 
 // Fails with a text that says why.
-fn refuse<T>(why: Result<String, AllocError>) -> Result<T, Failure>
+fn refuse<T>(why: Result<String, AllocError>) -> Done<T>
     ensures { IsErr result }
 {
     Err(Failure::Refused(why?))
@@ -135,11 +122,7 @@ fn refuse<T>(why: Result<String, AllocError>) -> Result<T, Failure>
 const GREATEST_WHOLE: u32 = 16_384;
 
 /// Checks that a side has no more pixels than the format allows, and at least one per module.
-pub(crate) fn check_side(
-    alloc: Global,
-    asked: &Asked<'_, '_>,
-    code: &QrCode,
-) -> Result<(), Failure> {
+pub(crate) fn check_side(alloc: Global, asked: &Asked<'_, '_>, code: &QrCode) -> Done<()> {
     let request = &asked.request;
     let Sizes { modules, side, .. } = sizes_of(request, code);
     let row = request.format.row();
@@ -166,11 +149,7 @@ pub(crate) fn check_side(
 }
 
 /// Checks that data is not empty, unless `--allow-empty` is given.
-pub(crate) fn check_empty(
-    alloc: Global,
-    asked: &Asked<'_, '_>,
-    bytes: &[u8],
-) -> Result<(), Failure> {
+pub(crate) fn check_empty(alloc: Global, asked: &Asked<'_, '_>, bytes: &[u8]) -> Done<()> {
     if !bytes.is_empty() || asked.input.allows_empty {
         Ok(())
     } else if asked.input.lines.is_some() {
@@ -183,21 +162,22 @@ pub(crate) fn check_empty(
 }
 
 // Makes a code of chosen segments, given as words MODE:DATA or eci:NUMBER.
-fn segments_code(alloc: Global, asked: &Asked<'_, '_>, words: &[&str]) -> Result<QrCode, Failure> {
-    let segments = segments_of(alloc, words)?;
-    let has_none = segments.iter().all(|segment| is_empty(segment));
-    if has_none && !asked.input.allows_empty {
+fn segments_code(alloc: Global, asked: &Asked<'_, '_>, words: &[&str]) -> Done<QrCode> {
+    let (mut segments, mut has_data) = (Vec::with_capacity(alloc, words.len())?, false);
+    for word in words {
+        let segment = segment_of(alloc, word)?;
+        has_data = has_data || matches!(segment, Segment::Data(_, [_, ..]));
+        segments.push(segment)?;
+    }
+    if !has_data && !asked.input.allows_empty {
         return refused!(alloc;
             "--segment gives no data, and standard input is not read; add --segment byte:TEXT, or \
             --allow-empty"
         );
     }
-    if let Some(place) = unwritable(&segments) {
-        let why = match segments.get(place) {
-            Some(Segment::Data(mode, _)) => characters_of(*mode),
-            _ => "",
-        };
-        let number = place.saturating_add(1);
+    let place = unwritable(&segments).unwrap_or(segments.len());
+    if let Some(Segment::Data(mode, _)) = segments.get(place) {
+        let (number, why) = (place.saturating_add(1), characters_of(*mode));
         return refused!(alloc; "segment {number}: {why}");
     }
     let request = &asked.request;
@@ -213,7 +193,7 @@ fn gs1_code(
     request: &Request<'_>,
     indicator: Option<&str>,
     data: &[u8],
-) -> Result<QrCode, Failure> {
+) -> Done<QrCode> {
     let Ok(text) = str::from_utf8(data) else {
         return refused!(alloc; "ELEMENTS: they are not UTF-8");
     };
@@ -231,7 +211,7 @@ fn gs1_code(
 }
 
 // Makes a code of the GS1 element string in `text`, with identifiers in round brackets.
-fn elements_code(alloc: Global, request: &Request<'_>, text: &str) -> Result<QrCode, Failure>
+fn elements_code(alloc: Global, request: &Request<'_>, text: &str) -> Done<QrCode>
     ensures symbol { IfOk result (λ code. (items : List Item) × ((label_text items ≡ text.now)
         × IsElementsIn request.now.choice request.now.level items code)) }
 {
@@ -255,7 +235,7 @@ fn application_code(
     request: &Request<'_>,
     indicator: &str,
     text: &str,
-) -> Result<QrCode, Failure>
+) -> Done<QrCode>
     ensures symbol { IfOk result (λ code. (application : ℕ)
         × ((indicator_of indicator.now ≡ Some application)
         × IsApplicationIn request.now.choice application request.now.level text.now code)) }
@@ -287,15 +267,12 @@ pub(crate) fn draw_reported(
     asked: &Asked<'_, '_>,
     code: QrCode,
     coded: Option<Coded>,
-) -> Result<Option<Vec<u8>>, Failure> {
+) -> Done<Drawing> {
     check_side(rt.alloc(), asked, &code)?;
     let area = area_in(rt.alloc(), asked, &code)?;
     let bytes = match asked.work {
         _ if asked.is_dry => None,
-        Work::Damaged(damage) => {
-            let bytes = draw_damaged(rt, asked, damage, &code)?;
-            Some(bytes)
-        }
+        Work::Damaged(damage) => Some(draw_damaged(rt, asked, damage, &code)?),
         _ => {
             let bytes = draw_code(rt.alloc(), asked, &code, area)?;
             warn_of_logo(rt, asked, &code, area)?;
@@ -307,7 +284,7 @@ pub(crate) fn draw_reported(
 }
 
 /// Refuses a binary format that would go to a terminal.
-pub(crate) fn check_terminal(rt: &HostRuntime, asked: &Asked<'_, '_>) -> Result<(), Failure> {
+pub(crate) fn check_terminal(rt: &HostRuntime, asked: &Asked<'_, '_>) -> Done<()> {
     let is_drawn = !asked.is_dry && matches!(asked.target, Target::Terminal);
     if is_drawn && !asked.request.format.row().is_text && rt.stdout().is_terminal() {
         return refused!(rt.alloc();
@@ -324,8 +301,8 @@ pub(crate) fn check_terminal(rt: &HostRuntime, asked: &Asked<'_, '_>) -> Result<
 pub(crate) fn write_drawing(
     rt: &HostRuntime,
     asked: &Asked<'_, '_>,
-    drawing: Option<Vec<u8>>,
-) -> Result<ExitCode, Failure> {
+    drawing: Drawing,
+) -> Done<ExitCode> {
     let Some(bytes) = drawing else {
         return Ok(ExitCode::SUCCESS);
     };
@@ -344,8 +321,8 @@ pub(crate) fn write_page(
     rt: &HostRuntime,
     asked: &Asked<'_, '_>,
     pages: &mut Pages<'_>,
-    drawing: Option<Vec<u8>>,
-) -> Result<(), Failure> {
+    drawing: Drawing,
+) -> Done<()> {
     match (drawing, asked.request.format) {
         (Some(file), Format::Pdf) => pages.add(rt, &file),
         (Some(bytes), _) => pages.series.write(rt, &bytes),
@@ -354,11 +331,7 @@ pub(crate) fn write_page(
 }
 
 /// Chooses how data is encoded: as bytes, text, or text marked as UTF-8.
-pub(crate) fn manner(
-    alloc: Global,
-    asked: &Asked<'_, '_>,
-    bytes: &[u8],
-) -> Result<Manner, Failure> {
+pub(crate) fn manner(alloc: Global, asked: &Asked<'_, '_>, bytes: &[u8]) -> Done<Manner> {
     match manner_of(bytes) {
         _ if asked.input.is_bytes => Ok(Manner::Bytes),
         manner if !asked.input.is_eci => Ok(manner),

@@ -11,4 +11,11 @@ mod payloads;
 mod segments;
 mod splitting;
 
+use goqlanis_files::failure::Failure;
 pub use making::make;
+
+/// What was done, or why the program fails.
+type Done<T> = Result<T, Failure>;
+
+/// The bytes of a drawing; none if the code is only reported.
+type Drawing = Option<Vec<u8>>;

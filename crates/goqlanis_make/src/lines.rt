@@ -2,12 +2,12 @@
 
 use crate::drawing::{draw, write_drawing, write_page};
 use crate::making::draw_payload;
+use crate::{Done, Drawing};
 use goqlanis_files::failure::{Doubts, Failure};
 use goqlanis_files::files::flush_folder;
 use goqlanis_files::streams::{Series, ask, named, shown, unread};
 use goqlanis_files::{doubted, refused};
 use goqlanis_options::asked::{Asked, Lines, Source, Target, Work};
-use goqlanis_options::fields::Fields;
 use goqlanis_tables::checks::check_columns;
 use goqlanis_tables::fields::Line;
 use goqlanis_tables::inputs::next_line;
@@ -15,15 +15,15 @@ use goqlanis_tables::names::{Pattern, check_made, common_form};
 use goqlanis_tables::pages::Pages;
 use goqlanis_tables::rows::{Row, is_loose, loose};
 use goqlanis_tables::tables::Table;
-use std::alloc::Global;
 use std::collections::BTreeSet;
 use std::fs;
 use std::io::{BufRead, BufReader, Read};
 use std::process::ExitCode;
 
-// Where the codes of lines go.
+// A table, and where the codes of its lines go.
 #[derive(Drop)]
 struct Output<'a> {
+    table: Table<'a>,
     // Names of files, if they go there.
     pattern: Option<Pattern<'a>>,
     // The names of files that later lines could use again, in their common form.
@@ -34,51 +34,14 @@ struct Output<'a> {
     pages: Pages<'a>,
 }
 
-impl<'a> Output<'a> {
-    // Returns where the codes of a table go; nothing is written yet.
-    fn of(
-        rt: &HostRuntime,
-        asked: &Asked<'a, '_>,
-        table: &Table<'_>,
-    ) -> Result<Output<'a>, Failure> {
-        let pattern = Pattern::read(rt, asked, &table.columns)?;
-        let path = match asked.target {
-            Target::File(path) if pattern.is_none() => Some(path),
-            _ => None,
-        };
-        Ok(Output {
-            pattern,
-            names: BTreeSet::new(rt.alloc()),
-            has_files: false,
-            pages: Pages::new(rt.alloc(), Series::new(path)),
-        })
-    }
-
-    // Ends the document, which is left out unless it `is_whole`, or waits until the folder of the
-    // files is on disk.
-    fn end(
-        &mut self,
-        rt: &HostRuntime,
-        asked: &Asked<'_, '_>,
-        is_whole: bool,
-    ) -> Result<(), Failure> {
-        match asked.target {
-            Target::File(path) if self.has_files => {
-                named(rt.alloc(), path, flush_folder(rt, path))
-            }
-            _ => self.pages.series.end(rt, is_whole, true),
-        }
-    }
-}
-
 /// Draws a code of each line as it arrives, without its LF or CR LF. A line that is refused is
 /// reported, by file and number, and skipped; if a drawing cannot be written, the remaining lines
 /// are not drawn.
-pub(crate) fn draw_lines(
+pub(crate) fn draw_lines<'a>(
     rt: &HostRuntime,
-    asked: &Asked<'_, '_>,
-    lines: Lines<'_>,
-) -> Result<ExitCode, Failure> {
+    asked: &Asked<'a, '_>,
+    lines: Lines<'a>,
+) -> Done<ExitCode> {
     match asked.input.source {
         Source::Text(text) => draw_from(rt, asked, lines, text.as_bytes()),
         Source::File(path) => match fs::open(rt, path) {
@@ -92,143 +55,128 @@ pub(crate) fn draw_lines(
     }
 }
 
-// Draws each line of an input.
-fn draw_from<R: Read + Drop>(
+// Draws each line of an input. A document is left out unless it is whole; the folder of files is on
+// disk at the end.
+fn draw_from<'a, R: Read + Drop>(
     rt: &HostRuntime,
-    asked: &Asked<'_, '_>,
-    lines: Lines<'_>,
+    asked: &Asked<'a, '_>,
+    lines: Lines<'a>,
     from: R,
-) -> Result<ExitCode, Failure> {
+) -> Done<ExitCode> {
     let mut from = BufReader::new(rt.alloc(), from).map_err(|_| Failure::OutOfMemory)?;
     let table = Table::read(rt.alloc(), asked, lines, &mut from)?;
-    let mut output = Output::of(rt, asked, &table)?;
-    check_columns(rt, asked, &table)?;
-    let drawn = draw_each(rt, asked, &table, &mut output, &mut from);
-    let ended = output.end(rt, asked, drawn.is_ok());
+    let pattern = Pattern::read(rt, asked, &table.columns)?;
+    let path = match asked.target {
+        Target::File(path) if pattern.is_none() => Some(path),
+        _ => None,
+    };
+    let mut output = Output {
+        table,
+        pattern,
+        names: BTreeSet::new(rt.alloc()),
+        has_files: false,
+        pages: Pages::new(rt.alloc(), Series::new(path)),
+    };
+    check_columns(rt, asked, &output.table)?;
+    let drawn = output.draw_each(rt, asked, &mut from);
+    let ended = match asked.target {
+        Target::File(path) if output.has_files => named(rt.alloc(), path, flush_folder(rt, path)),
+        _ => output.pages.series.end(rt, drawn.is_ok(), true),
+    };
     let code = drawn?;
     ended?;
     Ok(code)
 }
 
-// Draws each line, and reports the refused ones. In a table, lines without any data are left out.
-fn draw_each<R: BufRead>(
-    rt: &HostRuntime,
-    asked: &Asked<'_, '_>,
-    table: &Table<'_>,
-    output: &mut Output<'_>,
-    from: &mut R,
-) -> Result<ExitCode, Failure> {
-    let mut is_whole = true;
-    let mut read = Vec::new(rt.alloc());
-    for number in 1..usize::MAX {
-        let place = table.place(number);
-        if !next_line(rt.alloc(), table.name, from, &mut read, place.line)? {
-            if number == 1 {
-                let name = shown(table.name);
-                doubted!(rt, asked.doubts; "{name} has no lines: no code is made")?;
-            }
-            break;
-        }
-        if let Some(line) = table.line(rt.alloc(), &read, number)? {
-            match draw_line(rt, asked, table, output, &line) {
-                Err(Failure::Refused(why)) => {
-                    let why = shown(why.as_str());
-                    let _ = eprintln!(rt; "goqlanis: {place}{why}");
-                    is_whole = false;
+impl<'a> Output<'a> {
+    // Draws each line, and reports the refused ones. In a table, lines without any data are left
+    // out.
+    fn draw_each<R: BufRead>(
+        &mut self,
+        rt: &HostRuntime,
+        asked: &Asked<'a, '_>,
+        from: &mut R,
+    ) -> Done<ExitCode> {
+        let mut is_whole = true;
+        let mut read = Vec::new(rt.alloc());
+        for number in 1..usize::MAX {
+            let place = self.table.place(number);
+            if !next_line(rt.alloc(), self.table.name, from, &mut read, place.line)? {
+                if number == 1 {
+                    let name = shown(self.table.name);
+                    doubted!(rt, asked.doubts; "{name} has no lines: no code is made")?;
                 }
-                drawn => drawn?,
+                break;
+            }
+            if let Some(line) = self.table.line(rt.alloc(), &read, number)? {
+                match self.draw_line(rt, asked, &line) {
+                    Err(Failure::Refused(why)) => {
+                        let why = shown(why.as_str());
+                        let _ = eprintln!(rt; "goqlanis: {place}{why}");
+                        is_whole = false;
+                    }
+                    drawn => drawn?,
+                }
             }
         }
+        self.pages.end(rt)?;
+        Ok(ExitCode::from(u8::from(!is_whole)))
     }
-    output.pages.end(rt)?;
-    Ok(ExitCode::from(u8::from(!is_whole)))
-}
 
-// Draws a line, to a file named after it if `--output` is given.
-fn draw_line(
-    rt: &HostRuntime,
-    asked: &Asked<'_, '_>,
-    table: &Table<'_>,
-    output: &mut Output<'_>,
-    line: &Line<'_>,
-) -> Result<(), Failure> {
-    let doubts = Doubts {
-        place: Some(table.place(line.number)),
-        ..asked.doubts
-    };
-    let asked = Asked { doubts, ..*asked };
-    table.check_line(rt, doubts, line)?;
-    let Some(pattern) = &output.pattern else {
-        let drawing = draw_data(rt, &asked, table, line)?;
-        return write_page(rt, &asked, &mut output.pages, drawing);
-    };
-    let name = pattern.name(rt.alloc(), line)?;
-    let common = common_form(rt.alloc(), name.as_str())?;
-    check_new(rt.alloc(), &output.names, name.as_str(), common.as_str())?;
-    check_made(rt, &asked, name.as_str())?;
-    let target = Target::File(name.as_str());
-    let asked = Asked { target, ..asked };
-    let drawing = draw_data(rt, &asked, table, line)?;
-    output.has_files = output.has_files || drawing.is_some();
-    write_drawing(rt, &asked, drawing)?;
-    if pattern.has_text() {
-        output.names.insert(common)?;
+    // Draws a line, to a file named after it if `--output` is given. Refuses a name that an earlier
+    // line has, in the form that is common to all names that may be the same.
+    fn draw_line(&mut self, rt: &HostRuntime, asked: &Asked<'a, '_>, line: &Line<'_>) -> Done<()> {
+        let doubts = Doubts {
+            place: Some(self.table.place(line.number)),
+            ..asked.doubts
+        };
+        let asked = Asked { doubts, ..*asked };
+        self.table.check_line(rt, doubts, line)?;
+        let Some(pattern) = &self.pattern else {
+            let drawing = self.draw_data(rt, &asked, line)?;
+            return write_page(rt, &asked, &mut self.pages, drawing);
+        };
+        let name = pattern.name(rt.alloc(), line)?;
+        let common = common_form(rt.alloc(), name.as_str())?;
+        if self.names.contains(common.as_str()) {
+            return refused!(rt.alloc();
+                "{name} is the file of an earlier line; {{}} in --output numbers the codes"
+            );
+        }
+        check_made(rt, &asked, name.as_str())?;
+        let target = Target::File(name.as_str());
+        let asked = Asked { target, ..asked };
+        let drawing = self.draw_data(rt, &asked, line)?;
+        self.has_files = self.has_files || drawing.is_some();
+        write_drawing(rt, &asked, drawing)?;
+        if pattern.has_text() {
+            self.names.insert(common)?;
+        }
+        Ok(())
     }
-    Ok(())
-}
 
-// Refuses a name that an earlier line has, in the form `common` to all names that may be the same.
-fn check_new(
-    alloc: Global,
-    names: &BTreeSet<String>,
-    name: &str,
-    common: &str,
-) -> Result<(), Failure> {
-    if names.contains(common) {
-        return refused!(alloc;
-            "{name} is the file of an earlier line; {{}} in --output numbers the codes"
-        );
-    }
-    Ok(())
-}
-
-// Draws what a line holds.
-fn draw_data(
-    rt: &HostRuntime,
-    asked: &Asked<'_, '_>,
-    table: &Table<'_>,
-    line: &Line<'_>,
-) -> Result<Option<Vec<u8>>, Failure> {
-    match asked.work {
-        Work::Payload(fields) => draw_row(rt, asked, fields, table, line),
-        _ if table.is_whole => draw(rt, asked, line.bytes),
-        _ => {
-            let data = table.data(rt.alloc(), line)?;
-            if table.field.is_some() && is_loose(data.as_str()) {
+    // Draws what a line holds.
+    fn draw_data(&self, rt: &HostRuntime, asked: &Asked<'_, '_>, line: &Line<'_>) -> Done<Drawing> {
+        let columns = &self.table.columns;
+        if let Work::Payload(fields) = asked.work {
+            let row = Row::of(rt.alloc(), columns, line, &fields)?;
+            if let Some(field) = loose(rt.alloc(), columns, line)? {
+                let label = columns.label(rt.alloc(), field)?;
                 doubted!(rt, asked.doubts;
-                    "the space or quotation mark at the start or end of the field is encoded"
+                    "{label}: the space or quotation mark at its start or end is encoded"
                 )?;
             }
-            draw(rt, asked, data.as_str().as_bytes())
+            return draw_payload(rt, fields.kind, asked, &row, columns);
         }
+        if self.table.is_whole {
+            return draw(rt, asked, line.bytes);
+        }
+        let data = self.table.data(rt.alloc(), line)?;
+        if self.table.field.is_some() && is_loose(data.as_str()) {
+            doubted!(rt, asked.doubts;
+                "the space or quotation mark at the start or end of the field is encoded"
+            )?;
+        }
+        draw(rt, asked, data.as_str().as_bytes())
     }
-}
-
-// Draws a payload whose fields a line gives.
-fn draw_row(
-    rt: &HostRuntime,
-    asked: &Asked<'_, '_>,
-    fields: Fields<'_, '_>,
-    table: &Table<'_>,
-    line: &Line<'_>,
-) -> Result<Option<Vec<u8>>, Failure> {
-    let columns = &table.columns;
-    let row = Row::of(rt.alloc(), columns, line, &fields)?;
-    if let Some(field) = loose(rt.alloc(), columns, line)? {
-        let label = columns.label(rt.alloc(), field)?;
-        doubted!(rt, asked.doubts;
-            "{label}: the space or quotation mark at its start or end is encoded"
-        )?;
-    }
-    draw_payload(rt, fields.kind, asked, &row, columns)
 }

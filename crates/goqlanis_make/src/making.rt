@@ -4,6 +4,7 @@ use crate::drawing::{check_terminal, draw, write_drawing};
 use crate::lines::draw_lines;
 use crate::payloads::payload_of;
 use crate::splitting::{MOST_IN_SEVERAL, draw_several};
+use crate::{Done, Drawing};
 use goqlanis_files::failure::Failure;
 use goqlanis_files::streams::{MOST_DATA, read_file, read_standard_input, shown};
 use goqlanis_files::{doubted, refused, usage};
@@ -25,17 +26,13 @@ use std::alloc::Global;
 use std::process::ExitCode;
 
 /// Makes codes, after reading the logo file if there is one.
-pub fn make(rt: &HostRuntime, asked: &Asked<'_, '_>) -> Result<ExitCode, Failure> {
+pub fn make(rt: &HostRuntime, asked: &Asked<'_, '_>) -> Done<ExitCode> {
     let file = read_logo(rt, asked)?;
     let logo = asked.logo.map(|logo| AskedLogo {
         middle: file.as_ref().map_or(logo.middle, Middle::Logo),
         ..logo
     });
-    make_all(rt, &Asked { logo, ..*asked })
-}
-
-// Makes codes.
-fn make_all(rt: &HostRuntime, asked: &Asked<'_, '_>) -> Result<ExitCode, Failure> {
+    let asked = &Asked { logo, ..*asked };
     check_terminal(rt, asked)?;
     if let Work::Split(split) = asked.work {
         return draw_several(rt, asked, split, &data(rt, asked, MOST_IN_SEVERAL)?);
@@ -53,7 +50,7 @@ fn make_all(rt: &HostRuntime, asked: &Asked<'_, '_>) -> Result<ExitCode, Failure
 }
 
 // Warns of placeholders in the name of a single file.
-fn warn_of_places(rt: &HostRuntime, asked: &Asked<'_, '_>) -> Result<(), Failure> {
+fn warn_of_places(rt: &HostRuntime, asked: &Asked<'_, '_>) -> Done<()> {
     let is_single = asked.input.lines.is_none();
     match asked.target {
         Target::File(path) if is_single && path.contains('{') && path.contains('}') => {
@@ -67,11 +64,7 @@ fn warn_of_places(rt: &HostRuntime, asked: &Asked<'_, '_>) -> Result<(), Failure
 }
 
 // Draws a payload whose fields the options give.
-fn draw_fields(
-    rt: &HostRuntime,
-    asked: &Asked<'_, '_>,
-    fields: Fields<'_, '_>,
-) -> Result<Option<Vec<u8>>, Failure> {
+fn draw_fields(rt: &HostRuntime, asked: &Asked<'_, '_>, fields: Fields<'_, '_>) -> Done<Drawing> {
     if matches!(asked.input.source, Source::File(_)) {
         return usage!(rt.alloc();
             "--input goes with --lines, which takes the fields from columns; without it, options \
@@ -88,7 +81,7 @@ pub(crate) fn draw_payload<G: Given>(
     asked: &Asked<'_, '_>,
     given: &G,
     columns: &Columns,
-) -> Result<Option<Vec<u8>>, Failure> {
+) -> Done<Drawing> {
     let text = payload_of(rt.alloc(), kind, given, columns)?;
     if matches!(kind, Kind::Bill) {
         return draw_bill(rt, asked, text.as_str());
@@ -105,24 +98,14 @@ pub(crate) fn draw_payload<G: Given>(
     draw(rt, asked, text.as_bytes())
 }
 
-// Draws a Swiss QR-bill.
-fn draw_bill(
-    rt: &HostRuntime,
-    asked: &Asked<'_, '_>,
-    text: &str,
-) -> Result<Option<Vec<u8>>, Failure> {
+// Draws a Swiss QR-bill. Warns of what its standard does not allow.
+fn draw_bill(rt: &HostRuntime, asked: &Asked<'_, '_>, text: &str) -> Done<Drawing> {
     check_bill(rt.alloc(), text)?;
     if asked.logo.is_none() {
         doubted!(rt, asked.doubts;
             "this format lacks the Swiss cross of a bill; png, svg, eps and pdf have it"
         )?;
     }
-    warn_of_bill(rt, asked)?;
-    draw(rt, asked, text.as_bytes())
-}
-
-// Warns of what the standard for Swiss QR-bills does not allow.
-fn warn_of_bill(rt: &HostRuntime, asked: &Asked<'_, '_>) -> Result<(), Failure> {
     let request = &asked.request;
     let is_black = is_grey(request.dark, 0) && is_grey(request.light, 255);
     if request.is_inverted {
@@ -141,14 +124,12 @@ fn warn_of_bill(rt: &HostRuntime, asked: &Asked<'_, '_>) -> Result<(), Failure> 
             "the code of a bill is 46 mm wide: leave out --size, --module and --scale"
         )?;
     }
-    Ok(())
+    draw(rt, asked, text.as_bytes())
 }
 
 // Whether red, green and blue of a colour all have this value.
 fn is_grey(ink: Ink<'_>, value: u8) -> bool {
-    [ink.red, ink.green, ink.blue]
-        .iter()
-        .all(|part| *part == value)
+    (ink.red, ink.green, ink.blue) == (value, value, value)
 }
 
 // Whether the code is 46 mm wide, or of a size that is not known.
@@ -166,7 +147,7 @@ fn is_bill_size(request: &Request<'_>) -> bool {
 const BILL_ROOM: usize = 997;
 
 // Checks that a bill's text fits in the largest version that bills may have.
-fn check_bill(alloc: Global, text: &str) -> Result<(), Failure> {
+fn check_bill(alloc: Global, text: &str) -> Done<()> {
     if text.len() <= BILL_ROOM {
         return Ok(());
     }
@@ -184,7 +165,7 @@ fn check_bill(alloc: Global, text: &str) -> Result<(), Failure> {
 }
 
 // Returns the data to encode; at most `most` bytes are read.
-fn data(rt: &HostRuntime, asked: &Asked<'_, '_>, most: usize) -> Result<Vec<u8>, Failure> {
+fn data(rt: &HostRuntime, asked: &Asked<'_, '_>, most: usize) -> Done<Vec<u8>> {
     let mut bytes = match asked.input.source {
         Source::Text(text) => Vec::from_slice(rt.alloc(), text.as_bytes())?,
         Source::File(path) => read_file(rt, path, most)?,

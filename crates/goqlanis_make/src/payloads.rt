@@ -1,9 +1,10 @@
 //! Makes the texts of payloads, or explains why one is refused: which option is wrong, and what would
 //! help.
 
-ghost use Rattle.std.specs.Prelude.{◌≡◌, IfOk, IsErr, string_bytes};
+ghost use Rattle.std.specs.Prelude.{◌≡◌, IfOk, string_bytes};
 ghost use Rattle.qrcode_payloads.specs.Texts.{payload_text};
 
+use crate::Done;
 use goqlanis_files::failure::Failure;
 use goqlanis_files::refused;
 use goqlanis_options::options::entry_of;
@@ -16,35 +17,21 @@ use std::alloc::Global;
 
 /// Returns the text of a payload with these fields; messages name those of `columns` by column.
 ///
-/// Errors: `Refused` if the format rejects a field; `OutOfMemory`.
+/// Errors: `Refused` if the format rejects a field, with the option, what is wrong with it, and what
+/// its help says; `OutOfMemory`.
 pub(crate) fn payload_of<G: Given>(
     alloc: Global,
     kind: Kind,
     given: &G,
     columns: &Columns,
-) -> Result<String, Failure>
+) -> Done<String>
     ensures value { IfOk result (λ text.
         string_bytes text ≡ payload_text kind (G.fields given.now)) }
 {
-    match text_of(alloc, kind, given) {
-        Ok(text) => Ok(text),
-        Err(error) => not_made(alloc, kind, error, given, columns),
-    }
-}
-
-// Fails because of an error of a payload format, with a message: the option, what is wrong with
-// it, and what its help says.
-fn not_made<G: Given>(
-    alloc: Global,
-    kind: Kind,
-    error: ContentError,
-    given: &G,
-    columns: &Columns,
-) -> Result<String, Failure>
-    ensures { IsErr result }
-{
-    let ContentError::Refused(field, cause) = error else {
-        return Err(Failure::OutOfMemory);
+    let (field, cause) = match text_of(alloc, kind, given) {
+        Ok(text) => return Ok(text),
+        Err(ContentError::Refused(field, cause)) => (field, cause),
+        Err(_) => return Err(Failure::OutOfMemory),
     };
     let what = what_is_wrong(kind, field, cause);
     let entry = entry_of(kind, field);
@@ -100,23 +87,17 @@ fn what_is_wrong(kind: Kind, field: Field, cause: Cause) -> &'static str {
         (_, Field::Hidden, Cause::Word) => "it is neither true nor false",
         (Kind::Vcard, Field::Family, Cause::Empty) =>
             "it is missing or empty; a vCard has the family name apart from the full name",
-        _ => cause_text(cause),
-    }
-}
-
-// Says what is wrong, by the cause alone.
-fn cause_text(cause: Cause) -> &'static str {
-    match cause {
-        Cause::Empty => "it is missing or empty",
-        Cause::TooLong => "it is longer than the format allows",
-        Cause::TooShort => "it is shorter than the format allows",
-        Cause::ControlCharacter =>
+        (_, _, Cause::Empty) => "it is missing or empty",
+        (_, _, Cause::TooLong) => "it is longer than the format allows",
+        (_, _, Cause::TooShort) => "it is shorter than the format allows",
+        (_, _, Cause::ControlCharacter) =>
             "it has a line break or another control character; leave that out",
-        Cause::Character => "it has a character that the format does not allow there",
-        Cause::CheckDigits => "the check digits do not match: look for a mistyped or swapped digit",
-        Cause::Range => "it is outside what the format allows",
-        Cause::Unused => "it cannot be given together with the other options; leave it out",
-        Cause::Decimals => "it has too many digits after the point",
-        Cause::Word => "it is not one of the values that it may have",
+        (_, _, Cause::Character) => "it has a character that the format does not allow there",
+        (_, _, Cause::CheckDigits) =>
+            "the check digits do not match: look for a mistyped or swapped digit",
+        (_, _, Cause::Range) => "it is outside what the format allows",
+        (_, _, Cause::Unused) => "it cannot be given together with the other options; leave it out",
+        (_, _, Cause::Decimals) => "it has too many digits after the point",
+        (_, _, Cause::Word) => "it is not one of the values that it may have",
     }
 }

@@ -1,5 +1,6 @@
 //! `--segment`: segments chosen by the user.
 
+use crate::Done;
 use goqlanis_files::failure::Failure;
 use goqlanis_files::usage;
 use goqlanis_options::modes::mode_named;
@@ -8,9 +9,9 @@ use hex::FromHexError;
 use qrcode::types::Mode;
 use std::alloc::Global;
 
-// Parses a segment: MODE:DATA, where the data of Kanji is Shift JIS in hex (decoded into a buffer
-// that is leaked), or eci:NUMBER.
-fn segment_of<'a>(alloc: Global, word: &'a str) -> Result<Segment<'a>, Failure> {
+/// Parses a segment: MODE:DATA, where the data of Kanji is Shift JIS in hex (decoded into a buffer
+/// that is leaked), or eci:NUMBER.
+pub(crate) fn segment_of<'a>(alloc: Global, word: &'a str) -> Done<Segment<'a>> {
     let (name, text) = word.split_once(':').unwrap_or(("", ""));
     let why = match mode_named(name) {
         Some(Mode::Kanji) => match hex::decode(alloc, text) {
@@ -26,26 +27,6 @@ fn segment_of<'a>(alloc: Global, word: &'a str) -> Result<Segment<'a>, Failure> 
         None => "use MODE:DATA with the mode numeric, alphanumeric, byte or kanji, or eci:NUMBER",
     };
     usage!(alloc; "--segment {word}: {why}")
-}
-
-/// Parses segments.
-pub(crate) fn segments_of<'a>(
-    alloc: Global,
-    words: &[&'a str],
-) -> Result<Vec<Segment<'a>>, Failure> {
-    let mut segments = Vec::with_capacity(alloc, words.len())?;
-    for word in words {
-        segments.push(segment_of(alloc, word)?)?;
-    }
-    Ok(segments)
-}
-
-/// Whether a segment holds no data: it is empty, or an ECI header.
-pub(crate) fn is_empty(segment: &Segment<'_>) -> bool {
-    match *segment {
-        Segment::Data(_, bytes) => bytes.is_empty(),
-        Segment::CharacterSet(_) => true,
-    }
 }
 
 /// Says which characters a mode holds, for data that it cannot hold.

@@ -1,5 +1,6 @@
 //! `goqlanis split`: structured append.
 
+use crate::Done;
 use crate::drawing::{check_empty, draw_reported, manner, write_drawing, write_page};
 use goqlanis_files::failure::Failure;
 use goqlanis_files::refused;
@@ -30,7 +31,7 @@ pub(crate) fn draw_several(
     asked: &Asked<'_, '_>,
     split: Split,
     bytes: &[u8],
-) -> Result<ExitCode, Failure> {
+) -> Done<ExitCode> {
     let alloc = rt.alloc();
     let pattern = Pattern::read(rt, asked, &Columns::none(alloc))?;
     check_empty(alloc, asked, bytes)?;
@@ -54,7 +55,7 @@ fn too_long(
     manner: Manner,
     level: EcLevel,
     bytes: &[u8],
-) -> Result<ExitCode, Failure> {
+) -> Done<ExitCode> {
     let count = split.count.map_or(MOST_SYMBOLS, usize::from);
     let versions = Versions {
         greatest: 40,
@@ -79,7 +80,7 @@ fn draw_each(
     asked: &Asked<'_, '_>,
     pattern: Option<&Pattern<'_>>,
     codes: Vec<QrCode>,
-) -> Result<ExitCode, Failure> {
+) -> Done<ExitCode> {
     let count = codes.len();
     let mut pages = Pages::new(rt.alloc(), Series::new(None));
     for (index, code) in codes.into_iter().enumerate() {
@@ -101,12 +102,12 @@ fn draw_each(
 }
 
 // Returns the file name of a part.
-fn part_name(alloc: Global, pattern: &Pattern<'_>, number: usize) -> Result<String, Failure> {
+fn part_name(alloc: Global, pattern: &Pattern<'_>, number: usize) -> Done<String> {
     pattern.name(alloc, &Line::of(alloc, number, b"", ",")?)
 }
 
 // Warns of files with higher numbers, left by an earlier run.
-fn warn_of_others(rt: &HostRuntime, pattern: &Pattern<'_>, count: usize) -> Result<(), Failure> {
+fn warn_of_others(rt: &HostRuntime, pattern: &Pattern<'_>, count: usize) -> Done<()> {
     let mut others = String::new(rt.alloc());
     for number in count.saturating_add(1)..MOST_SYMBOLS + 1 {
         let name = part_name(rt.alloc(), pattern, number)?;
