@@ -19,6 +19,9 @@ use std::alloc::{AllocError, Global};
 use std::process::ExitCode;
 use std::{env, io};
 
+// What was done, or why the program fails.
+type Done<T> = Result<T, Failure>;
+
 // The version of the program and everything installed with it, as it is printed.
 const VERSION: &str = "goqlanis 1.0.0\n";
 
@@ -29,7 +32,7 @@ pub fn run(rt: &HostRuntime) -> ExitCode {
 }
 
 // Runs the program; the error says why it failed.
-fn run_words(rt: &HostRuntime) -> Result<ExitCode, Failure> {
+fn run_words(rt: &HostRuntime) -> Done<ExitCode> {
     let mut words = all_words(rt)?;
     let task = take_command(rt.alloc(), &mut words)?;
     if task.purpose.draws() && has_unit_apart(&words) {
@@ -66,7 +69,7 @@ fn take_command(alloc: Global, words: &mut Vec<String>) -> Result<&'static Task,
 }
 
 // Returns the words of the command line.
-fn all_words(rt: &HostRuntime) -> Result<Vec<String>, Failure> {
+fn all_words(rt: &HostRuntime) -> Done<Vec<String>> {
     match env::args(rt) {
         Ok(words) => Ok(words.collect(rt.alloc())?),
         Err(error) if error.kind() == io::ErrorKind::InvalidData => refused!(rt.alloc();
@@ -77,12 +80,7 @@ fn all_words(rt: &HostRuntime) -> Result<Vec<String>, Failure> {
 }
 
 // Explains a command line that `clap` rejects, or prints the text that it asks for (`--help`).
-fn refuse(
-    rt: &HostRuntime,
-    task: &Task,
-    words: &[String],
-    error: &Error,
-) -> Result<ExitCode, Failure> {
+fn refuse(rt: &HostRuntime, task: &Task, words: &[String], error: &Error) -> Done<ExitCode> {
     if error.kind() == ErrorKind::OutOfMemory {
         return Err(Failure::OutOfMemory);
     }
@@ -100,7 +98,7 @@ fn refuse(
 }
 
 // Runs a task.
-fn perform(rt: &HostRuntime, task: &Task, given: &ArgMatches<'_>) -> Result<ExitCode, Failure> {
+fn perform(rt: &HostRuntime, task: &Task, given: &ArgMatches<'_>) -> Done<ExitCode> {
     match task.purpose {
         Purpose::Read => read(rt, &pictures_of(rt, given)?),
         Purpose::Check => check(rt, &pictures_of(rt, given)?),

@@ -1,5 +1,6 @@
 //! The area that a logo gets.
 
+use crate::Done;
 use goqlanis_files::doubted;
 use goqlanis_files::failure::Failure;
 use goqlanis_options::asked::Asked;
@@ -86,11 +87,7 @@ fn largest_area(
 /// Returns the area in the middle of a code, if the command line asks for one.
 ///
 /// Errors: `Refused` if the code has no such area; `OutOfMemory`.
-pub fn area_in(
-    alloc: Global,
-    asked: &Asked<'_, '_>,
-    code: &QrCode,
-) -> Result<Option<Rectangle>, Failure> {
+pub fn area_in(alloc: Global, asked: &Asked<'_, '_>, code: &QrCode) -> Done<Option<Rectangle>> {
     let Some(logo) = &asked.logo else {
         return Ok(None);
     };
@@ -116,7 +113,7 @@ pub fn warn_of_logo(
     asked: &Asked<'_, '_>,
     code: &QrCode,
     area: Option<Rectangle>,
-) -> Result<(), Failure> {
+) -> Done<()> {
     let logo = asked.logo.as_ref().filter(|logo| logo.file.is_some());
     let (Some(area), Some(logo)) = (area, logo) else {
         return Ok(());
@@ -201,7 +198,7 @@ fn refuse(
     code: &QrCode,
     wish: LogoWish,
     error: LogoError,
-) -> Result<Option<Rectangle>, Failure> {
+) -> Done<Option<Rectangle>> {
     let (version, level) = (code.version(), code.error_correction_level());
     let (name, side) = (VersionName(version), code.width());
     let mut text = match error {

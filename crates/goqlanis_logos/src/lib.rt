@@ -4,3 +4,8 @@
 pub mod areas;
 mod logos;
 pub mod middle;
+
+use goqlanis_files::failure::Failure;
+
+/// What was done, or why the program fails.
+type Done<T> = Result<T, Failure>;

@@ -1,5 +1,6 @@
 //! Logo files: PNG and SVG.
 
+use crate::Done;
 use base64::engine::general_purpose::STANDARD;
 use goqlanis_files::failure::{Doubts, Failure, warn_of_more};
 use goqlanis_files::refused;
@@ -14,7 +15,7 @@ pub(crate) fn pixels_of(
     doubts: Doubts<'_>,
     path: &str,
     file: &[u8],
-) -> Result<Logo, Failure> {
+) -> Done<Logo> {
     let why = "a PNG file takes a PNG logo; save it as PNG, or use --format svg";
     let picture = picture_of(rt, doubts, path, file, why)?;
     let (across, down) = picture.sides();
@@ -28,7 +29,7 @@ pub(crate) fn element_of(
     doubts: Doubts<'_>,
     path: &str,
     file: &[u8],
-) -> Result<Logo, Failure> {
+) -> Done<Logo> {
     let alloc = rt.alloc();
     let Ok(text) = str::from_utf8(file) else {
         let (across, down) = picture_of(rt, doubts, path, file, UNKNOWN)?.sides();
@@ -47,7 +48,7 @@ fn picture_of(
     path: &str,
     file: &[u8],
     other: &str,
-) -> Result<Picture, Failure> {
+) -> Done<Picture> {
     let alloc = rt.alloc();
     match read(alloc, file) {
         Ok(picture) => {

@@ -3,6 +3,7 @@
 ghost use Rattle.std.specs.Prelude.{IfOk, IsErr};
 ghost use Rattle.qrcode_sheets.specs.Places.{HasPixels};
 
+use crate::Done;
 use crate::logos::{element_of, pixels_of};
 use goqlanis_files::failure::Failure;
 use goqlanis_files::refused;
@@ -22,7 +23,7 @@ use std::alloc::Global;
 const MOST_LOGO: usize = 1_048_576;
 
 /// Reads the logo file, once for all codes; returns `None` without `--logo`.
-pub fn read_logo(rt: &HostRuntime, asked: &Asked<'_, '_>) -> Result<Option<Logo>, Failure> {
+pub fn read_logo(rt: &HostRuntime, asked: &Asked<'_, '_>) -> Done<Option<Logo>> {
     let Some(path) = asked.logo.and_then(|logo| logo.file) else {
         return Ok(None);
     };
@@ -51,7 +52,7 @@ pub fn draw_with_middle(
     logo: &AskedLogo<'_>,
     code: &QrCode,
     area: Rectangle,
-) -> Result<Vec<u8>, Failure> {
+) -> Done<Vec<u8>> {
     let is_png = request.format.row().middle == qrcode_formats::Middle::Pixels;
     let spot = Spot {
         alloc,
@@ -90,7 +91,7 @@ struct Spot<'a> {
 impl Spot<'_> {
     // Draws the code with a logo in the area, as a PNG file. A logo with more pixels than its place
     // is shrunk to them.
-    fn draw_logo(&self, logo: Inset<'_>) -> Result<Vec<u8>, Failure> {
+    fn draw_logo(&self, logo: Inset<'_>) -> Done<Vec<u8>> {
         let small = shrunk(self.alloc, logo)?;
         let shown = match &small {
             Some(pixels) => Inset {
@@ -105,7 +106,7 @@ impl Spot<'_> {
     }
 
     // Draws the code with the Swiss cross, as a PNG file.
-    fn draw_cross(&self) -> Result<Vec<u8>, Failure> {
+    fn draw_cross(&self) -> Done<Vec<u8>> {
         let width = cross_width(self.request, self.code);
         let pixels = cross_pixels(self.alloc)?;
         self.draw(Inside::Pixels(Inset {
@@ -117,7 +118,7 @@ impl Spot<'_> {
     }
 
     // Draws the code with something in the area.
-    fn draw(&self, inside: Inside<'_>) -> Result<Vec<u8>, Failure> {
+    fn draw(&self, inside: Inside<'_>) -> Done<Vec<u8>> {
         match with_logo(self.alloc, self.request, self.code, self.area, inside) {
             Ok(Some(bytes)) => Ok(bytes),
             Ok(None) => self.no_room(),
@@ -126,7 +127,7 @@ impl Spot<'_> {
     }
 
     // Returns the place of the area within a margin, in pixels.
-    fn place(&self, margin: u8) -> Result<Place, Failure>
+    fn place(&self, margin: u8) -> Done<Place>
         ensures { IfOk result HasPixels }
     {
         match place_in(self.request, self.code, self.area, margin) {
@@ -136,7 +137,7 @@ impl Spot<'_> {
     }
 
     // Fails: the area is too small for a logo within its margin.
-    fn no_room<T>(&self) -> Result<T, Failure>
+    fn no_room<T>(&self) -> Done<T>
         ensures { IsErr result }
     {
         let (width, height) = (self.area.width, self.area.height);
