@@ -190,8 +190,10 @@ fn pixels(text: &str) -> Option<&str> {
     (is_number && !number.is_empty()).then_some(number)
 }
 
-// Returns the integer part of a decimal number, at least 1.
+// Returns the integer part of a decimal number, at least 1; `None` if the number is 0, or none.
 fn whole(number: &str) -> Option<u32> {
     let digits = number.split_once('.').map_or(number, |(digits, _)| digits);
-    Some(digits.parse::<u32>().ok()?.max(1))
+    let is_zero = number.bytes().all(|byte| matches!(byte, b'0' | b'.'));
+    let whole = digits.parse::<u32>().ok()?.max(1);
+    (!is_zero).then_some(whole)
 }

@@ -114,7 +114,8 @@ fn picture_of<'a>(rt: &HostRuntime, path: &'a str) -> Done<(&'a str, Vec<u8>)> {
 // Errors: `Refused` if a binary PBM picture has too many pixels; `OutOfMemory`.
 fn pictures_in<'a>(rt: &HostRuntime, name: &str, file: &'a [u8]) -> Done<Vec<&'a [u8]>> {
     let mut pictures = Vec::new(rt.alloc());
-    let mut rest = file;
+    // (Some editors put a byte order mark before half blocks.)
+    let mut rest = file.strip_prefix(b"\xef\xbb\xbf").unwrap_or(file);
     for _ in 0..file.len() {
         let behind = behind_picture(rest);
         let picture = &rest[..rest.len() - behind.len()];

@@ -12,7 +12,8 @@ const MOST_IN_LINE: usize = 100_000;
 
 /// Replaces `line` with the next line, line ending included. Returns `false` at the end.
 ///
-/// Errors: `Refused` if it cannot be read, is too long or UTF-16; `OutOfMemory`.
+/// Errors: `Refused` if it cannot be read, is too long or UTF-16, or all lines end with CR alone;
+/// `OutOfMemory`.
 pub fn next_line<R: BufRead>(
     alloc: Global,
     name: &str,
@@ -26,6 +27,10 @@ pub fn next_line<R: BufRead>(
         Ok(0) => Ok(false),
         Ok(_) if number == 1 && is_utf_16(line) => refused!(alloc;
             "cannot read {name}: it is UTF-16; use iconv -f utf-16 -t utf-8 first"
+        ),
+        Ok(_) if number == 1 && line.contains(&b'\r') && !line.ends_with(b"\n") => refused!(alloc;
+            "cannot read {name}: its lines end with CR alone, as on old Macs; use tr '\\r' '\\n' \
+            first"
         ),
         Ok(_) if without_ending(line).len() <= MOST_IN_LINE => Ok(true),
         Ok(_) => {
