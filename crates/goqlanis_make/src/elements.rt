@@ -1,8 +1,8 @@
 //! Parses GS1 element strings as people write them, and explains errors in them.
 
-ghost use Rattle.std.specs.Prelude.{◌≡◌, ◌≢◌, [], ◌∷◌, ◌++◌, map, true, encode_utf8, string_bytes, IfOk};
+ghost use Rattle.std.specs.Prelude.{◌≡◌, ◌++◌, map, string_bytes, IfOk};
 ghost use Rattle.qrcode_gs1.specs.Items.{item};
-ghost use Rattle.goqlanis_make.specs.Labels.{ends_with_backslash, items_of, label_text, read_text, value_text};
+ghost use Rattle.goqlanis_make.specs.Labels.{items_of, label_text, left_text, value_text};
 
 use goqlanis_files::failure::{Failure, refused};
 use qrcode_gs1::checks::cause_of;
@@ -17,17 +17,6 @@ pub(crate) struct Elements {
     items: Vec<(String, String)>,
 }
 
-// An element, as far as it has been parsed.
-#[derive(Drop)]
-enum Part {
-    // Nothing yet.
-    Nothing,
-    // `(` and the start of the identifier.
-    Identifier(String),
-    // The identifier in brackets, and the start of the value.
-    Value(String, String),
-}
-
 impl Elements {
     /// Parses `text`: each identifier in round brackets, then its value, in which `\(` means `(`.
     /// Does not check whether such identifiers and values exist.
@@ -37,19 +26,20 @@ impl Elements {
         ensures written { IfOk result (λ elements.
             label_text (items_of elements.items.items) ≡ text.now) }
     {
-        let mut items = Vec::new(alloc);
-        let mut part = Part::Nothing;
-        for character in text.chars() {
-            part = next(alloc, &mut items, part, character)?;
+        let Some(first) = text.strip_prefix('(') else {
+            return refused(alloc, NO_BRACKET);
+        };
+        let (mut items, mut left) = (Vec::new(alloc), Some(first));
+        while let Some(inner) = left {
+            let (identifier, behind) = match inner.split_once(')') {
+                Some((identifier, behind)) if !identifier.contains('(') => (identifier, behind),
+                _ => return refused(alloc, NOT_CLOSED),
+            };
+            let (value, next) = value_in(alloc, behind)?;
+            items.push((String::from_str(alloc, identifier)?, value))?;
+            left = next;
         }
-        match part {
-            Part::Nothing => refused(alloc, NO_BRACKET),
-            Part::Identifier(_) => refused(alloc, NOT_CLOSED),
-            Part::Value(identifier, value) => {
-                items.push((identifier, value))?;
-                Ok(Elements { items })
-            }
-        }
+        Ok(Elements { items })
     }
 
     /// Returns the elements as the encoder takes them.
@@ -134,66 +124,24 @@ fn length_help(identifier: &str, count: usize) -> &'static str {
     }
 }
 
-// Takes one more character of the text, which may complete an element and begin another.
-fn next(
-    alloc: Global,
-    items: &mut Vec<(String, String)>,
-    part: Part,
-    character: char,
-) -> Result<Part, Failure>
-    ensures appends { IfOk result (λ more. read_text items.new.items more
-        ≡ read_text items.old.items part ++ encode_utf8 character) }
+// Reads the value with which `text` begins, in which `\(` means `(`; returns it, and what follows
+// the opening bracket behind it, if there is one.
+fn value_in<'a>(alloc: Global, text: &'a str) -> Result<(String, Option<&'a str>), AllocError>
+    ensures parts { IfOk result (λ x. value_text (string_bytes x.0) ++ left_text x.1 ≡ text.now) }
 {
-    match part {
-        Part::Nothing if character == '(' => Ok(Part::Identifier(String::new(alloc))),
-        Part::Nothing => refused(alloc, NO_BRACKET),
-        Part::Identifier(_) if character == '(' => refused(alloc, NOT_CLOSED),
-        Part::Identifier(identifier) if character == ')' => {
-            Ok(Part::Value(identifier, String::new(alloc)))
-        }
-        Part::Identifier(mut identifier) => {
-            identifier.push(character)?;
-            Ok(Part::Identifier(identifier))
-        }
-        Part::Value(identifier, value) if character != '(' => {
-            Ok(Part::Value(identifier, with_character(value, character)?))
-        }
-        Part::Value(identifier, value) if ends_with_backslash(value.as_str()) => {
-            Ok(Part::Value(identifier, with_bracket(value)?))
-        }
-        Part::Value(identifier, value) => {
-            items.push((identifier, value))?;
-            Ok(Part::Identifier(String::new(alloc)))
-        }
+    let mut value = String::new(alloc);
+    let mut left = text;
+    while let Some((piece, behind)) = left.split_once('(') {
+        let Some(start) = piece.strip_suffix('\\') else {
+            value.push_str(piece)?;
+            return Ok((value, Some(behind)));
+        };
+        value.push_str(start)?;
+        value.push('(')?;
+        left = behind;
     }
-}
-
-fn ends_with_backslash(value: &str) -> bool
-    ensures { result ≡ ends_with_backslash value.now }
-{
-    value.ends_with('\\')
-}
-
-// Appends a character to a value.
-#[tactic(auto, using(crate::proofs::Labelling::value_more))]
-fn with_character(mut value: String, character: char) -> Result<String, Failure>
-    requires { character ≢ 40 }
-    ensures appends { IfOk result (λ more. value_text (string_bytes more)
-        ≡ value_text (string_bytes value) ++ encode_utf8 character) }
-{
-    value.push(character)?;
-    Ok(value)
-}
-
-// Replaces the backslash at the end of a value with `(`, since `\(` means `(`.
-fn with_bracket(mut value: String) -> Result<String, Failure>
-    requires { ends_with_backslash (string_bytes value) ≡ true }
-    ensures appends { IfOk result (λ more. value_text (string_bytes more)
-        ≡ value_text (string_bytes value) ++ 40 ∷ []) }
-{
-    value.pop();
-    value.push('(')?;
-    Ok(value)
+    value.push_str(left)?;
+    Ok((value, None))
 }
 
 /// Returns `text` with identifiers in round brackets: where it starts with a square bracket, all
@@ -204,17 +152,13 @@ pub(crate) fn with_round_brackets(alloc: Global, text: &str) -> Result<String, A
     if !text.starts_with('[') {
         return String::from_str(alloc, text);
     }
+    let text = text
+        .replace(alloc, '\\', "\\\\")?
+        .replace(alloc, '(', "\\(")?;
     let mut round = String::new(alloc);
-    let mut is_open = false;
-    for character in text.chars() {
-        match character {
-            '[' => round.push('(')?,
-            ']' if is_open => round.push(')')?,
-            '(' => round.push_str("\\(")?,
-            '\\' => round.push_str("\\\\")?,
-            character => round.push(character)?,
-        }
-        is_open = character == '[' || (is_open && character != ']');
+    for element in text.split('[').skip(1) {
+        let element = element.replacen(alloc, ']', ")", 1)?;
+        write!(round, "({element}")?;
     }
     Ok(round)
 }

@@ -1,7 +1,10 @@
-use Rattle.std.proofs.Common.{◌≡◌, encode_utf8_all}
-use Rattle.goqlanis_make.specs.Labels.{read_text}
+use Rattle.std.proofs.Common.{◌≡◌, ◌++◌, length}
+use Rattle.goqlanis_make.specs.Labels.{items_of, label_text, left_text}
 use Rattle.goqlanis_make.proofs.elements.Elements.read.Given as goal
 
--- what is read, written again, is the text so far
-abbrev pub invariant-loop-character : goal.invariant-loop-character
-invariant-loop-character l = read_text l.items.items l.part ≡ encode_utf8_all l.yielded
+-- what is read, written again, comes before what is left
+abbrev pub invariant-loop-left : goal.invariant-loop-left
+invariant-loop-left l = label_text (items_of l.items.items) ++ left_text l.left ≡ l.text
+
+abbrev pub decreases-loop-left : goal.decreases-loop-left
+decreases-loop-left l = length (left_text l.left)
