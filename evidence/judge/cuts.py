@@ -5,7 +5,7 @@ import goqlanis
 import reading
 from forms import form
 from looks import square_of
-from spelling import count_bits
+from spelling import count_bits, is_pair
 from tables import CHARACTERS, MICRO_MODES
 
 # A digit, a letter, another byte, and two lead bytes, which are Kanji pairs with each other and
@@ -15,13 +15,6 @@ LETTERS = ["1", "A", "a", "\u00e9"]
 
 # Versions, and the longest data to try in each.
 LENGTHS = [("1", 5), ("M1", 4), ("M2", 5), ("M3", 5), ("40", 2)]
-
-
-def is_pair(pair):
-    """Whether two bytes are a Shift JIS pair of Kanji mode."""
-    number = int.from_bytes(pair, "big")
-    is_within = 0x8140 <= number <= 0x9ffc or 0xe040 <= number <= 0xebbf
-    return is_within and 0x40 <= pair[1] <= 0xfc and pair[1] != 0x7f
 
 
 def data_bits(mode, data):

@@ -34,13 +34,14 @@ class Bits(NamedTuple):
     bits: str
 
 
-def divided(five):
-    """Returns five bits with their remainder by 10100110111, before the mask (Annex C)."""
-    rest = five << 10
-    for k in range(4, -1, -1):
-        if rest >> (10 + k) & 1:
-            rest ^= 0b10100110111 << k
-    return five << 10 | rest
+def divided(number, divisor):
+    """Returns bits and behind them their remainder by a polynomial (Annexes C and D)."""
+    count = divisor.bit_length() - 1
+    rest = number << count
+    for k in range(number.bit_length() - 1, -1, -1):
+        if rest >> (count + k) & 1:
+            rest ^= divisor << k
+    return number << count | rest
 
 
 def named(version, five):
@@ -54,7 +55,7 @@ def named(version, five):
 def words(version):
     """Returns the format words of a version by level and mask."""
     turned = 0b100010001000101 if version.startswith("M") else 0b101010000010010
-    return {named(version, five): divided(five) ^ turned for five in range(32)
+    return {named(version, five): divided(five, 0b10100110111) ^ turned for five in range(32)
             if named(version, five)}
 
 
@@ -82,23 +83,27 @@ def words_of(stream, count, parts):
     return int(bits[:cut] + "0000" + bits[cut:], 2).to_bytes(parts.total, "big")
 
 
+def mended(square, shape, level, mask):
+    """Returns the numbers of wrong codewords of each block, and the data bits, corrected."""
+    parts, data, wrong = blocks(shape.version, level), b"", []
+    found = words_of(shape.stream(square, mask), len(shape.places), parts)
+    for share, length in zip(parts.shares(), parts.lengths):
+        block, count = corrected(bytes(map(found.__getitem__, share)), parts.ec)
+        data, wrong = data + block[:length], [*wrong, count]
+    return wrong, f"{int.from_bytes(data, 'big'):0{len(data) * 8}b}"[:parts.capacity]
+
+
 def read_bits(square):
-    """Returns the data bits of a square, corrected."""
     version = WIDTHS.get(int(len(square) ** 0.5))
     if version is None or form(version).width ** 2 != len(square):
         raise NoSuchSide
     shape = form(version)
     level, mask = read_format(square, shape)
-    parts = blocks(version, level)
-    found, data, wrong = words_of(shape.stream(square, mask), len(shape.places), parts), b"", 0
-    for share, length in zip(parts.shares(), parts.lengths):
-        try:
-            block, count = corrected(bytes(map(found.__getitem__, share)), parts.ec)
-        except Uncorrected:
-            raise Damaged from None
-        data, wrong = data + block[:length], wrong + count
-    bits = f"{int.from_bytes(data, 'big'):0{len(data) * 8}b}"[:parts.capacity]
-    return Bits(version, level, mask, wrong, bits)
+    try:
+        wrong, bits = mended(square, shape, level, mask)
+    except Uncorrected:
+        raise Damaged from None
+    return Bits(version, level, mask, sum(wrong), bits)
 
 
 def read_headed(square):

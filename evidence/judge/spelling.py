@@ -81,8 +81,14 @@ def pairs(front, count):
 READERS = {"numeric": digits, "alphanumeric": letters, "byte": plain, "kanji": pairs}
 
 
+def is_pair(pair):
+    """Whether two bytes are a Shift JIS pair of Kanji mode."""
+    number = int.from_bytes(pair, "big")
+    is_within = 0x8140 <= number <= 0x9ffc or 0xe040 <= number <= 0xebbf
+    return len(pair) == 2 and is_within and 0x40 <= pair[1] <= 0xfc and pair[1] != 0x7f
+
+
 def count_bits(form, mode):
-    """Returns the length of the character count."""
     if form.is_micro:
         return MICRO_COUNT_BITS[mode][form.number - 1]
     return COUNT_BITS[mode][(form.number >= 10) + (form.number >= 27)]
@@ -112,20 +118,23 @@ def header(indicator, front):
     raise Unspelled
 
 
-def spelled(form, bits):
-    """Decodes the data bits of a version."""
-    front, data, headers = Front(bits), b"", []
+def parts_of(form, front):
+    """Yields the mode and the bytes of each segment, and `None` and what a header says."""
+    modes = dict(enumerate(MICRO_MODES)) if form.is_micro else MODES
     while not front.is_end(form.number * 2 + 1 if form.is_micro else 4):
         indicator = front.number(form.number - 1 if form.is_micro else 4)
-        known = indicator < 4 if form.is_micro else indicator in MODES
-        if known:
-            mode = MICRO_MODES[indicator] if form.is_micro else MODES[indicator]
-            width = count_bits(form, mode)
-            if width == 0:
-                raise Unspelled
-            data += READERS[mode](front, front.number(width))
-        elif form.is_micro:
+        mode = modes.get(indicator)
+        if mode and count_bits(form, mode):
+            yield mode, READERS[mode](front, front.number(count_bits(form, mode)))
+        elif mode or form.is_micro:
             raise Unspelled
         else:
-            headers.append(header(indicator, front))
-    return Spelled(data, headers, front.at)
+            yield None, header(indicator, front)
+
+
+def spelled(form, bits):
+    """Decodes the data bits of a version."""
+    front = Front(bits)
+    parts = [*parts_of(form, front)]
+    data = b"".join(it for mode, it in parts if mode)
+    return Spelled(data, [it for mode, it in parts if not mode], front.at)

@@ -5,11 +5,11 @@ import sys
 sys.path.append(os.path.join(os.path.dirname(os.path.realpath(__file__)), os.pardir, "judge"))
 import penalty
 import reading
-from damage import bounds
-from field import Uncorrected, corrected
+from damage import bounds, version_copies
+from field import Uncorrected  # noqa: F401 (for ways/reading.py)
 from forms import blocks, form
-from spelling import ECI, FNC1_FIRST, FNC1_SECOND, READERS, Front, Unspelled, count_bits, header
-from tables import CHARACTERS, MICRO_MODES, MODES
+from spelling import READERS, Front, Unspelled, count_bits, is_pair, parts_of
+from tables import CHARACTERS
 
 # The cost of a byte in a mode, in sixths of a bit.
 SIXTHS = {"numeric": 20, "alphanumeric": 33, "byte": 48, "kanji": 39}
@@ -54,50 +54,16 @@ def format_bits(square, shape, word):
 
 def version_bits(square, shape):
     """Returns the number of wrong bits of the version word (Annex D)."""
-    if shape.is_micro or shape.number < 7:
-        return 0
-    rest = shape.number << 12
-    for k in range(5, -1, -1):
-        if rest >> (12 + k) & 1:
-            rest ^= 0b1111100100101 << k
-    word, width, wrong = shape.number << 12 | rest, shape.width, 0
-    for k in range(18):
-        near, far = k // 3, width - 11 + k % 3
-        wrong += (square[far * width + near] != word >> k & 1) + (square[near * width + far] != word >> k & 1)
-    return wrong
+    word = reading.divided(shape.number, 0b1111100100101)
+    return sum(square[place] != word >> k & 1
+               for copy in version_copies(shape) for k, place in enumerate(copy))
 
 
-def corrections(square, shape, level, mask):
-    """Returns each block's wrong codewords, the data bits, and how many remainder bits are dark."""
-    parts, stream = blocks(shape.version, level), shape.stream(square, mask)
-    words = reading.words_of(stream, len(shape.places), parts)
-    data, wrong = b"", []
-    for share, length in zip(parts.shares(), parts.lengths):
-        block, count = corrected(bytes(map(words.__getitem__, share)), parts.ec)
-        data, wrong = data + block[:length], [*wrong, count]
-    bits = f"{int.from_bytes(data, 'big'):0{len(data) * 8}b}"[:parts.capacity]
+def remainder(square, shape, level, mask):
+    """Returns how many remainder bits are dark."""
+    parts = blocks(shape.version, level)
     rest = len(shape.places) - parts.total * 8 + 4 * parts.has_half
-    return wrong, bits, bin(stream & (1 << rest) - 1).count("1")
-
-
-def parts_of(shape, bits):
-    """Returns headers and segments, each with its bits and bytes, and where they end."""
-    front, parts = Front(bits), []
-    while not front.is_end(shape.number * 2 + 1 if shape.is_micro else 4):
-        at, indicator = front.at, front.number(shape.number - 1 if shape.is_micro else 4)
-        if indicator < 4 if shape.is_micro else indicator in MODES:
-            mode = MICRO_MODES[indicator] if shape.is_micro else MODES[indicator]
-            width = count_bits(shape, mode)
-            if width == 0:
-                raise Unspelled
-            data = READERS[mode](front, front.number(width))
-            parts.append((mode, front.at - at, data))
-        elif shape.is_micro:
-            raise Unspelled
-        else:
-            header(indicator, front)
-            parts.append((indicator, 0, b""))
-    return parts, front.at
+    return bin(shape.stream(square, mask) & (1 << rest) - 1).count("1")
 
 
 def may_be(mode, data, at):
@@ -106,11 +72,7 @@ def may_be(mode, data, at):
         return data[at:at + 1].isdigit()
     if mode == "alphanumeric":
         return data[at] in CHARACTERS
-    if mode == "byte":
-        return True
-    number = int.from_bytes(data[at:at + 2], "big")
-    return (len(data) > at + 1 and (0x8140 <= number <= 0x9ffc or 0xe040 <= number <= 0xebbf)
-            and 0x40 <= data[at + 1] <= 0xfc and data[at + 1] != 0x7f)
+    return mode == "byte" or is_pair(data[at:at + 2])
 
 
 def fewest(shape, modes, data):
@@ -130,13 +92,14 @@ def fewest(shape, modes, data):
 
 def taken(shape, parts):
     """Returns the bits taken and the fewest possible, if only ECI or append come before."""
-    kinds = [part[0] for part in parts]
-    modes = [it for it in kinds if isinstance(it, str)]
-    if kinds[len(kinds) - len(modes):] != modes or {FNC1_FIRST, FNC1_SECOND} & set(kinds):
+    headers = [said[0] for mode, _, said in parts if not mode]
+    segments = parts[len(headers):]
+    modes = [it[0] for it in segments]
+    if None in modes or "FNC1" in headers:
         return {}
     known = [it for it in READERS if count_bits(shape, it) and (it != "kanji" or "kanji" in modes)]
-    least = fewest(shape, known, b"".join(part[2] for part in parts))
-    return {} if least is None else {"bits": sum(part[1] for part in parts), "fewest_bits": least}
+    least = fewest(shape, known, b"".join(it[2] for it in segments))
+    return {} if least is None else {"bits": sum(it[1] for it in segments), "fewest_bits": least}
 
 
 def ending(shape, bits, used):
@@ -158,17 +121,20 @@ def is_utf8(data):
 
 def guesses(parts):
     """Returns how many Byte segments before an ECI have bytes above 127, and if these are UTF-8."""
-    until = next((k for k, part in enumerate(parts) if part[0] == ECI), len(parts))
-    found = [part[2] for part in parts[:until] if part[0] == "byte" and max(part[2], default=0) > 127]
+    until = next((k for k, (_, _, said) in enumerate(parts) if said[:1] == ("ECI",)), len(parts))
+    found = [said for mode, _, said in parts[:until] if mode == "byte" and not said.isascii()]
     return {"guessed_segments": len(found), "guessed_utf8": all(map(is_utf8, found))}
 
 
 def content(shape, bits):
+    front, parts, at = Front(bits), [], 0
     try:
-        parts, used = parts_of(shape, bits)
+        for mode, said in parts_of(shape, front):
+            parts.append((mode, front.at - at, said))
+            at = front.at
     except Unspelled:
         return {"segments": False}
-    return {"segments": True, **taken(shape, parts), **ending(shape, bits, used), **guesses(parts)}
+    return {"segments": True, **taken(shape, parts), **ending(shape, bits, at), **guesses(parts)}
 
 
 def rank(numbers, at):
@@ -199,13 +165,14 @@ def checked(square):
     version = reading.WIDTHS[int(len(square) ** 0.5)]
     shape = form(version)
     level, mask = reading.read_format(square, shape)
-    wrong, bits, remainder = corrections(square, shape, level, mask)
+    wrong, bits = reading.mended(square, shape, level, mask)
     allowed = bounds(version, level)[1]
     unused = min(100 * max(allowed - it, 0) // allowed if allowed else 100 * (it == 0) for it in wrong)
     modules = {"finder": finder(square, shape), "alignment": alignment(square, shape),
                "timing": timing(square, shape),
                "format": format_bits(square, shape, reading.WORDS[version][level, mask]),
-               "version": version_bits(square, shape), "remainder": remainder}
+               "version": version_bits(square, shape),
+               "remainder": remainder(square, shape, level, mask)}
     said = {"version": version, "level": level, "mask": mask, "wrong_by_block": wrong,
             "allowed_by_block": allowed, "unused_correction": unused / 100,
             "grade": "FDCBA"[sum(unused >= it for it in (25, 37, 50, 62))], "wrong_modules": modules,
