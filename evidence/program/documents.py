@@ -19,7 +19,6 @@ def objects_of(file):
 
 
 def reference(name, text):
-    """Returns the number of the object that an entry of a dictionary names."""
     return int(re.search(rb"/%s (\d+) 0 R" % name, text)[1])
 
 

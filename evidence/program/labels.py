@@ -12,35 +12,19 @@ def rows_of(bits, across, count):
 
 
 def tspl(file):
-    """Carries out TSPL. Commands end with CR LF. The length of the data of BITMAP
-    x,y,width,height,mode follows from its numbers: width bytes across, height dots down; in mode 0
-    (OVERWRITE) a dot is printed if its bit is 0."""
-    label, place, at, printed = None, None, 0, False
-    while at < len(file):
-        if file.startswith(b"BITMAP ", at):
-            head = re.compile(rb"BITMAP (\d+),(\d+),(\d+),(\d+),(\d+),").match(file, at)
-            left, top, across, count, mode = map(int, head.groups())
-            assert mode == 0 and label == []
-            data = file[head.end():head.end() + across * count]
-            label = [[1 - dot for dot in row] for row in rows_of(data, across, count)]
-            place = left, top
-            at = head.end() + across * count
-            assert file.startswith(b"\r\n", at)
-            at += 2
-            continue
-        end = file.index(b"\r\n", at)
-        line = file[at:end].decode("ascii")
-        at = end + 2
-        if line.startswith("SIZE "):
-            width, height = map(int, re.fullmatch(r"SIZE (\d+) dot,(\d+) dot", line).groups())
-        elif line == "CLS":
-            label = []
-        else:
-            assert line == "PRINT 1" and label
-            printed = True
-    assert printed and place[1] + len(label) == height
-    assert not any(any(row[width - place[0]:]) for row in label)
-    return place, label
+    """Carries out TSPL: the size of a label, which is cleared, a BITMAP x,y,width,height,mode of
+    width bytes across and height rows, and PRINT. In mode 0 (OVERWRITE) a dot is printed if its
+    bit is 0."""
+    head = re.match(rb"SIZE (\d+) dot,(\d+) dot\r\nCLS\r\nBITMAP (\d+),(\d+),(\d+),(\d+),0,", file)
+    width, height, left, top, across, count = map(int, head.groups())
+    data = file[head.end():].removesuffix(b"\r\nPRINT 1\r\n")
+    label = [[1 - dot for dot in row] for row in rows_of(data, across, count)]
+    assert top + count == height and not any(any(row[width - left:]) for row in label)
+    return (left, top), label
+
+
+def repeated(run):
+    return run[2] * sum(ord(it) - 70 if it < "a" else 20 * (ord(it) - 102) for it in run[1])
 
 
 def zpl(file):
@@ -51,22 +35,12 @@ def zpl(file):
                         file.decode("ascii"))
     left, top, total, field, across = map(int, text.groups()[:5])
     assert total == field
-    rows, row, times = [], "", 0
-    for letter in text[6]:
-        if letter in "GHIJKLMNOPQRSTUVWXY":
-            times += ord(letter) - ord("F")
-        elif letter in "ghijklmnopqrstuvwxyz":
-            times += 20 * (ord(letter) - ord("f"))
-        elif letter in ",!":
-            row = row.ljust(2 * across, "0" if letter == "," else "F")
-        elif letter == ":":
-            assert not row
-            row = rows[-1]
-        else:
-            row += letter * max(times, 1)
-            times = 0
-        while len(row) >= 2 * across:
-            rows.append(row[:2 * across])
-            row = row[2 * across:]
-    assert not row and not times and len(rows) * across == total
+    plain = re.sub("([G-Yg-z]+)([0-9A-F])", repeated, text[6])
+    parts = re.findall(rf":|[0-9A-F]{{{2 * across}}}|[0-9A-F]*[,!]", plain)
+    assert "".join(parts) == plain
+    rows = []
+    for part in parts:
+        row = part.rstrip(",!").ljust(2 * across, "F" if part[-1] == "!" else "0")
+        rows.append(rows[-1] if part == ":" else row)
+    assert len(rows) * across == total
     return (left, top), rows_of(bytes.fromhex("".join(rows)), across, len(rows))

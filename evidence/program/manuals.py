@@ -75,16 +75,12 @@ class Task(NamedTuple):
 
 def _items(text, pattern):
     """Yields the heading, groups of `pattern` and help of each item, with its indented lines."""
-    heading, found = "", None
-    for line in [*text.splitlines(), ""]:
-        item = re.fullmatch(pattern + r"  +(\S.*)", line)
-        if found and not item and re.match(r" {7}", line):
-            found[2].append(line.strip())
-            continue
-        if found:
-            yield found[0], found[1], " ".join(found[2])
-        found = item and (heading, item.groups()[:-1], [item.groups()[-1]])
-        heading = line[:-1] if re.fullmatch(r"\S.*:", line) else heading
+    heading = ""
+    for line in re.sub(r"\n {7,}", " ", text).splitlines():
+        if item := re.fullmatch(pattern + r"  +(\S.*)", line):
+            yield heading, item.groups()[:-1], item[item.re.groups]
+        elif re.fullmatch(r"\S.*:", line):
+            heading = line[:-1]
 
 
 def _task(word, shown, plain):
@@ -116,14 +112,12 @@ def commands(shown):
 
 
 def _tasks(ask):
-    """Returns the task of plain codes, and those of the commands."""
     shown = ask("--help")
     plain = _task("", shown, None)
     return plain, [_task(it, ask(f"{it} --help"), plain) for it in commands(shown)]
 
 
 def _roff(plain):
-    """Returns a text with roff's special characters escaped."""
     return re.sub(r"[-\\.]", lambda it: {"-": r"\-", "\\": r"\e", ".": r"\&."}[it[0]], plain)
 
 

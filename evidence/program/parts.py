@@ -44,20 +44,17 @@ def png_cells(file, scale):
 def rectangles(path):
     """Yields left, top, width and height of the subpaths of a path, which are rectangles."""
     x = y = 0
-    corners = []
-    for letter, body in re.findall(r"([MmhvHV])([^MmhvHV]*)", path):
-        numbers = [int(it) for it in re.findall(r"-?\d+", body)]
-        if letter in "Mm":
-            if corners:
-                yield box(corners)
-            x, y = (x + numbers[0], y + numbers[1]) if letter == "m" else numbers
-            corners = [(x, y)]
-        elif letter in "hH":
-            x = numbers[0] + (x if letter == "h" else 0)
-        else:
-            y = numbers[0] + (y if letter == "v" else 0)
-        corners.append((x, y))
-    if corners:
+    for subpath in re.findall("[Mm][^Mm]*", path):
+        corners = []
+        for letter, body in re.findall(r"([MmhvHV])([^MmhvHV]*)", subpath):
+            numbers = [int(it) for it in re.findall(r"-?\d+", body)]
+            if letter in "Mm":
+                x, y = (x + numbers[0], y + numbers[1]) if letter == "m" else numbers
+            elif letter in "hH":
+                x = numbers[0] + (x if letter == "h" else 0)
+            else:
+                y = numbers[0] + (y if letter == "v" else 0)
+            corners.append((x, y))
         yield box(corners)
 
 
