@@ -1,5 +1,7 @@
 """Inverts the largest area that may be covered in each version and level, and then an area with one
 codeword more. `bindings/c/rows/areas` covers it in other ways."""
+from bisect import bisect
+
 import goqlanis
 import reading
 from forms import pairs
@@ -12,7 +14,6 @@ OUTSIDE = 99
 
 
 def inverted(symbol, area):
-    """Returns the modules of a symbol, those of an area inverted."""
     square = bytearray(square_of(symbol))
     for left, top, across, down in area:
         for begin in range(top * symbol.width + left, (top + down) * symbol.width, symbol.width):
@@ -39,11 +40,8 @@ def excess(symbol, area):
 
 def too_large(symbol, area):
     """Returns the area with the fewest modules added that is too large."""
-    few, many = 0, 1000
-    while many - few > 1:
-        more = (few + many) // 2
-        few, many = (few, more) if excess(symbol, grown(area, more)) > 0 else (more, many)
-    return grown(area, many)
+    few = bisect(range(1, 1000), 0, key=lambda more: excess(symbol, grown(area, more)))
+    return grown(area, few + 1)
 
 
 def area_complaint(version, level):

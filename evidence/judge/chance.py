@@ -1,4 +1,5 @@
 """Random squares, which the library and the judge must read alike, or reject for the same cause."""
+from collections import Counter
 from random import Random
 
 import goqlanis
@@ -49,12 +50,11 @@ def square_by_chance(chance, versions):
 def compared(count, seed, versions):
     """Returns what is wrong with `count` random squares, and how many were read or rejected, by
     cause."""
-    chance, found, counts = Random(seed), [], {}
+    chance, found, counts = Random(seed), [], Counter()
     for number in range(count):
         square = square_by_chance(chance, versions)
         judge = judged(square)
-        kind = judge if isinstance(judge, str) else "read"
-        counts[kind] = counts.get(kind, 0) + 1
+        counts[judge if isinstance(judge, str) else "read"] += 1
         it = differs(judge, answered(square))
         found += [f"square {number} of seed {seed}: {it}"] if it else []
     return found, counts
@@ -68,7 +68,7 @@ def small_squares():
     """The library reads or rejects small random squares as the judge does"""
     found, counts = compared(5000, 2006, SMALL)
     rare = [kind for kind, least in (("read", 2000), ("Damaged", 1000), ("NoFormat", 200))
-            if counts.get(kind, 0) < least]
+            if counts[kind] < least]
     return found + [f"too few are {kind}" for kind in rare], summary(counts)
 
 

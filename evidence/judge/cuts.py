@@ -18,8 +18,7 @@ LENGTHS = [("1", 5), ("M1", 4), ("M2", 5), ("M3", 5), ("40", 2)]
 
 
 def data_bits(mode, data):
-    """Returns the bits of data in a mode, without its header, or None if the mode lacks a
-    character."""
+    """Returns the bits of data in a mode, without its header; None if it lacks a character."""
     count = len(data)
     if mode == "numeric":
         return count // 3 * 10 + (0, 4, 7)[count % 3] if data.isdigit() else None
@@ -40,8 +39,7 @@ def segment_bits(shape, modes, data):
 
 
 def least(shape, modes, data):
-    """Returns the fewest bits of all cuts, or None. It finds the best cut up to each place in
-    turn."""
+    """Returns the fewest bits of all cuts, or None, by the best cut up to each place in turn."""
     best = [0]
     for end in range(1, len(data) + 1):
         ends = [(best[begin], segment_bits(shape, modes, data[begin:end])) for begin in range(end)]
@@ -51,8 +49,7 @@ def least(shape, modes, data):
 
 
 def bits_of(make, *words):
-    """Returns the bits that the data takes in a symbol, or None if the version lacks a mode for
-    it."""
+    """Returns the bits that data takes in a symbol, or None if the version lacks a mode for it."""
     try:
         square = square_of(make(*words))
     except goqlanis.NoMode:

@@ -39,7 +39,7 @@ def questions():
     kinds = {it.name.split("-")[2] for it in asked}
     found = [complaint(it, asked[at // 3 * 3].symbol) for at, it in enumerate(asked)]
     is_whole = len(exam) == 168 and len(kinds) == 9
-    return [it for it in found if it] + ["no exam"] * (not is_whole), f"{len(asked)} symbols"
+    return found + ["no exam"] * (not is_whole), f"{len(asked)} symbols"
 
 
 TESTS = [questions]

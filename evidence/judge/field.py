@@ -42,7 +42,6 @@ def syndromes(block, count):
 
 
 def trimmed(polynomial):
-    """Removes zeros at the highest powers."""
     while polynomial and polynomial[-1] == 0:
         polynomial.pop()
     return polynomial

@@ -21,9 +21,6 @@ class Form:
         self.masks = [MASKS[number] for number in (MICRO_MASKS if self.is_micro else range(8))]
         self.turned = [self._turned(mask) for mask in self.masks]
 
-    def __repr__(self):
-        return self.version
-
     def _place(self, row, column):
         return row * self.width + column
 
@@ -109,8 +106,6 @@ def number_of(bits):
 
 
 class Blocks:
-    """The blocks of a version at a level."""
-
     def __init__(self, form, level):
         words = (MICRO_BLOCKS if form.is_micro else NORMAL_BLOCKS)[form.number - 1]
         self.ec, self.count = map(int, words[LEVELS.index(level)].split("x"))
@@ -125,16 +120,11 @@ class Blocks:
     def shares(self):
         """Returns the indices in the stream of each block's codewords: data, then error correction,
         both interleaved."""
-        found, number = [[] for _ in self.lengths], 0
-        for i in range(self.lengths[-1]):
-            for share, length in zip(found, self.lengths):
-                if i < length:
-                    share.append(number)
-                    number += 1
-        for _ in range(self.ec):
-            for share in found:
-                share.append(number)
-                number += 1
+        order = [k for i in range(self.lengths[-1])
+                 for k, length in enumerate(self.lengths) if i < length]
+        found = [[] for _ in self.lengths]
+        for number, k in enumerate(order + [*range(self.count)] * self.ec):
+            found[k].append(number)
         return found
 
     def word_bits(self, number):
@@ -159,7 +149,6 @@ WIDTHS |= {9 + 2 * number: f"M{number}" for number in range(1, 5)}
 
 
 def levels(version):
-    """Returns the levels that a version has."""
     known = form(version)
     return LEVELS[:len((MICRO_BLOCKS if known.is_micro else NORMAL_BLOCKS)[known.number - 1])]
 

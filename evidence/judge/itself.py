@@ -42,21 +42,19 @@ def told_of(square):
 def other_encoders():
     """The judge reads symbols of segno, qrcodegen, zint, qrencode and zxing as what they were asked
     for, and so does the library"""
-    found, count = [], 0
+    found = []
     for rows, wanted in squares():
-        count, square = count + 1, bytes(it for row in rows for it in row)
+        square = bytes(sum(rows, []))
         said = told_of(square)
-        it = not_alike(square) if said == wanted else f"{said} and not {wanted}"
-        found += [it] if it else []
-    return found + ([] if count == 204 else ["there are not 204"]), f"{count} squares"
+        found.append(not_alike(square) if said == wanted else f"{said} and not {wanted}")
+    return found + ["there are not 204"] * (len(found) != 204), f"{len(found)} squares"
 
 
 def printed_symbols():
     """The judge reads printed symbols, which the library draws"""
     found = []
     for rows, version, level in ((DIGITS_NORMAL, "1", "M"), (DIGITS_MICRO, "M2", "L")):
-        it = not_read(drawn(rows), version, level, b"01234567")
-        found += [it] if it else []
+        found.append(not_read(drawn(rows), version, level, b"01234567"))
         if square_of(goqlanis.encode(b"01234567", level, version)) != drawn(rows):
             found.append(f"the library draws another {version}-{level}")
     return found, "2 symbols"

@@ -98,7 +98,7 @@ def segments_in_any_order():
     square, plain = (square_of(goqlanis.encode_segments(given, "L", "2"))
                      for given in (some, segments[:2]))
     empty = "" if square == plain else "segments without a character"
-    return list(filter(None, (it, empty))), "2 symbols"
+    return [it, empty], "2 symbols"
 
 
 def headers_are_read():
@@ -137,7 +137,7 @@ def without_finders():
         for row in range(top, top + 8):
             square[row * 21 + left:row * 21 + left + 8] = bytes(8)
     it = not_read(square, "1", "M", b"01234567", 5) or differs(judged(square)[2], 2)
-    return [it] if it else [], "a symbol"
+    return [it], "a symbol"
 
 
 # Data, and its error correction as printed in the standard and in "Reed-Solomon codes for coders".

@@ -28,7 +28,6 @@ def drawn(rows):
 
 
 def rows_of(square):
-    """Returns the rows of a square, as the library takes them."""
     width = int(len(square) ** 0.5)
     return [square[i:i + width] for i in range(0, len(square), width)] if width else []
 
@@ -53,7 +52,6 @@ def answered(square):
 
 
 def differs(judge, library):
-    """Returns a complaint if the library and the judge disagree."""
     return "" if judge == library else f"the judge says {judge}, and the library {library}"
 
 

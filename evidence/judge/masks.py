@@ -45,7 +45,6 @@ def first_of_several():
 
 
 def noise(row, column):
-    """Returns a pseudo-random bit for a place."""
     mixed = (column * 0x9e3779b1 ^ row * 0x85ebca6b) % 2 ** 32
     return mixed * 0xc2b2ae35 % 2 ** 32 >> 17 & 1
 

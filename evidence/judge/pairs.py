@@ -30,8 +30,7 @@ def refusal(call, *words):
 
 
 def not_drawn(symbol):
-    """Returns a complaint unless a grey picture of one pixel a module shows the symbol's
-    modules."""
+    """Returns a complaint unless a grey picture of one pixel a module shows the modules."""
     pixels = bytes(0 if module else 255 for module in square_of(symbol))
     return "" if symbol.grey(scale=1, quiet_zone=0) == pixels else "the picture is another one"
 
@@ -86,10 +85,8 @@ def missing_levels():
 
 def least_version(rooms, count):
     """Returns the smallest Normal version that holds `count` bytes as one segment, or 41."""
-    for number, room in enumerate(rooms, 1):
-        if count == 0 or count * 8 + 4 + count_bits(form(str(number)), "byte") <= room:
-            return number
-    return 41
+    return next((number for number, room in enumerate(rooms, 1) if count == 0
+                 or count * 8 + 4 + count_bits(form(str(number)), "byte") <= room), 41)
 
 
 def least_versions():

@@ -8,7 +8,6 @@ MICRO_TERMS = ("both sides", "greater side")
 
 
 def lines(square, width):
-    """Returns the rows and the columns of a square."""
     text = square.translate(LETTERS).decode()
     rows = [text[i * width:(i + 1) * width] for i in range(width)]
     return rows, [text[j::width] for j in range(width)]

@@ -20,8 +20,6 @@ class Spelled(NamedTuple):
 
 
 class Front:
-    """Takes bits from the front."""
-
     def __init__(self, bits):
         self.bits, self.at = bits, 0
 
@@ -106,7 +104,6 @@ def number_of_set(front):
 
 
 def header(indicator, front):
-    """Decodes the header of a mode indicator."""
     if indicator == ECI:
         return "ECI", number_of_set(front)
     if indicator == FNC1_FIRST:
@@ -133,7 +130,6 @@ def parts_of(form, front):
 
 
 def spelled(form, bits):
-    """Decodes the data bits of a version."""
     front = Front(bits)
     parts = [*parts_of(form, front)]
     data = b"".join(it for mode, it in parts if mode)
