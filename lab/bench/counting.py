@@ -1,5 +1,4 @@
-"""Counts instructions and heap for run and peers, over what a green gate left in
-crates/*/out.
+"""Counts instructions and heap, over what a green gate left in crates/*/out.
 
 A command is a function that takes a count and returns a command line that makes something that many
 times. The cost of one is the difference of two runs, so that start-up is not counted.
@@ -42,10 +41,10 @@ CASES = {
     "digits-7089": ("symbol", DIGITS[:7089], 0, 0),
     "mixed-1000": ("symbol", MIXED[:1000], 0, 1),
 }
-# The symbols that are read: a name, the version, and the number of bytes at level M.
 # What surrounds the code on pages that are scanned, by column and row of pixels.
 PAGES = {"scan-chess": lambda x, y: (x + y) % 2, "scan-wide-chess": lambda x, y: (x // 2 + y) % 2,
          "scan-finders": lambda x, y: max(abs(x % 8 - 3), abs(y % 8 - 3)) in (0, 1, 3)}
+# The symbols that are read: a name, the version, and the number of bytes at level M.
 READ = {"read-1": ("1", 14), "read-40": ("40", 2331)}
 
 
@@ -132,7 +131,6 @@ def build_calls(folder):
 
 
 def library(folder):
-    """Returns the Python package, over the C library in out/."""
     build_calls(folder)
     os.environ["GOQLANIS_LIB"] = str(folder / "libgoqlanis.so.1")
     import goqlanis

@@ -13,7 +13,6 @@ struct job {
     int level; /* 0 for L to 3 for H */
     int version; /* 0: the least Normal one */
     int micro;
-    int digits; /* all bytes are digits */
     long count;
 };
 
@@ -42,7 +41,6 @@ static struct job read_job(int argc, char **argv)
     job.micro = argv[3][0] == 'M';
     job.version = atoi(argv[3] + job.micro);
     job.count = atol(argv[4]);
-    job.digits = job.length == (int)strspn((char *)job.bytes, "0123456789");
     return job;
 }
 

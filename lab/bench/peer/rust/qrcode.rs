@@ -1,11 +1,11 @@
 //! Symbols and pictures by the Rust crate qrcode, whose sources are given by their path.
-use qrcode::render::{pic, svg, unicode};
+use qrcode::render::{svg, unicode};
 use qrcode::{EcLevel, QrCode, Version};
 
 fn main() {
     let args: Vec<String> = std::env::args().collect();
     let [_, file, level, version, count, picture @ ..] = args.as_slice() else {
-        panic!("usage: PEER FILE LEVEL VERSION COUNT [chars|half-blocks|svg|pic|pixels]")
+        panic!("usage: PEER FILE LEVEL VERSION COUNT [half-blocks|svg]")
     };
     let bytes = std::fs::read(file).unwrap();
     let level = [EcLevel::L, EcLevel::M, EcLevel::Q, EcLevel::H]["LMQH".find(level.as_str()).unwrap()];
@@ -20,12 +20,8 @@ fn main() {
         let mut length = 0;
         for _ in 0..count {
             length = match picture.as_str() {
-                "chars" => code.render::<char>().build().len(),
                 "half-blocks" => code.render::<unicode::Dense1x2>().build().len(),
                 "svg" => code.render::<svg::Color>().build().len(),
-                "pic" => code.render::<pic::Color>().build().len(),
-                #[cfg(feature = "image")]
-                "pixels" => code.render::<image::Luma<u8>>().build().into_raw().len(),
                 _ => panic!("no such picture"),
             };
         }
