@@ -1,6 +1,6 @@
 //! Tests of `join`, of separators, and of the text of errors.
 
-use crate::common::{Row, check, check_row};
+use crate::common::check_row;
 use qrcode::types::QrError;
 use qrcode_append::errors::JoinError::{self, Missing, Parity, Stranger, Twice};
 use qrcode_append::{Part, join};
@@ -20,7 +20,7 @@ const PARITY: u8 = 0x32;
 // with another last place, parity or place, and one with another digit. The tests of the C library
 // join others.
 #[rattlefmt::skip]
-static PARTS: [Part<'static>; 8] = [
+const PARTS: [Part<'static>; 8] = [
     Part { place: 0, last: 2, parity: PARITY, bytes: b"3141592" },
     Part { place: 1, last: 2, parity: PARITY, bytes: b"65358" },
     Part { place: 2, last: 2, parity: PARITY, bytes: b"97932" },
@@ -31,49 +31,40 @@ static PARTS: [Part<'static>; 8] = [
     Part { place: 2, last: 2, parity: PARITY, bytes: b"97933" },
 ];
 
-// The indices of the parts to join, and the joined data or the error.
-struct Joining(&'static [usize], Result<&'static [u8], JoinError>);
-
-static ROWS: [Joining; 7] = [
-    Joining(&[2, 0, 1], Ok(DIGITS)),
-    Joining(&[3], Ok(b"3141592")),
-    Joining(&[0, 4, 2], Err(Stranger(1))),
-    Joining(&[0, 1, 5], Err(Stranger(2))),
-    Joining(&[6, 0, 1], Err(Stranger(0))),
-    Joining(&[0, 1, 7], Err(Parity)),
-    Joining(&[], Err(Missing(0))),
-];
-
-impl Row for Joining {
-    fn holds(&self, alloc: Global) -> bool {
-        let mut parts = Vec::new(alloc);
-        for number in self.0 {
-            let Some(part) = PARTS.get(*number) else {
-                return false;
-            };
-            if parts.push(*part).is_err() {
-                return false;
-            }
-        }
-        match (join(alloc, &parts), &self.1) {
-            (Ok(joined), Ok(bytes)) => joined.as_slice() == *bytes,
-            (Err(error), Err(expected)) => error == *expected,
-            _ => false,
-        }
+// Whether joining the parts gives these bytes or this error.
+fn joins(alloc: Global, parts: &[Part<'_>], expected: Result<&[u8], JoinError>) -> bool {
+    match (join(alloc, parts), expected) {
+        (Ok(joined), Ok(bytes)) => joined.as_slice() == bytes,
+        (Err(error), Err(expected)) => error == expected,
+        _ => false,
     }
 }
 
 #[test]
 fn parts_are_joined(rt: HostRuntime) {
-    check(&rt, rt.alloc(), &ROWS);
+    let alloc = rt.alloc();
+    let [
+        first,
+        second,
+        third,
+        alone,
+        of_four,
+        unlike,
+        beyond,
+        altered,
+    ] = PARTS;
+    assert!(rt; joins(alloc, &[third, first, second], Ok(DIGITS)));
+    assert!(rt; joins(alloc, &[alone], Ok(b"3141592")));
+    assert!(rt; joins(alloc, &[first, of_four, third], Err(Stranger(1))));
+    assert!(rt; joins(alloc, &[first, second, unlike], Err(Stranger(2))));
+    assert!(rt; joins(alloc, &[beyond, first, second], Err(Stranger(0))));
+    assert!(rt; joins(alloc, &[first, second, altered], Err(Parity)));
+    assert!(rt; joins(alloc, &[], Err(Missing(0))));
 }
 
 // Whether `error` is displayed as `text`.
 fn reads_as<E: Display>(alloc: Global, error: &E, text: &str) -> bool {
-    match format!(in alloc; "{error}") {
-        Ok(shown) => shown.as_str() == text,
-        Err(_) => false,
-    }
+    matches!(&format!(in alloc; "{error}"), Ok(shown) if shown.as_str() == text)
 }
 
 // The errors of `join`, and their text.
@@ -97,20 +88,10 @@ fn errors_say_why(rt: HostRuntime) {
     assert!(rt; reads_as(alloc, &ContentError::OutOfMemory, "out of memory"));
     let wrong = Gs1Error::Refused(2, ElementCause::CheckDigit);
     assert!(rt; reads_as(alloc, &wrong, "element 2: CheckDigit"));
-    assert!(rt;
-        reads_as(
-            alloc,
-            &SymbolError::Elements(wrong),
-            "element 2: CheckDigit"
-        )
-    );
     assert!(rt; reads_as(alloc, &Gs1Error::OutOfMemory, "out of memory"));
-    assert!(rt;
-        reads_as(
-            alloc,
-            &SymbolError::Symbol(QrError::DataTooLong),
-            "data too long"
-        )
-    );
+    let of_elements = SymbolError::Elements(wrong);
+    assert!(rt; reads_as(alloc, &of_elements, "element 2: CheckDigit"));
+    let of_symbol = SymbolError::Symbol(QrError::DataTooLong);
+    assert!(rt; reads_as(alloc, &of_symbol, "data too long"));
     assert!(rt; reads_as(alloc, &Damaged, "too many errors in a block"));
 }

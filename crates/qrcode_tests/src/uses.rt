@@ -17,10 +17,7 @@ use std::alloc::Global;
 
 // Whether the text contains `part`.
 fn has(text: QrResult<String>, part: &str) -> bool {
-    match text {
-        Ok(text) => text.as_str().contains(part),
-        Err(_) => false,
-    }
+    matches!(&text, Ok(text) if text.as_str().contains(part))
 }
 
 // The symbol that the standard prints.
@@ -31,12 +28,8 @@ fn symbols_are_drawn(rt: HostRuntime) {
     assert!(rt; has(as_chars(alloc, &code), "\n    ███████  █ ██ ███████    \n"));
     let pairs = "\n        ##############    ##  ####  ##############        \n";
     assert!(rt; has(as_pairs(alloc, &code), pairs));
-    assert!(rt;
-        has(
-            as_half_blocks(alloc, &code),
-            "\n    █▀▀▀▀▀█  █▄██ █▀▀▀▀▀█    \n"
-        )
-    );
+    let halves = "\n    █▀▀▀▀▀█  █▄██ █▀▀▀▀▀█    \n";
+    assert!(rt; has(as_half_blocks(alloc, &code), halves));
     assert!(rt; has(as_svg(alloc, &code), "viewBox=\"0 0 232 232\""));
     assert!(rt; has(as_pic(alloc, &code), "maxpswid=29;maxpsht=29;"));
     let file = as_grey_map(alloc, &code).expect(&rt, "a file");
@@ -110,25 +103,13 @@ fn says(alloc: Global, code: QrResult<QrCode>, kind: (Version, EcLevel), bytes: 
 fn symbols_are_made(rt: HostRuntime) {
     let alloc = rt.alloc();
     let (city, greeting) = (CITY.as_bytes(), GREETING.as_bytes());
-    assert!(rt;
-        says(
-            alloc,
-            texts::sign(alloc, GREETING),
-            (Normal(2), M),
-            greeting
-        )
-    );
+    let sign = texts::sign(alloc, GREETING);
+    assert!(rt; says(alloc, sign, (Normal(2), M), greeting));
     assert!(rt; says(alloc, texts::marked_sign(alloc, CITY), (Normal(1), M), city));
     assert!(rt; says(alloc, texts::small_label(alloc, CITY), (Normal(2), M), city));
     assert!(rt; says(alloc, texts::smallest(alloc, CITY), (Micro(3), L), city));
-    assert!(rt;
-        says(
-            alloc,
-            texts::smallest_and_safest(alloc, CITY),
-            (Micro(3), M),
-            city
-        )
-    );
+    let safest = texts::smallest_and_safest(alloc, CITY);
+    assert!(rt; says(alloc, safest, (Micro(3), M), city));
     let bytes = texts::bytes_in_normal_5(alloc, b"\xca\xfe");
     assert!(rt; says(alloc, bytes, (Normal(5), H), b"\xca\xfe"));
     let parts = texts::in_two_parts(alloc, CITY, GREETING);

@@ -3,10 +3,10 @@
 
 ghost use Rattle.qrcode_bits.specs.Groups.{IsJoinable};
 
-use crate::common::{Row, check, range};
+use crate::common::{check_row, range};
 use qrcode_bits::optimize::{Optimizer, Parser, Segment, least_segments, total_encoded_len};
 use qrcode_types::types::Mode::{self, Alphanumeric, Byte, Kanji, Numeric};
-use qrcode_types::types::QrError::{self, DataTooLong, InvalidVersion};
+use qrcode_types::types::QrError::{DataTooLong, InvalidVersion};
 use qrcode_types::types::QrResult;
 use qrcode_types::types::Version::{self, Micro, Normal};
 use std::alloc::Global;
@@ -28,26 +28,26 @@ use Way::{Joined, Least, Runs};
 type Cut = (Mode, usize, usize);
 
 // Data, the version that it is cut for, the way to cut it, and the segments or the error.
-struct Cutting(&'static [u8], Version, Way, Result<&'static [Cut], QrError>);
+type Cutting = (&'static [u8], Version, Way, QrResult<&'static [Cut]>);
 
 #[rattlefmt::skip]
 static CUTS: [Cutting; 13] = [
-    Cutting(
+    (
         b"\x82\xa0\x81\x41\x41\xb1\x81\xf0", Normal(1), Runs,
         Ok(&[(Kanji, 0, 4), (Alphanumeric, 4, 5), (Byte, 5, 6), (Kanji, 6, 8)]),
     ),
-    Cutting(b"\xeb\xc0", Normal(1), Runs, Ok(&[(Byte, 0, 1), (Byte, 1, 2)])),
-    Cutting(b"\x81\x40\x81", Normal(1), Runs, Ok(&[(Kanji, 0, 2), (Byte, 2, 3)])),
-    Cutting(b"1234567A", Normal(1), Joined, Ok(&[(Alphanumeric, 0, 8)])),
-    Cutting(b"123A", Micro(2), Joined, Ok(&[(Numeric, 0, 3), (Alphanumeric, 3, 4)])),
-    Cutting(b"123A", Micro(3), Joined, Ok(&[(Alphanumeric, 0, 4)])),
-    Cutting(b"12AB", Micro(2), Joined, Ok(&[(Alphanumeric, 0, 4)])),
-    Cutting(b"\xeb\xc0", Normal(1), Joined, Ok(&[(Byte, 0, 2)])),
-    Cutting(b"\x81\x40\x81", Normal(1), Joined, Ok(&[(Byte, 0, 3)])),
-    Cutting(b"ABC123abcd", Normal(1), Joined, Ok(&[(Alphanumeric, 0, 6), (Byte, 6, 10)])),
-    Cutting(b"a1234b", Normal(1), Joined, Ok(&[(Byte, 0, 1), (Numeric, 1, 5), (Byte, 5, 6)])),
-    Cutting(b"a1234bc", Normal(1), Joined, Ok(&[(Byte, 0, 1), (Numeric, 1, 5), (Byte, 5, 7)])),
-    Cutting(b"", Micro(1), Least, Ok(&[])),
+    (b"\xeb\xc0", Normal(1), Runs, Ok(&[(Byte, 0, 1), (Byte, 1, 2)])),
+    (b"\x81\x40\x81", Normal(1), Runs, Ok(&[(Kanji, 0, 2), (Byte, 2, 3)])),
+    (b"1234567A", Normal(1), Joined, Ok(&[(Alphanumeric, 0, 8)])),
+    (b"123A", Micro(2), Joined, Ok(&[(Numeric, 0, 3), (Alphanumeric, 3, 4)])),
+    (b"123A", Micro(3), Joined, Ok(&[(Alphanumeric, 0, 4)])),
+    (b"12AB", Micro(2), Joined, Ok(&[(Alphanumeric, 0, 4)])),
+    (b"\xeb\xc0", Normal(1), Joined, Ok(&[(Byte, 0, 2)])),
+    (b"\x81\x40\x81", Normal(1), Joined, Ok(&[(Byte, 0, 3)])),
+    (b"ABC123abcd", Normal(1), Joined, Ok(&[(Alphanumeric, 0, 6), (Byte, 6, 10)])),
+    (b"a1234b", Normal(1), Joined, Ok(&[(Byte, 0, 1), (Numeric, 1, 5), (Byte, 5, 6)])),
+    (b"a1234bc", Normal(1), Joined, Ok(&[(Byte, 0, 1), (Numeric, 1, 5), (Byte, 5, 7)])),
+    (b"", Micro(1), Least, Ok(&[])),
 ];
 
 // Cuts data in the way that is asked for.
@@ -67,38 +67,28 @@ fn segments(alloc: Global, data: &[u8], version: Version, way: Way) -> QrResult<
 
 // Whether `segments` are exactly `cuts`.
 fn are_cuts(segments: &[Segment], cuts: &[Cut]) -> bool {
-    let mut given = segments.iter();
-    for (mode, begin, end) in cuts {
-        match given.next() {
-            Some(it) if it.mode == *mode && it.begin == *begin && it.end == *end => {}
-            _ => return false,
-        }
+    let mut are_same = segments.len() == cuts.len();
+    for (it, (mode, begin, end)) in segments.iter().zip(cuts) {
+        are_same = are_same && it.mode == *mode && it.begin == *begin && it.end == *end;
     }
-    given.next().is_none()
-}
-
-impl Row for Cutting {
-    fn holds(&self, alloc: Global) -> bool {
-        match (segments(alloc, self.0, self.1, self.2), &self.3) {
-            (Ok(segments), Ok(cuts)) => are_cuts(&segments, cuts),
-            _ => false,
-        }
-    }
+    are_same
 }
 
 #[test]
 fn data_is_cut(rt: HostRuntime) {
-    check(&rt, rt.alloc(), &CUTS);
+    for (i, (data, version, way, cuts)) in CUTS.iter().enumerate() {
+        let segments = segments(rt.alloc(), *data, *version, *way);
+        let is_cut = matches!((&segments, cuts), (Ok(it), Ok(cuts)) if are_cuts(it, *cuts));
+        check_row(&rt, i, is_cut);
+    }
 }
 
 // Whether the optimizer joins `given` into `cuts` in Normal 1.
 fn joins(alloc: Global, given: &[Segment], cuts: &[Cut]) -> bool
     requires joinable { IsJoinable given.now }
 {
-    match Optimizer::new(given.iter().copied(), Normal(1)).collect::<Vec<Segment>>(alloc) {
-        Ok(joined) => are_cuts(&joined, cuts),
-        Err(_) => false,
-    }
+    let joined = Optimizer::new(given.iter().copied(), Normal(1)).collect::<Vec<Segment>>(alloc);
+    matches!(&joined, Ok(joined) if are_cuts(joined, cuts))
 }
 
 // Segments that no parser gives: none at all, empty ones, Kanji with a byte left over, and
@@ -115,23 +105,21 @@ fn odd_segments_are_joined(rt: HostRuntime) {
 }
 
 // A version, segments, and the bits that they take by the standard.
-struct Length(Version, &'static [Cut], usize);
-
 #[rattlefmt::skip]
-static LENGTHS: [Length; 13] = [
-    Length(Micro(2), &[(Numeric, 0, 3)], 15),
-    Length(Micro(2), &[(Alphanumeric, 3, 4)], 10),
-    Length(Normal(1), &[(Byte, 0, 2)], 28),
-    Length(Normal(40), &[(Kanji, 1, 17)], 120),
-    Length(Normal(1), &[(Kanji, 0, 3)], 25),
-    Length(Normal(1), &[(Alphanumeric, 0, 8)], 57),
-    Length(Micro(3), &[(Alphanumeric, 0, 4)], 28),
-    Length(Normal(1), &[(Byte, 0, 3)], 36),
-    Length(Normal(1), &[(Alphanumeric, 0, 6), (Byte, 6, 10)], 90),
-    Length(Normal(1), &[(Byte, 0, 1), (Numeric, 1, 5), (Byte, 5, 6)], 68),
-    Length(Normal(1), &[(Byte, 0, 1), (Numeric, 1, 5), (Byte, 5, 7)], 76),
-    Length(Normal(1), &[(Byte, 0, 6)], 60),
-    Length(Normal(1), &[(Byte, 0, 1), (Kanji, 1, 17)], 136),
+static LENGTHS: [(Version, &[Cut], usize); 13] = [
+    (Micro(2), &[(Numeric, 0, 3)], 15),
+    (Micro(2), &[(Alphanumeric, 3, 4)], 10),
+    (Normal(1), &[(Byte, 0, 2)], 28),
+    (Normal(40), &[(Kanji, 1, 17)], 120),
+    (Normal(1), &[(Kanji, 0, 3)], 25),
+    (Normal(1), &[(Alphanumeric, 0, 8)], 57),
+    (Micro(3), &[(Alphanumeric, 0, 4)], 28),
+    (Normal(1), &[(Byte, 0, 3)], 36),
+    (Normal(1), &[(Alphanumeric, 0, 6), (Byte, 6, 10)], 90),
+    (Normal(1), &[(Byte, 0, 1), (Numeric, 1, 5), (Byte, 5, 6)], 68),
+    (Normal(1), &[(Byte, 0, 1), (Numeric, 1, 5), (Byte, 5, 7)], 76),
+    (Normal(1), &[(Byte, 0, 6)], 60),
+    (Normal(1), &[(Byte, 0, 1), (Kanji, 1, 17)], 136),
 ];
 
 // Counts the bits of segments of at most 100 bytes.
@@ -145,15 +133,11 @@ fn bits_of(version: Version, cuts: &[Cut]) -> usize {
     bits
 }
 
-impl Row for Length {
-    fn holds(&self, _alloc: Global) -> bool {
-        bits_of(self.0, self.1) == self.2
-    }
-}
-
 #[test]
 fn lengths_are_counted(rt: HostRuntime) {
-    check(&rt, rt.alloc(), &LENGTHS);
+    for (i, (version, cuts, bits)) in LENGTHS.iter().enumerate() {
+        check_row(&rt, i, bits_of(*version, *cuts) == *bits);
+    }
     let segments = [range(Numeric, 0, 7), range(Alphanumeric, 7, 8)];
     assert!(rt; total_encoded_len(&segments, Normal(1)) == 57);
 }

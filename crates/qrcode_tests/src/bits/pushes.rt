@@ -15,58 +15,39 @@ use qrcode_types::types::Version::{self, Micro, Normal};
 use qrcode_types::types::{Mode, QrResult};
 use std::alloc::Global;
 
-// A call that appends to a bit list, or ends it.
+// A call that appends to a bit list.
 #[derive(Clone, Copy)]
 enum Push<'a> {
-    Designator(u32),
     Byte(&'a [u8]),
     FirstPosition,
-    Terminator(EcLevel),
 }
 
-use Push::{Byte, Designator, FirstPosition, Terminator};
+use Push::{Byte, FirstPosition};
 
 // Makes the call `push` on `bits`.
 fn make_push(bits: &mut Bits, push: Push<'_>) -> QrResult<()> {
     match push {
-        Designator(number) => bits.push_eci_designator(number),
         Byte(bytes) => bits.push_byte_data(bytes),
         FirstPosition => bits.push_fnc1_first_position(),
-        Terminator(ec_level) => bits.push_terminator(ec_level),
     }
 }
 
-// Makes all pushes, in order.
-fn push_all(bits: &mut Bits, pushes: &[Push<'_>]) -> QrResult<()> {
-    for push in pushes {
-        make_push(bits, *push)?;
-    }
-    Ok(())
-}
-
-// Makes the symbol of `pushes`, the last of which has to be a terminator.
-fn of_pushes(
-    alloc: Global,
-    version: Version,
-    ec_level: EcLevel,
-    pushes: &[Push<'_>],
-) -> QrResult<QrCode> {
+// Makes the symbol of ECI 9 and `bytes`, which end for L.
+fn of_pushes(alloc: Global, version: Version, ec_level: EcLevel, bytes: &[u8]) -> QrResult<QrCode> {
     if !version.is_valid() {
         return Err(InvalidVersion);
     }
     let mut bits = Bits::new(alloc, version);
-    push_all(&mut bits, pushes)?;
+    bits.push_eci_designator(9)?;
+    bits.push_byte_data(bytes)?;
+    bits.push_terminator(L)?;
     match bits.max_len(ec_level) {
         Ok(room) if room <= bits.len() => QrCode::with_bits(alloc, bits, ec_level),
         _ => Err(InvalidVersion),
     }
 }
 
-static GREEK: [Push<'static>; 3] = [
-    Designator(9),
-    Byte(b"\xca\xfe\xe4\xe9\xea\xe1\xf2 QR"),
-    Terminator(L),
-];
+static GREEK: [u8; 10] = *b"\xca\xfe\xe4\xe9\xea\xe1\xf2 QR";
 
 // Bits that end for L but are drawn at H, and versions that do not exist.
 #[test]

@@ -3,8 +3,9 @@
 ghost use Rattle.std.specs.Prelude.{◌≡◌, ◌*◌, ◌≤◌, length};
 ghost use Rattle.qrcode_render.specs.Setting.{side_of};
 
-use crate::common::{check_row, checksum_of_bytes};
+use crate::common::check_row;
 use crate::render::drawings::{Drawing, modules};
+use qrcode_png::sums::crc;
 use qrcode_render::image::{Channels, ImageBuffer};
 use qrcode_render::{Pixel, Renderer};
 use qrcode_types::types::Color;
@@ -95,13 +96,6 @@ fn resize<P: Pixel>(renderer: &mut Renderer<P>, size: Size)
     }
 }
 
-// Sets the pixels for dark and light modules.
-fn color<P: Pixel>(renderer: &mut Renderer<P>, colors: &Colors<P>) {
-    if let Colors::Both(dark, light) = colors {
-        renderer.dark_color(*dark).light_color(*light);
-    }
-}
-
 // Draws the picture of a row.
 fn picture<P: Pixel, E>(rt: &impl Abort, alloc: Global, row: &Row<P, E>) -> P::Image {
     let Drawing(side, letters) = row.0;
@@ -114,7 +108,9 @@ fn picture<P: Pixel, E>(rt: &impl Abort, alloc: Global, row: &Row<P, E>) -> P::I
     if let Zone::OffAfter(_) = row.1 {
         renderer.quiet_zone(false);
     }
-    color(&mut renderer, &row.2);
+    if let Colors::Both(dark, light) = row.2 {
+        renderer.dark_color(dark).light_color(light);
+    }
     assert!(rt; renderer.fits());
     renderer.build(alloc).expect(rt, "a picture")
 }
@@ -123,7 +119,7 @@ fn picture<P: Pixel, E>(rt: &impl Abort, alloc: Global, row: &Row<P, E>) -> P::I
 fn is_text(text: &str, expected: Text) -> bool {
     match expected {
         Text::Is(whole) => text == whole,
-        Text::Sum(sum) => checksum_of_bytes(text.as_bytes()) == sum,
+        Text::Sum(sum) => crc(text.as_bytes()) == sum,
     }
 }
 

@@ -3,7 +3,8 @@
 ghost use Rattle.std.specs.Prelude.{◌≡◌, IsTrue};
 ghost use Rattle.qrcode_types.specs.Versions.{is_valid, has_level};
 
-use crate::common::{check_row, checksum_of_bytes};
+use crate::common::check_row;
+use qrcode_png::sums::crc;
 use qrcode_symbol::canvas::{Canvas, MaskPattern, Module, is_functional};
 use qrcode_types::types::Version::{self, Micro, Normal};
 use qrcode_types::types::{Color, EcLevel, QrResult};
@@ -22,19 +23,6 @@ fn letter(place: Module) -> char {
     }
 }
 
-// Returns the module at a place, or an empty one outside the square.
-fn module_at(canvas: &Canvas, version: Version, x: i16, y: i16) -> Module
-    requires valid { IsTrue (is_valid version) }
-    requires version { canvas.now.version ≡ version }
-{
-    let width = version.width();
-    if -width <= x && x < width && -width <= y && y < width {
-        canvas.get(x, y)
-    } else {
-        Module::Empty
-    }
-}
-
 // Returns the letters of a canvas, a line for each row.
 fn letters(alloc: Global, canvas: &Canvas, version: Version) -> QrResult<String>
     requires valid { IsTrue (is_valid version) }
@@ -47,7 +35,9 @@ fn letters(alloc: Global, canvas: &Canvas, version: Version) -> QrResult<String>
             text.push('\n')?;
         }
         for x in 0..width {
-            text.push(letter(module_at(canvas, version, x, y)))?;
+            if 0 <= x && x < width && 0 <= y && y < width {
+                text.push(letter(canvas.get(x, y)))?;
+            }
         }
     }
     Ok(text)
@@ -205,7 +195,7 @@ fn shows(alloc: Global, drawn: (&Canvas, &[Color], &[bool]), version: Version, s
         }
     }
     let are_all = colors.len() == i && modules.len() == i;
-    are_all && checksum_of_bytes(text.as_bytes()) == sum
+    are_all && crc(text.as_bytes()) == sum
 }
 
 // Canvases, and their letters under the best mask.
@@ -288,11 +278,8 @@ static PLACES: [(i16, i16, bool); 7] = [
 fn functional_places(rt: HostRuntime) {
     for (i, (x, y, expected)) in PLACES.iter().enumerate() {
         let is_inside = -45 <= *x && *x < 45 && -45 <= *y && *y < 45;
-        check_row(
-            &rt,
-            i,
-            is_inside && is_functional(Normal(7), 45, *x, *y) == *expected,
-        );
+        let is_same = is_inside && is_functional(Normal(7), 45, *x, *y) == *expected;
+        check_row(&rt, i, is_same);
     }
     assert!(rt; is_functional(Micro(2), 13, 0, -1));
 }

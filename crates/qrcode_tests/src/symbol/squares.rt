@@ -3,7 +3,7 @@
 ghost use Rattle.std.specs.Prelude.{◌≡◌, ◌+◌, ◌<◌, ◌≤◌, length, map, IfOk};
 ghost use Rattle.qrcode_penalty.specs.Rows.{FitsWidth, IsSquare};
 
-use crate::common::{Row, check};
+use crate::common::check_row;
 use qrcode_penalty::penalty::{micro_penalty, normal_penalty};
 use qrcode_penalty::row::{PackedRow, Row128, Row192};
 use qrcode_penalty::square::PackedSquare;
@@ -150,54 +150,50 @@ const SIDES: [u32; 17] = [
 
 // A kind of square, its side, and its penalties in Normal and in Micro. evidence/judge/penalty.py
 // counted them; those of one colour were also counted by hand, and one is published.
-struct Counted(Kind, u32, (u32, u32));
+type Counted = (Kind, u32, (u32, u32));
 
 #[rattlefmt::skip]
 static COUNTED: [Counted; 25] = [
-    Counted(Kind::Rows(&PUBLISHED), 21, (1032, 150)),
+    (Kind::Rows(&PUBLISHED), 21, (1032, 150)),
     // An empty canvas of Micro 1 at L under each of its masks.
-    Counted(Kind::Rows(&[
+    (Kind::Rows(&[
         0x7ff, 0x100, 0x6ff, 0x100, 0x6ff, 0x000, 0x6ff, 0x100, 0x623, 0x000, 0x7ff,
     ]), 11, (94, 80)),
-    Counted(Kind::Rows(&[
+    (Kind::Rows(&[
         0x1c7, 0x0c7, 0x738, 0x638, 0x0c7, 0x1c7, 0x738, 0x738, 0x083, 0x1c7, 0x638,
     ]), 11, (93, 85)),
-    Counted(Kind::Rows(&[
+    (Kind::Rows(&[
         0x7ff, 0x1c7, 0x7db, 0x455, 0x36d, 0x471, 0x7ff, 0x0c7, 0x673, 0x555, 0x36d,
     ]), 11, (111, 68)),
-    Counted(Kind::Rows(&[
+    (Kind::Rows(&[
         0x555, 0x638, 0x471, 0x3aa, 0x1c7, 0x38e, 0x455, 0x638, 0x4d3, 0x2aa, 0x1c7,
     ]), 11, (24, 85)),
-    Counted(Kind::Rows(&SIDES), 17, (1246, 168)),
-    Counted(Kind::Light, 21, (2098, 340)),
-    Counted(Kind::Dark, 21, (2098, 0)),
-    Counted(Kind::Light, 177, (154978, 2992)),
-    Counted(Kind::Dark, 177, (154978, 0)),
-    Counted(Kind::Mixed, 61, (2872, 558)),
-    Counted(Kind::Mixed, 125, (11334, 1018)),
-    Counted(Kind::Mixed, 177, (22273, 1621)),
-    Counted(Kind::Finders, 61, (20089, 999)),
-    Counted(Kind::Finders, 177, (161387, 2971)),
-    Counted(Kind::Runs, 61, (4529, 480)),
-    Counted(Kind::Runs, 125, (17324, 992)),
-    Counted(Kind::Runs, 177, (33754, 1408)),
+    (Kind::Rows(&SIDES), 17, (1246, 168)),
+    (Kind::Light, 21, (2098, 340)),
+    (Kind::Dark, 21, (2098, 0)),
+    (Kind::Light, 177, (154978, 2992)),
+    (Kind::Dark, 177, (154978, 0)),
+    (Kind::Mixed, 61, (2872, 558)),
+    (Kind::Mixed, 125, (11334, 1018)),
+    (Kind::Mixed, 177, (22273, 1621)),
+    (Kind::Finders, 61, (20089, 999)),
+    (Kind::Finders, 177, (161387, 2971)),
+    (Kind::Runs, 61, (4529, 480)),
+    (Kind::Runs, 125, (17324, 992)),
+    (Kind::Runs, 177, (33754, 1408)),
     // A single run or finder-like pattern in a row that is packed into three words.
-    Counted(Kind::RunInRow(126, 131), 177, (3, 1496)),
-    Counted(Kind::RunInRow(123, 129), 177, (5, 1512)),
-    Counted(Kind::RunInRow(62, 67), 177, (3, 1496)),
-    Counted(Kind::FinderInRow(0), 177, (154954, 2992)),
-    Counted(Kind::FinderInRow(61), 177, (154946, 2992)),
-    Counted(Kind::FinderInRow(124), 177, (154946, 2992)),
-    Counted(Kind::FinderInRow(170), 177, (154954, 2991)),
+    (Kind::RunInRow(126, 131), 177, (3, 1496)),
+    (Kind::RunInRow(123, 129), 177, (5, 1512)),
+    (Kind::RunInRow(62, 67), 177, (3, 1496)),
+    (Kind::FinderInRow(0), 177, (154954, 2992)),
+    (Kind::FinderInRow(61), 177, (154946, 2992)),
+    (Kind::FinderInRow(124), 177, (154946, 2992)),
+    (Kind::FinderInRow(170), 177, (154954, 2991)),
 ];
-
-impl Row for Counted {
-    fn holds(&self, alloc: Global) -> bool {
-        costs(alloc, self.0, self.1, self.2)
-    }
-}
 
 #[test]
 fn squares_cost_what_was_counted(rt: HostRuntime) {
-    check(&rt, rt.alloc(), &COUNTED);
+    for (i, (kind, width, expected)) in COUNTED.iter().enumerate() {
+        check_row(&rt, i, costs(rt.alloc(), *kind, *width, *expected));
+    }
 }

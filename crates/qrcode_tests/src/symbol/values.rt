@@ -4,13 +4,12 @@
 
 ghost use Rattle.std.specs.Prelude.{◌≤◌};
 
-use crate::common::{Row, check, check_row};
+use crate::common::check_row;
 use qrcode_ec::{max_allowed_errors, power, product};
 use qrcode_reader::correct::{Corrector, Damaged, correct};
 use qrcode_types::tables::capacity;
 use qrcode_types::types::Version::{self, Micro, Normal};
 use qrcode_types::types::{EcLevel, QrError};
-use std::alloc::Global;
 
 #[test]
 fn entries_are_fetched(rt: HostRuntime) {
@@ -87,15 +86,17 @@ static ALLOWED: [Allowed; 8] = [
     Allowed(Normal(41), EcLevel::L, None),
 ];
 
-impl Row for Allowed {
-    fn holds(&self, _alloc: Global) -> bool {
+impl Allowed {
+    fn holds(&self) -> bool {
         max_allowed_errors(self.0, self.1) == self.2.ok_or(QrError::InvalidVersion)
     }
 }
 
 #[test]
 fn errors_are_allowed(rt: HostRuntime) {
-    check(&rt, rt.alloc(), &ALLOWED);
+    for (i, row) in ALLOWED.iter().enumerate() {
+        check_row(&rt, i, row.holds());
+    }
 }
 
 // The block of "Reed-Solomon codes for coders" (Wikiversity).
