@@ -4,9 +4,8 @@ A page has a code of a version from 30 to 40 at 2 to 4 pixels a module, another 
 letters, marks and noise. Codes are upright, turned or mirrored.
 """
 import random
-import subprocess
 
-from room import modules_of
+from room import square
 
 LETTERS = "abcdefghijklmnopqrstuvwxyzABCDEFGHIJKLMNOPQRSTUVWXYZ0123456789 .,:;-+*/=()"
 # Glyphs of five by seven pixels, a row for each five bits: o O 0 8 B D [ ] H i
@@ -70,12 +69,6 @@ class Page:
         return b"P5\n%d %d\n255\n" % (self.across, self.down) + body
 
 
-def square(program, text, *words):
-    made = subprocess.run([program, "-f", "pbm", "-s", "1", "-q", "0", *words, "--", text],
-                          capture_output=True, check=True).stdout
-    return modules_of(made)
-
-
 def turned(rows, number):
     """Returns rows in one of eight positions."""
     rows = [it[::-1] for it in rows] if number & 1 else rows
@@ -89,13 +82,14 @@ def made(program, version, number):
     level = chance.choice("LMQH")
     most = {"L": 1700, "M": 1300, "Q": 900, "H": 700}[level]
     texts = ["".join(chance.choice(LETTERS) for _ in range(chance.choice((7, most - 1))))]
-    large = square(program, texts[0], "-v", str(version), "-l", level)
+    large = square(program, "-v", str(version), "-l", level, given=texts[0].encode())
     if number % 5 == 4:
         texts.append(str(chance.randrange(10 ** 4)))
-        small, zone = square(program, texts[1], "-v", "M" + chance.choice("1234")), 2
+        kind, zone = "M" + chance.choice("1234"), 2
     else:
         texts.append("".join(chance.choice(LETTERS) for _ in range(10)))
-        small, zone = square(program, texts[1], "-v", str(chance.randint(1, 9))), 4
+        kind, zone = str(chance.randint(1, 9)), 4
+    small = square(program, "-v", kind, given=texts[1].encode())
     scale, other = chance.randint(2, 4), chance.randint(2, 5)
     large, small = turned(large, chance.randrange(8)), turned(small, chance.randrange(8))
     sides = len(large) * scale, len(small) * other

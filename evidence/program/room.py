@@ -184,10 +184,14 @@ def written(program, words):
         return run(program, shlex.split(words), folder).stdout
 
 
+def square(program, *words, given=b""):
+    """Returns the rows of modules that a command line draws."""
+    return modules_of(run(program, [*words, *"-f pbm -s 1 -q 0".split()], "/", given).stdout)
+
+
 def figures(program, given):
-    """Returns the symbol of data as a plain PBM file, one pixel a module, without a quiet zone."""
-    words = ["-l", "L", "-f", "pbm", "-s", "1", "-q", "0", "--micro"]
-    rows = modules_of(run(program, words, "/", given).stdout)
+    """Returns the symbol of data as a plain PBM file without spaces between its digits."""
+    rows = square(program, "-l", "L", "--micro", given=given)
     return f"P1 {len(rows)} {len(rows)}\n{''.join(map(str, sum(rows, [])))}".encode()
 
 

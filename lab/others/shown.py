@@ -11,7 +11,7 @@ from pathlib import Path
 ROOT = Path(__file__).resolve().parents[2]
 sys.path[:0] = [str(ROOT / it) for it in ("evidence/program", "evidence/judge", "lab/oracle")]
 # The program that `rt ci goqlanis` left in out/, or the one that GOQLANIS names.
-PROGRAM = os.environ.get("GOQLANIS", str(ROOT / "crates" / "goqlanis" / "out" / "goqlanis"))
+PROGRAM = os.path.abspath(os.environ.get("GOQLANIS", ROOT / "crates/goqlanis/out/goqlanis"))
 
 
 def run(*words, data=None, may_fail=False):
@@ -37,22 +37,10 @@ def line_of(rows):
     return f"{len(rows)} {int(bits, 2):0{len(bits) // 4}x}"
 
 
-def framed(rows, zone):
-    """Returns rows of modules in a quiet zone."""
-    wide = [[0] * (len(rows[0]) + 2 * zone)] * zone
-    return [*wide, *([0] * zone + list(row) + [0] * zone for row in rows), *wide]
-
-
-def pbm(rows, zone=0):
-    """Returns a PBM file of rows of modules in a quiet zone, at one pixel a module."""
-    rows = framed(rows, zone)
-    text = "\n".join(" ".join(map(str, row)) for row in rows)
-    return f"P1\n{len(rows[0])} {len(rows)}\n{text}\n".encode()
-
-
 def pgm(rows, zone=0):
     """Returns a PGM file of rows of modules in a quiet zone, at four pixels a module."""
-    rows = framed(rows, zone)
+    wide = [[0] * (len(rows[0]) + 2 * zone)] * zone
+    rows = [*wide, *([0] * zone + list(row) + [0] * zone for row in rows), *wide]
     pixels = b"".join(bytes(0 if it else 255 for it in row for _ in range(4)) * 4 for row in rows)
     return b"P5 %d %d 255\n" % (4 * len(rows[0]), 4 * len(rows)) + pixels
 

@@ -1,27 +1,18 @@
 """Tests of `goqlanis damage`: the judge of evidence/judge counts what is wrong in the squares."""
 from checked import form, reading
 from damage import bounds, wrong_in
-from room import modules_of, run
+from forms import pairs
+from room import file_of, run, square
 from spelling import spelled
-
-PAIRS = [it.split("-") for it in "M1-L M2-L M2-M M3-L M3-M M4-L M4-M M4-Q".split()]
-PAIRS += [(str(version), level) for version in range(1, 41) for level in "LMQH"]
-# Pictures of one pixel a module.
-SMALL = ["-f", "pbm", "-s", "1", "-q", "0"]
-
-
-def _drawn(program, *words):
-    """Returns the rows of modules that `goqlanis damage` draws of some digits."""
-    return modules_of(run(program, ["damage", *SMALL, *words, "0123"], "/").stdout)
 
 
 def _square(program, *words):
-    return bytes(sum(_drawn(program, *words), []))
+    return bytes(sum(square(program, "damage", *words, "0123"), []))
 
 
 def as_much_is_wrong_as_asked(program):
     """In all versions and levels, as many codewords and bits are wrong as asked, nothing else."""
-    for at, (version, level) in enumerate(PAIRS):
+    for at, (version, level) in enumerate(pairs()):
         words = ["-v", version, "-l", level, "--seed", str(at)]
         whole = _square(program, *words, "--wrong-codewords", "0")
         bits = reading.read_bits(whole)
@@ -34,11 +25,10 @@ def as_much_is_wrong_as_asked(program):
             found = wrong_in(whole, _square(program, *words, *more), version, level, bits.mask)
             wanted = {wrong}, {3}, {3} if has_version else set(), 0
             yield (*map(set, found[:3]), found[3]) == wanted
-    yield len(PAIRS) == 168
+    yield len(pairs()) == 168
 
 
 def another_seed_is_other_damage(program):
-    """The same seed draws the same everywhere, and another one something else."""
     squares = [_square(program, "-v", "7", "--seed", it) for it in ("1", "1", "2")]
     return squares[0] == squares[1] != squares[2]
 
@@ -47,14 +37,13 @@ def damaged_codes_are_turned(program):
     """Codes are mirrored, and turned clockwise; goqlanis reads them in all eight positions."""
     for version, level in (("M1", "L"), ("M3", "M"), ("1", "L")):
         words = ["-v", version, "-l", level]
-        upright = _drawn(program, *words)
+        upright = square(program, "damage", *words, "0123")
         for mirror in ([], ["--mirror"]):
             wanted = [row[::-1] for row in upright] if mirror else upright
             for degrees in ("0", "90", "180", "270"):
-                more = [*words, *mirror, "--turn", degrees]
-                drawn = run(program, ["damage", *SMALL, *more, "0123"], "/").stdout
-                yield modules_of(drawn) == wanted
-                yield run(program, ["read"], "/", drawn).stdout == b"0123"
+                drawn = square(program, "damage", *words, *mirror, "--turn", degrees, "0123")
+                yield drawn == wanted
+                yield run(program, ["read"], "/", file_of(drawn, 0, 1)).stdout == b"0123"
                 wanted = [list(row) for row in zip(*wanted[::-1])]
 
 

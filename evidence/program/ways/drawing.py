@@ -9,7 +9,7 @@ import documents
 import labels
 import parts
 import png
-from room import COLOURS, SYMBOLS, TOP, empty, file_of, held, put, run, written
+from room import COLOURS, SYMBOLS, TOP, empty, file_of, held, put, run, square, written
 
 
 def parts_have_their_colours(program):
@@ -34,10 +34,9 @@ def labels_are_those_of_zint(program):
     """GS1 elements get the symbols that zint draws, and these are read as their element strings."""
     found = [(name.split(" "), rows) for name, rows in SYMBOLS.items() if name[0].isdigit()]
     for (level, elements, string), rows in found:
-        words = ["gs1", elements, "-l", "LMQH"[int(level) - 1], "-f", "pbm", "-s", "1", "-q", "0"]
-        drawn = run(program, words, "/").stdout
+        drawn = square(program, "gs1", elements, "-l", "LMQH"[int(level) - 1])
         read = run(program, ["read"], "/", file_of(rows, 4, 2)).stdout
-        yield drawn == file_of(rows, 0, 1) and read == string.encode()
+        yield drawn == rows and read == string.encode()
     long = run(program, ["gs1", "(10)abcdefghijklmnopqrst" * 200, "-l", "H"], "/")
     is_said = long.stderr == b"goqlanis: no version holds the elements at level H\n"
     yield len(found) == 6 and long.returncode == 1 and is_said
@@ -103,33 +102,32 @@ def _mean(logo, x, y):
         [int(Fraction(opacity, area) + Fraction(1, 2))]
 
 
-def a_logo_with_more_pixels_than_its_place_is_averaged(program):
-    """Each pixel is the mean of those of the logo that it covers, by area and opacity."""
-    words, chance = ["-v", "5", "-l", "H", "--logo-size", "9", "GOQLANIS"], random.Random(5)
-    logo = [[tuple(chance.randbytes(3)) + (chance.choice((0, 9, 255)),) for _ in range(100)]
-            for _ in range(75)]
-    rows = _greys(run(program, [*words[:4], words[-1], "-f", "pgm"], "/").stdout)
+def _with_logo(program, logo, shown=_NEAREST, margin="0"):
+    """Returns the pixels of a code with a logo, shown like this over white, and its PNG file."""
+    words = ["-v", "5", "-l", "H", "GOQLANIS"]
+    rows = _greys(run(program, [*words, "-f", "pgm"], "/").stdout)
     for row in rows[160:200]:
         row[144:216] = [(255,) * 4] * 72
-    _put_logo(rows, 144, 160, [[_mean(logo, x, y) for x in range(53)] for y in range(40)])
+    _put_logo(rows, 144, 160, shown)
     with empty() as folder:
         put(folder, "logo.png", png.of_pixels(logo))
-        more = ["--logo", "logo.png", "--logo-margin", "0", "-f", "png"]
-        return png.pixels_of(run(program, [*words, *more], folder).stdout) == rows
+        words += ["--logo", "logo.png", "--logo-size", "9", "--logo-margin", margin, "-f", "png"]
+        return rows, run(program, words, folder).stdout
+
+
+def a_logo_with_more_pixels_than_its_place_is_averaged(program):
+    """Each pixel is the mean of those of the logo that it covers, by area and opacity."""
+    chance = random.Random(5)
+    logo = [[tuple(chance.randbytes(3)) + (chance.choice((0, 9, 255)),) for _ in range(100)]
+            for _ in range(75)]
+    means = [[_mean(logo, x, y) for x in range(53)] for y in range(40)]
+    rows, drawn = _with_logo(program, logo, means)
+    return png.pixels_of(drawn) == rows
 
 
 def a_logo_in_png_is_drawn_in_its_area_alone(program):
     """The logo is drawn over white; outside of its area in the middle nothing changes."""
-    words = ["-v", "5", "-l", "H", "--logo-size", "9", "GOQLANIS"]
-    rows = _greys(run(program, [*words[:4], words[-1], "-f", "pgm"], "/").stdout)
-    for row in rows[160:200]:
-        row[144:216] = [(255,) * 4] * 72
-    _put_logo(rows, 144, 160)
-    with empty() as folder:
-        put(folder, "logo.png", png.of_pixels(COLOURS))
-        more = ["--logo", "logo.png", "--logo-margin", "0", "-f", "png"]
-        drawn = run(program, [*words, *more], folder).stdout
-        far = run(program, [*words, *more[:2], "--logo-margin", "1", "-f", "png"], folder).stdout
+    (rows, drawn), (_, far) = (_with_logo(program, COLOURS, margin=it) for it in "01")
     is_read = run(program, ["read"], "/", drawn).stdout == b"GOQLANIS"
     # With a margin of one module the logo is 24 pixels high.
     coloured = [y for y, row in enumerate(png.pixels_of(far))

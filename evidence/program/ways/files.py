@@ -57,8 +57,8 @@ def lists_of_access_give_nobody_more(program):
                 and found == [0o600, 0o640, 0o640] and new == FOR_A_USER)
 
 
-# The options that run a program as another user than root.
-AS_NOBODY = {"user": NOBODY, "group": NOBODY, "extra_groups": []}
+# The options that run a program as another user than root, if it is root who tests.
+AS_NOBODY = {"user": NOBODY, "group": NOBODY, "extra_groups": []} if os.getuid() == 0 else {}
 
 
 def owners_are_not_shut_out(program):
@@ -127,8 +127,7 @@ def a_folder_that_takes_no_file_is_named(program):
     with room() as folder:
         os.chmod(f"{folder}/old.svg", 0o666)
         os.chmod(folder, 0o555)
-        as_nobody = AS_NOBODY if os.getuid() == 0 else {}
-        ran = [run(program, ["-o", it, "1"], folder, **as_nobody)
+        ran = [run(program, ["-o", it, "1"], folder, **AS_NOBODY)
                for it in ("old.svg", "a.svg", f"{folder}/old.svg")]
         os.chmod(folder, 0o755)
         wanted = [rb"goqlanis: cannot write %s: cannot create a file in %s: [^\n]+\n"
@@ -149,8 +148,7 @@ def a_folder_that_cannot_be_read_is_refused(program):
         os.chmod(f"{folder}/in/old.svg", 0o666)
         os.symlink("in/a.svg", f"{folder}/far.svg")
         os.chmod(f"{folder}/in", 0o333)
-        as_nobody = AS_NOBODY if os.getuid() == 0 else {}
-        ran = [(run(program, words, f"{folder}/{here}", **as_nobody), path, name)
+        ran = [(run(program, words, f"{folder}/{here}", **AS_NOBODY), path, name)
                for here, words, path, name in (
                    ("", ["-o", "in/a.svg", "1"], "in/a.svg", "in/"),
                    ("", ["-o", "in/old.svg", "1"], "in/old.svg", "in/"),

@@ -10,8 +10,7 @@ from itertools import product
 import checked
 import crowds
 import png
-from room import (FILES, SYMBOLS, figures, file_of, modules_of, plain, run, slanted,
-                  squares)
+from room import FILES, SYMBOLS, figures, file_of, plain, run, slanted, square, squares
 
 EXCHANGED = ", inverted"
 NOT_HEADERS = ("segment: ", "goqlanis: warning: ")
@@ -201,11 +200,6 @@ def a_percent_sign_is_a_separator_behind_fnc1_alone(program):
     return len(read) == 4 and read == [*rows]
 
 
-def _square(program, *words):
-    words = ["-f", "pbm", "-s", "1", "-q", "0", *words]
-    return modules_of(run(program, words, "/").stdout)
-
-
 def _tiled(rows, count, pitch, above=()):
     """Returns a PBM file of `count` by `count` copies of a square, each `pitch` pixels from the
     last, and of rows above them. A dark line at the end keeps it from being a single square in an
@@ -220,7 +214,7 @@ def _tiled(rows, count, pitch, above=()):
 def crowded_pages_are_read(program):
     """All of 121 codes are read, one above 1,024 finder patterns, though more squares have three of
     these than are tried, and nothing in noise."""
-    code = _square(program, "-v", "1", "hi")
+    code = square(program, "-v", "1", "hi")
     finder = [it[:7] for it in code[:7]]
     noise = b"P4\n400 400\n" + random.Random(1).randbytes(20000)
     for picture, said in ((_tiled(code, 11, 29), b"hi\n" * 121), (noise, b""),
@@ -242,7 +236,6 @@ def boards_take_seconds(program):
 
 
 def _lines_read(program, picture):
-    """Returns the lines that `read` prints, sorted."""
     return sorted(run(program, ["read"], "/", picture).stdout.decode().splitlines())
 
 
@@ -255,7 +248,6 @@ def large_codes_beside_other_things_are_read(program):
 
 
 def _beside(*codes):
-    """Returns the rows of squares side by side, with 4 modules around each."""
     high = max(map(len, codes))
     tall = [it + [[0] * len(it)] * (high - len(it)) for it in codes]
     rows = [sum([[0] * 4 + row for row in line], []) + [0] * 4 for line in zip(*tall)]
@@ -275,9 +267,9 @@ def codes_of_uneven_pixels_beside_another_are_read(program):
     """At two and a half pixels a module M1, version 40, version 20 with three finder patterns among
     its data, and with wrong modules in a timing pattern; at 1.2 pixels version 1; at two pixels one
     with a wrong module in the middle row of a finder pattern."""
-    other = _square(program, "-v", "1", "hi")
-    decoyed, spoilt = (_square(program, "-v", "20", "-l", "H", "decoys") for _ in range(2))
-    pierced = _square(program, "-v", "1", "pierced")
+    other = square(program, "-v", "1", "hi")
+    decoyed, spoilt = (square(program, "-v", "20", "-l", "H", "decoys") for _ in range(2))
+    pierced = square(program, "-v", "1", "pierced")
     pierced[3][1] ^= 1
     for row, line in zip(decoyed, other[:8]):
         for left in (21, 39, 57):
@@ -285,16 +277,16 @@ def codes_of_uneven_pixels_beside_another_are_read(program):
     for place in range(10, 30, 2):
         spoilt[6][place] ^= 1
     for code, pixels, modules, said in (
-            (_square(program, "-v", "M1", "12"), 5, 2, "12"), (decoyed, 5, 2, "decoys"),
-            (_square(program, "-v", "40", "large"), 5, 2, "large"), (spoilt, 5, 2, "decoys"),
-            (_square(program, "-v", "1", "small"), 6, 5, "small"), (pierced, 2, 1, "pierced")):
+            (square(program, "-v", "M1", "12"), 5, 2, "12"), (decoyed, 5, 2, "decoys"),
+            (square(program, "-v", "40", "large"), 5, 2, "large"), (spoilt, 5, 2, "decoys"),
+            (square(program, "-v", "1", "small"), 6, 5, "small"), (pierced, 2, 1, "pierced")):
         page = _stretched(pixels, modules, _beside(code, other))
         yield _lines_read(program, page) == sorted([said, "hi"])
 
 
 def a_hundred_codes_of_uneven_pixels_are_read_in_order(program):
     """From left to right and from top to bottom, at two and a half pixels a module."""
-    codes = [_square(program, "-v", "1", f"{it:02}") for it in range(100)]
+    codes = [square(program, "-v", "1", f"{it:02}") for it in range(100)]
     rows = [row for at in range(0, 100, 10) for row in _beside(*codes[at:at + 10])]
     ran = run(program, ["read"], "/", _stretched(5, 2, rows))
     return ran.stdout.decode().split() == [f"{it:02}" for it in range(100)]
@@ -321,7 +313,7 @@ def a_quarter_of_a_turned_finder_pattern_may_be_wrong(program):
 def codes_that_nearly_touch_are_read(program):
     """One pixel below and to the right of a code of four pixels a module stand two of one pixel."""
     texts = ["large", "below", "beside"]
-    large, below, beside = (_square(program, "-v", "1", it) for it in texts)
+    large, below, beside = (square(program, "-v", "1", it) for it in texts)
     rows = [[ink for ink in row for _ in range(4)] + [0] for row in large for _ in range(4)]
     rows = [row + more for row, more in zip(rows, beside + [[0] * 21] * 63)]
     rows += [[0], *below]
@@ -331,10 +323,10 @@ def codes_that_nearly_touch_are_read(program):
 
 def no_micro_code_is_read_inside_an_unread_code(program):
     """A code with a Micro QR code over its data, too large to be corrected, is not read at all."""
-    rows = _square(program, "-v", "5", "-l", "L", "unread")
+    rows = square(program, "-v", "5", "-l", "L", "unread")
     for row in rows[10:27]:
         row[10:27] = [0] * 17
-    for row, line in zip(rows[12:], _square(program, "-v", "M2", "12")):
+    for row, line in zip(rows[12:], square(program, "-v", "M2", "12")):
         row[12:25] = line
     ran = run(program, ["read"], "/", file_of(rows, 4, 3))
     return (ran.returncode, ran.stdout) == (1, b"") and b"37 by 37 modules" in ran.stderr
@@ -344,8 +336,7 @@ def damaged_micro_codes_alone_are_read_in_any_margin(program):
     """Micro QR codes with as many wrong codewords as can be corrected, some more than a reader
     corrects on a page. Their margins are no whole modules of 8 pixels, or differ."""
     for version in ("M1", "M2", "M3", "M4"):
-        words = ["damage", "--seed", "1", "-f", "pbm", "-s", "1", "-q", "0", "-v", version, "12345"]
-        rows = modules_of(run(program, words, "/").stdout)
+        rows = square(program, "damage", "--seed", "1", "-v", version, "12345")
         wide = [[it for it in row for _ in range(8)] for row in rows for _ in range(8)]
         for left, top, right, bottom in ((19, 19, 19, 19), (1, 1, 1, 1), (3, 16, 5, 9)):
             across = left + len(wide) + right
@@ -358,7 +349,7 @@ def wrong_codewords_of_micro_codes_on_a_page(program):
     """On a page one is corrected in M2 but none in M1, as the standard says; in a picture of a
     single code, one is corrected in M1 too, with a warning."""
     for version, wrong, on_page in (("M1", 0, b"12"), ("M1", 1, b""), ("M2", 1, b"12")):
-        rows = _square(program, "-v", version, "12")
+        rows = square(program, "-v", version, "12")
         rows[-1][-1] ^= wrong
         ran = run(program, ["read"], "/", _tiled(rows, 1, 20))
         alone = run(program, ["read"], "/", file_of(rows, 2, 4))

@@ -57,7 +57,6 @@ def a_closed_pipe_ends_a_run_quietly(program):
 
 
 def lines_are_drawn_as_they_come(program):
-    """The first line is drawn before the second is written."""
     pipes = {"stdin": subprocess.PIPE, "stdout": subprocess.PIPE}
     with subprocess.Popen([program, "--lines"], **pipes) as ran:
         wanted = [written(program, it) for it in ("one", "two")]
@@ -140,7 +139,6 @@ def strangers_send_no_control_characters_to_a_terminal(program):
 
 
 def _at_most_100_bytes():
-    """Limits the files of a process to 100 bytes."""
     signal.signal(signal.SIGXFSZ, signal.SIG_IGN)
     resource.setrlimit(resource.RLIMIT_FSIZE, (100, 100))
 
