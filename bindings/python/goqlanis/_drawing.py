@@ -33,6 +33,8 @@ KINDS = {ending: Kind(*row) for ending, row in FORMATS.items()}
 OTHERS = {"light": Kind(goq.LIGHT_HALF_BLOCKS, True, 1, False),
           "grey": Kind(goq.GREY, False, 8, False)}
 MOST_SIDE = 65535
+# The most points a side of a page in PDF.
+MOST_POINTS = 14400
 # The most pixels a side of a PNG file with colours of parts.
 MOST_COLOURFUL = 8192
 # No colour of its own.
@@ -75,6 +77,9 @@ def drawn(modules: bytes, width: int, usual_zone: int, name: str, look: Look,
         helps = "a smaller border" if across > most else f"scale={most // across} or less"
         raise NoSuchSize(f"a side of {side:,} pixels: this format has at most {most:,}: take "
                          f"{helps}")
+    if name == "pdf" and side * 72 > MOST_POINTS * (dpi or 72):
+        warnings.warn("a page in PDF has at most 14,400 points (5,080 mm) a side, and this one has "
+                      "more: take a smaller size or scale", stacklevel=5)
     drawing = Drawing(ctypes.sizeof(Drawing), kind.number, zone, scale, dark, light, dpi,
                       *(own.get(it, SAME) for it in PARTS))
     given: Tuple[Any, ...] = (modules, len(modules), width, ctypes.byref(drawing))
@@ -145,8 +150,11 @@ def _length(size: Any) -> Optional[Length]:
 
 def _fraction(scale: Any, across: int) -> Optional[Length]:
     """Returns the side in pixels if a module has a fraction of them."""
-    is_one = isinstance(scale, float) and 1 <= scale <= MOST_SIDE and not scale.is_integer()
-    return (f"{across * scale:.9g}", "") if is_one else None
+    if not isinstance(scale, float) or scale.is_integer():
+        return None
+    if not 1 <= scale <= MOST_SIDE:
+        raise NoSuchSize(f"scale is a number from 1 to {MOST_SIDE:,} in SVG, not {shown(scale)}")
+    return f"{across * scale:.9g}", ""
 
 
 def _exact(size: Any, across: int) -> Optional[Tuple[int, int]]:
@@ -238,13 +246,16 @@ def _ink(look: Look, name: str, has_colours: bool, own: Dict[str, int]) -> Tuple
 def kind_of(out: Any, kind: Optional[str]) -> str:
     """Returns the format of a file: `kind`, or that of the file extension."""
     known = ", ".join(KINDS)
+    name = getattr(out, "name", "") if hasattr(out, "write") else os.fsdecode(out)
+    ending = _ending(name)
     if kind is not None:
         found = _checks.text("kind", kind).lstrip(".").lower()
         if found not in KINDS:
             raise NoSuchKind(f"no kind {shown(kind)}: take one of {known}")
+        if ending in KINDS and ending != found:
+            warnings.warn(f"{shown(name)} has the file extension of another format than {found}",
+                          stacklevel=4)
         return found
-    name = getattr(out, "name", "") if hasattr(out, "write") else os.fsdecode(out)
-    ending = _ending(name)
     if not ending:
         raise NoSuchKind(f"nothing names the format, one of {known}: add kind='png', or another "
                          "one")
