@@ -13,8 +13,7 @@ import sys
 from pathlib import Path
 
 TOP = Path(__file__).resolve().parent.parent
-# Of the package for JavaScript without numbers.mjs, which bindings/same compares.
-PAGE = ("web/*.*", "web/build", "bindings/js/goqlanis/[a-mo-z]*.mjs", "bindings/js/goqlanis/*.ts",
+PAGE = ("web/*.*", "web/build", "bindings/js/goqlanis/*.mjs", "bindings/js/goqlanis/*.ts",
         "bindings/js/*.[cmt]*", "bindings/js/build", "bindings/js/over", "bindings/js/test",
         "lab/web/run", "lab/web/cases", "lab/web/*.py", "lab/web/*.js")
 ARM = ("crates/*/src", "bindings/c", "bindings/python", "evidence/program", "tools/*.c",
