@@ -35,7 +35,6 @@ def write_exam(folder: str, pairs: str, seed: int, scale: int) -> None:
 
 
 def _pairs(words: str) -> Iterator[Tuple[str, str]]:
-    """Yields the versions and levels that words name."""
     for word in words.lower().split(","):
         found = [it for it in PAIRS if word.strip() in (
             "-".join(it).lower(), "micro" if it[0][0] == "M" else "normal")]

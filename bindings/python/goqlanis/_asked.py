@@ -54,8 +54,6 @@ class Asked:
 
 
 class Data(Asked):
-    """A symbol of data."""
-
     def answer(self) -> Answer:
         return _made(library.goq_encode_with, self.given, len(self.given), self.options())
 

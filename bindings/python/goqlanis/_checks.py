@@ -83,14 +83,12 @@ def _whole_of(value: Any) -> Optional[int]:
 
 
 def flag(name: str, value: Any) -> bool:
-    """Returns the value, which must be True or False."""
     if not isinstance(value, bool):
         raise TypeError(f"{name} is True or False, not {shown(value)}")
     return value
 
 
 def text(name: str, value: Any) -> str:
-    """Returns the value, which must be a str."""
     if isinstance(value, str):
         return str.__str__(value)
     if isinstance(value, BINARY):
@@ -141,7 +139,6 @@ def _bytes_of(value: Any) -> str:
 
 
 def level(value: Any) -> int:
-    """Returns the library's number of a level."""
     if not isinstance(value, str):
         raise TypeError(f"level is one of 'L', 'M', 'Q' and 'H', not {shown(value)}")
     if len(value) != 1 or value.upper() not in LEVELS:
@@ -200,7 +197,6 @@ class Version(str):
 
 
 def version_name(number: int) -> Version:
-    """Returns the name of a version by the library's number."""
     return Version(number) if number <= 40 else Version(f"M{number - 40}")
 
 

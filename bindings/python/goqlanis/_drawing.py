@@ -108,7 +108,6 @@ def _framed(svg: bytes, length: Optional[Length], look: Look) -> bytes:
 
 
 def _escaped(name: str, value: Any) -> str:
-    """Returns a text as XML has it."""
     text = _checks.text(name, value)
     found = NOT_IN_XML.search(text)
     if found:
@@ -125,7 +124,6 @@ def _room(count: int) -> bytearray:
 
 
 def zone_of(look: Look, usual: int) -> int:
-    """Returns the width of the quiet zone in modules."""
     if look.border is not None and look.quiet_zone is not None:
         raise ValueError("border and quiet_zone are the same: give one of them")
     name, value = ("border", look.border) if look.quiet_zone is None else \
@@ -134,7 +132,6 @@ def zone_of(look: Look, usual: int) -> int:
 
 
 def _scale(look: Look, kind: Kind) -> int:
-    """Returns the pixels per module."""
     if _ending(look.scale) in KINDS:
         raise TypeError(f"scale is a whole number: code.save({shown(look.scale)}) writes a file")
     return kind.scale if look.scale is None else \

@@ -10,7 +10,6 @@ from typing import Any, Optional
 
 
 def write(out: Any, data: bytes, is_text: bool) -> None:
-    """Writes data to a path, or to an open file."""
     if not hasattr(out, "write"):
         path = os.fsdecode(out)
         try:
@@ -119,7 +118,6 @@ def _replace(folder: int, above: str, name: str, old: Optional[os.stat_result],
 
 
 def _created(folder: int, name: str, mode: int) -> int:
-    """Creates a file and opens it."""
     return os.open(name, os.O_CREAT | os.O_EXCL | os.O_WRONLY, mode, dir_fd=folder)
 
 

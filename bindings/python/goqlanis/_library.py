@@ -13,7 +13,6 @@ _TYPES: Dict[str, Any] = {"": _number, "size": _size, "data": ctypes.c_char_p}
 
 
 def _struct(name: str, fields: str) -> Any:
-    """Makes the class of a struct of the header."""
     pairs = (it.partition(":") for it in fields.split())
     own = {"_fields_": [(field, _TYPES[kind]) for field, _, kind in pairs]}
     _TYPES[name] = type(name, (ctypes.Structure,), own)

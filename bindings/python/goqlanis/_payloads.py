@@ -114,7 +114,6 @@ def _field(name: str, value: str) -> Field:
 
 
 def elements_of(elements: Any) -> Any:
-    """Returns GS1 elements as the library takes them."""
     pairs = _checks.listed("elements", elements, "pairs, e.g. ('01', '09501101530003')")
     if not pairs:
         raise EmptyField("elements")
@@ -148,7 +147,6 @@ def _string(elements: Any) -> Tuple[int, bytes, int]:
 
 
 def _wrong(answer: int, element: Element) -> str:
-    """Says what is wrong with an element."""
     identifier, why = repr(element.identifier.decode())[1:-1], _CAUSES[answer].why
     if answer == goq.NO_SUCH_IDENTIFIER and identifier.startswith("("):
         return f": write {_checks.cut(identifier.strip('()'))} without brackets"
@@ -186,7 +184,6 @@ def _room() -> Any:
 
 
 def _refuse(answer: int, field: str) -> None:
-    """Raises the exception for an answer of the library, unless that is success."""
     if answer in _CAUSES:
         raise _CAUSES[answer](field, _said(_CAUSES[answer], field))
     if answer == goq.SMALL_BUFFER:

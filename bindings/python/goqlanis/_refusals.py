@@ -115,7 +115,6 @@ def _most(asked: Data) -> int:
 
 
 def of_parts(asked: Parts, answer: int) -> Error:
-    """Returns the error for several symbols."""
     level, last = LEVELS[asked.level], version_name(asked.max_version)
     if answer == NO_ROOM:
         return refusal(answer, f"{len(asked.given):,} bytes: {asked.wanted or 16} codes up to "

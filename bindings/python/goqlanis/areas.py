@@ -118,7 +118,6 @@ def _given(area: Area) -> Tuple[Any, int]:
 
 
 def rectangle(given: Any) -> Rectangle:
-    """Returns the rectangle that a caller gives."""
     sides = _checks.listed("area", given, "left, top, width, height")
     if len(sides) != 4:
         raise NoSuchArea(f"a rectangle is left, top, width and height, not {_checks.shown(given)}")

@@ -46,9 +46,6 @@ class Check(NamedTuple):
     Unknown fields are None: `bits` and `fewest_bits` after FNC1 or with a header between segments,
     and all fields on the data if its bits are not segments and a terminator.
 
-    >>> found = check(encode_segments([("numeric", b"1"), ("numeric", b"23")]))
-    >>> found.is_standard, found.bits, found.fewest_bits
-    (True, 39, 24)
     """
     version: str
     level: str
@@ -103,8 +100,6 @@ def check(picture: Union[Picture, Modules, Any]) -> Union[List[Check], Check]:
     >>> found = check(rows)
     >>> found.is_standard, found.wrong_by_block, found.allowed_by_block, found.unused_correction
     (False, (1,), 8, 0.87)
-    >>> [it.is_standard for it in check(encode("01234567").png())]
-    [True]
     """
     file = _file_of(picture)
     if file is not None:

@@ -54,32 +54,14 @@ def encode(data: Data, level: str = "M", version: Optional[Version] = None, *,
     version or the data; NotInSet, which names the first character that the set lacks; ValueError
     for options that exclude each other.
 
-    >>> encode("https://example.org")
-    <goqlanis.Symbol 2-M>
     >>> encode(bytes([0, 255]), "H", version=7)
     <goqlanis.Symbol 7-H>
     >>> encode("HELLO", micro=True), encode("HELLO", boost=True), encode("HELLO", mask=3).mask
     (<goqlanis.Symbol M2-M>, <goqlanis.Symbol 1-H>, 3)
-    >>> encode("Größe: 5 m²").version, encode("Größe: 5 m²", marked=True).version
-    ('1', '2')
     >>> encode("Živjo".encode("iso8859_2"), eci=4).version
     '1'
     >>> encode("Привет, мир", charset="shortest").charset
     'iso-8859-5'
-    >>> encode("złoty", charset="iso-8859-1")
-    Traceback (most recent call last):
-        ...
-    goqlanis.NotInSet: character 2, 'ł' (U+0142), is not in iso-8859-1; charset='shortest' finds a \
-set that has all
-    >>> encode(42)
-    Traceback (most recent call last):
-        ...
-    TypeError: data is a str or bytes, not the int 42: take str(42)
-    >>> encode(bytes(2000), "H")
-    Traceback (most recent call last):
-        ...
-    goqlanis.NoRoom: 2,000 bytes at level H: at most 1,273 fit, more of digits or capitals; level \
-M holds them
     """
     octets, is_text = _checks.data(data)
     manner, versions = _manner(is_text, marked, eci), _versions(version, min_version, micro)
@@ -134,11 +116,7 @@ def _mask(mask: Optional[int]) -> int:
 
 def encode_text(text: str, level: str = "M", marked: bool = False,
                 charset: Optional[str] = None) -> Symbol:
-    """Encodes a str as `encode` does, but raises TypeError for bytes.
-
-    >>> encode_text("Größe: 5 m²", marked=True).version
-    '2'
-    """
+    """Encodes a str as `encode` does, but raises TypeError for bytes."""
     return encode(_checks.text("text", text), level, marked=marked, charset=charset)
 
 
@@ -155,11 +133,8 @@ def encode_sequence(data: Data, level: str = "M", version: Optional[Version] = N
     Raises NoRoom if these symbols do not hold the data, and NoSuchVersion if a version is Micro QR,
     or `min_version` is above `max_version`.
 
-    >>> symbols = encode_sequence("All that is gold does not glitter", "L", count=3)
-    >>> symbols
+    >>> encode_sequence("All that is gold does not glitter", "L", count=3)
     [<goqlanis.Symbol 1-L>, <goqlanis.Symbol 1-L>, <goqlanis.Symbol 1-L>]
-    >>> join(symbols)
-    b'All that is gold does not glitter'
     """
     octets, is_text = _checks.data(data)
     if version is not None and (min_version is not None or max_version is not None):
@@ -194,21 +169,12 @@ def encode_segments(segments: Segments, level: str = "M",
     '1'
     >>> encode_segments([("fnc1_first", None), ("numeric", b"0109501101530003")], "Q").version
     '1'
-    >>> encode_segments([("byte", b"a"), ("numeric", b"12a")])
-    Traceback (most recent call last):
-        ...
-    goqlanis.NotInMode: segment 2: numeric holds only digits
-    >>> encode_segments([("eci", "26")])
-    Traceback (most recent call last):
-        ...
-    TypeError: segment 1: the number of eci is a whole number from 0 to 999,999, not '26': take 26
     """
     given = 0 if version is None else _checks.version(version)
     return _one(_asked.Segments(_listed(segments), _checks.level(level), given), "the segments")
 
 
 def _listed(segments: Segments) -> List[Segment]:
-    """Returns segments as the library takes them."""
     given = _checks.listed("segments", segments, "pairs, e.g. ('byte', b'..')")
     return [_segment(f"segment {at + 1}", it) for at, it in enumerate(given)]
 
@@ -244,10 +210,6 @@ def encode_gs1(elements: Elements, level: str = "M", version: Optional[Version] 
 
     >>> encode_gs1([("01", "03453120000011"), ("17", "191125"), ("10", "ABCD1234")]).version
     '2'
-    >>> encode_gs1([("20", "123")])
-    Traceback (most recent call last):
-        ...
-    goqlanis.contents.WrongLength: element 1, (20): its value has 3 characters; it needs 2
     """
     given, versions = elements_of(elements), _versions(version, min_version, False)
     string_of(given)
@@ -256,20 +218,13 @@ def encode_gs1(elements: Elements, level: str = "M", version: Optional[Version] 
 
 
 def smallest_version(data: Data, level: str = "M") -> str:
-    """Returns the smallest version of Normal QR that holds a str or bytes at a level.
-
-    >>> smallest_version(bytes(2953), "L")
-    '40'
-    """
+    """Returns the smallest version of Normal QR that holds a str or bytes at a level."""
     return encode(data, level).version
 
 
 def smallest_version_of_segments(segments: Segments, level: str = "M") -> str:
     """Returns the smallest version of Normal QR that holds segments, as `encode_segments` takes
     them, at a level.
-
-    >>> smallest_version_of_segments([("eci", 26), ("byte", bytes(2952))], "L")
-    '40'
     """
     return encode_segments(segments, level).version
 
@@ -289,9 +244,6 @@ def smallest_scale(dpi: int) -> int:
 def is_functional(version: Version, x: int, y: int) -> bool:
     """Returns whether the module in column x and row y of a version belongs to a pattern or to the
     format information; False if the version has no such module.
-
-    >>> is_functional("1", 0, 0), is_functional("1", 20, 20)
-    (True, False)
     """
     number, most = _checks.version(version), 2**63
     x, y = _checks.whole("x", x, -most, most), _checks.whole("y", y, -most, most)

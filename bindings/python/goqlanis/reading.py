@@ -126,12 +126,6 @@ class Code(NamedTuple):
     def text(self) -> Optional[str]:
         """The data as a str: in UTF-8, or in the character sets that ECI headers name (those of
         `encode`). None if it is in none of these, or has a Kanji segment without ECI 20.
-
-        >>> read(encode("Größe: 5 m²").png())[0].text
-        'Größe: 5 m²'
-        >>> latin = encode_segments([("eci", 3), ("byte", "Â±".encode("latin-1"))])
-        >>> read(latin.png())[0].text, read(latin.png())[0].data
-        ('Â±', b'\xc2\xb1')
         """
         numbers = {name: number for number, name in PARTS.items()}
         parts = [KnownPart(numbers[it.kind], it.number or 0, length=it.length or 0)
@@ -165,20 +159,11 @@ def read(picture: Union[Picture, Modules, Any]) -> Union[List[Code], Reading]:
     >>> encode("https://example.org").save("a.png", scale=4)
     >>> [(code.text, code.version, code.level) for code in read("a.png")]
     [('https://example.org', '2', 'M')]
-    >>> read(encode("é", marked=True).png())[0].parts
-    (Part(kind='eci', number=26, place=None, symbols=None, length=None), \
-Part(kind='byte', number=None, place=None, symbols=None, length=2))
-    >>> read(encode_sequence(b"01234567", count=2)[1].png())[0].parts[0]
-    Part(kind='one_of_several', number=0, place=1, symbols=2, length=None)
     >>> rows = [list(row) for row in encode(b"01234567", "H").matrix]
     >>> rows[20][20] = not rows[20][20]
     >>> found = read(rows)
     >>> found.data, found.version, found.level, found.wrong
     (b'01234567', '1', 'H', 1)
-    >>> read([[True] * 21] * 21)
-    Traceback (most recent call last):
-        ...
-    goqlanis.NoFormat: the format information cannot be read; read_any tries all positions
     """
     file = _file_of(picture)
     if file is not None:
@@ -202,9 +187,6 @@ def missed(picture: Picture) -> List[Missed]:
     `read` returns.
 
     Raises a subclass of Unread if no code of a picture decodes.
-
-    >>> missed(encode("01234567").png())
-    []
     """
     file = _file_of(picture)
     if file is None:
@@ -340,10 +322,6 @@ def read_any(square: Modules) -> AnyReading:
     """Returns the data of a square of modules that may be rotated, mirrored or inverted.
 
     Raises Unread if it cannot be read in any position.
-
-    >>> found = read_any([row[::-1] for row in encode("01234567").matrix])
-    >>> found.data, found.position, found.is_inverted
-    (b'01234567', 'mirrored', False)
     """
     modules, out, found = _modules_of(square), _bytes(), AnyRead()
     refuse(library.goq_read_any(modules, len(modules), out, len(out), ctypes.byref(found)))
@@ -355,9 +333,6 @@ def read_text(square: Modules) -> str:
 
     Raises NotShown if the data is not such a text, and another subclass of Unread if the square
     cannot be read.
-
-    >>> read_text(encode("Größe: 5 m²", marked=True))
-    'Größe: 5 m²'
     """
     modules, out, found = _modules_of(square), _bytes(), Read()
     answer = library.goq_read_text(modules, len(modules), out, len(out), ctypes.byref(found))
@@ -372,16 +347,7 @@ def join(squares: Iterable[Union[Modules, Picture]]) -> bytes:
     Raises NotJoined if they are not all the parts of one sequence, and a subclass of Unread if one
     cannot be read.
 
-    >>> symbols = encode_sequence(b"01234567", count=2)
-    >>> join(symbols[::-1])
-    b'01234567'
-    >>> join(symbols[:1])
-    Traceback (most recent call last):
-        ...
-    goqlanis.NotJoined: part 2 is missing
-    >>> for number, symbol in enumerate(symbols):
-    ...     symbol.save(f"part-{number}.png")
-    >>> join(["part-1.png", "part-0.png"])
+    >>> join(encode_sequence(b"01234567", count=2)[::-1])
     b'01234567'
     """
     found = _checks.listed("squares", squares, "symbols, squares or pictures")
@@ -469,7 +435,6 @@ def _modules_of(square: Modules, of: str = "rows of modules, or a Symbol") -> by
 
 
 def _rows_of(view: memoryview) -> List[List[Any]]:
-    """Returns the rows of an array of modules."""
     step, across = -1 if view.format[0] in SWAPPED else 1, view.shape[1]
     numbers = memoryview(view.tobytes()[::step]).cast(_form(view)).tolist()[::step]
     return [numbers[at:at + across] for at in range(0, len(numbers), across)]

@@ -78,20 +78,12 @@ class Symbol:
 
     @property
     def width(self) -> int:
-        """The modules per side, without the quiet zone.
-
-        >>> encode("01234567").width, encode("01234567", version=40).width
-        (21, 177)
-        """
+        """The modules per side, without the quiet zone."""
         return math.isqrt(len(self.modules))
 
     @property
     def mask(self) -> int:
-        """The number of the mask: 0 to 7, for Micro QR 0 to 3.
-
-        >>> encode("01234567", mask=5).mask
-        5
-        """
+        """The number of the mask: 0 to 7, for Micro QR 0 to 3."""
         found = ctypes.c_uint32()
         refuse(library.goq_mask(self.modules, len(self.modules), ctypes.byref(found)))
         return found.value
@@ -108,20 +100,11 @@ class Symbol:
 
     @property
     def quiet_zone(self) -> int:
-        """The width of the quiet zone that the standard requires, in modules: 4, for Micro QR 2.
-
-        >>> encode("01234567").quiet_zone, encode("01234567", micro=True).quiet_zone
-        (4, 2)
-        """
+        """The width of the quiet zone that the standard requires, in modules: 4, for Micro QR 2."""
         return 2 if self.version.startswith("M") else 4
 
     def matrix_iter(self, scale: int = 1, border: Whole = None) -> Iterator[Tuple[bool, ...]]:
-        """Yields the rows of the picture, True for a dark pixel, with the quiet zone.
-
-        >>> rows = list(encode("01234567").matrix_iter(scale=2, border=1))
-        >>> len(rows), rows[2][:6]
-        (46, (False, False, True, True, True, True))
-        """
+        """Yields the rows of the picture, True for a dark pixel, with the quiet zone."""
         pixels = self._plain("grey", Look(scale, border))
         side = math.isqrt(len(pixels))
         for at in range(0, len(pixels), side):
@@ -150,41 +133,13 @@ class Symbol:
         data += b"\n" if name == "txt" else b""
         _files.write(out, data, _drawing.KINDS[name].is_text)
 
-    png = _method("png", bytes, """Returns a PNG file, with at most 65,535 pixels a side.
-
-        >>> encode("01234567").png()[:8]
-        b'\\x89PNG\\r\\n\\x1a\\n'
-        """)
-    svg = _method("svg", str, """Returns the text of an SVG file, which has one path.
-
-        >>> encode("01234567").svg().startswith("<?xml")
-        True
-        """)
-    eps = _method("eps", str, """Returns Encapsulated PostScript, with one point per pixel.
-
-        >>> encode("01234567").eps(scale=2).splitlines()[1]
-        '%%BoundingBox: 0 0 58 58'
-        """)
-    pdf = _method("pdf", bytes, """Returns a PDF file of one page, with one point per pixel.
-
-        >>> encode("01234567").pdf(size="30mm")[:8]
-        b'%PDF-1.4'
-        """)
-    pbm = _method("pbm", bytes, """Returns a PBM file: black and white pixels, eight per byte.
-
-        >>> encode("01234567").pbm(scale=1, border=0)[:10]
-        b'P4\\n21 21\\n\\xfe'
-        """)
-    grey = _method("grey", bytes, """Returns pixels row by row, a byte each: 0 if dark, else 255.
-
-        >>> encode("01234567").grey(scale=1, border=0)[:8]
-        b'\\x00\\x00\\x00\\x00\\x00\\x00\\x00\\xff'
-        """)
-    pic = _method("pic", str, """Returns PIC text, for troff.
-
-        >>> encode("01234567").pic().splitlines()[0]
-        'maxpswid=29;maxpsht=29;movewid=0;moveht=1;boxwid=1;boxht=1'
-        """)
+    png = _method("png", bytes, "Returns a PNG file, with at most 65,535 pixels a side.")
+    svg = _method("svg", str, "Returns the text of an SVG file, which has one path.")
+    eps = _method("eps", str, "Returns Encapsulated PostScript, with one point per pixel.")
+    pdf = _method("pdf", bytes, "Returns a PDF file of one page, with one point per pixel.")
+    pbm = _method("pbm", bytes, "Returns a PBM file: black and white pixels, eight per byte.")
+    grey = _method("grey", bytes, "Returns pixels row by row, a byte each: 0 if dark, else 255.")
+    pic = _method("pic", str, "Returns PIC text, for troff.")
 
     def text(self, light: bool = False, quiet_zone: Whole = None, *, border: Whole = None) -> str:
         """Returns half blocks, two modules per character; `light` is for light text on a dark
@@ -215,10 +170,6 @@ class Symbol:
 
         On a terminal they are black on white, whatever its colours are, unless the environment
         variable NO_COLOR is set.
-
-        >>> encode("1", "L", micro=True).terminal(border=0)  # doctest: +ELLIPSIS
-        █▀▀▀▀▀█ █ ▀
-        ...
         """
         out = sys.stdout if out is None else out
         if out is None:
@@ -240,27 +191,15 @@ class Symbol:
         return Image.open(picture)
 
     def svg_inline(self, **look: Any) -> str:
-        """Returns the text of `svg` without the XML declaration, for an HTML page.
-
-        >>> encode("01234567").svg_inline(scale=4, dark="navy")[:4]
-        '<svg'
-        """
+        """Returns the text of `svg` without the XML declaration, for an HTML page."""
         return self.svg(**look).partition("?>")[2]
 
     def svg_data_uri(self, **look: Any) -> str:
-        """Returns the SVG as a data URI, for `src` and `href` in HTML and `url(..)` in CSS.
-
-        >>> encode("01234567").svg_data_uri()[:24]
-        'data:image/svg+xml,%3Csv'
-        """
+        """Returns the SVG as a data URI, for `src` and `href` in HTML and `url(..)` in CSS."""
         return "data:image/svg+xml," + urllib.parse.quote(self.svg_inline(**look), safe="/:=,")
 
     def png_data_uri(self, **look: Any) -> str:
-        """Returns the bytes of `png` as a data URI.
-
-        >>> encode("01234567").png_data_uri(scale=4, dpi=300)[:32]
-        'data:image/png;base64,iVBORw0KGg'
-        """
+        """Returns the bytes of `png` as a data URI."""
         return "data:image/png;base64," + base64.b64encode(self.png(**look)).decode()
 
     @named
@@ -301,11 +240,6 @@ class Symbol:
 
         >>> read(encode("01234567", "H").with_area()).data
         b'01234567'
-        >>> encode("01234567", "H").with_area((0, 0, 21, 21))
-        Traceback (most recent call last):
-            ...
-        goqlanis.AreaTooLarge: the area touches 26 codewords of block 1, of which 8 may be lost: \
-take a smaller area
         """
         area = self.largest_area() if area is None else area
         modules = areas.covered(self.modules, *self._pair(), area)
@@ -335,11 +269,7 @@ take a smaller area
 
     @property
     def most_codewords(self) -> int:
-        """How many wrong codewords of each block this library is promised to correct.
-
-        >>> encode("01234567", "H").most_codewords
-        8
-        """
+        """How many wrong codewords of each block this library is promised to correct."""
         return self._damaged(0, 0, 0, 0, 0)[1].codewords
 
     @named
@@ -376,7 +306,6 @@ take a smaller area
         return out.raw, found
 
     def _pair(self) -> Tuple[int, int]:
-        """Returns the library's numbers of the version and level."""
         return _checks.version(self.version), _checks.level(self.level)
 
     def _drawn(self, name: str, scale: Any, quiet_zone: Any, more: Dict[str, Any]) -> bytes:
