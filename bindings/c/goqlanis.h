@@ -2,13 +2,15 @@
 
    Buffers: every call works in buffers of the caller; there is nothing to free. A pointer points to
    as many items as the length after it says, and may be NULL if that length is 0. Buffers must not
-   overlap. Data may be any bytes. Text is UTF-8, without a zero at its end.
+   overlap. Data may be any bytes. Text is UTF-8, without a zero at its end. Outputs go to the start
+   of their buffers, and how many bytes or items they are to `count` or to what the comment names.
 
    Answers: a call returns GOQ_OK after writing all its outputs, or else what is wrong. The comment
    of each call lists its errors in order ("Errors: .."), and the call returns the first one that
-   applies. Each call may return GOQ_OUT_OF_MEMORY, also instead of those that take memory to find
-   out. After an error all outputs are unchanged, except `place`: calls that have it write there
-   which field, element, square, part or block is wrong.
+   applies. If none does, and the length of an output is less than it needs, that is
+   GOQ_SMALL_BUFFER. Each call may return GOQ_OUT_OF_MEMORY, also instead of those that take memory
+   to find out. After an error all outputs are unchanged, except `place`: calls that have it write
+   there which field, element, square, part or block is wrong.
 
    Threads: the library has no variables of its own. Calls may run in any threads at once, each with
    its own buffers.
@@ -659,53 +661,51 @@ typedef struct {
 /* The most blocks that a symbol has. */
 enum { GOQ_BLOCKS_MAX = 81 };
 
-/* -- Encoding -- */
+/* -- Encoding --
 
-/* Encodes `data` with options: as bytes or as text, in a version or the smallest that holds it. The
-   modules go to the start of `modules`, row by row from the top left corner without a quiet zone,
-   one byte each: 1 if dark, 0 if light. GOQ_MODULES_MAX bytes hold any symbol; bytes after its
-   modules are unchanged. Version, level and width go to `symbol`. Errors: GOQ_NO_SUCH_STRUCT,
-   GOQ_NO_SUCH_LEVEL, GOQ_NO_SUCH_VERSION, GOQ_NO_SUCH_MANNER, GOQ_NOT_TEXT; if `options` names a
-   version, GOQ_NO_MODE and GOQ_LEVEL_NOT_IN_VERSION; GOQ_NO_ROOM (also for more than 1,048,576
-   bytes), GOQ_NO_SUCH_MASK, GOQ_SMALL_BUFFER. */
+   A symbol goes to `modules`, row by row from the top left corner without a quiet zone, one byte a
+   module: 1 if dark, 0 if light. GOQ_MODULES_MAX bytes hold any symbol; bytes after its modules are
+   unchanged. Version, level and width go to `symbol`. */
+
+/* Encodes `data` with options: as bytes or as text, in a version or the smallest that holds it.
+   Errors: GOQ_NO_SUCH_STRUCT, GOQ_NO_SUCH_LEVEL, GOQ_NO_SUCH_VERSION, GOQ_NO_SUCH_MANNER,
+   GOQ_NOT_TEXT; if `options` names a version, GOQ_NO_MODE and GOQ_LEVEL_NOT_IN_VERSION; GOQ_NO_ROOM
+   (also for more than 1,048,576 bytes), GOQ_NO_SUCH_MASK. */
 goq_answer goq_encode_with(const void *data, size_t data_length, const goq_options *options,
     uint8_t *modules, size_t modules_length, goq_symbol *symbol);
 
 /* Encodes UTF-8 text in one of some character sets, in the smallest version that any of them
    allows, and there in the fewest bits. `designators` are those of the sets; without them UTF-8,
    ISO 8859 and Shift JIS are tried. `options` are those of goq_encode_with; `manner` has no effect.
-   `modules` and `symbol` are written as by goq_encode, and the set goes to `designator`. Readers
-   that follow ECI, and assume UTF-8 without it, show exactly the text. Errors: GOQ_NO_SUCH_STRUCT,
-   GOQ_NO_SUCH_LEVEL, GOQ_NO_SUCH_VERSION, GOQ_NO_SUCH_MANNER; GOQ_NO_SUCH_SET with the index of the
-   designator in `place`; GOQ_NOT_TEXT; GOQ_NO_ROOM for more than 1,048,576 bytes; if each set lacks
-   a character, GOQ_NOT_IN_SET with the place of the first one that the first set lacks, counted in
-   characters from 0; if `options` names a version, GOQ_LEVEL_NOT_IN_VERSION and GOQ_NO_MODE (Micro
-   has no ECI); GOQ_NO_ROOM, GOQ_NO_SUCH_MASK, GOQ_SMALL_BUFFER. */
+   The set goes to `designator`. Readers that follow ECI, and assume UTF-8 without it, show exactly
+   the text. Errors: GOQ_NO_SUCH_STRUCT, GOQ_NO_SUCH_LEVEL, GOQ_NO_SUCH_VERSION, GOQ_NO_SUCH_MANNER;
+   GOQ_NO_SUCH_SET with the index of the designator in `place`; GOQ_NOT_TEXT; GOQ_NO_ROOM for more
+   than 1,048,576 bytes; if each set lacks a character, GOQ_NOT_IN_SET with the place of the first
+   one that the first set lacks, counted in characters from 0; if `options` names a version,
+   GOQ_LEVEL_NOT_IN_VERSION and GOQ_NO_MODE (Micro has no ECI); GOQ_NO_ROOM, GOQ_NO_SUCH_MASK. */
 goq_answer goq_encode_charset(const void *text, size_t text_length, const uint32_t *designators,
     size_t designators_length, const goq_options *options, uint8_t *modules, size_t modules_length,
     goq_symbol *symbol, uint32_t *designator, size_t *place);
 
-/* Splits `data` over several symbols (structured append). Their modules go to `modules`, one symbol
-   after the other, each with symbol->width * symbol->width modules; `symbol` describes each of
-   them, and their number goes to `count`. A single symbol has no structured append header. Errors:
-   GOQ_NO_SUCH_STRUCT, GOQ_NO_SUCH_LEVEL, GOQ_NO_SUCH_VERSION (also for Micro, or if the smallest
-   version is above the largest), GOQ_NO_SUCH_MANNER, GOQ_NO_SUCH_NUMBER (a count above
-   GOQ_SEVERAL_MAX), GOQ_NOT_TEXT, GOQ_NO_ROOM, GOQ_SMALL_BUFFER. */
+/* Splits `data` over several symbols (structured append), one after the other in `modules`, each
+   with symbol->width * symbol->width modules; `symbol` describes each of them, and their number
+   goes to `count`. A single symbol has no structured append header. Errors: GOQ_NO_SUCH_STRUCT,
+   GOQ_NO_SUCH_LEVEL, GOQ_NO_SUCH_VERSION (also for Micro, or if the smallest version is above the
+   largest), GOQ_NO_SUCH_MANNER, GOQ_NO_SUCH_NUMBER (a count above GOQ_SEVERAL_MAX), GOQ_NOT_TEXT,
+   GOQ_NO_ROOM. */
 goq_answer goq_encode_several(const void *data, size_t data_length, const goq_several *options,
     uint8_t *modules, size_t modules_length, goq_symbol *symbol, size_t *count);
 
-/* Encodes `segments`, one after the other, in the version `version` at the level `level`; `modules`
-   and `symbol` are written as by goq_encode. Errors: GOQ_NO_SUCH_LEVEL, GOQ_NO_SUCH_VERSION,
-   GOQ_LEVEL_NOT_IN_VERSION; for the first segment with an error GOQ_NO_SUCH_KIND, GOQ_NOT_IN_MODE,
-   GOQ_NO_MODE, GOQ_NO_SUCH_NUMBER (which GOQ_FNC1_SECOND checks before GOQ_NO_MODE), GOQ_NO_ROOM;
-   then GOQ_NO_ROOM if they do not fit together, GOQ_SMALL_BUFFER. */
+/* Encodes `segments`, one after the other, in a version and level. Errors: GOQ_NO_SUCH_LEVEL,
+   GOQ_NO_SUCH_VERSION, GOQ_LEVEL_NOT_IN_VERSION; for the first segment with an error
+   GOQ_NO_SUCH_KIND, GOQ_NOT_IN_MODE, GOQ_NO_MODE, GOQ_NO_SUCH_NUMBER (which GOQ_FNC1_SECOND checks
+   before GOQ_NO_MODE), GOQ_NO_ROOM; then GOQ_NO_ROOM if they do not fit together. */
 goq_answer goq_encode_segments(const goq_segment *segments, size_t segments_length,
     uint32_t version, uint32_t level, uint8_t *modules, size_t modules_length, goq_symbol *symbol);
 
-/* Finds the smallest Normal version that holds `segments` at the level `level`, and writes it to
-   `version`. Errors: GOQ_NO_SUCH_LEVEL; for the first segment with an error GOQ_NO_SUCH_KIND,
-   GOQ_NOT_IN_MODE, GOQ_NO_SUCH_NUMBER, unless no version has room for those before it;
-   GOQ_NO_ROOM. */
+/* Finds the smallest Normal version that holds `segments` at a level, and writes it to `version`.
+   Errors: GOQ_NO_SUCH_LEVEL; for the first segment with an error GOQ_NO_SUCH_KIND, GOQ_NOT_IN_MODE,
+   GOQ_NO_SUCH_NUMBER, unless no version has room for those before it; GOQ_NO_ROOM. */
 goq_answer goq_smallest_version_of_segments(const goq_segment *segments, size_t segments_length,
     uint32_t level, uint32_t *version);
 
@@ -721,19 +721,17 @@ bool goq_is_functional(uint32_t version, uint32_t x, uint32_t y);
 /* -- Drawing -- */
 
 /* Draws `modules` in the format, colours and dots per inch of `drawing`. There are width * width
-   modules, row by row, dark if not zero. The picture goes to the start of `out`, and its length in
-   bytes to `count`; text does not end with a zero. goq_draw_with_length tells how long `out` must
-   be; GOQ_MODULES_MAX * 80 + 400 bytes are enough for any SVG, PIC or EPS in black on white. The
-   scale is 1 to 65,535; a side has at most 177 modules, with the quiet zone 8,191. PNG has 1 to
-   65,535 pixels a side, ESC/POS at most 65,535, and the text formats for terminals and pages (half
-   blocks and GOQ_ASCII) at most 4,096. Errors: GOQ_NO_SUCH_STRUCT, GOQ_NO_SUCH_FORMAT,
-   GOQ_NOT_SQUARE, GOQ_NO_SUCH_SIZE, GOQ_NOT_IN_FORMAT; GOQ_NO_SUCH_SIDE, if patterns or data have
-   colours of their own and no version has so many modules a side; GOQ_SMALL_BUFFER. */
+   modules, row by row, dark if not zero. goq_draw_with_length tells how long `out` must be;
+   GOQ_MODULES_MAX * 80 + 400 bytes are enough for any SVG, PIC or EPS in black on white. The scale
+   is 1 to 65,535; a side has at most 177 modules, with the quiet zone 8,191. PNG has 1 to 65,535
+   pixels a side, ESC/POS at most 65,535, and the text formats for terminals and pages (half blocks
+   and GOQ_ASCII) at most 4,096. Errors: GOQ_NO_SUCH_STRUCT, GOQ_NO_SUCH_FORMAT, GOQ_NOT_SQUARE,
+   GOQ_NO_SUCH_SIZE, GOQ_NOT_IN_FORMAT; GOQ_NO_SUCH_SIDE, if patterns or data have colours of their
+   own and no version has so many modules a side. */
 goq_answer goq_draw_with(const uint8_t *modules, size_t modules_length, uint32_t width,
     const goq_drawing *drawing, void *out, size_t out_length, size_t *count);
 
-/* Writes the length in bytes of the picture of goq_draw_with to `count`. Errors: those of
-   goq_draw_with except GOQ_SMALL_BUFFER. */
+/* Writes the length in bytes of the picture of goq_draw_with to `count`. Errors: the same. */
 goq_answer goq_draw_with_length(const uint8_t *modules, size_t modules_length, uint32_t width,
     const goq_drawing *drawing, size_t *count);
 
@@ -741,9 +739,8 @@ goq_answer goq_draw_with_length(const uint8_t *modules, size_t modules_length, u
    of the modules of `area`, in its own proportions, and is shrunk if it has more pixels both across
    and down. Make these modules light before, with goq_cover: then the symbol decodes whatever the
    logo shows. Eight bytes per pixel of `out`, and 1,000 more, are always enough. Errors: those of
-   goq_draw_with but GOQ_SMALL_BUFFER; GOQ_NOT_IN_FORMAT for another format, GOQ_NO_SUCH_SIZE for
-   more than 8,192 pixels a side, GOQ_NO_SUCH_AREA, GOQ_NOT_PICTURE, GOQ_BROKEN_PICTURE,
-   GOQ_SMALL_BUFFER; GOQ_OUT_OF_MEMORY. */
+   goq_draw_with; GOQ_NOT_IN_FORMAT for another format, GOQ_NO_SUCH_SIZE for more than 8,192 pixels
+   a side, GOQ_NO_SUCH_AREA, GOQ_NOT_PICTURE, GOQ_BROKEN_PICTURE. */
 goq_answer goq_draw_logo(const uint8_t *modules, size_t modules_length, uint32_t width,
     const goq_drawing *drawing, const void *logo, size_t logo_length, const goq_rectangle *area,
     void *out, size_t out_length, size_t *count);
@@ -751,34 +748,32 @@ goq_answer goq_draw_logo(const uint8_t *modules, size_t modules_length, uint32_t
 /* -- Reading -- */
 
 /* Decodes a square of modules: row by row from the top left corner, dark if not zero, without a
-   quiet zone. The bytes go to the start of `bytes` (GOQ_BYTES_MAX are always enough), the rest to
-   `reading`. Damage is corrected: in each copy of the format information up to three wrong bits, in
-   each block half as many wrong codewords as it has for error correction. Symbols with headers
-   (ECI, FNC1, structured append) are not read: see goq_read_text, goq_join and goq_read_picture.
-   Errors: GOQ_NO_SUCH_SIDE, GOQ_NO_FORMAT, GOQ_DAMAGED, GOQ_NOT_SPELLED, GOQ_SMALL_BUFFER. */
+   quiet zone. The bytes go to `bytes` (GOQ_BYTES_MAX are always enough), the rest to `reading`.
+   Damage is corrected: in each copy of the format information up to three wrong bits, in each block
+   half as many wrong codewords as it has for error correction. Symbols with headers (ECI, FNC1,
+   structured append) are not read: see goq_read_text, goq_join and goq_read_picture. Errors:
+   GOQ_NO_SUCH_SIDE, GOQ_NO_FORMAT, GOQ_DAMAGED, GOQ_NOT_SPELLED. */
 goq_answer goq_read(const uint8_t *modules, size_t modules_length, void *bytes,
     size_t bytes_length, goq_reading *reading);
 
 /* Decodes like goq_read, but a square that may be rotated, mirrored or inverted: in the first of
-   the sixteen positions in which it decodes. Errors: GOQ_NOT_READ, GOQ_SMALL_BUFFER. */
+   the sixteen positions in which it decodes. Errors: GOQ_NOT_READ. */
 goq_answer goq_read_any(const uint8_t *modules, size_t modules_length, void *bytes,
     size_t bytes_length, goq_any_reading *reading);
 
 /* Decodes a square of modules, given as to goq_read, into the UTF-8 text that readers show, such as
-   that of goq_encode_text or goq_encode_marked_text. The text goes to the start of `text`, the rest
-   to `reading`. Errors: GOQ_NO_SUCH_SIDE, GOQ_NO_FORMAT, GOQ_DAMAGED, GOQ_NOT_SHOWN,
-   GOQ_SMALL_BUFFER. */
+   that of goq_encode_text or goq_encode_marked_text. What else is known goes to `reading`. Errors:
+   GOQ_NO_SUCH_SIDE, GOQ_NO_FORMAT, GOQ_DAMAGED, GOQ_NOT_SHOWN. */
 goq_answer goq_read_text(const uint8_t *modules, size_t modules_length, void *text,
     size_t text_length, goq_reading *reading);
 
-/* Writes the text that a code shows, in UTF-8, to the start of `text` (three times as many bytes as
-   the data has are always enough), and its length to `count`. `bytes` and `parts` are its data and
-   its headers and segments, as goq_read_picture returns them. Bytes after a GOQ_ECI header, up to
-   the next, are in the character set of its number, and bytes before any in UTF-8. The numbers are
-   GOQ_ISO_8859_1 .. GOQ_UTF_8 and 1 (ISO 8859-1); under 0, 2 (code page 437) and 27 (ASCII) only
-   bytes below 128 are text, and under 170 of these not # $ @ [ \ ] ^ ` { | } ~. Errors:
-   GOQ_NOT_IN_SET if the bytes are no such text, e.g. since a set is not known, or a GOQ_KANJI
-   segment is not under GOQ_SHIFT_JIS; GOQ_SMALL_BUFFER. */
+/* Writes the text that a code shows, in UTF-8, to `text` (three times as many bytes as the data has
+   are always enough). `bytes` and `parts` are its data and its headers and segments, as
+   goq_read_picture returns them. Bytes after a GOQ_ECI header, up to the next, are in the character
+   set of its number, and bytes before any in UTF-8. The numbers are GOQ_ISO_8859_1 .. GOQ_UTF_8 and
+   1 (ISO 8859-1); under 0, 2 (code page 437) and 27 (ASCII) only bytes below 128 are text, and
+   under 170 of these not # $ @ [ \ ] ^ ` { | } ~. Errors: GOQ_NOT_IN_SET if the bytes are no such
+   text, e.g. since a set is not known, or a GOQ_KANJI segment is not under GOQ_SHIFT_JIS. */
 goq_answer goq_text(const void *bytes, size_t bytes_length, const goq_part *parts,
     size_t parts_length, void *text, size_t text_length, size_t *count);
 
@@ -801,22 +796,21 @@ size_t goq_picture_length(const void *file, size_t file_length);
    pictures it reads the first; goq_picture_length says where the next one begins. A picture shows
    one code in an even margin, or several that are found by their finder patterns; these come from
    top to bottom, and from left to right if side by side. `codes` gets one item per code. The
-   headers and segments of all codes go to `parts`, their bytes to `bytes`, code after code, each
-   from the start of the buffer, and the numbers of codes, parts and bytes to `scan`; only
-   scan->size is read. Per code, GOQ_PARTS_MAX parts and GOQ_BYTES_MAX bytes are enough. After FNC1,
-   a separator between elements is byte 29. Of more than 64 codes in a picture some may be missed.
-   Errors: GOQ_NO_SUCH_STRUCT, GOQ_LARGE_PICTURE, GOQ_NOT_PICTURE, GOQ_BROKEN_PICTURE (also for a
-   PNG file of more than 67,108,864 pixels), GOQ_NO_SQUARE; if a square was found but no code
-   decodes, GOQ_NO_SUCH_SIDE, GOQ_NO_FORMAT, GOQ_DAMAGED, GOQ_NOT_SPELLED; GOQ_SMALL_BUFFER. */
+   headers and segments of all codes go to `parts`, their bytes to `bytes`, code after code, and the
+   numbers of codes, parts and bytes to `scan`; only scan->size is read. Per code, GOQ_PARTS_MAX
+   parts and GOQ_BYTES_MAX bytes are enough. After FNC1, a separator between elements is byte 29. Of
+   more than 64 codes in a picture some may be missed. Errors: GOQ_NO_SUCH_STRUCT,
+   GOQ_LARGE_PICTURE, GOQ_NOT_PICTURE, GOQ_BROKEN_PICTURE (also for a PNG file of more than
+   67,108,864 pixels), GOQ_NO_SQUARE; if a square was found but no code decodes, GOQ_NO_SUCH_SIDE,
+   GOQ_NO_FORMAT, GOQ_DAMAGED, GOQ_NOT_SPELLED. */
 goq_answer goq_read_picture(const void *picture, size_t picture_length, goq_code *codes,
     size_t codes_length, goq_part *parts, size_t parts_length, void *bytes, size_t bytes_length,
     goq_scan *scan);
 
 /* Tells which squares in a picture, given as to goq_read_picture, look like codes but do not
-   decode, and have no pixel of a code that does. `missed` gets one item per square, and `count`
-   their number. Errors: GOQ_LARGE_PICTURE, GOQ_NOT_PICTURE, GOQ_BROKEN_PICTURE, GOQ_NO_SQUARE; if
-   no code decodes, GOQ_NO_SUCH_SIDE, GOQ_NO_FORMAT, GOQ_DAMAGED, GOQ_NOT_SPELLED;
-   GOQ_SMALL_BUFFER. */
+   decode, and have no pixel of a code that does. `missed` gets one item per square. Errors:
+   GOQ_LARGE_PICTURE, GOQ_NOT_PICTURE, GOQ_BROKEN_PICTURE, GOQ_NO_SQUARE; if no code decodes,
+   GOQ_NO_SUCH_SIDE, GOQ_NO_FORMAT, GOQ_DAMAGED, GOQ_NOT_SPELLED. */
 goq_answer goq_missed(const void *picture, size_t picture_length, goq_missed_code *missed,
     size_t missed_length, size_t *count);
 
@@ -827,22 +821,21 @@ goq_answer goq_missed(const void *picture, size_t picture_length, goq_missed_cod
    and the picture shows a square in an even margin whose bits are not segments and a terminator,
    that square is checked. Errors: GOQ_NO_SUCH_STRUCT, GOQ_LARGE_PICTURE, GOQ_NOT_PICTURE,
    GOQ_BROKEN_PICTURE, GOQ_NO_SQUARE; if a square was found but no code decodes, GOQ_NO_SUCH_SIDE,
-   GOQ_NO_FORMAT, GOQ_DAMAGED; GOQ_SMALL_BUFFER. */
+   GOQ_NO_FORMAT, GOQ_DAMAGED. */
 goq_answer goq_check(const void *picture, size_t picture_length, goq_checked *checks,
     size_t checks_length, size_t *wrong, size_t wrong_length, goq_checks *counts);
 
 /* Reports where a square of modules, given as to goq_read, departs from the standard. The number of
-   wrong codewords of each block goes to the start of `wrong` (GOQ_BLOCKS_MAX are always enough),
-   the rest to `check`. Errors: GOQ_NO_SUCH_SIDE, GOQ_NO_FORMAT, GOQ_DAMAGED, GOQ_SMALL_BUFFER. */
+   wrong codewords of each block goes to `wrong` (GOQ_BLOCKS_MAX are always enough), the rest to
+   `check`. Errors: GOQ_NO_SUCH_SIDE, GOQ_NO_FORMAT, GOQ_DAMAGED. */
 goq_answer goq_check_square(const uint8_t *modules, size_t modules_length, size_t *wrong,
     size_t wrong_length, goq_checked *check);
 
-/* Joins the data of several symbols (structured append), whose squares may come in any order. The
-   data goes to the start of `out`, and its length to `count`; GOQ_SEVERAL_MAX * GOQ_BYTES_MAX bytes
-   are always enough. Errors: for the first square that is not a part, GOQ_NO_SUCH_SIDE,
-   GOQ_NO_FORMAT, GOQ_DAMAGED, GOQ_NOT_SPELLED, GOQ_NOT_SEVERAL; then GOQ_STRANGER; each with the
-   index of the square in `place`. GOQ_MISSING or GOQ_TWICE, with the number of the part in `place`,
-   counted from 0; GOQ_PARITY, GOQ_SMALL_BUFFER. */
+/* Joins the data of several symbols (structured append), whose squares may come in any order.
+   GOQ_SEVERAL_MAX * GOQ_BYTES_MAX bytes are always enough for the data. Errors: for the first
+   square that is not a part, GOQ_NO_SUCH_SIDE, GOQ_NO_FORMAT, GOQ_DAMAGED, GOQ_NOT_SPELLED,
+   GOQ_NOT_SEVERAL; then GOQ_STRANGER; each with the index of the square in `place`. GOQ_MISSING or
+   GOQ_TWICE, with the number of the part in `place`, counted from 0; GOQ_PARITY. */
 goq_answer goq_join(const goq_square *squares, size_t squares_length, void *out,
     size_t out_length, size_t *count, size_t *place);
 
@@ -850,21 +843,19 @@ goq_answer goq_join(const goq_square *squares, size_t squares_length, void *out,
 
 /* Writes the text of a payload: a Wi-Fi network, a contact, a payment and so on. `kind` is GOQ_WIFI
    .. GOQ_PROMPTPAY, and `fields` are its fields in the order of their names; those that are left
-   out at the end are empty. The text goes to the start of `out`, without a zero at the end, and its
-   length to `count`; encode it with goq_encode_text. Text of more than GOQ_BYTES_MAX bytes fits no
-   symbol. Errors: GOQ_NO_SUCH_CONTENT; for the first field with an error GOQ_NO_SUCH_FIELD,
-   GOQ_NOT_TEXT; if the format rejects a field, GOQ_FIELD_EMPTY .. GOQ_FIELD_UNUSED,
-   GOQ_FIELD_DECIMALS or GOQ_FIELD_WORD; GOQ_SMALL_BUFFER. If a field is wrong, `place` says which;
+   out at the end are empty. Encode the text with goq_encode_text. Text of more than GOQ_BYTES_MAX
+   bytes fits no symbol. Errors: GOQ_NO_SUCH_CONTENT; for the first field with an error
+   GOQ_NO_SUCH_FIELD, GOQ_NOT_TEXT; if the format rejects a field, GOQ_FIELD_EMPTY ..
+   GOQ_FIELD_UNUSED, GOQ_FIELD_DECIMALS or GOQ_FIELD_WORD. If a field is wrong, `place` says which;
    GOQ_PAYMENT_FIELDS means that a payment is too long as a whole. */
 goq_answer goq_content(uint32_t kind, const goq_field *fields, size_t fields_length, void *out,
     size_t out_length, size_t *count, size_t *place);
 
 /* Writes a GS1 element string: the elements one after the other, with a separator (byte 29) between
-   an element without a predefined length and the next. It goes to the start of `out`, and its
-   length to `count`; encode it with goq_encode_segments, as GOQ_BYTES after GOQ_FNC1_FIRST, or use
-   goq_encode_gs1. Errors, with the index of the first wrong element in `place`: GOQ_NOT_TEXT; else
-   GOQ_NO_SUCH_IDENTIFIER, GOQ_ELEMENT_LENGTH, GOQ_FIELD_CHARACTER, GOQ_FIELD_CHECK_DIGITS,
-   GOQ_FIELD_RANGE (a date). Then GOQ_SMALL_BUFFER, GOQ_OUT_OF_MEMORY. */
+   an element without a predefined length and the next. Encode it with goq_encode_segments, as
+   GOQ_BYTES after GOQ_FNC1_FIRST, or use goq_encode_gs1. Errors, with the index of the first wrong
+   element in `place`: GOQ_NOT_TEXT; else GOQ_NO_SUCH_IDENTIFIER, GOQ_ELEMENT_LENGTH,
+   GOQ_FIELD_CHARACTER, GOQ_FIELD_CHECK_DIGITS, GOQ_FIELD_RANGE (a date). */
 goq_answer goq_gs1(const goq_element *elements, size_t elements_length, void *out,
     size_t out_length, size_t *count, size_t *place);
 
@@ -874,7 +865,7 @@ goq_answer goq_gs1(const goq_element *elements, size_t elements_length, void *ou
    GOQ_NO_SUCH_MANNER; with the index of the first wrong element in `place` GOQ_NOT_TEXT, else
    GOQ_NO_SUCH_IDENTIFIER, GOQ_ELEMENT_LENGTH, GOQ_FIELD_CHARACTER, GOQ_FIELD_CHECK_DIGITS,
    GOQ_FIELD_RANGE (a date); GOQ_NO_ROOM (also for Micro, which has no such symbols),
-   GOQ_NO_SUCH_MASK, GOQ_SMALL_BUFFER. */
+   GOQ_NO_SUCH_MASK. */
 goq_answer goq_encode_gs1(const goq_element *elements, size_t elements_length,
     const goq_options *options, uint8_t *modules, size_t modules_length, goq_symbol *symbol,
     size_t *place);
@@ -882,9 +873,9 @@ goq_answer goq_encode_gs1(const goq_element *elements, size_t elements_length,
 /* -- Areas for logos -- */
 
 /* Reports what an area takes of a symbol of this version and level. How many codewords of each
-   block have modules in it goes to the start of `touched` (GOQ_BLOCKS_MAX are always enough), the
-   rest to `taken`. Errors: GOQ_NO_SUCH_LEVEL, GOQ_NO_SUCH_VERSION, GOQ_LEVEL_NOT_IN_VERSION,
-   GOQ_NO_SUCH_AREA (also for more than 31,329 rectangles), GOQ_SMALL_BUFFER. */
+   block have modules in it goes to `touched` (GOQ_BLOCKS_MAX are always enough), the rest to
+   `taken`. Errors: GOQ_NO_SUCH_LEVEL, GOQ_NO_SUCH_VERSION, GOQ_LEVEL_NOT_IN_VERSION,
+   GOQ_NO_SUCH_AREA (also for more than 31,329 rectangles). */
 goq_answer goq_reserve(uint32_t version, uint32_t level, const goq_rectangle *area,
     size_t area_length, size_t *touched, size_t touched_length, goq_taken *taken);
 
@@ -916,8 +907,7 @@ goq_answer goq_damage(uint8_t *modules, size_t modules_length, const goq_wrong *
    These are made of the calls above, here in the header: the library does not export them. */
 
 /* Encodes `data` like goq_encode_with, at the error correction level `level` (GOQ_L .. GOQ_H), in
-   the smallest Normal version that holds it. Errors: GOQ_NO_SUCH_LEVEL, GOQ_NO_ROOM,
-   GOQ_SMALL_BUFFER. */
+   the smallest Normal version that holds it. Errors: GOQ_NO_SUCH_LEVEL, GOQ_NO_ROOM. */
 static inline goq_answer goq_encode(const void *data, size_t data_length, uint32_t level,
     uint8_t *modules, size_t modules_length, goq_symbol *symbol)
 {
@@ -928,7 +918,7 @@ static inline goq_answer goq_encode(const void *data, size_t data_length, uint32
 
 /* Encodes `data` like goq_encode, but in the version `version` (1 to 40, or GOQ_MICRO(1 to 4)).
    Errors: GOQ_NO_SUCH_LEVEL, GOQ_NO_SUCH_VERSION, GOQ_TOO_LONG, GOQ_NO_MODE,
-   GOQ_LEVEL_NOT_IN_VERSION, GOQ_NO_ROOM, GOQ_SMALL_BUFFER. */
+   GOQ_LEVEL_NOT_IN_VERSION, GOQ_NO_ROOM. */
 static inline goq_answer goq_encode_in(const void *data, size_t data_length, uint32_t version,
     uint32_t level, uint8_t *modules, size_t modules_length, goq_symbol *symbol)
 {
@@ -942,7 +932,7 @@ static inline goq_answer goq_encode_in(const void *data, size_t data_length, uin
 
 /* Encodes UTF-8 text like goq_encode, but without Kanji segments: readers that take bytes for UTF-8
    show the text. For readers that guess the character set, goq_encode_marked_text says that it is
-   UTF-8. Errors: GOQ_NO_SUCH_LEVEL, GOQ_NOT_TEXT, GOQ_NO_ROOM, GOQ_SMALL_BUFFER. */
+   UTF-8. Errors: GOQ_NO_SUCH_LEVEL, GOQ_NOT_TEXT, GOQ_NO_ROOM. */
 static inline goq_answer goq_encode_text(const void *text, size_t text_length, uint32_t level,
     uint8_t *modules, size_t modules_length, goq_symbol *symbol)
 {
@@ -963,8 +953,8 @@ static inline goq_answer goq_encode_marked_text(const void *text, size_t text_le
     return goq_encode_with(text, text_length, &options, modules, modules_length, symbol);
 }
 
-/* Finds the smallest Normal version that holds `data` at the level `level`, and writes it to
-   `version`; it encodes `data`. Errors: GOQ_NO_SUCH_LEVEL, GOQ_NO_ROOM. */
+/* Finds the smallest Normal version that holds `data` at a level, and writes it to `version`; it
+   encodes `data`. Errors: GOQ_NO_SUCH_LEVEL, GOQ_NO_ROOM. */
 static inline goq_answer goq_smallest_version(const void *data, size_t data_length,
     uint32_t level, uint32_t *version)
 {
@@ -978,8 +968,7 @@ static inline goq_answer goq_smallest_version(const void *data, size_t data_leng
 
 /* Draws `modules` like goq_draw_with, in black on white, in the format `format` (GOQ_HALF_BLOCKS ..
    GOQ_ASCII). `zone` is the width of the quiet zone in modules (usually 4, for Micro 2), and
-   `scale` the pixels per module. Errors: GOQ_NO_SUCH_FORMAT, GOQ_NOT_SQUARE, GOQ_NO_SUCH_SIZE,
-   GOQ_SMALL_BUFFER. */
+   `scale` the pixels per module. Errors: GOQ_NO_SUCH_FORMAT, GOQ_NOT_SQUARE, GOQ_NO_SUCH_SIZE. */
 static inline goq_answer goq_draw(const uint8_t *modules, size_t modules_length, uint32_t width,
     uint32_t zone, uint32_t scale, uint32_t format, void *out, size_t out_length, size_t *count)
 {
@@ -990,8 +979,7 @@ static inline goq_answer goq_draw(const uint8_t *modules, size_t modules_length,
     return goq_draw_with(modules, modules_length, width, &drawing, out, out_length, count);
 }
 
-/* Writes the length in bytes of the picture of goq_draw to `count`. Errors: GOQ_NO_SUCH_FORMAT,
-   GOQ_NOT_SQUARE, GOQ_NO_SUCH_SIZE. */
+/* Writes the length in bytes of the picture of goq_draw to `count`. Errors: the same. */
 static inline goq_answer goq_draw_length(const uint8_t *modules, size_t modules_length,
     uint32_t width, uint32_t zone, uint32_t scale, uint32_t format, size_t *count)
 {
