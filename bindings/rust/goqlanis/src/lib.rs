@@ -32,10 +32,19 @@ macro_rules! says {
     };
 }
 
-// An error: the answers of the library that it stands for, with their texts. All others mean that
-// memory ran out.
+// What a cause says, if not the text of the library's answer.
+macro_rules! said {
+    ($answer:ident) => { sys::goq_strerror(sys::$answer) };
+    ($answer:ident, $said:literal) => { $said };
+}
+
+// An error: its causes, each with the answers of the library that it stands for. All other answers
+// mean that memory ran out.
 macro_rules! answers {
-    ($(#[$about:meta])* $name:ident: $($(#[$told:meta])* $cause:ident = $answer:ident,)+) => {
+    (
+        $(#[$about:meta])* $name:ident:
+        $($(#[$told:meta])* $cause:ident = $answer:ident $(| $other:ident)* $(: $said:literal)?,)+
+    ) => {
         $(#[$about])*
         #[derive(Clone, Copy, Debug, PartialEq, Eq)]
         pub enum $name {
@@ -49,14 +58,14 @@ macro_rules! answers {
             pub(crate) fn accept(answer: u32) -> Result<(), $name> {
                 match answer {
                     sys::GOQ_OK => Ok(()),
-                    $(sys::$answer => Err($name::$cause),)+
+                    $(sys::$answer $(| sys::$other)* => Err($name::$cause),)+
                     _ => Err($name::OutOfMemory),
                 }
             }
         }
 
         says! { $name:
-            $($name::$cause => "{}", sys::goq_strerror(sys::$answer);)+
+            $($name::$cause => "{}", said!($answer $(, $said)?);)+
             $name::OutOfMemory => "{}", sys::goq_strerror(sys::GOQ_OUT_OF_MEMORY);
         }
     };
@@ -79,51 +88,27 @@ pub use reading::{
     Reading, Unread,
 };
 
-/// Why a symbol cannot be made.
-#[derive(Clone, Copy, Debug, PartialEq, Eq)]
-pub enum QrError {
+answers! {
+    /// Why a symbol cannot be made.
+    QrError:
     /// No symbol of the requested kind holds the data, or there are more than 1,048,576 bytes.
-    DataTooLong,
+    DataTooLong = GOQ_NO_ROOM | GOQ_TOO_LONG:
+        "data too long: take a larger version, a lower level, or several codes",
     /// There is no such version, or it does not have the level or the mask.
-    InvalidVersion,
+    InvalidVersion = GOQ_NO_SUCH_VERSION | GOQ_LEVEL_NOT_IN_VERSION | GOQ_NO_SUCH_MASK:
+        "invalid version: take one that has the level and the mask",
     /// The data needs a mode that the version does not have.
-    UnsupportedCharacterSet,
+    UnsupportedCharacterSet = GOQ_NO_MODE:
+        "unsupported character set: Normal versions, and Micro 3 and 4, hold any bytes",
     /// The number of a character set is above 999,999.
-    InvalidEciDesignator,
+    InvalidEciDesignator = GOQ_NO_SUCH_NUMBER: "invalid ECI designator: take one below 1,000,000",
     /// The mode of a segment lacks one of its bytes, or a text is not UTF-8.
-    InvalidCharacter,
-    /// Memory ran out.
-    OutOfMemory,
-}
-
-says! { QrError:
-    QrError::DataTooLong => "data too long: take a larger version, a lower level, or several codes";
-    QrError::InvalidVersion => "invalid version: take one that has the level and the mask";
-    QrError::UnsupportedCharacterSet =>
-        "unsupported character set: Normal versions, and Micro 3 and 4, hold any bytes";
-    QrError::InvalidEciDesignator => "invalid ECI designator: take one below 1,000,000";
-    QrError::InvalidCharacter =>
-        "invalid character: the mode of a segment lacks it, or a text is not UTF-8";
-    QrError::OutOfMemory => "out of memory";
+    InvalidCharacter = GOQ_NOT_IN_MODE | GOQ_NOT_TEXT:
+        "invalid character: the mode of a segment lacks it, or a text is not UTF-8",
 }
 
 /// The result of making a symbol.
 pub type QrResult<T> = Result<T, QrError>;
-
-// Returns the error that an answer of the library stands for.
-fn accepted(answer: u32) -> QrResult<()> {
-    match answer {
-        sys::GOQ_OK => Ok(()),
-        sys::GOQ_NO_SUCH_VERSION | sys::GOQ_LEVEL_NOT_IN_VERSION | sys::GOQ_NO_SUCH_MASK => {
-            Err(QrError::InvalidVersion)
-        }
-        sys::GOQ_NOT_IN_MODE | sys::GOQ_NOT_TEXT => Err(QrError::InvalidCharacter),
-        sys::GOQ_NO_SUCH_NUMBER => Err(QrError::InvalidEciDesignator),
-        sys::GOQ_NO_MODE => Err(QrError::UnsupportedCharacterSet),
-        sys::GOQ_OUT_OF_MEMORY => Err(QrError::OutOfMemory),
-        _ => Err(QrError::DataTooLong),
-    }
-}
 
 /// A version of QR (`Normal`) or Micro QR (`Micro`).
 #[derive(Clone, Copy, Debug, PartialEq, Eq, Hash)]
@@ -168,7 +153,7 @@ impl Version {
     pub fn least_of_segments(segments: &[Segment<'_>], ec_level: EcLevel) -> QrResult<Self> {
         let given: Vec<_> = segments.iter().map(Segment::given).collect();
         let mut version = 0;
-        accepted(unsafe { sys::goq_smallest_version_of_segments(given.as_ptr(), given.len(), ec_level as u32, &mut version) })?;
+        QrError::accept(unsafe { sys::goq_smallest_version_of_segments(given.as_ptr(), given.len(), ec_level as u32, &mut version) })?;
         Ok(Version::named(version))
     }
 
@@ -515,7 +500,7 @@ impl QrCode {
     fn made(encode: impl FnOnce(&mut [u8], &mut sys::goq_symbol) -> u32) -> QrResult<Self> {
         let mut modules = vec![0; sys::GOQ_MODULES_MAX];
         let mut known = sys::goq_symbol::default();
-        accepted(encode(&mut modules, &mut known))?;
+        QrError::accept(encode(&mut modules, &mut known))?;
         modules.truncate((known.width * known.width) as usize);
         Ok(Self::named(modules, known))
     }

@@ -4,26 +4,18 @@ use crate::logos::Logo;
 use crate::{Color, QrCode};
 use goqlanis_sys as sys;
 
-/// Why a picture cannot be drawn.
-#[derive(Clone, Copy, Debug, PartialEq, Eq)]
-pub enum RenderError {
+answers! {
+    /// Why a picture cannot be drawn.
+    RenderError:
     /// A PNG file would have more than 65,535 pixels per side, rows of pixels or dots more than
     /// 16,384, half blocks or characters more than 4,096, or any picture more than 65,535 modules
     /// per side. With colours of patterns or a logo, a PNG file has at most 8,192.
-    TooLarge,
+    TooLarge = GOQ_NO_SUCH_SIZE: "the picture would be too large: take a smaller module size",
     /// Patterns have colours, and no version has that many modules per side.
-    NoPatterns,
+    NoPatterns = GOQ_NO_SUCH_SIDE: "no version has that many modules: only codes have patterns",
     /// The PNG file of the logo is damaged, interlaced or too large.
-    BrokenLogo,
-    /// Memory ran out.
-    OutOfMemory,
-}
-
-says! { RenderError:
-    RenderError::TooLarge => "the picture would be too large: take a smaller module size";
-    RenderError::NoPatterns => "no version has that many modules: only codes have patterns";
-    RenderError::BrokenLogo => "the logo is damaged, interlaced or too large: save it again";
-    RenderError::OutOfMemory => "out of memory";
+    BrokenLogo = GOQ_NOT_PICTURE | GOQ_BROKEN_PICTURE:
+        "the logo is damaged, interlaced or too large: save it again",
 }
 
 /// A format of pictures: one of the types of this module, or one of yours with its own `Canvas`. A
@@ -310,14 +302,14 @@ impl<'a, P: Pixel> Renderer<'a, P> {
         let mut count = 8 * pixels * pixels + 1000;
         if logo.is_none() {
             // SAFETY: the lengths are those of the buffers.
-            accepted(unsafe { sys::goq_draw_with_length(modules, length, width, &drawing, &mut count) })?;
+            RenderError::accept(unsafe { sys::goq_draw_with_length(modules, length, width, &drawing, &mut count) })?;
         }
         let mut bytes = Vec::new();
         bytes.try_reserve_exact(count).map_err(|_| RenderError::OutOfMemory)?;
         bytes.resize(count, 0);
         let out = bytes.as_mut_ptr();
         // SAFETY: the same.
-        accepted(unsafe {
+        RenderError::accept(unsafe {
             match &logo {
                 None => sys::goq_draw_with(modules, length, width, &drawing, out, count, &mut count),
                 Some((file, area)) => {
@@ -338,16 +330,6 @@ impl<'a, P: Pixel> Renderer<'a, P> {
     // Draws the picture in a text format of the library, black on white.
     fn text(&self, format: u32) -> Result<String, RenderError> {
         Ok(String::from_utf8(self.plain(format)?).expect("the library writes UTF-8"))
-    }
-}
-
-fn accepted(answer: u32) -> Result<(), RenderError> {
-    match answer {
-        sys::GOQ_OK => Ok(()),
-        sys::GOQ_NO_SUCH_SIZE => Err(RenderError::TooLarge),
-        sys::GOQ_NO_SUCH_SIDE => Err(RenderError::NoPatterns),
-        sys::GOQ_NOT_PICTURE | sys::GOQ_BROKEN_PICTURE => Err(RenderError::BrokenLogo),
-        _ => Err(RenderError::OutOfMemory),
     }
 }
 

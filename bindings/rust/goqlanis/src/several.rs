@@ -1,5 +1,5 @@
 //! Splits data over several symbols (structured append), and joins it again.
-use crate::{accepted, Color, EcLevel, QrCode, QrError, QrResult, Unread, Version};
+use crate::{Color, EcLevel, QrCode, QrError, QrResult, Unread, Version};
 use goqlanis_sys as sys;
 
 /// Options for `encode_several`.
@@ -71,7 +71,7 @@ pub fn encode_several<D: AsRef<[u8]>>(data: D, several: &Several) -> QrResult<Ve
     if answer == sys::GOQ_NO_SUCH_NUMBER {
         return Err(QrError::DataTooLong);
     }
-    accepted(answer)?;
+    QrError::accept(answer)?;
     let square = (known.width * known.width) as usize;
     let codes = modules.chunks(square).take(count);
     Ok(codes.map(|modules| QrCode::named(modules.to_vec(), known)).collect())
