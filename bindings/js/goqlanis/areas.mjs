@@ -172,7 +172,6 @@ export function withPicture(svg, { left, top, width, height, data }, zone) {
     return `${svg.slice(0, svg.lastIndexOf("</svg>"))}${picture}</svg>`;
 }
 
-/** Returns bytes in base 64. */
 export function base64(bytes) {
     let text = "";
     for (let at = 0; at < bytes.length; at += 4096)

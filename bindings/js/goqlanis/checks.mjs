@@ -54,14 +54,12 @@ export function whole(name, value, least, most, cause = "") {
     throw cause ? new QrError(cause, said) : new RangeError(said);
 }
 
-/** Returns the value, which must be true or false. */
 export function flag(name, value) {
     if (typeof value !== "boolean")
         throw new TypeError(`${name} is true or false, not ${shown(value)}`);
     return value;
 }
 
-/** Returns a text in UTF-8. */
 export function utf8(name, value) {
     if (typeof value !== "string")
         throw new TypeError(`${name} is a string, not ${shown(value)}`);
@@ -95,7 +93,6 @@ export function data(value) {
     return [bytes, false];
 }
 
-/** Returns the library's number of a level. */
 export function level(value) {
     if (typeof value !== "string")
         throw new TypeError(`level is one of 'L', 'M', 'Q' and 'H', not ${shown(value)}`);

@@ -11,7 +11,6 @@ import { FORMATS } from "./numbers.mjs";
    light. */
 const WITH_LOGO = ["svg", "png", "txt", "light"];
 
-/** A QR or Micro QR code: see index.d.ts. */
 export class QrCode {
     constructor(modules, version, level, logo = null, charset = null) {
         const found = checks.version(version), width = number("goq_width", found);
@@ -40,13 +39,11 @@ export class QrCode {
         return this.version.startsWith("M") ? 2 : 4;
     }
 
-    /** Returns whether the module in column x and row y is dark; false outside the code. */
     isDark(x, y) {
         const inside = (it) => it >= 0 && it < this.width;
         return inside(x) && inside(y) && this.modules[y * this.width + x] !== 0;
     }
 
-    /** Returns the picture in a format, as bytes or, if the format is text, as a string. */
     draw(format, options = {}) {
         const logo = format === "png" && this.logo !== null ? areas.logoOf(this.logo) : null;
         const bytes = drawn(this, format, options, logo);
@@ -63,7 +60,6 @@ export class QrCode {
             : areas.withPicture(svg, this.logo, zoneOf(this, options));
     }
 
-    /** Returns SVG without the XML declaration, for an HTML page. */
     svgInline(options) {
         return this.svg(options).replace(/^<\?.*?\?>/, "");
     }
@@ -78,7 +74,6 @@ export class QrCode {
         return `data:image/png;base64,${areas.base64(this.png(options))}`;
     }
 
-    /** Returns half blocks, two modules per character. */
     toString() {
         return this.draw("txt");
     }

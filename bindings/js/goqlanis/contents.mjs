@@ -6,7 +6,6 @@ import { answer, within } from "./memory.mjs";
 import { BYTES_MAX, CAUSES, HINTS, PAYLOADS, RANGES } from "./numbers.mjs";
 import { grouped, shown } from "./checks.mjs";
 
-/** Returns the text of a payload: its kind, such as "wifi", and its fields by their names. */
 export function payload(kind, fields) {
     if (!Object.keys(PAYLOADS).includes(kind))
         throw new RangeError(
@@ -63,7 +62,6 @@ function wrongField(said, field) {
     return new QrError(name, `${field}: ${why}${helps && `${mark} ${helps}`}`, field);
 }
 
-/** Returns the GS1 element string of pairs: an application identifier, and its value. */
 export function gs1(elements) {
     const pairs = checks.listed("elements", elements, "pairs, as ['01', '09501101530003']");
     if (pairs.length === 0)
@@ -102,7 +100,6 @@ export function elementsOf(buffers, pairs) {
     return [buffers.structs("goq_element", rows), rows.length];
 }
 
-/** Says what is wrong with an element. */
 function wrongElement(said, [identifier, value]) {
     if (said === "NO_SUCH_IDENTIFIER" && identifier.startsWith("("))
         return `: write ${identifier.replace(/[()]/g, "").slice(0, 38)} without brackets`;

@@ -64,7 +64,6 @@ export function drawn(code, format, given, logo = null) {
     });
 }
 
-/** Returns the width of the quiet zone in modules. */
 export function zoneOf(code, { quietZone = null }) {
     return quietZone === null ? code.quietZone
         : checks.whole("quietZone", quietZone, 0, 4000, "NoSuchSize");
@@ -103,7 +102,6 @@ function exactOf(size, across) {
     throw new QrError("NoSuchSize", `size: '${size}': take 0.001mm to 6553.5mm`);
 }
 
-/** Returns the pixels per module. */
 function scaleOf({ scale, size, dpi }, format, across) {
     if (size === null)
         return scale === null ? KINDS[format].scale
@@ -170,7 +168,6 @@ function inkOf(look, format, own) {
         dpi: look.dpi === null ? 0 : checks.whole("dpi", look.dpi, 1, MOST_SIDE) };
 }
 
-/** Returns whether many readers could not tell dark modules from light ones, on white paper. */
 export function areClose(dark, light) {
     return brightness(colour("light", light)) < brightness(colour("dark", dark)) + CONTRAST;
 }

@@ -16,15 +16,13 @@ const IN_MODES = ["numeric holds only digits",
     "alphanumeric holds only digits, capitals, spaces and $%*+-./:", "",
     "kanji holds only Shift JIS, 8140 to 9ffc and e040 to ebbf"];
 
-/* Each kind of request asks the library with `ask(buffers, outputs)`; `version` is 0 for any. */
-
-/** Returns the library's answer to a request, the codes that it made, and the place of what is
-    wrong. */
-function ask(request, most = 1) {
+/** Returns the library's answer to a request by a call, the codes that it made, and the place of
+    what is wrong. */
+function ask(call, request, most = 1) {
     return within((buffers) => {
         const modules = buffers.room(most * MODULES_MAX), symbol = buffers.many("goq_symbol", 1);
         const count = buffers.room(8), chosen = buffers.structs("goq_symbol", [{}]);
-        const said = request.ask(buffers, [modules, most * MODULES_MAX, symbol], count, chosen);
+        const said = call(buffers, request, [modules, most * MODULES_MAX, symbol], count, chosen);
         if (said !== "OK")
             return [said, [], buffers.sizes(count)[0]];
         const charset = request.sets === undefined ? null
@@ -37,30 +35,24 @@ function ask(request, most = 1) {
     });
 }
 
-const askData = (it) => ({ ...it, ask: (buffers, out) => {
-    const { level, manner, version, min_version, boost, mask } = it;
-    const options = buffers.initial("goq_options",
-        { level, manner, version, min_version, boost, mask });
-    return answer("goq_encode_with", buffers.bytes(it.data), it.data.length, options, ...out);
-} });
+/* The calls of each kind of request, which has the fields of the library's options and what is
+   encoded; its `version` is 0 for any. */
 
-const askText = (it) => ({ ...it, ask: (buffers, out, place, chosen) => {
-    const { level, version, min_version, boost, mask, sets } = it;
-    const options = buffers.initial("goq_options", { level, version, min_version, boost, mask });
-    const numbers = buffers.bytes(new Uint8Array(Uint32Array.from(sets).buffer));
-    return answer("goq_encode_charset", buffers.bytes(it.data), it.data.length, numbers,
-        sets.length, options, ...out, chosen, place);
-} });
+const dataOf = (buffers, { data }) => [buffers.bytes(data), data.length];
 
-const askParts = (it) => ({ ...it, ask: (buffers, out, count) => {
-    const { level, manner, min_version, max_version, wanted } = it;
-    const options = buffers.initial("goq_several",
-        { level, manner, min_version, max_version, count: wanted });
-    return answer("goq_encode_several", buffers.bytes(it.data), it.data.length, options, ...out,
-        count);
-} });
+const askData = (buffers, it, out) =>
+    answer("goq_encode_with", ...dataOf(buffers, it), buffers.initial("goq_options", it), ...out);
 
-const askSegments = (it) => ({ ...it, ask: (buffers, out) => {
+const askText = (buffers, it, out, place, chosen) => {
+    const numbers = buffers.bytes(new Uint8Array(Uint32Array.from(it.sets).buffer));
+    return answer("goq_encode_charset", ...dataOf(buffers, it), numbers, it.sets.length,
+        buffers.initial("goq_options", it), ...out, chosen, place);
+};
+
+const askParts = (buffers, it, out, count) => answer("goq_encode_several", ...dataOf(buffers, it),
+    buffers.initial("goq_several", it), ...out, count);
+
+const askSegments = (buffers, it, out) => {
     const rows = it.rows.map(({ kind, number, data }) =>
         ({ kind, number, bytes: buffers.bytes(data), length: data.length }));
     const given = [buffers.structs("goq_segment", rows), rows.length];
@@ -69,23 +61,19 @@ const askSegments = (it) => ({ ...it, ask: (buffers, out) => {
         : answer("goq_smallest_version_of_segments", ...given, it.level, least);
     return said !== "OK" ? said : answer("goq_encode_segments", ...given,
         buffers.struct("goq_symbol", least).version, it.level, ...out);
-} });
+};
 
-const askElements = (it) => ({ ...it, ask: (buffers, out, place) => {
-    const { level, version, min_version, mask } = it;
-    const options = buffers.initial("goq_options", { level, version, min_version, mask });
-    return answer("goq_encode_gs1", ...elementsOf(buffers, it.elements), options, ...out, place);
-} });
+const askElements = (buffers, it, out, place) => answer("goq_encode_gs1",
+    ...elementsOf(buffers, it.elements), buffers.initial("goq_options", it), ...out, place);
 
 /** Makes the code of a request; an error calls its data `said`. */
-function one(make, request, said) {
-    const [found, codes] = ask(make(request));
+function one(call, request, said) {
+    const [found, codes] = ask(call, request);
     if (found !== "OK")
-        throw refused(make, request, found, said);
+        throw refused(call, request, found, said);
     return codes[0];
 }
 
-/** Encodes a string or bytes. */
 export function encode(value, given = {}) {
     const it = checks.options("encode", given, { level: "M", version: null, minVersion: null,
         micro: false, boost: false, mask: null, marked: false, eci: null, charset: null });
@@ -137,7 +125,6 @@ function versionsOf({ version, minVersion, micro = false }) {
 
 const maskOf = (mask) => (mask === null ? 0 : 1 + checks.whole("mask", mask, 0, 7, "NoSuchMask"));
 
-/** Splits a string or bytes over up to 16 codes (structured append). */
 export function encodeSequence(value, given = {}) {
     const it = checks.options("encodeSequence", given,
         { level: "M", version: null, count: null, minVersion: null, maxVersion: null });
@@ -148,14 +135,13 @@ export function encodeSequence(value, given = {}) {
         .map((each) => checks.version(it.version ?? each));
     const request = { data, level: checks.level(it.level), manner: isText ? AS_TEXT : AS_BYTES,
         min_version, max_version,
-        wanted: it.count === null ? 0 : checks.whole("count", it.count, 1, SEVERAL_MAX) };
-    const [found, codes] = ask(askParts(request), SEVERAL_MAX);
+        count: it.count === null ? 0 : checks.whole("count", it.count, 1, SEVERAL_MAX) };
+    const [found, codes] = ask(askParts, request, SEVERAL_MAX);
     if (found !== "OK")
         throw refusedParts(request, found);
     return codes;
 }
 
-/** Encodes segments, such as ["numeric", "123"], ["byte", bytes] or ["eci", 26]. */
 export function encodeSegments(segments, given = {}) {
     const it = checks.options("encodeSegments", given, { level: "M", version: null });
     const rows = checks.listed("segments", segments, "pairs, as ['byte', bytes]")
@@ -186,7 +172,6 @@ function segmentOf(name, given) {
     return { kind, data, number: 0 };
 }
 
-/** Encodes GS1 elements, pairs of an application identifier and a value. */
 export function encodeGs1(elements, given = {}) {
     const it = checks.options("encodeGs1", given,
         { level: "M", version: null, minVersion: null, mask: null });
@@ -197,33 +182,33 @@ export function encodeGs1(elements, given = {}) {
 }
 
 /** Returns the error for a code that cannot be made: what is wrong, and what would help. */
-function refused(make, it, found, said) {
-    const isData = make === askData || make === askText;
+function refused(call, it, found, said) {
+    const isData = call === askData || call === askText;
     if (["LEVEL_NOT_IN_VERSION", "NO_MODE", "NO_ROOM"].includes(found) && isData && it.version
             && it.data.length > MOST_DATA)
         return refusal("TOO_LONG");
     const texts = {
         LEVEL_NOT_IN_VERSION: () => `version ${versionName(it.version)} has no level `
             + `${LEVELS[it.level]}; it has ${{ 41: "only L", 44: "L, M and Q" }[it.version] ?? "L and M"}`,
-        NO_MODE: () => noMode(make, it),
+        NO_MODE: () => noMode(call, it),
         NOT_IN_MODE: () => notInMode(it),
-        NO_SUCH_MASK: () => `version ${ask(make({ ...it, mask: 0 }))[1][0]?.version
+        NO_SUCH_MASK: () => `version ${ask(call, { ...it, mask: 0 })[1][0]?.version
             ?? versionName(it.version)} has no mask ${it.mask - 1}: take one of 0 to 3`,
-        NO_ROOM: () => noRoom(make, it, said),
+        NO_ROOM: () => noRoom(call, it, said),
         NOT_IN_SET: () => notInSet(it),
     };
     return refusal(found, texts[found]?.());
 }
 
-function noMode(make, it) {
+function noMode(call, it) {
     const name = versionName(it.version);
-    if (make === askSegments)
+    if (call === askSegments)
         return it.rows.some((row) => row.kind > KANJI)
             ? `version ${name} has no headers, like all of Micro QR; take 1 to 40`
             : `version ${name} lacks a mode of the segments; M3, M4 and 1 to 40 have all`;
-    if (make === askText || it.manner === AS_MARKED_TEXT)
+    if (call === askText || it.manner === AS_MARKED_TEXT)
         return `version ${name} cannot say which character set it holds; leave out `
-            + `${make === askText ? "charset" : "marked and eci"}, or take 1 to 40`;
+            + `${call === askText ? "charset" : "marked and eci"}, or take 1 to 40`;
     const modes = name === "M1" ? "digits" : "digits, capitals, spaces and $%*+-./:";
     return `version ${name} holds only ${modes}; M3, M4 and 1 to 40 hold any bytes`;
 }
@@ -231,20 +216,20 @@ function noMode(make, it) {
 /** Names the first segment that is rejected on its own. */
 function notInMode(it) {
     const at = it.rows.findIndex((row) =>
-        ask(askSegments({ ...it, rows: [row], version: 0 }))[0] === "NOT_IN_MODE");
+        ask(askSegments, { ...it, rows: [row], version: 0 })[0] === "NOT_IN_MODE");
     return at < 0 ? "" : `segment ${at + 1}: ${IN_MODES[it.rows[at].kind]}`;
 }
 
 /** Names the first character that the set lacks. */
 function notInSet(it) {
-    const place = ask(askText(it))[2], character = [...checks.textOf(it.data)][place];
+    const place = ask(askText, it)[2], character = [...checks.textOf(it.data)][place];
     const code = character.codePointAt(0).toString(16).toUpperCase().padStart(4, "0");
     return `character ${grouped(place + 1)}, '${character}' (U+${code}), is not in `
         + `${charsetName(it.sets[0])}; charset: 'shortest' finds a set that has all`;
 }
 
-function noRoom(make, it, said) {
-    const isData = make === askData, level = LEVELS[it.level], name = versionName(it.version);
+function noRoom(call, it, said) {
+    const isData = call === askData, level = LEVELS[it.level], name = versionName(it.version);
     let text = it.version ? `version ${name} at level ${level} does not hold ${said}`
         : `no version holds ${said} at level ${level}`;
     if (isData) {
@@ -252,21 +237,21 @@ function noRoom(make, it, said) {
         text = `${said} at ${it.version ? `version ${name} and ` : ""}level ${level}: `
             + (most ? `at most ${grouped(most)} fit, more of digits or capitals` : "too many");
     }
-    const helps = helpsOf(make, it);
+    const helps = helpsOf(call, it);
     if (helps.length > 0)
         return `${text}; ${helps.join(" or ")} holds them`;
-    const several = { ...it, level: 0, min_version: 1, max_version: 40, wanted: 0 };
+    const several = { ...it, level: 0, min_version: 1, max_version: 40, count: 0 };
     const areHeld = isData && it.manner !== AS_MARKED_TEXT
-        && ask(askParts(several), SEVERAL_MAX)[0] === "OK";
+        && ask(askParts, several, SEVERAL_MAX)[0] === "OK";
     return `${text}; no level holds them`
         + (areHeld ? ": encodeSequence splits them over several codes" : "");
 }
 
 /** Names the smallest version, and the highest level, that would hold the data. */
-function helpsOf(make, it) {
-    const holds = (request) => ask(make(request))[1][0];
+function helpsOf(call, it) {
+    const holds = (request) => ask(call, request)[1][0];
     const any = it.version && holds({ ...it, version: 0, boost: 0, mask: 0,
-        min_version: make !== askElements && it.version >= MICRO_1 ? MICRO_1 : 1 });
+        min_version: call !== askElements && it.version >= MICRO_1 ? MICRO_1 : 1 });
     const below = [2, 1, 0].find((level) => level < it.level && holds({ ...it, level }));
     return [...(any ? [`version ${any.version}`] : []),
         ...(below === undefined ? [] : [`level ${LEVELS[below]}`])];
@@ -278,7 +263,7 @@ function mostBytes(it) {
     let [most, beyond] = [0, 2954];
     while (beyond - most > 1) {
         const middle = (most + beyond) >> 1;
-        const isHeld = ask(askData({ ...at, data: new Uint8Array(middle) }))[0] === "OK";
+        const isHeld = ask(askData, { ...at, data: new Uint8Array(middle) })[0] === "OK";
         [most, beyond] = isHeld ? [middle, beyond] : [most, middle];
     }
     return most;
@@ -287,15 +272,13 @@ function mostBytes(it) {
 function refusedParts(it, found) {
     const last = versionName(it.max_version);
     if (found === "NO_ROOM")
-        return refusal(found, `${grouped(it.data.length)} bytes: ${it.wanted || 16} codes up to `
+        return refusal(found, `${grouped(it.data.length)} bytes: ${it.count || 16} codes up to `
             + `version ${last} at level ${LEVELS[it.level]} do not hold them; take a larger version or `
-            + `a lower level${it.wanted % 16 ? ", or more codes" : ""}`);
+            + `a lower level${it.count % 16 ? ", or more codes" : ""}`);
     return refusal(found, found !== "NO_SUCH_VERSION" ? "" : `versions ${versionName(it.min_version)} `
         + `to ${last}: several codes have versions 1 to 40, the smallest first`);
 }
 
-/** Returns whether the module in column x and row y of a version belongs to a pattern or to the
-    format or version information. */
 export function isFunctional(version, x, y) {
     const known = checks.version(version);
     const isPlace = [["x", x], ["y", y]].map(([name, it]) =>

@@ -2,8 +2,6 @@
 
 import { CAUSES } from "./numbers.mjs";
 
-/** The error of a call: `name` is its cause, such as "NoRoom", and the message says what would
-    help. If a field of a payload is wrong, `field` names it. */
 export class QrError extends Error {
     constructor(name, message, field) {
         super(message);

@@ -146,19 +146,6 @@ export class QrCode {
     readonly quietZone: number;
     isDark(x: number, y: number): boolean;
     draw(format: Format, options?: DrawOptions): string | Uint8Array;
-    png(options?: DrawOptions): Uint8Array;
-    svg(options?: DrawOptions): string;
-    eps(options?: DrawOptions): string;
-    pic(options?: DrawOptions): string;
-    pbm(options?: DrawOptions): Uint8Array;
-    pgm(options?: DrawOptions): Uint8Array;
-    pdf(options?: DrawOptions): Uint8Array;
-    zpl(options?: DrawOptions): string;
-    tspl(options?: DrawOptions): Uint8Array;
-    escpos(options?: DrawOptions): Uint8Array;
-    xbm(options?: DrawOptions): string;
-    ppm(options?: DrawOptions): Uint8Array;
-    grey(options?: DrawOptions): Uint8Array;
     /** SVG without the XML declaration, for an HTML page. */
     svgInline(options?: DrawOptions): string;
     svgDataUri(options?: DrawOptions): string;
@@ -182,6 +169,11 @@ export class QrCode {
     withLogo(logo: Data,
         options?: AreaOptions & { area?: Rectangle | null; margin?: number }): QrCode;
 }
+
+type Draws<Formats extends string, Made> = { [format in Formats]: (options?: DrawOptions) => Made };
+/** A method for each format but half blocks, which `draw` and `toString` draw. */
+export interface QrCode extends Draws<"svg" | "eps" | "pic" | "zpl" | "xbm", string>, Draws<"png" |
+    "pbm" | "pgm" | "pdf" | "tspl" | "escpos" | "ppm" | "grey", Uint8Array> {}
 
 /** A field of a payload, as people write it. Milliseconds of a Date are left out, and warned of. */
 export type Field = string | number | bigint | boolean | Date | null;

@@ -1,4 +1,4 @@
-/* QR and Micro QR codes, by a library that is proved correct: see index.d.ts. */
+/* QR and Micro QR codes, by a library that is proved correct: index.d.ts explains all calls. */
 
 export { QrCode } from "./code.mjs";
 export { bill, event, geo, gs1, mail, mecard, otp, payload, payment, pix, promptpay, sms, tel, upi,

@@ -10,7 +10,6 @@ const SIZES = { "": 4, size: 8, data: 8 };
 let compiled = null; /* the WebAssembly.Module */
 let live = null; /* the exports of its instance */
 
-/** Loads goqlanis.wasm: see index.d.ts. */
 export async function load(source) {
     if (live === null || source !== undefined)
         begin(await moduleOf(await source ?? new URL("goqlanis.wasm", import.meta.url)));
@@ -43,7 +42,6 @@ function begin(module) {
     [compiled, live] = [module, made];
 }
 
-/** Returns the bytes that the module's memory has, 0 before `load`. */
 export function memoryBytes() {
     return live?.memory.buffer.byteLength ?? 0;
 }
@@ -132,7 +130,6 @@ class Buffers {
         return this.room(laidOut(name).size * count);
     }
 
-    /** Returns a copy of `length` bytes. */
     copy(place, length) {
         return new Uint8Array(this.#of.memory.buffer, place, length).slice();
     }

@@ -17,7 +17,6 @@ const JOINS = { NOT_SEVERAL: "square # has no structured append header",
     TWICE: "part # is there twice",
     PARITY: "the codes do not belong together: the parity of their data is wrong" };
 
-/** Returns the codes in a picture, or in all pictures of a file. */
 export function read(picture) {
     return withCodes(picture, (buffers, file, most) => {
         const codes = buffers.many("goq_code", most);
@@ -39,7 +38,6 @@ export function read(picture) {
     });
 }
 
-/** Returns the squares in a picture that look like codes but do not decode. */
 export function missed(picture) {
     return withCodes(picture, (buffers, file, most) => {
         const squares = buffers.many("goq_missed_code", most), count = buffers.room(8);
@@ -176,22 +174,18 @@ function square(given, call, struct) {
     });
 }
 
-/** Returns the data of an upright square of modules, or of a code. */
 export function readSquare(given) {
     return square(given, "goq_read", "goq_reading");
 }
 
-/** Returns the data of a square that may be turned, mirrored or inverted. */
 export function readAny(given) {
     return square(given, "goq_read_any", "goq_any_reading");
 }
 
-/** Returns the text that readers show for a square. */
 export function readText(given) {
     return checks.textOf(square(given, "goq_read_text", "goq_reading").data);
 }
 
-/** Joins the data of codes that `encodeSequence` made, or of their squares, in any order. */
 export function join(squares) {
     const given = checks.listed("squares", squares, "codes or squares").map(modulesOf);
     return within((buffers) => {
@@ -208,7 +202,6 @@ export function join(squares) {
     });
 }
 
-/** Returns what departs from the standard in each code of a picture. */
 export function check(picture) {
     return withCodes(picture, (buffers, file, most) => {
         const found = buffers.many("goq_checked", most);
@@ -225,7 +218,6 @@ export function check(picture) {
     });
 }
 
-/** Returns what departs from the standard in a square of modules, or in a code. */
 export function checkSquare(given) {
     const modules = modulesOf(given);
     return within((buffers) => {
@@ -237,7 +229,6 @@ export function checkSquare(given) {
     });
 }
 
-/** What departs from the standard in a code: see index.d.ts. */
 export class Check {
     constructor(known, wrong) {
         const { data } = known, rank = ({ lower, equal }) => ({ lower, sameBefore: equal });
@@ -253,7 +244,6 @@ export class Check {
             isStandard: known.standard === 1 });
     }
 
-    /** Returns the text of `goqlanis check`. */
     toString() {
         const modules = Object.entries(this.wrongModules);
         const bits = this.bits === null
