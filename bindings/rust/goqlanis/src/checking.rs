@@ -183,15 +183,11 @@ impl fmt::Display for Check {
 
 impl fmt::Display for DataCheck {
     fn fmt(&self, out: &mut fmt::Formatter<'_>) -> fmt::Result {
+        let more = self.bits.map_or(0, |(bits, fewest)| bits.saturating_sub(fewest));
         match self.bits {
-            Some((bits, fewest)) => {
-                let more = bits.saturating_sub(fewest);
-                writeln!(out, "data: {bits} bits, {more} more than needed")?;
-            }
-            None => {
-                let with = "data: with headers such as FNC1";
-                writeln!(out, "{with}, not compared with the fewest bits")?;
-            }
+            Some((bits, _)) => writeln!(out, "data: {bits} bits, {more} more than needed")?,
+            None => out.write_str("data: with headers such as FNC1, not compared with the fewest \
+                bits\n")?,
         }
         let (terminator, padding) = (self.wrong_terminator, self.wrong_padding);
         writeln!(out, "wrong bits after the data: terminator {terminator}, padding {padding}")?;
