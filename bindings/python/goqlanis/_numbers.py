@@ -1,5 +1,8 @@
 """The numbers, structs and calls of bindings/c/goqlanis.h, and the formats; written by
-bindings/same. A field is a number (uint32_t) unless it has another type."""
+bindings/same. A field is a number (uint32_t) unless it has another type. FORMATS has, by
+file extension, the number, whether it is text, the default pixels of a module, and
+whether it has colours; SIDES the maximum pixels per side, by these numbers, if there is a
+limit."""
 VERSION = 10000
 (OK, NO_SUCH_LEVEL, NO_SUCH_VERSION, LEVEL_NOT_IN_VERSION, TOO_LONG, NO_MODE, NO_ROOM, SMALL_BUFFER,
     OUT_OF_MEMORY, NO_SUCH_FORMAT, NOT_SQUARE, NO_SUCH_SIZE, NOT_TEXT, NO_SUCH_KIND, NOT_IN_MODE,
@@ -31,8 +34,7 @@ DATA_MAX = 1048576
     INVERTED) = range(0, 9)
 PARTS_MAX = 5912
 BLOCKS_MAX = 81
-STRUCTS = {
-    "goq_options": "size level manner version min_version boost mask",
+STRUCTS = {"goq_options": "size level manner version min_version boost mask",
     "goq_several": "size level manner min_version max_version count",
     "goq_drawing": "size format zone scale dark light dpi finder_dark finder_light alignment_dark alignment_light timing_dark timing_light format_dark format_light version_dark version_light data_dark data_light",
     "goq_symbol": "version level width", "goq_segment": "kind number bytes:data length:size",
@@ -53,10 +55,8 @@ STRUCTS = {
     "goq_taken": "blocks:size allowed:size worst:size first:size last:size least:size may_show_anything",
     "goq_wish": "size across down reserve keep_alignment",
     "goq_wrong": "size codewords:size format_bits:size version_bits:size pattern_modules:size seed:size",
-    "goq_promised": "codewords:size is_promised",
-}
-CALLS = {
-    "goq_version": "", "goq_encode_with": "data size goq_options data size goq_symbol",
+    "goq_promised": "codewords:size is_promised"}
+CALLS = {"goq_version": "", "goq_encode_with": "data size goq_options data size goq_symbol",
     "goq_encode_charset": "data size numbers size goq_options data size goq_symbol numbers sizes",
     "goq_encode_several": "data size goq_several data size goq_symbol sizes",
     "goq_encode_segments": "goq_segment size number number data size goq_symbol",
@@ -82,10 +82,8 @@ CALLS = {
     "goq_reserve": "number number goq_rectangle size sizes size goq_taken",
     "goq_largest_area": "number number goq_wish goq_rectangle",
     "goq_cover": "data size goq_rectangle size sizes",
-    "goq_damage": "data size goq_wrong goq_promised",
-}
-PAYLOADS = {
-    "wifi": "ssid password security hidden",
+    "goq_damage": "data size goq_wrong goq_promised"}
+PAYLOADS = {"wifi": "ssid password security hidden",
     "mecard": "family given phone email url birthday note street city region code country",
     "vcard": "name family given organisation phone email url street city region code country note title birthday mobile work_phone home_phone nickname fax",
     "payment": "name iban amount bic purpose reference message information",
@@ -94,22 +92,16 @@ PAYLOADS = {
     "sms": "number body", "otp": "account secret issuer algorithm digits period counter",
     "event": "begin end summary location description uid stamp",
     "upi": "payee name amount note reference category",
-    "pix": "payee name city amount reference description", "promptpay": "payee amount",
-}
+    "pix": "payee name city amount reference description", "promptpay": "payee amount"}
 CHARSETS = {"iso-8859-1": 3, "iso-8859-2": 4, "iso-8859-3": 5, "iso-8859-4": 6, "iso-8859-5": 7,
     "iso-8859-6": 8, "iso-8859-7": 9, "iso-8859-8": 10, "iso-8859-9": 11, "iso-8859-10": 12,
     "iso-8859-11": 13, "iso-8859-13": 15, "iso-8859-14": 16, "iso-8859-15": 17, "iso-8859-16": 18,
     "shift-jis": 20, "windows-1250": 21, "windows-1251": 22, "windows-1252": 23, "windows-1256": 24,
     "utf-8": 26}
-# By file extension: the number, whether it is text, the default pixels of a module,
-# and whether it has colours.
-FORMATS = {
-    "txt": (0, True, 1, False), "png": (5, False, 8, True), "svg": (8, True, 8, True),
+FORMATS = {"txt": (0, True, 1, False), "png": (5, False, 8, True), "svg": (8, True, 8, True),
     "eps": (6, True, 8, True), "pic": (3, True, 1, False), "pbm": (7, False, 8, False),
     "pgm": (9, False, 8, False), "pdf": (10, False, 8, True), "zpl": (11, True, 8, False),
     "tspl": (12, False, 8, False), "escpos": (13, False, 8, False), "xbm": (14, True, 8, False),
-    "ppm": (15, False, 8, True),
-}
-# The maximum pixels per side, by these numbers, if there is a limit.
+    "ppm": (15, False, 8, True)}
 SIDES = {0: 4096, 1: 4096, 4: 16384, 5: 65535, 7: 16384, 9: 16384, 12: 16384, 13: 16384, 14: 16384,
     15: 16384, 16: 4096}
