@@ -16,6 +16,15 @@ const SPOKEN = [[/; no level holds them.*$/, ""], [/ marked and eci/, ' "Mark te
 const MODES = { phone: "tel", number: "tel", mobile: "tel", workPhone: "tel", homePhone: "tel",
     email: "email", address: "email", url: "url", link: "url", amount: "decimal" };
 
+export const at = (id) => document.getElementById(id);
+
+/** Returns a new element with these properties, and others or texts inside. */
+export function made(name, more, ...inside) {
+    const element = Object.assign(document.createElement(name), more);
+    element.append(...inside);
+    return element;
+}
+
 /* The minutes by which time zones differ from UTC. */
 const OFFSETS = [...Array.from({ length: 27 }, (_, at) => 60 * at - 720), -570, -210, 210, 270, 330,
     345, 390, 525, 570, 630, 765].sort((one, other) => one - other);
@@ -118,30 +127,18 @@ export function saidOf({ name, field, message }) {
 
 /** Returns the element of a field, with its label, hint and place for an error. */
 export function fieldOf(name, given, type) {
-    const hint = OWN[name] ?? given;
-    const box = document.createElement("div");
-    const label = document.createElement("label");
-    const below = document.createElement("p");
-    const wrong = document.createElement("p");
-    const input = inputOf(name, hint, type);
-    input.id = `field-${name}`;
-    input.name = name;
-    [label.htmlFor, below.id, wrong.id] = [input.id, `hint-${name}`, `error-${name}`];
-    input.setAttribute("aria-describedby", `${below.id} ${wrong.id}`);
-    [below.className, wrong.className, label.textContent] = ["hint", "error", words(name)];
-    const chosen = input.localName === "select";
-    below.textContent = input.type === "checkbox" ? hint.replace(/^"true" /, "")
-        : chosen ? hint.replace(/^.*?; empty/, "default")
+    const hint = OWN[name] ?? given, input = inputOf(name, hint, type);
+    const isBox = input.type === "checkbox";
+    Object.assign(input, { id: `field-${name}`, name });
+    input.setAttribute("aria-describedby", `hint-${name} error-${name}`);
+    const below = isBox ? hint.replace(/^"true" /, "")
+        : input.localName === "select" ? hint.replace(/^.*?; empty/, "default")
             : hint === words(name).toLowerCase() ? "" : hint;
-    box.className = input.type === "checkbox" ? "" : "field";
-    if (input.type === "checkbox") {
-        label.className = "box";
-        label.prepend(input);
-        box.append(label, below, wrong);
-    } else {
-        box.append(label, input, below, wrong);
-    }
-    return box;
+    const label = made("label", { htmlFor: input.id, className: isBox ? "box" : "" },
+        ...(isBox ? [input] : []), words(name));
+    return made("div", { className: isBox ? "" : "field" }, label, ...(isBox ? [] : [input]),
+        made("p", { id: `hint-${name}`, className: "hint" }, below),
+        made("p", { id: `error-${name}`, className: "error" }));
 }
 
 function inputOf(name, hint, type) {
@@ -151,19 +148,12 @@ function inputOf(name, hint, type) {
         : /^("[^"]+"(?:,| or) )+"[^"]+"; empty/.test(hint)
         ? [["", "default"], ...hint.split(";")[0].match(/"[^"]+"/g)
             .map((it) => [it.slice(1, -1), it.slice(1, -1)])] : [];
-    if (choices.length > 0) {
-        const select = document.createElement("select");
-        select.append(...choices.map(([value, text]) => new Option(text, value)));
-        return select;
-    }
-    const input = document.createElement(LONG.includes(name) ? "textarea" : "input");
-    if (LONG.includes(name))
-        input.rows = name === "text" ? 5 : 3;
-    else
-        input.type = hint.startsWith('"true" if') ? "checkbox"
-            : type ?? (name === "birthday" ? "date" : "text");
-    input.spellcheck = false;
-    if (MODES[name])
-        input.inputMode = MODES[name];
-    return input;
+    if (choices.length > 0)
+        return made("select", {}, ...choices.map(([value, text]) => new Option(text, value)));
+    const isLong = LONG.includes(name);
+    const how = isLong ? { rows: name === "text" ? 5 : 3 }
+        : { type: hint.startsWith('"true" if') ? "checkbox"
+            : type ?? (name === "birthday" ? "date" : "text") };
+    return made(isLong ? "textarea" : "input",
+        { ...how, spellcheck: false, ...(MODES[name] && { inputMode: MODES[name] }) });
 }

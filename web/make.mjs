@@ -1,9 +1,8 @@
 /* Makes codes: shows the code of what is typed, and saves it. */
 
 import { QrCode, QrError, areClose } from "./goqlanis/index.mjs";
-import { FORMS, fieldOf, saidOf } from "./forms.mjs";
+import { FORMS, at, fieldOf, made, saidOf } from "./forms.mjs";
 
-const at = (id) => document.getElementById(id);
 const TYPES = { svg: "image/svg+xml", png: "image/png", pdf: "application/pdf",
     eps: "application/postscript", zpl: "text/plain" };
 /* The controls that say how the code is made; what the code holds is in the fields. */
@@ -134,11 +133,7 @@ function draw() {
         button.disabled = code === null;
     if (code !== null)
         at("said").textContent = aboutOf(code);
-    at("warnings").replaceChildren(...warningsOf(code).map((it) => {
-        const item = document.createElement("li");
-        item.textContent = it;
-        return item;
-    }));
+    at("warnings").replaceChildren(...warningsOf(code).map((it) => made("li", {}, it)));
     at("done").textContent = "";
 }
 
@@ -226,11 +221,9 @@ function shownIn(format) {
 function save(format) {
     try {
         const data = shownIn(format).draw(format, drawOptions(format));
-        const link = document.createElement("a");
-        link.href = URL.createObjectURL(new Blob([data], { type: TYPES[format] }));
-        link.download = `code.${format}`;
-        link.click();
-        setTimeout(() => URL.revokeObjectURL(link.href), 60000);
+        const href = URL.createObjectURL(new Blob([data], { type: TYPES[format] }));
+        made("a", { href, download: `code.${format}` }).click();
+        setTimeout(() => URL.revokeObjectURL(href), 60000);
         tell(`Saved as code.${format}.`);
     } catch (error) {
         tell(saidOf(error));

@@ -1,10 +1,10 @@
 /* Starts the page: loads the library, and switches between making and reading. */
 
 import { load } from "./goqlanis/index.mjs";
+import { at } from "./forms.mjs";
 import * as make from "./make.mjs";
 import * as read from "./read.mjs";
 
-const at = (id) => document.getElementById(id);
 const TABS = ["make", "read"];
 
 /** Shows a panel, and gives its tab the focus if that is asked for. */

@@ -1,8 +1,8 @@
 /* Reads and checks the codes of a picture. */
 
 import { check, read } from "./goqlanis/index.mjs";
+import { at, made } from "./forms.mjs";
 
-const at = (id) => document.getElementById(id);
 const LINK = /^(https?|mailto|tel|sms|geo|upi):/i;
 const SHARP = ". Codes must be flat and sharp: take the picture anew, or cut it to one code";
 const HELP = { NoSquare: SHARP, NoSuchSide: SHARP, NoFormat: SHARP, Damaged: SHARP };
@@ -94,34 +94,24 @@ function readingOf(picture) {
     return { said, codes: checks.map((it, index) => itemOf(found[index], it)) };
 }
 
-const made = (name, text, more = {}) =>
-    Object.assign(document.createElement(name), { textContent: text }, more);
-
 function itemOf(code, checked) {
-    const item = document.createElement("li");
-    if (code !== undefined) {
-        const text = code.text ?? `${code.data.length} bytes: ${[...code.data]
-            .map((it) => it.toString(16).padStart(2, "0")).join(" ")}`;
-        const isLink = code.text !== null && LINK.test(text) && !/\s/.test(text);
-        item.append(made("h2", isLink ? "Link" : code.text === null ? "Data" : "Text"));
-        if (isLink) {
-            const line = document.createElement("p");
-            const how = { href: text, rel: "noopener noreferrer", target: "_blank" };
-            line.append(made("a", plain(text), how));
-            item.append(line);
-        } else {
-            item.append(made("pre", plain(text)));
-        }
-        item.append(made("p", factsOf(code)));
-    }
-    const departs = departuresOf(checked), list = document.createElement("ul");
-    list.append(...departs.map((it) => made("li", it)));
-    item.append(made("h2", checked.isStandard ? "Check: as the standard says"
-        : "Check: it departs from the standard"), ...(departs.length > 0 ? [list] : []));
-    const all = document.createElement("details");
-    all.append(made("summary", "All counts"), made("pre", `${checked}`));
-    item.append(all);
-    return item;
+    const departs = departuresOf(checked);
+    return made("li", {}, ...(code === undefined ? [] : contentOf(code)),
+        made("h2", {}, checked.isStandard ? "Check: as the standard says"
+            : "Check: it departs from the standard"),
+        ...(departs.length > 0 ? [made("ul", {}, ...departs.map((it) => made("li", {}, it)))] : []),
+        made("details", {}, made("summary", {}, "All counts"), made("pre", {}, `${checked}`)));
+}
+
+/** Returns what shows the data of a code, and what is known of it. */
+function contentOf(code) {
+    const text = code.text ?? `${code.data.length} bytes: ${[...code.data]
+        .map((it) => it.toString(16).padStart(2, "0")).join(" ")}`;
+    const isLink = code.text !== null && LINK.test(text) && !/\s/.test(text);
+    const how = { href: text, rel: "noopener noreferrer", target: "_blank" };
+    return [made("h2", {}, isLink ? "Link" : code.text === null ? "Data" : "Text"),
+        isLink ? made("p", {}, made("a", how, plain(text))) : made("pre", {}, plain(text)),
+        made("p", {}, factsOf(code))];
 }
 
 /** Says what is known of a code, beside what it holds. */
