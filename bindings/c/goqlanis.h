@@ -134,8 +134,7 @@ static inline const char *goq_strerror(goq_answer answer)
 /* Error correction levels, from the lowest to the highest. */
 enum { GOQ_L = 0, GOQ_M = 1, GOQ_Q = 2, GOQ_H = 3 };
 
-/* Versions: 1 to 40 are the Normal versions, GOQ_MICRO(1) to GOQ_MICRO(4) the Micro versions M1 to
-   M4. */
+/* Versions: 1 to 40 are Normal ones, GOQ_MICRO(1) to GOQ_MICRO(4) the Micro versions M1 to M4. */
 #define GOQ_MICRO(number) (40 + (number))
 
 /* Picture formats. */
@@ -166,15 +165,13 @@ enum {
     GOQ_ALPHANUMERIC = 1, /* digits, capitals, space and $%*+-./: */
     GOQ_BYTES = 2, /* any bytes */
     GOQ_KANJI = 3, /* two-byte characters of Shift JIS */
-    GOQ_ECI = 4, /* header: `number` is the ECI designator, below 1,000,000, which names the
-                    character set of what follows */
+    GOQ_ECI = 4, /* header: `number`, below 1,000,000, names the character set of what follows */
     GOQ_FNC1_FIRST = 5, /* header: FNC1 in the first position, for GS1 */
     GOQ_FNC1_SECOND = 6 /* header: FNC1 in the second position; `number` is the application
                            indicator, below 256 */
 };
 
-/* One more kind, found only when reading: the header of one of several symbols (structured
-   append). */
+/* A kind found only when reading: the header of one of several symbols (structured append). */
 enum { GOQ_ONE_OF_SEVERAL = 7 };
 
 /* Kinds of payload. The fields of each kind are UTF-8 texts, in the order of the names below, as
@@ -326,8 +323,7 @@ enum {
 enum {
     GOQ_AS_BYTES = 0, /* like goq_encode */
     GOQ_AS_TEXT = 1, /* like goq_encode_text: the data must be UTF-8 */
-    GOQ_AS_MARKED_TEXT = 2 /* like goq_encode_marked_text: the data must be UTF-8, and the
-                              version a Normal one */
+    GOQ_AS_MARKED_TEXT = 2 /* like goq_encode_marked_text: the same, in a Normal version */
 };
 
 /* Character sets for text, by their ECI designators. */
@@ -368,8 +364,7 @@ typedef struct {
     uint32_t version; /* the version to use, or 0 for the smallest that holds the data */
     uint32_t min_version; /* if `version` is 0: the smallest version to try; Micro comes before
                                Normal, so GOQ_MICRO(1) tries all versions */
-    uint32_t boost; /* if `version` is 0: 1 to raise the level as far as the data still fits that
-                       version, else 0 */
+    uint32_t boost; /* if `version` is 0: 1 to raise the level as far as the data fits, else 0 */
     uint32_t mask; /* GOQ_MASK(number), which the version must have; or 0 for the lowest penalty */
 } goq_options;
 
@@ -709,13 +704,11 @@ goq_answer goq_encode_segments(const goq_segment *segments, size_t segments_leng
 goq_answer goq_smallest_version_of_segments(const goq_segment *segments, size_t segments_length,
     uint32_t level, uint32_t *version);
 
-/* Returns how many modules a side of a symbol of this version has, without a quiet zone; 0 if there
-   is no such version. */
+/* Returns how many modules a side has in a version, without a quiet zone; 0 if there is none. */
 uint32_t goq_width(uint32_t version);
 
-/* Returns whether the module in column `x` and row `y` (counted from 0) of a symbol of this version
-   belongs to a function pattern or to format or version information; false if there is no such
-   version or module. */
+/* Returns whether the module in column `x` and row `y` of a version, from 0, belongs to a function
+   pattern or to format or version information; false if there is no such version or module. */
 bool goq_is_functional(uint32_t version, uint32_t x, uint32_t y);
 
 /* -- Drawing -- */
