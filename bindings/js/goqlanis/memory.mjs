@@ -46,13 +46,17 @@ export function memoryBytes() {
     return live?.memory.buffer.byteLength ?? 0;
 }
 
-/** Calls a function of the C library that returns a number: addresses and lengths become BigInt. */
-export function number(name, ...values) {
+function loaded() {
     if (live === null)
         throw new Error("call `await load()` first: it loads goqlanis.wasm");
-    const wide = CALLS[name];
+    return live;
+}
+
+/** Calls a function of the C library that returns a number: addresses and lengths become BigInt. */
+export function number(name, ...values) {
+    const wide = CALLS[name], exported = loaded();
     try {
-        return live[name](...values.map((it, at) => (wide[at] === "w" ? BigInt(it) : it)));
+        return exported[name](...values.map((it, at) => (wide[at] === "w" ? BigInt(it) : it)));
     } catch (error) {
         if (error instanceof WebAssembly.RuntimeError)
             begin(compiled); /* after a trap no export runs again: begin with a new memory */
@@ -72,12 +76,10 @@ export function within(work) {
 
 class Buffers {
     #places = [];
-    #of = live; /* the instance that has the buffers: after a trap there is another */
+    #of = loaded(); /* the instance that has the buffers: after a trap there is another */
 
     /** Returns the address of a buffer of `length` bytes of any content. */
     room(length) {
-        if (this.#of === null)
-            throw new Error("call `await load()` first: it loads goqlanis.wasm");
         const place = Number(this.#of.host_alloc(BigInt(length)));
         if (place === 0)
             throw refusal("OUT_OF_MEMORY");

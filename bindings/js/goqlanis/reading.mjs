@@ -5,17 +5,13 @@ import { QrCode } from "./code.mjs";
 import { KINDS } from "./encoding.mjs";
 import { QrError, refusal, refuse } from "./errors.mjs";
 import { answer, nameOf, number, within } from "./memory.mjs";
-import { BLOCKS_MAX, BYTES_MAX, ECI, FNC1_FIRST, FNC1_SECOND, ONE_OF_SEVERAL, PARTS_MAX, POSITIONS,
-    SEVERAL_MAX } from "./numbers.mjs";
+import { BLOCKS_MAX, BYTES_MAX, CAUSES, ECI, FNC1_FIRST, FNC1_SECOND, ONE_OF_SEVERAL, PARTS_MAX,
+    POSITIONS, SEVERAL_MAX } from "./numbers.mjs";
 import { LEVELS, shown, versionName } from "./checks.mjs";
 
 const PARTS = [...Object.keys(KINDS), "oneOfSeveral"];
 const HEADED = "the data begins with a header, of structured append, GS1 or a character set other "
     + "than UTF-8: join reads the first; read(code.png()) reads the others";
-const JOINS = { NOT_SEVERAL: "square # has no structured append header",
-    STRANGER: "square # belongs to other data than the first", MISSING: "part # is missing",
-    TWICE: "part # is there twice",
-    PARITY: "the codes do not belong together: the parity of their data is wrong" };
 
 export function read(picture) {
     return withCodes(picture, (buffers, file, most) => {
@@ -195,8 +191,8 @@ export function join(squares) {
         const said = answer("goq_join", buffers.structs("goq_square", rows), rows.length, out,
             SEVERAL_MAX * BYTES_MAX, count, place);
         const at = buffers.sizes(place)[0] + 1;
-        if (JOINS[said])
-            throw new QrError("NotJoined", JOINS[said].replace("#", at));
+        if (CAUSES[said]?.[0] === "NotJoined")
+            throw refusal(said, CAUSES[said][1].replace("#", at));
         refuse(said, `square ${at}: `);
         return buffers.copy(out, buffers.sizes(count)[0]);
     });

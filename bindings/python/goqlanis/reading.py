@@ -44,10 +44,6 @@ PARTS = {**{number: name for name, number in KINDS.items()}, goq.ONE_OF_SEVERAL:
 # The positions in the order of their numbers.
 POSITIONS = ("upright", "rotated left", "upside down", "rotated right", "mirrored", "flipped",
              "transposed", "antitransposed")
-JOINS = {goq.NOT_SEVERAL: "square {place} has no structured append header",
-         goq.STRANGER: "square {place} belongs to other data than the first",
-         goq.MISSING: "part {place} is missing", goq.TWICE: "part {place} is there twice",
-         goq.PARITY: "the codes do not belong together: the parity of their data is wrong"}
 
 
 class Reading(NamedTuple):
@@ -361,7 +357,7 @@ def join(squares: Iterable[Union[Modules, Picture]]) -> bytes:
     out, count, place = _bytes(SEVERAL_MAX), ctypes.c_size_t(), ctypes.c_size_t()
     answer = library.goq_join(rows, len(rows), out, len(out), ctypes.byref(count),
                               ctypes.byref(place))
-    if answer in JOINS:
+    if isinstance(refusal(answer), NotJoined):
         raise _not_joined(answer, place.value)
     refuse(answer, f"square {place.value + 1}: ")
     return bytes(out[:count.value])
@@ -393,7 +389,7 @@ def _joined(codes: List[Code]) -> bytes:
 
 
 def _not_joined(answer: int, place: int) -> NotJoined:
-    return NotJoined(JOINS[answer].format(place=place + 1))
+    return NotJoined(str(refusal(answer)).replace("#", f"{place + 1}"))
 
 
 def _bytes(count: int = 1) -> Any:
