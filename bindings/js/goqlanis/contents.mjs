@@ -13,18 +13,27 @@ export function payload(kind, fields) {
     const names = Object.keys(PAYLOADS[kind].fields);
     const given = checks.options(kind, fields, Object.fromEntries(names.map((it) => [it, ""])));
     const texts = names.map((name) => checks.utf8(name, textOf(name, given[name])));
-    return within((buffers) => {
+    const { said, data, at } = written("goq_content", (buffers) => {
         const rows = texts.map((it) => ({ bytes: buffers.bytes(it), length: it.length }));
+        return [PAYLOADS[kind].number, buffers.structs("goq_field", rows), rows.length];
+    });
+    if (CAUSES[said]?.[2])
+        throw wrongField(said, names[at] ?? "text");
+    refuse(said);
+    return checks.textOf(data);
+}
+
+/** Returns the answer of a call, and what it writes or the place of what is wrong; `given` puts its
+    inputs into buffers. */
+function written(call, given) {
+    return within((buffers) => {
         const out = buffers.room(BYTES_MAX), count = buffers.room(8), place = buffers.room(8);
-        const said = answer("goq_content", PAYLOADS[kind].number,
-            buffers.structs("goq_field", rows), rows.length, out, BYTES_MAX, count, place);
+        const said = answer(call, ...given(buffers), out, BYTES_MAX, count, place);
         if (said === "SMALL_BUFFER")
-            throw new QrError(
-                "NoRoom", `no code holds a text of more than ${grouped(BYTES_MAX)} bytes`);
-        if (CAUSES[said]?.[2])
-            throw wrongField(said, names[buffers.sizes(place)[0]] ?? "text");
-        refuse(said);
-        return checks.textOf(buffers.copy(out, buffers.sizes(count)[0]));
+            throw refusal("NO_ROOM",
+                `no code holds a text of more than ${grouped(BYTES_MAX)} bytes`);
+        return said === "OK" ? { said, data: buffers.copy(out, buffers.sizes(count)[0]) }
+            : { said, at: buffers.sizes(place)[0] };
     });
 }
 
@@ -70,21 +79,11 @@ export function gs1(elements) {
     if (CAUSES[said]?.[2])
         throw new QrError(CAUSES[said][0], `element ${at + 1}${wrongElement(said, pairs[at])}`,
             `elements[${at}]`);
-    if (said === "SMALL_BUFFER")
-        throw refusal("NO_ROOM", `no code holds a text of more than ${grouped(BYTES_MAX)} bytes`);
     refuse(said);
     return data;
 }
 
-/** Returns the library's answer, the element string, and the place of a wrong element. */
-function stringOf(pairs) {
-    return within((buffers) => {
-        const out = buffers.room(BYTES_MAX), count = buffers.room(8), place = buffers.room(8);
-        const said = answer("goq_gs1", ...elementsOf(buffers, pairs), out, BYTES_MAX, count, place);
-        return { said, data: said === "OK" ? buffers.copy(out, buffers.sizes(count)[0]) : null,
-            at: said === "OK" ? 0 : buffers.sizes(place)[0] };
-    });
-}
+const stringOf = (pairs) => written("goq_gs1", (buffers) => elementsOf(buffers, pairs));
 
 /** Returns the address and the number of elements for the library. */
 export function elementsOf(buffers, pairs) {

@@ -84,11 +84,17 @@ def text_of(kind: str, given: Dict[str, Any]) -> str:
     fields = [told.pop(it) for it in PAYLOADS[kind].split()]
     assert not told
     rows = (Field * len(fields))(*(_field(*it) for it in fields))
-    out, count, place = _room(), ctypes.c_size_t(), ctypes.c_size_t()
-    answer = library.goq_content(getattr(goq, kind.upper()), rows, len(rows), out, BYTES_MAX,
-                                 ctypes.byref(count), ctypes.byref(place))
-    _refuse(answer, fields[place.value][0] if place.value < len(fields) else "text")
-    return bytes(out[:count.value]).decode()
+    answer, text, at = _written(library.goq_content, getattr(goq, kind.upper()), rows, len(rows))
+    _refuse(answer, fields[at][0] if at < len(fields) else "text")
+    return text.decode()
+
+
+def _written(call: Any, *given: Any) -> Tuple[int, bytes, int]:
+    """Returns the answer of a call, the text that it writes, and the place of what is wrong."""
+    out = ctypes.create_string_buffer(BYTES_MAX)
+    count, place = ctypes.c_size_t(), ctypes.c_size_t()
+    answer = call(*given, out, BYTES_MAX, ctypes.byref(count), ctypes.byref(place))
+    return answer, out.raw[:count.value], place.value
 
 
 def _fields_of(name: str, value: Any) -> List[Tuple[str, Any]]:
@@ -130,20 +136,12 @@ def _element(name: str, pair: Any) -> Element:
 
 def string_of(elements: Any) -> bytes:
     """Returns the element string of elements, or raises the error for the first wrong one."""
-    answer, data, at = _string(elements)
+    answer, data, at = _written(library.goq_gs1, elements, len(elements))
     if answer in _CAUSES:
         said = f"element {at + 1}{_wrong(answer, elements[at])}"
         raise _CAUSES[answer](f"elements[{at}]", said)
     _refuse(answer, "")
     return data
-
-
-def _string(elements: Any) -> Tuple[int, bytes, int]:
-    """Returns the library's answer, the element string, and the place of a wrong element."""
-    out, count, place = _room(), ctypes.c_size_t(), ctypes.c_size_t()
-    answer = library.goq_gs1(elements, len(elements), out, BYTES_MAX, ctypes.byref(count),
-                             ctypes.byref(place))
-    return answer, bytes(out[:count.value]), place.value
 
 
 def _wrong(answer: int, element: Element) -> str:
@@ -162,7 +160,7 @@ def _lengths(identifier: bytes) -> str:
     """Says how many characters a value may have: one number, or from one to another."""
     tried = (Element(identifier, len(identifier), b"0" * count, count) for count in range(91))
     taken = [it.value_length for it in tried
-             if _string((Element * 1)(it))[0] != goq.ELEMENT_LENGTH]
+             if _written(library.goq_gs1, (Element * 1)(it), 1)[0] != goq.ELEMENT_LENGTH]
     return " to ".join(map(str, sorted({taken[0], taken[-1]})))
 
 
@@ -177,10 +175,6 @@ def _said(kind: Type[WrongField], field: str) -> str:
         return f"{field}: {kind.why}: {_RANGES[field]}"
     helps = _FORMS.get(field, "") if kind in (TooLong, TooShort, WrongCharacter) else ""
     return f"{field}: {kind.why}; {helps}" if helps else ""
-
-
-def _room() -> Any:
-    return ctypes.create_string_buffer(BYTES_MAX)
 
 
 def _refuse(answer: int, field: str) -> None:
