@@ -20,9 +20,6 @@ HALF = 0xffffffff
 class Rectangle(NamedTuple):
     """A rectangle of modules: its left column and top row, counted from 0, and how many columns and
     rows it has.
-
-    >>> encode("01234567", "H").with_area(Rectangle(9, 9, 3, 3)).matrix[10][9:12]
-    (False, False, False)
     """
     left: int
     top: int
@@ -39,10 +36,6 @@ class Reserve(NamedTuple):
     - `format_modules`: how many modules of each copy of the format information it has; 3 may be
       lost;
     - `least`: how many more codewords of each block may be lost; None if the area takes too much.
-
-    >>> found = encode("01234567", "H").reserve((9, 9, 3, 3))
-    >>> found.touched[found.worst] <= found.allowed, found.least is None
-    (True, False)
     """
     touched: Tuple[int, ...]
     allowed: int
