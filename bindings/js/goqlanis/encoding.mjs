@@ -5,8 +5,8 @@ import { QrCode } from "./code.mjs";
 import { elementsOf, gs1 } from "./contents.mjs";
 import { refusal } from "./errors.mjs";
 import { answer, number, within } from "./memory.mjs";
-import { ALPHANUMERIC, AS_BYTES, AS_MARKED_TEXT, AS_TEXT, BYTES, ECI, FNC1_FIRST,
-    FNC1_SECOND, KANJI, MODULES_MAX, NUMERIC, SEVERAL_MAX, UTF_8 } from "./numbers.mjs";
+import { ALPHANUMERIC, AS_BYTES, AS_MARKED_TEXT, AS_TEXT, BYTES, CHARSETS, ECI, FNC1_FIRST,
+    FNC1_SECOND, KANJI, MODULES_MAX, NUMERIC, SEVERAL_MAX } from "./numbers.mjs";
 import { LEVELS, charsetName, grouped, shown, versionName } from "./checks.mjs";
 
 const MICRO_1 = 41, MOST_SET = 999999, MOST_DATA = 1048576;
@@ -98,7 +98,7 @@ function mannerOf(isText, { marked, eci }) {
             "marked is only for a string; for bytes, eci: 26 says that they are UTF-8");
     if (eci !== null)
         checks.whole("eci", eci, 0, MOST_SET, "NoSuchNumber");
-    if (isText && eci !== null && eci !== UTF_8)
+    if (isText && eci !== null && eci !== CHARSETS["utf-8"])
         throw new RangeError(`eci: ${eci} is for bytes: give those of that character set`);
     return !isText ? AS_BYTES : marked || eci !== null ? AS_MARKED_TEXT : AS_TEXT;
 }
