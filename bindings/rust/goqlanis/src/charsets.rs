@@ -1,7 +1,6 @@
 //! Texts in character sets.
 use crate::{Options, QrCode, QrError};
 use goqlanis_sys as sys;
-use std::fmt;
 
 // The sets, with their numbers in the library.
 macro_rules! charsets {
@@ -45,21 +44,12 @@ pub enum CharsetError {
     NoSymbol(QrError),
 }
 
-impl fmt::Display for CharsetError {
-    fn fmt(&self, out: &mut fmt::Formatter<'_>) -> fmt::Result {
-        match self {
-            CharsetError::Lacks(character, place) => write!(
-                out,
-                "character {}, {character} (U+{:04X}), is not in the set: take Charset::Shortest",
-                place + 1,
-                u32::from(*character)
-            ),
-            CharsetError::NoSymbol(error) => error.fmt(out),
-        }
-    }
+says! { CharsetError:
+    CharsetError::Lacks(character, place) =>
+        "character {}, {character} (U+{:04X}), is not in the set: take Charset::Shortest",
+        place + 1, u32::from(*character);
+    CharsetError::NoSymbol(error) => "{error}";
 }
-
-impl std::error::Error for CharsetError {}
 
 impl QrCode {
     /// Encodes text in a character set, or in that in which it takes the fewest bits; returns the
