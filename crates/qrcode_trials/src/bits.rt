@@ -62,7 +62,7 @@ fn push_again(bits: &mut Bits, given: &Given<'_>, level: EcLevel) -> QrResult<No
     Ok(Note::Unchanged)
 }
 
-// Pushes data in the way that `given.kind` names.
+// Pushes data, a mode indicator, a header or the terminator, as `given.kind` names it.
 fn push(bits: &mut Bits, given: &Given<'_>, level: EcLevel) -> QrResult<()> {
     match given.kind {
         "numeric" => bits.push_numeric_data(&given.bytes),
@@ -73,13 +73,6 @@ fn push(bits: &mut Bits, given: &Given<'_>, level: EcLevel) -> QrResult<()> {
         "marked-text" => bits.push_marked_text(given.text()),
         "optimal" => bits.push_optimal_data(&given.bytes),
         "segments" => push_runs(bits, &given.bytes),
-        _ => push_mark(bits, given, level),
-    }
-}
-
-// Pushes a mode indicator, a header or the terminator.
-fn push_mark(bits: &mut Bits, given: &Given<'_>, level: EcLevel) -> QrResult<()> {
-    match given.kind {
         "indicator" => bits.push_mode_indicator(mode_of(given.text())),
         "eci" => bits.push_eci_designator(given.number()),
         "fnc1-first" => bits.push_fnc1_first_position(),

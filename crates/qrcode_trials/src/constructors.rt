@@ -1,7 +1,7 @@
 //! Calls the constructors that the C library does not call directly, and joins parts.
 
 use crate::bits::{digest_of, list_of};
-use crate::digest::Digest;
+use crate::digest::{Digest, or_error};
 use crate::words::Asked;
 use qrcode::QrCode;
 use qrcode::bits::encode_auto;
@@ -119,9 +119,6 @@ fn joined(alloc: Global, data: &[u8], count: u8) -> QrResult<Digest> {
             bytes: data,
         })?;
     }
-    match join(alloc, &parts) {
-        Ok(bytes) => Ok(Digest::of(&bytes)),
-        Err(JoinError::OutOfMemory) => Err(QrError::OutOfMemory),
-        Err(_) => Err(QrError::InvalidCharacter),
-    }
+    let bytes = or_error(join(alloc, &parts), JoinError::OutOfMemory)?;
+    Ok(Digest::of(&bytes))
 }

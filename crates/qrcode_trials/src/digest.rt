@@ -2,7 +2,7 @@
 
 ghost use Rattle.std.specs.Prelude.{◌<◌};
 
-use qrcode::types::Color;
+use qrcode::types::{Color, QrError, QrResult};
 
 /// The largest prime below 2^32.
 const PRIME: u64 = 4_294_967_291;
@@ -13,6 +13,15 @@ pub struct Digest {
     pub length: usize,
     pub sum: u64,
     ghost small: { sum < 4294967291 },
+}
+
+/// Returns what a call made, or an error: `OutOfMemory` for `memory`, else `InvalidCharacter`.
+pub fn or_error<T, E: PartialEq + Copy>(answer: Result<T, E>, memory: E) -> QrResult<T> {
+    match answer {
+        Ok(made) => Ok(made),
+        Err(error) if error == memory => Err(QrError::OutOfMemory),
+        Err(_) => Err(QrError::InvalidCharacter),
+    }
 }
 
 /// An item that a digest can count.

@@ -1,6 +1,6 @@
 //! Makes PNG files that the C library cannot make, and reads others.
 
-use crate::digest::Digest;
+use crate::digest::{Digest, or_error};
 use crate::words::Asked;
 use qrcode::render::Renderer;
 use qrcode::types::Color::{self as Module, Dark, Light};
@@ -32,11 +32,7 @@ pub fn of_file(bytes: &[u8]) -> QrResult<Digest> {
 
 // Reads `file`, and returns the width of its picture and the CRC-32 of its RGBA bytes.
 fn of_picture(alloc: Global, file: &[u8]) -> QrResult<Digest> {
-    let picture = match read(alloc, file) {
-        Ok(picture) => picture,
-        Err(Unread::OutOfMemory) => return Err(QrError::OutOfMemory),
-        Err(_) => return Err(QrError::InvalidCharacter),
-    };
+    let picture = or_error(read(alloc, file), Unread::OutOfMemory)?;
     let mut bytes = Vec::new(alloc);
     for pixel in &picture.pixels(alloc)? {
         bytes.extend_from_slice(pixel)?;

@@ -74,10 +74,7 @@ fn answer(alloc: Global, arguments: env::Args) -> QrResult<(Digest, Note)> {
 
 // Returns the word at index `at`, or an empty one if there are fewer.
 fn word_at(words: &[String], at: usize) -> &str {
-    match words.get(at) {
-        Some(word) => word.as_str(),
-        None => "",
-    }
+    words.get(at).map_or("", |word| word.as_str())
 }
 
 // Makes the call. Any other name, as `alone`, only reads the data.

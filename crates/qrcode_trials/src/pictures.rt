@@ -35,13 +35,6 @@ pub fn run(alloc: Global, asked: &Asked<'_>) -> QrResult<Digest> {
         "escpos" => file::<escpos::Dot>(alloc, asked),
         "xbm" => file::<xbm::Dot>(alloc, asked),
         "png" => file::<qrcode_png::Color>(alloc, asked),
-        _ => text_of(alloc, asked),
-    }
-}
-
-// Returns the digest of a picture in a text format.
-fn text_of(alloc: Global, asked: &Asked<'_>) -> QrResult<Digest> {
-    match asked.kind {
         "char" => text::<char>(alloc, asked),
         "Str" => text::<Str<'_>>(alloc, asked),
         "Word" => text::<Word>(alloc, asked),

@@ -1,6 +1,6 @@
 //! Makes the calls of the reader that have no call of their own in C.
 
-use crate::digest::Digest;
+use crate::digest::{Digest, or_error};
 use crate::words::Asked;
 use qrcode::QrCode;
 use qrcode::types::{Color, EcLevel, QrError, QrResult};
@@ -27,13 +27,13 @@ pub fn run(alloc: Global, asked: &Asked<'_>) -> QrResult<Digest> {
 
 // Reads headers and segments, in any position.
 fn of_parts(alloc: Global, colors: &[Color]) -> QrResult<Digest> {
-    let read = read_any_parts(alloc, colors).map_err(refusal)?.reading;
+    let read = or_error(read_any_parts(alloc, colors), Unread::OutOfMemory)?.reading;
     Ok(Digest::of(&read.parts.bytes).and(Digest::of_sum(read.wrong.len(), 2)))
 }
 
 // Reads the data bits.
 fn bits_of(alloc: Global, colors: &[Color]) -> QrResult<BitReading> {
-    read_bits(alloc, colors).map_err(refusal)
+    or_error(read_bits(alloc, colors), Unread::OutOfMemory)
 }
 
 // Splits the data bits into headers and segments.
@@ -41,17 +41,9 @@ fn of_pieces(alloc: Global, read: &BitReading) -> QrResult<Digest> {
     if !read.version.is_valid() {
         return Err(QrError::InvalidVersion);
     }
-    match pieces(alloc, &read.bits, read.version) {
-        Ok(found) => Ok(Digest::of(&found.bytes)),
-        Err(Unspelled::OutOfMemory) => Err(QrError::OutOfMemory),
-        Err(_) => Err(QrError::InvalidCharacter),
-    }
-}
-
-// Turns an error of the reader into one of `QrError`.
-fn refusal(unread: Unread) -> QrError {
-    match unread {
-        Unread::OutOfMemory => QrError::OutOfMemory,
-        _ => QrError::InvalidCharacter,
-    }
+    let found = or_error(
+        pieces(alloc, &read.bits, read.version),
+        Unspelled::OutOfMemory,
+    )?;
+    Ok(Digest::of(&found.bytes))
 }

@@ -1,6 +1,6 @@
 //! Makes the calls of a symbol.
 
-use crate::digest::Digest;
+use crate::digest::{Digest, or_error};
 use crate::words::Asked;
 use qrcode::QrCode;
 use qrcode::types::{Color, EcLevel, QrError, QrResult, Version};
@@ -42,11 +42,8 @@ fn covered(alloc: Global, code: &QrCode) -> QrResult<Digest> {
         width: 1,
         height: 1,
     }];
-    match with_area(alloc, code, &Area::of(&one)) {
-        Ok(modules) => Ok(Digest::of(&modules)),
-        Err(Excess::OutOfMemory) => Err(QrError::OutOfMemory),
-        Err(_) => Err(QrError::DataTooLong),
-    }
+    let modules = or_error(with_area(alloc, code, &Area::of(&one)), Excess::OutOfMemory)?;
+    Ok(Digest::of(&modules))
 }
 
 // Makes the calls that need no memory.

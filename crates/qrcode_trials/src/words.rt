@@ -27,7 +27,9 @@ impl Given<'_> {
         let (unit, count) = repeated(text);
         let mut bytes = Vec::with_capacity(alloc, unit.len().saturating_mul(count))?;
         for _ in 0..count {
-            push_each(&mut bytes, unit)?;
+            for character in unit.chars() {
+                bytes.push((u32::from(character) % 256) as u8)?;
+            }
         }
         Ok(Given { kind, bytes })
     }
@@ -45,21 +47,12 @@ impl Given<'_> {
 
 // Splits `TEXT*N` into the text and the number of times to repeat it.
 fn repeated(text: &str) -> (&str, usize) {
-    match text.rsplit_once('*') {
-        Some((unit, count)) => match count.parse::<usize>() {
-            Ok(count) => (unit, count),
-            Err(_) => (text, 1),
-        },
-        None => (text, 1),
+    if let Some((unit, count)) = text.rsplit_once('*')
+        && let Ok(count) = count.parse::<usize>()
+    {
+        return (unit, count);
     }
-}
-
-// Appends one byte for each character.
-fn push_each(bytes: &mut Vec<u8>, text: &str) -> QrResult<()> {
-    for character in text.chars() {
-        bytes.push((u32::from(character) % 256) as u8)?;
-    }
-    Ok(())
+    (text, 1)
 }
 
 /// Returns `word` as a number, or 0 if it is none.
