@@ -1,33 +1,15 @@
 -- Squares of modules in whole pixels: what their pixels and their grids show.
-use Rattle.std.proofs.Common.{◌≡◌, ◌*◌, ℕ, ◌+◌, ◌-◌, ◌/◌, ◌%◌, ◌<◌, ◌≤◌, zero, suc, inl, inr, Bool, true, false, not, length, get_or, ap, ap₂, refl, sym, subst, ◌∙◌, arith}
+use Rattle.std.proofs.Common.{◌≡◌, ◌*◌, ℕ, ◌+◌, ◌-◌, ◌/◌, ◌%◌, ◌<◌, ◌≤◌, zero, suc, inl, inr, Bool, true, false, not, ap₂, refl, sym, subst, ◌∙◌, arith}
 use Rattle.std.proofs.Math.Nat.{mul-le-mul_right}
 use Rattle.std.proofs.lemmas.Nat.{div-add-mod', mod_below, div_below}
 use Rattle.std.proofs.lemmas.Bool.{cases_lt}
-use Rattle.std.proofs.lemmas.List.FromFn.{fill_by_all}
-use Rattle.qrcode_types.specs.Colors.{color_of}
-use Rattle.qrcode_types.specs.declared.types.Color.{Color}
-use Rattle.qrcode_types.specs.declared.types.Color.TheVariants.{Light}
 use Rattle.qrcode_render.specs.Bitmap.{Bitmap}
-use Rattle.qrcode_scan.specs.Grids.{colours_at, column_at, row_at}
+use Rattle.qrcode_scan.specs.Grids.{colours_at}
 use Rattle.qrcode_scan.specs.Squares.{mark_at}
 use Rattle.qrcode_scan.specs.Wholes.{BeginsAt, HasFinder, HasPatterns, IsGridAt, IsGridOf, IsWholeIn, Whole, corner_start, count_of, dark_in, finder_dark, light_row, marked}
 use Rattle.qrcode_scan.specs.declared.grids.Grid.{Grid}
-use Rattle.qrcode_scan.proofs.Framed.{color_of_is_dark, pixel_in, some_count}
-
--- where the centres of a grid's modules are
-column_of : (x y scale count : ℕ) (g : Grid) (i j : ℕ) → IsGridAt x y scale count g → column_at g i j ≡ x + (i * scale + scale / 2)
-column_of x y scale count g i j at =
-    ap (λ p. (g.left + i * g.across - j * g.lean) / p) at.parts
-    ∙ ap₂ (λ (l a : ℕ). (l + i * a - j * g.lean) / 1) at.left at.across
-    ∙ ap (λ (n : ℕ). (x + scale / 2 + i * scale - j * n) / 1) at.lean
-    ∙ omega arith
-
-row_of : (x y scale count : ℕ) (g : Grid) (i j : ℕ) → IsGridAt x y scale count g → row_at g i j ≡ y + (j * scale + scale / 2)
-row_of x y scale count g i j at =
-    ap (λ p. (g.top + j * g.down + i * g.fall) / p) at.parts
-    ∙ ap₂ (λ (l a : ℕ). (l + j * a + i * g.fall) / 1) at.top at.down
-    ∙ ap (λ (n : ℕ). (y + scale / 2 + j * scale + i * n) / 1) at.fall
-    ∙ omega arith
+use Rattle.qrcode_scan.proofs.Framed.{module_pixel}
+use Rattle.qrcode_scan.proofs.Sampled.{column_of, grid_inside, row_of, sampled_is}
 
 -- a pixel of module i lies in the square
 in_square : (i x count scale : ℕ) → i < count → x < scale → i * scale + x < count * scale
@@ -40,7 +22,7 @@ seen_module : (b : Bitmap) (w : Whole) (i j x y : ℕ) → IsWholeIn b w → i <
     → mark_at b (w.left + (i * w.scale + x)) (w.top + (j * w.scale + y)) ≡ dark_in w i j
 seen_module b w i j x y is left top inside low =
     is.shown (i * w.scale + x) (j * w.scale + y) (in_square i x (count_of w) w.scale left inside) (in_square j y (count_of w) w.scale top low)
-    ∙ pixel_in (count_of w) w.scale w.modules i j x y left top inside low
+    ∙ module_pixel (count_of w) 0 w.scale w.modules i j x y left top inside low
 
 -- and so has the one at its centre
 centre_seen : (b : Bitmap) (w : Whole) (g : Grid) (i j : ℕ) → IsWholeIn b w → IsGridOf w g → i < count_of w → j < count_of w → marked b g i j ≡ dark_in w i j
@@ -64,51 +46,20 @@ finder_seen b w g r l is at has =
     subst (λ n. HasFinder (marked b g) (corner_start r n) (corner_start l n)) (sym at.count)
     (λ i j left top. centre_seen b w g (corner_start r (count_of w) + i) (corner_start l (count_of w) + j) is at (corner_inside r w i left) (corner_inside l w j top) ∙ has i j left top)
 
--- the middle of the last module lies in the square
-last_inside : (start count scale whole : ℕ) → 1 ≤ count → 1 ≤ scale → start + count * scale ≤ whole → start + ((count - 1) * scale + scale / 2) < whole
-last_inside start count scale whole some least fits =
-    let more : count ≡ (count - 1) + 1 = omega (arith, some) in
-    let all : start + ((count - 1) + 1) * scale ≤ whole = subst (λ n. start + n * scale ≤ whole) more fits in
-    omega (arith, least, all)
-
--- so it has patterns
+-- so it has patterns in the picture
 pub patterned : (b : Bitmap) (w : Whole) (g : Grid) → IsWholeIn b w → IsGridOf w g → HasPatterns b g w.is_right w.is_lower
-patterned b w g is at =
-    let across = last_inside w.left (count_of w) w.scale b.across (omega arith) is.at_least is.across in
-    let down = last_inside w.top (count_of w) w.scale b.down (omega arith) is.at_least is.down in
-    record {
-      inside = record {
-        left = subst (λ (n : ℕ). (g.count - 1) * n ≤ g.left) (sym at.lean) (omega arith);
-        across =
-            subst (λ n. column_at g (n - 1) 0 < b.across) (sym at.count)
-            (subst (λ n. n < b.across) (sym (column_of w.left w.top w.scale (count_of w) g (count_of w - 1) 0 at)) across);
-        down =
-            subst (λ n. row_at g (n - 1) (n - 1) < b.down) (sym at.count)
-            (subst (λ n. n < b.down) (sym (row_of w.left w.top w.scale (count_of w) g (count_of w - 1) (count_of w - 1) at)) down);
-      };
-      finders = record {
-        corner = finder_seen b w g w.is_right w.is_lower is at is.finders.corner;
-        beside = finder_seen b w g (not w.is_right) w.is_lower is at is.finders.beside;
-        below = finder_seen b w g w.is_right (not w.is_lower) is at is.finders.below;
-      };
-    }
+patterned b w g is at = record {
+  inside = grid_inside b g w.left w.top w.scale (count_of w) at (omega arith) is.at_least is.across is.down;
+  finders = record {
+    corner = finder_seen b w g w.is_right w.is_lower is at is.finders.corner;
+    beside = finder_seen b w g (not w.is_right) w.is_lower is at is.finders.beside;
+    below = finder_seen b w g w.is_right (not w.is_lower) is at is.finders.below;
+  };
+}
 
 -- the modules sampled in the grid of a square are its modules
 pub sampled_whole : (b : Bitmap) (w : Whole) (g : Grid) → IsWholeIn b w → IsGridOf w g → colours_at b g ≡ w.modules
-sampled_whole b w g is at =
-    let n = g.count in
-    let f : ℕ → Color = λ i. color_of (marked b g (i % n) (i / n)) in
-    let all : length w.modules ≡ n * n = is.square ∙ ap (λ (k : ℕ). k * k) (sym at.count) in
-    sym (fill_by_all f w.modules (n * n) Light all (λ k inside.
-    let some : 0 < n = some_count n k inside in
-    let place : k / n * n + k % n ≡ k = div-add-mod' k n in
-    let column : k % n < count_of w = subst (λ m. k % n < m) at.count (mod_below k n some) in
-    let row : k / n < count_of w = subst (λ m. k / n < m) at.count (div_below k n n some inside) in
-    sym (
-    ap color_of (centre_seen b w g (k % n) (k / n) is at column row)
-    ∙ color_of_is_dark _
-    ∙ ap (λ m. get_or w.modules m Light) (ap (λ c. k / n * c + k % n) (sym at.count) ∙ place)
-    )))
+sampled_whole b w g is at = sampled_is b g (count_of w) w.modules at.count is.square (λ i j left top. centre_seen b w g i j is at left top)
 
 -- a pixel of the finder pattern in the corner
 ring_pixel : (b : Bitmap) (w : Whole) (i j x y : ℕ) → IsWholeIn b w → i < 7 → j < 7 → x < w.scale → y < w.scale

@@ -6,7 +6,6 @@ mod HalfBlocks
 mod Marked
 mod Pieces
 mod Plain
-mod Rasters
 mod Read
 mod ReadTexts
 mod Sampled

@@ -12,12 +12,13 @@ use Rattle.std.proofs.lemmas.List.Quantifiers.{all_pairs_push}
 use Rattle.std.proofs.lemmas.List.Edits.{get_or-insert_at, get_or-insert_below, get_or-insert_above, length-insert}
 use Rattle.std.proofs.lemmas.Bool.{cases_lt}
 use Rattle.std.proofs.lemmas.List.{get_or_read}
-use Rattle.qrcode_scan.specs.Codes.{AreOther, AreTwo, AreCodesIn, FindsWholes, HasGrid, IsApartFrom, IsCodeIn, IsFoundAs, IsFoundBy, IsMissedIn, IsMissedOf, IsProbable, Overlaps}
+use Rattle.qrcode_scan.specs.Codes.{AreApart, AreOther, AreTwo, AreCodesIn, FindsWholes, HasGrid, IsApartFrom, IsCodeIn, IsFoundAs, IsFoundBy, IsMissedIn, IsMissedOf, IsProbable, Overlaps}
 use Rattle.qrcode_scan.specs.Scans.{IsReadAs, HasNoWhole, IsScanOf, IsSeenAs, IsSquareOf}
 use Rattle.qrcode_scan.specs.Wholes.{HasMany, IsGridOf, ShowsCode, Whole}
 use Rattle.qrcode_scan.specs.declared.scanning.Scan.{Scan}
 use Rattle.qrcode_scan.specs.declared.codes.Codes.{Codes}
 use Rattle.qrcode_scan.specs.declared.codes.Missed.{Missed}
+use Rattle.qrcode_scan.specs.declared.codes.Place.{Place}
 use Rattle.qrcode_scan.specs.declared.codes.Found.{Found}
 use Rattle.qrcode_scan.specs.declared.codes.Found.TheVariants.{Nothing, Missed as MissedAt}
 use Rattle.qrcode_scan.proofs.Sampled.{sampled_length}
@@ -80,17 +81,11 @@ any_kept P xs ys y put any =
     ])
 
 -- two codes are two in either order
+apart_swapped : (p q : Place) → AreApart p q → AreApart q p
+apart_swapped p q apart = grind (arith, apart)
+
 two_swapped : (x y : Scan) → AreTwo x y → AreTwo y x
-two_swapped x y two g is h other = elim (two h other g is) [
-  | inl left ↦ inr (inl left)
-  | inr rest ↦ elim rest [
-    | inl right ↦ inl right
-    | inr down ↦ elim down [
-      | inl above ↦ inr (inr (inr above))
-      | inr below ↦ inr (inr (inl below))
-    ]
-  ]
-]
+two_swapped x y two g is h other = apart_swapped _ _ (two h other g is)
 
 -- no codes yet
 pub no_code : (b : Bitmap) (i : Bool) (codes : Codes) → codes.scans.items ≡ [] → codes.missed.items ≡ [] → AreCodesIn b i codes

@@ -27,18 +27,15 @@ nothing a = (a, sym (append-nil a))
 dropped : (n : ℕ) (a : List ℕ) → EndsIn a (drop n a)
 dropped n a = (take n a, sym (take-append-drop n a))
 
-pub space_ends : (within : Bool) (bytes : List ℕ) → EndsIn bytes (after_space within bytes)
+choice : (t : Bool) {a b c : List ℕ} → EndsIn a b → EndsIn a c → EndsIn a (if t then b else c)
+choice true x y = x
+choice false x y = y
+
+space_ends : (within : Bool) (bytes : List ℕ) → EndsIn bytes (after_space within bytes)
 unfolding after_space
 space_ends within [] = whole []
 space_ends true (c ∷ rest) = more c (space_ends (not (c == 10)) rest)
-space_ends false (c ∷ rest) =
-    elim (c == 35) as (λ t. EndsIn (c ∷ rest) (if t then after_space true rest else if is_white c then after_space false rest else c ∷ rest)) [
-      | true ↦ more c (space_ends true rest)
-      | false ↦ elim (is_white c) as (λ t. EndsIn (c ∷ rest) (if t then after_space false rest else c ∷ rest)) [
-        | true ↦ more c (space_ends false rest)
-        | false ↦ whole (c ∷ rest)
-      ]
-    ]
+space_ends false (c ∷ rest) = choice (c == 35) (more c (space_ends true rest)) (choice (is_white c) (more c (space_ends false rest)) (whole (c ∷ rest)))
 
 digits_end : (n : ℕ) (bytes : List ℕ) → EndsIn bytes (digits_from n bytes).1
 unfolding digits_from
@@ -55,33 +52,16 @@ plain_ends : (count : ℕ) (bytes : List ℕ) → EndsIn bytes (behind_plain cou
 unfolding behind_plain
 plain_ends count [] = whole []
 plain_ends count (c ∷ rest) =
-    elim (count == 0) as (λ t. EndsIn (c ∷ rest)
-    (if t then c ∷ rest else if c == 48 || c == 49 then behind_plain (count - 1) rest else if is_white c then behind_plain count rest else [])) [
-      | true ↦ whole (c ∷ rest)
-      | false ↦ elim (c == 48 || c == 49) as (λ t. EndsIn (c ∷ rest)
-          (if t then behind_plain (count - 1) rest else if is_white c then behind_plain count rest else [])) [
-            | true ↦ more c (plain_ends (count - 1) rest)
-            | false ↦ elim (is_white c) as (λ t. EndsIn (c ∷ rest) (if t then behind_plain count rest else [])) [
-              | true ↦ more c (plain_ends count rest)
-              | false ↦ nothing (c ∷ rest)
-            ]
-          ]
-    ]
+    choice (count == 0) (whole (c ∷ rest)) (choice (c == 48 || c == 49) (more c (plain_ends (count - 1) rest))
+    (choice (is_white c) (more c (plain_ends count rest)) (nothing (c ∷ rest))))
 
 raster_ends : (count : ℕ) (rest : List ℕ) → EndsIn rest (behind_raster count rest)
-raster_ends count rest = elim (is_ended rest) as (λ t. EndsIn rest (if t then drop count (drop 1 rest) else [])) [
-  | true ↦ through (dropped 1 rest) (dropped count (drop 1 rest))
-  | false ↦ nothing rest
-]
+raster_ends count rest = choice (is_ended rest) (through (dropped 1 rest) (dropped count (drop 1 rest))) (nothing rest)
 
 sides_end : (file : List ℕ) → EndsIn (drop 2 file) (sides_of file).2
 sides_end file =
     let across = digits_from 0 (after_space false (drop 2 file)) in
     through (number_ends (drop 2 file)) (number_ends across.1)
-
-if_ends : (t : Bool) {a b : List ℕ} → EndsIn a b → EndsIn a (if t then b else [])
-if_ends true x = x
-if_ends false {a} x = nothing a
 
 spaced : {a b : List ℕ} → EndsIn a b → EndsIn a (after_space false b)
 spaced {b} x = through x (space_ends false b)
@@ -89,17 +69,18 @@ spaced {b} x = through x (space_ends false b)
 pub figures_end : (file : List ℕ) → EndsIn (drop 2 file) (after_space false (behind_figures file))
 figures_end file =
     let s = sides_of file in
-    spaced (if_ends (has_sides file) (through (sides_end file) (plain_ends (s.0 * s.1) s.2)))
+    spaced (choice (has_sides file) (through (sides_end file) (plain_ends (s.0 * s.1) s.2)) (nothing (drop 2 file)))
 
 pub bits_end : (file : List ℕ) → EndsIn (drop 2 file) (after_space false (behind_bits file))
-bits_end file = spaced (if_ends (has_sides file) (through (sides_end file) (raster_ends (bits_length file) (sides_of file).2)))
+bits_end file = spaced (choice (has_sides file) (through (sides_end file) (raster_ends (bits_length file) (sides_of file).2)) (nothing (drop 2 file)))
 
 pub greys_end : (file : List ℕ) → EndsIn (drop 2 file) (after_space false (behind_greys file))
 greys_end file =
     let s = sides_of file in
     let greatest = greatest_of file in
     let known = has_sides file && (nat_le 1 greatest.0 && nat_le greatest.0 65535) in
-    spaced (if_ends known (through (sides_end file) (through (number_ends s.2) (raster_ends (s.0 * s.1 * grey_length greatest.0) greatest.1))))
+    spaced (choice known (through (sides_end file) (through (number_ends s.2) (raster_ends (s.0 * s.1 * grey_length greatest.0) greatest.1)))
+    (nothing (drop 2 file)))
 
 -- the file is cut before what a call returned
 pub cut_as : (file behind found rest : List ℕ) → EndsIn (drop 2 file) (after_space false behind) → found ≡ behind → rest ≡ after_space false found → IsCut file rest

@@ -6,7 +6,7 @@ use Rattle.std.proofs.lemmas.List.{get_or_append_left}
 use Rattle.std.proofs.lemmas.List.Elements.{All-push}
 use Rattle.std.proofs.lemmas.List.Quantifiers.{Any-push, all_pairs_push}
 use Rattle.qrcode_render.specs.Bitmap.{Bitmap}
-use Rattle.qrcode_scan.specs.Wholes.{AreSame, ArePatterned, BeginsAt, HasMany, HasPatterns, IsGridAt, IsGridOf, IsPatterned, IsPushed, IsRing, IsTriedIn, IsWholeIn, Whole, corner_start, count_of, light_column, light_row, ring_start}
+use Rattle.qrcode_scan.specs.Wholes.{AreSame, ArePatterned, BeginsAt, HasMany, HasPatterns, IsGridAt, IsGridOf, IsPatterned, IsPushed, IsRing, IsSought, IsTriedIn, IsWholeIn, Whole, corner_start, count_of, light_column, light_row, ring_start}
 use Rattle.qrcode_scan.specs.declared.grids.Grid.{Grid}
 use Rattle.qrcode_scan.proofs.ExactSquares.{begins_above}
 
@@ -23,18 +23,18 @@ start_of mine product far scale own place e f g = omega (arith, e, f, g)
 -- the grid from there on is that of the square
 pub grid_of : (b : Bitmap) (w : Whole) (g : Grid) (x y scale version column row : ℕ) (r l : Bool) → column ≡ corner_start r (17 + 4 * version) * scale
     → row ≡ corner_start l (17 + 4 * version) * scale → IsGridAt (x - column) (y - row) scale (17 + 4 * version) g
-    → BeginsAt b w (x + scale) (y + scale) → w.scale ≡ scale → w.version ≡ version → w.is_right ≡ r → w.is_lower ≡ l → IsGridOf w g
-grid_of b w g x y scale version column row r l across down at begins at_scale at_version right lower =
+    → IsSought b (x + scale) (y + scale) scale version r l w → IsGridOf w g
+grid_of b w g x y scale version column row r l across down at is =
     let c = corner_start w.is_right (count_of w) * w.scale in
     let d = corner_start w.is_lower (count_of w) * w.scale in
-    let left = start_of w.left c column scale w.scale x begins.column (far_of w scale version column r w.is_right at_scale at_version right across) at_scale in
-    let top = start_of w.top d row scale w.scale y begins.row (far_of w scale version row l w.is_lower at_scale at_version lower down) at_scale in
+    let left = start_of w.left c column scale w.scale x is.begins.column (far_of w scale version column r w.is_right is.scale is.version is.right across) is.scale in
+    let top = start_of w.top d row scale w.scale y is.begins.row (far_of w scale version row l w.is_lower is.scale is.version is.lower down) is.scale in
     record {
-      count = at.count ∙ ap (λ (v : ℕ). 17 + 4 * v) (sym at_version);
-      left = at.left ∙ ap₂ (λ (m s : ℕ). m + s / 2) left (sym at_scale);
-      top = at.top ∙ ap₂ (λ (m s : ℕ). m + s / 2) top (sym at_scale);
-      across = at.across ∙ sym at_scale;
-      down = at.down ∙ sym at_scale;
+      count = at.count ∙ ap (λ (v : ℕ). 17 + 4 * v) (sym is.version);
+      left = at.left ∙ ap₂ (λ (m s : ℕ). m + s / 2) left (sym is.scale);
+      top = at.top ∙ ap₂ (λ (m s : ℕ). m + s / 2) top (sym is.scale);
+      across = at.across ∙ sym is.scale;
+      down = at.down ∙ sym is.scale;
       lean = at.lean;
       fall = at.fall;
       parts = at.parts;
@@ -139,31 +139,25 @@ numbered v i r l some is =
     let lower = flag_small l in
     (omega (arith, some, is, right, lower), flag_is r (i % 2) (omega (arith, is, right)), flag_is l (i / 2 % 2) (omega (arith, is, right, lower)))
 
--- what a size and a corner of a finder pattern must do: if there is a grid, it is that of each such square; if not, there is none
-abbrev pub FindsSize : Bitmap → ℕ → ℕ → ℕ → ℕ → Bool → Bool → Option Grid → Type 0
-FindsSize b x y scale version r l None = (w : Whole) → BeginsAt b w x y → w.scale ≡ scale → w.version ≡ version → w.is_right ≡ r → w.is_lower ≡ l → ⊥
-FindsSize b x y scale version r l (Some g) = (w : Whole) → BeginsAt b w x y → w.scale ≡ scale → w.version ≡ version → w.is_right ≡ r → w.is_lower ≡ l → IsGridOf w g
-
-pub finds_size : (b : Bitmap) (x y scale version : ℕ) (r l : Bool) (grid : Option Grid)
-    → IfSome grid (λ g. (w : Whole) → BeginsAt b w x y → w.scale ≡ scale → w.version ≡ version → w.is_right ≡ r → w.is_lower ≡ l → IsGridOf w g)
-    → IfNone grid ((w : Whole) → BeginsAt b w x y → w.scale ≡ scale → w.version ≡ version → w.is_right ≡ r → w.is_lower ≡ l → ⊥) → FindsSize b x y scale version r l grid
-finds_size b x y scale version r l None value none = none
-finds_size b x y scale version r l (Some g) value none = value
-
-size_tried : (b : Bitmap) (old new : List Grid) (x y scale version : ℕ) (r l : Bool) (grid : Option Grid) (w : Whole) → IsPushed old grid new → FindsSize b x y scale version r l grid
-    → BeginsAt b w x y → w.scale ≡ scale → w.version ≡ version → w.is_right ≡ r → w.is_lower ≡ l → IsTriedIn new w
-size_tried b old new x y scale version r l None w pushed finds at same at_version right lower = absurd (finds w at same at_version right lower)
-size_tried b old new x y scale version r l (Some g) w pushed finds at same at_version right lower = push_finds w old new g pushed (finds w at same at_version right lower)
+-- a size and a corner of a finder pattern: if there is a grid, it is that of each such square; if not, there is none
+size_tried : (b : Bitmap) (old new : List Grid) (x y scale version : ℕ) (r l : Bool) (grid : Option Grid) (w : Whole) → IsPushed old grid new
+    → IfSome grid (λ g. (v : Whole) → IsSought b x y scale version r l v → IsGridOf v g) → IfNone grid ((v : Whole) → ¬ IsSought b x y scale version r l v)
+    → IsSought b x y scale version r l w → IsTriedIn new w
+size_tried b old new x y scale version r l None w pushed value none is = absurd (none w is)
+size_tried b old new x y scale version r l (Some g) w pushed value none is = push_finds w old new g pushed (value w is)
 
 -- one more size and corner
-pub sizes_more : (b : Bitmap) (old new : List Grid) (x y scale i : ℕ) (grid : Option Grid) → IsPushed old grid new → FindsSize b x y scale (1 + i / 4) (i % 2 == 1) (i / 2 % 2 == 1) grid
+pub sizes_more : (b : Bitmap) (old new : List Grid) (x y scale i : ℕ) (grid : Option Grid) → IsPushed old grid new
+    → IfSome grid (λ g. (v : Whole) → IsSought b x y scale (1 + i / 4) (i % 2 == 1) (i / 2 % 2 == 1) v → IsGridOf v g)
+    → IfNone grid ((v : Whole) → ¬ IsSought b x y scale (1 + i / 4) (i % 2 == 1) (i / 2 % 2 == 1) v)
     → ((w : Whole) → BeginsAt b w x y → w.scale ≡ scale → number_of w < i → IsTriedIn old w)
     → (w : Whole) → BeginsAt b w x y → w.scale ≡ scale → number_of w < i + 1 → IsTriedIn new w
-sizes_more b old new x y scale i grid pushed finds before w at same below = elim (cases_lt (number_of w) i) [
+sizes_more b old new x y scale i grid pushed value none before w at same below = elim (cases_lt (number_of w) i) [
   | inl less ↦ push_keeps w old new grid pushed (before w at same less)
   | inr late ↦
       let n = numbered w.version i w.is_right w.is_lower at.whole.version.0 (omega (arith, below, late)) in
-      size_tried b old new x y scale (1 + i / 4) (i % 2 == 1) (i / 2 % 2 == 1) grid w pushed finds at same n.0 n.1 n.2
+      size_tried b old new x y scale (1 + i / 4) (i % 2 == 1) (i / 2 % 2 == 1) grid w pushed value none
+      (record { begins = at; scale = same; version = n.0; right = n.1; lower = n.2 })
 ]
 
 -- the same place, by other numbers

@@ -1,7 +1,7 @@
 -- Squares of modules in pictures.
-use Rattle.std.specs.Prelude.{◌≡◌, ℕ, ◌+◌, ◌*◌, ◌/◌, ◌%◌, ◌≤◌, ◌<◌, Bool, true, false, List, length, map, not, take, slice_index_or}
-use Rattle.std.specs.List.{range_with_len, list_all}
-use Rattle.qrcode_types.specs.Colors.{is_dark, color_of}
+use Rattle.std.specs.Prelude.{◌≡◌, ℕ, ◌+◌, ◌*◌, ◌≤◌, ◌<◌, Bool, true, false, List, length, map, not, take, slice_index_or}
+use Rattle.std.specs.List.{list_all}
+use Rattle.qrcode_types.specs.Colors.{is_dark}
 use Rattle.qrcode_types.specs.declared.types.Color.{Color}
 use Rattle.qrcode_types.specs.declared.types.Color.TheVariants.{Light}
 use Rattle.qrcode_render.specs.Bitmap.{Bitmap}
@@ -17,11 +17,6 @@ has_dark_edge b = list_all (λ mark. mark) (take b.across b.marks)
 
 abbrev pub mark_at : Bitmap → ℕ → ℕ → Bool  -- the pixel in column x and row y is dark
 mark_at b x y = slice_index_or b.marks (y * b.across + x) false
-
--- the modules of a square of count a side: the first pixels of each, scale pixels apart, after a margin
-abbrev pub sampled : Bitmap → ℕ → ℕ → ℕ → List Color
-sampled b count margin scale =
-    map (λ i. color_of (mark_at b (margin + i % count * scale) (margin + i / count * scale))) (range_with_len 0 (count * count))
 
 abbrev pub IsRowOf : List Bool → Layout → List Color → ℕ → Type 0  -- row y of the pixels is that of the picture of the modules
 IsRowOf marks at modules y =

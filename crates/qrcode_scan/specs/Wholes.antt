@@ -150,6 +150,14 @@ pub record BeginsAt (b : Bitmap) (w : Whole) (x y : ℕ) : Type 0 where
   pub column : light_column w ≡ x
   pub row : light_row w ≡ y
 
+-- the square has this version and scale, and in this corner a finder pattern with this first light pixel
+pub record IsSought (b : Bitmap) (x y scale version : ℕ) (is_right is_lower : Bool) (w : Whole) : Type 0 where
+  pub begins : BeginsAt b w x y
+  pub scale : w.scale ≡ scale
+  pub version : w.version ≡ version
+  pub right : w.is_right ≡ is_right
+  pub lower : w.is_lower ≡ is_lower
+
 -- what a push does to a list of grids: nothing if there is no grid, if it is known, or if there are 1,024; else it is the last one
 abbrev pub IsPushed : List Grid → Option Grid → List Grid → Type 0
 IsPushed old None new = new ≡ old

@@ -4,7 +4,7 @@ ghost use Rattle.std.specs.Prelude.{◌^◌, ◌+◌, ◌-◌, ◌/◌, ◌≡�
 ghost use Rattle.qrcode_reader.specs.declared.refusals.Unread.TheVariants.{OutOfMemory};
 ghost use Rattle.qrcode_scan.specs.declared.scanning.Unread.TheVariants.{OutOfMemory as NoMemory};
 ghost use Rattle.qrcode_scan.specs.Codes.{inner_side, place_of, AreApart, AreCodesIn, AreOther, AreTwo, FindsWholes, FindsWholesOf, HasGrid, IsApartFrom, IsCodeFound, IsFoundAs, IsFoundBy, IsMissedOf, IsProbable, Overlaps};
-ghost use Rattle.qrcode_scan.specs.Wholes.{IsGridOf, ShowsCode, Whole};
+ghost use Rattle.qrcode_scan.specs.Wholes.{HasMany, IsGridOf, IsWholeIn, ShowsCode, Whole};
 ghost use Rattle.qrcode_scan.specs.declared.codes.Found.TheVariants.{Nothing, Missed as MissedAt};
 ghost use Rattle.qrcode_scan.specs.Scans.{has_faults, HasNoWhole, IsNotClean, IsScanOf, IsUnreadPicture, IsUnreadIn};
 
@@ -83,18 +83,10 @@ pub fn read_codes(alloc: Global, bytes: &[u8]) -> Result<Codes, scanning::Unread
     ensures more { IfOk result (λ codes. codes.has_faults ≡ has_faults bytes.now) }
     ensures causes { IfErr result (IsUnreadPicture bytes.now) }
 {
-    let seen = match seen_in(alloc, bytes) {
-        Ok(seen) => seen,
-        Err(cause) => return Err(cause),
-    };
-    match codes_in(alloc, &seen.pixels, seen.is_inverted) {
-        Ok(codes) => {
-            let mut codes = codes;
-            codes.has_faults = seen.has_faults;
-            Ok(codes)
-        }
-        Err(cause) => Err(cause),
-    }
+    let seen = seen_in(alloc, bytes)?;
+    let mut codes = codes_in(alloc, &seen.pixels, seen.is_inverted)?;
+    codes.has_faults = seen.has_faults;
+    Ok(codes)
 }
 
 // Decodes the codes in pixels whose dark and light may have been exchanged.
@@ -136,35 +128,36 @@ fn only(alloc: Global, scan: Scan) -> Result<Codes, AllocError>
 }
 
 // Decodes the code that has all dark pixels, and those that are found by their finder patterns.
+#[tactic(auto, using(crate::proofs::Read::no_code))]
 fn codes_found(alloc: Global, pixels: &Pixels, is_inverted: bool) -> Result<Codes, AllocError>
     requires { IsNotClean pixels.now }
     ensures codes { IfOk result (AreCodesIn pixels.now is_inverted) }
     ensures whole { IfOk result (λ codes. FindsWholes pixels.now codes.scans.items) }
-{
-    let mut codes = lone_code(alloc, pixels, is_inverted)?;
-    let grids = grids_of(alloc, pixels)?;
-    for grid in &grids {
-        add(&mut codes, alloc, pixels, grid, is_inverted)?;
-    }
-    Ok(codes)
-}
-
-// Decodes the code that has all dark pixels, if there is one.
-#[tactic(auto, using(crate::proofs::Read::no_code))]
-fn lone_code(alloc: Global, pixels: &Pixels, is_inverted: bool) -> Result<Codes, AllocError>
-    requires { IsNotClean pixels.now }
-    ensures { IfOk result (AreCodesIn pixels.now is_inverted) }
 {
     let mut codes = Codes {
         scans: Vec::new(alloc),
         missed: Vec::new(alloc),
         has_faults: false,
     };
-    let Some(grid) = lone_grid(alloc, pixels)? else {
-        return Ok(codes);
-    };
-    add(&mut codes, alloc, pixels, &grid, is_inverted)?;
+    let grids = all_grids(alloc, pixels)?;
+    for grid in &grids {
+        add(&mut codes, alloc, pixels, grid, is_inverted)?;
+    }
     Ok(codes)
+}
+
+// Returns the grid of the code that has all dark pixels, if there is one, and those that are found
+// by their finder patterns.
+fn all_grids(alloc: Global, pixels: &Pixels) -> Result<Vec<Grid>, AllocError>
+    ensures { IfOk result (λ grids. (w : Whole) → IsWholeIn pixels.now w
+        → HasMany pixels.now ⊎ Any (IsGridOf w) grids.items) }
+{
+    let mut grids = grids_of(alloc, pixels)?;
+    let Some(grid) = lone_grid(alloc, pixels)? else {
+        return Ok(grids);
+    };
+    grids.insert(0, grid)?;
+    Ok(grids)
 }
 
 // Adds what is in a grid, unless a decoded code overlaps it. Nor is a Micro symbol found where a
@@ -290,13 +283,7 @@ fn is_among(all: &[Missed], grid: &Grid) -> bool
     ensures { IsFalse result
         → All (λ one. AreApart (place_of grid.now) (place_of one.grid)) all.now }
 {
-    let place = place_of(grid);
-    for other in all {
-        if overlap(place, place_of(&other.grid)) {
-            return true;
-        }
-    }
-    false
+    all.iter().any(|other| overlap(place_of(grid), place_of(&other.grid)))
 }
 
 impl Codes {
@@ -305,12 +292,7 @@ impl Codes {
         ensures some { IsTrue result → Any (Overlaps grid.now) self.now.scans.items }
         ensures none { IsFalse result → All (IsApartFrom grid.now) self.now.scans.items }
     {
-        for scan in &self.scans {
-            if is_over(scan, grid) {
-                return true;
-            }
-        }
-        false
+        self.scans.iter().any(|scan| is_over(scan, grid))
     }
 }
 

@@ -67,12 +67,8 @@ fn bits(alloc: Global, file: &[u8]) -> Result<Pixels, Unscanned>
     ensures value { IfOk result (λ pixels. IsBitsFile file.now × (pixels ≡ bits_file file.now)) }
     ensures causes { IfErr result (IsBitsRefusal file.now) }
 {
-    let Some((across, down, rest)) = sides(file) else {
-        return Err(Unscanned::NoSide);
-    };
-    let Some(bytes) = raster(rest) else {
-        return Err(Unscanned::NotPixel);
-    };
+    let (across, down, rest) = sides(file).ok_or(Unscanned::NoSide)?;
+    let bytes = raster(rest).ok_or(Unscanned::NotPixel)?;
     if bytes.len() < (across + 7) / 8 * down {
         return Err(Unscanned::TooShort);
     }
@@ -93,14 +89,8 @@ fn packed_marks(
 {
     let stride = (across + 7) / 8;
     let mut marks = Vec::with_capacity(alloc, across * down)?;
-    let (mut x, mut y) = (0, 0);
-    for _i in 0..across * down {
-        marks.push(is_black_bit(bytes, stride, x, y))?;
-        x += 1;
-        if x == across {
-            x = 0;
-            y += 1;
-        }
+    for i in 0..across * down {
+        marks.push(is_black_bit(bytes, stride, i % across, i / across))?;
     }
     Ok(marks)
 }
@@ -125,9 +115,7 @@ fn figures(alloc: Global, file: &[u8]) -> Result<Pixels, Unscanned>
         IsFiguresFile file.now × (pixels ≡ figures_file file.now)) }
     ensures causes { IfErr result (IsFiguresRefusal file.now) }
 {
-    let Some((across, down, rest)) = sides(file) else {
-        return Err(Unscanned::NoSide);
-    };
+    let (across, down, rest) = sides(file).ok_or(Unscanned::NoSide)?;
     let length = plain_length(rest);
     let mut marks = plain_marks(alloc, &rest[..length])?;
     if marks.len() < across * down {
@@ -146,12 +134,10 @@ fn plain_length(bytes: &[u8]) -> usize
     ensures value { result ≡ prefix_len is_plain bytes.now }
     ensures at_most { result ≤ length bytes.now }
 {
-    for i in 0..bytes.len() {
-        if !is_plain(bytes[i]) {
-            return i;
-        }
-    }
-    bytes.len()
+    bytes
+        .iter()
+        .position(|byte| !is_plain(*byte))
+        .unwrap_or(bytes.len())
 }
 
 // Whether a byte is 0, 1 or white space.
@@ -169,7 +155,6 @@ pub(crate) fn is_figure(byte: u8) -> bool
 }
 
 // Returns whether each 0 or 1 is a 1, skipping other bytes.
-#[tactic(auto, using(crate::proofs::Pieces::flat_map_more))]
 fn plain_marks(alloc: Global, bytes: &[u8]) -> Result<Vec<bool>, AllocError>
     ensures { IfOk result (λ marks. marks.items ≡ plain_marks bytes.now) }
 {
@@ -188,15 +173,9 @@ fn greys(alloc: Global, file: &[u8]) -> Result<Pixels, Unscanned>
     ensures value { IfOk result (λ pixels. IsGreysFile file.now × (pixels ≡ greys_file file.now)) }
     ensures causes { IfErr result (IsGreysRefusal file.now) }
 {
-    let Some((across, down, rest)) = sides(file) else {
-        return Err(Unscanned::NoSide);
-    };
-    let Some((greatest, rest)) = greatest_grey(rest) else {
-        return Err(Unscanned::NoGrey);
-    };
-    let Some(bytes) = raster(rest) else {
-        return Err(Unscanned::NotPixel);
-    };
+    let (across, down, rest) = sides(file).ok_or(Unscanned::NoSide)?;
+    let (greatest, rest) = greatest_grey(rest).ok_or(Unscanned::NoGrey)?;
+    let bytes = raster(rest).ok_or(Unscanned::NotPixel)?;
     if bytes.len() < across * down {
         return Err(Unscanned::TooShort);
     }

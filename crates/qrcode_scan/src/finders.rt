@@ -5,6 +5,7 @@ ghost use Rattle.std.specs.Prelude.{◌≡◌, ◌^◌, ◌<◌, ◌≤◌, leng
 
 use crate::pixels::{GREATEST_SIDE, Pixels};
 use crate::squares::mark_at;
+use crate::wholes::finder_dark;
 use std::alloc::{AllocError, Global};
 
 // The most finder patterns to keep of a picture. Bounds memory and time.
@@ -292,8 +293,7 @@ fn wrong_modules(pixels: &Pixels, finder: Finder) -> usize
         let (column, row) = (i % 7, i / 7);
         let x = centre_of(finder.x, finder.width, column);
         let y = centre_of(finder.y, finder.height, row);
-        let is_ring = column.abs_diff(3).max(row.abs_diff(3)) == 2;
-        wrong += usize::from(is_dark(pixels, row_of(pixels, y), x) == is_ring);
+        wrong += usize::from(is_dark(pixels, row_of(pixels, y), x) != finder_dark(column, row));
     }
     wrong
 }

@@ -11,7 +11,7 @@ use crate::wholes::Corner;
 use std::alloc::{AllocError, Global};
 
 // The most grids of a picture. Bounds memory and time.
-const MOST_GRIDS: usize = 1024;
+pub(crate) const MOST_GRIDS: usize = 1024;
 
 // How many finder patterns on each side of another are paired with it, nearest first: between those
 // of one symbol there is nothing but the symbol. Bounds time.

@@ -1,7 +1,8 @@
 //! Finds the square of modules that has all dark pixels of a picture: a code alone in a margin that
 //! need not have whole modules, nor be equally wide on each side.
 
-ghost use Rattle.std.specs.Prelude.{◌≡◌, ◌*◌, ◌≤◌, length, IfOk};
+ghost use Rattle.std.specs.Prelude.{◌≡◌, ◌*◌, ◌≤◌, length, IfOk, IfSome};
+ghost use Rattle.qrcode_scan.specs.Grids.{IsInside};
 
 use crate::codes::Place;
 use crate::finders::{row_of, run_end, run_start};
@@ -12,10 +13,13 @@ use crate::wholes::grid_at;
 use std::alloc::{AllocError, Global};
 
 /// Returns the grid of the square of modules that has all dark pixels, if the picture shows one. If
-/// it shows several, this is the one with the fewest modules along a side.
+/// it shows several, this is the one with the fewest modules along a side. It lies in the picture.
 ///
 /// Errors: only `AllocError`, if memory runs out.
-pub(crate) fn lone_grid(alloc: Global, pixels: &Pixels) -> Result<Option<Grid>, AllocError> {
+#[tactic(auto, using(crate::proofs::Framed::lone_inside))]
+pub(crate) fn lone_grid(alloc: Global, pixels: &Pixels) -> Result<Option<Grid>, AllocError>
+    ensures { IfOk result (λ found. IfSome found (IsInside pixels.now)) }
+{
     let all = extent_of(pixels);
     let side = all.right.saturating_sub(all.left);
     if all.bottom.saturating_sub(all.top) != side {
@@ -31,7 +35,8 @@ pub(crate) fn lone_grid(alloc: Global, pixels: &Pixels) -> Result<Option<Grid>, 
 // Returns the smallest rectangle with all dark pixels.
 fn extent_of(pixels: &Pixels) -> Place
     ensures first { (result.left ≤ 65535) × (result.top ≤ 65535) }
-    ensures last { result.right ≤ 65535 }
+    ensures last { (result.right ≤ pixels.now.across) × (result.bottom ≤ pixels.now.down) }
+    ensures at_most { result.right ≤ 65535 }
 {
     let mut all = Place {
         left: GREATEST_SIDE,

@@ -1,6 +1,6 @@
 //! Samples the modules of a grid.
 
-ghost use Rattle.std.specs.Prelude.{◌≡◌, ◌-◌, ◌<◌, ◌≤◌, IsTrue, IsFalse, IfOk, IfSome, IfNone};
+ghost use Rattle.std.specs.Prelude.{◌≡◌, ◌*◌, ◌-◌, ◌<◌, ◌≤◌, length, IsTrue, IsFalse, IfOk, IfSome, IfNone};
 ghost use Rattle.qrcode_scan.specs.Grids.{IsInside, IsSampled, column_at, row_at, colours_at};
 ghost use Rattle.qrcode_scan.specs.Squares.{mark_at};
 
@@ -44,9 +44,15 @@ pub(crate) fn is_inside(pixels: &Pixels, grid: &Grid) -> bool
 }
 
 // Returns the colours of the pixels at the centres of modules.
-fn colours_at(alloc: Global, pixels: &Pixels, grid: &Grid) -> Result<Vec<Color>, AllocError>
+pub(crate) fn colours_at(
+    alloc: Global,
+    pixels: &Pixels,
+    grid: &Grid,
+) -> Result<Vec<Color>, AllocError>
     requires { (1 ≤ grid.now.count) × (1 ≤ grid.now.parts) }
-    ensures { IfOk result (λ modules. modules.items ≡ colours_at pixels.now grid.now) }
+    ensures value { IfOk result (λ modules. modules.items ≡ colours_at pixels.now grid.now) }
+    ensures length { IfOk result (λ modules.
+        length modules.items ≡ grid.now.count * grid.now.count) }
 {
     let count = grid.count;
     let mut modules = Vec::with_capacity(alloc, count * count)?;

@@ -127,10 +127,7 @@ pub(crate) fn seen_in(alloc: Global, bytes: &[u8]) -> Result<Seen, Unread>
     ensures more { IfOk result (λ seen. seen.has_faults ≡ has_faults bytes.now) }
     ensures causes { IfErr result (IsUnseen bytes.now) }
 {
-    let (pixels, has_faults) = match pixels_in(alloc, bytes) {
-        Ok(found) => found,
-        Err(cause) => return Err(cause),
-    };
+    let (pixels, has_faults) = pixels_in(alloc, bytes)?;
     let is_inverted = pixels.has_dark_edge();
     let pixels = if is_inverted {
         pixels.inverted(alloc)?

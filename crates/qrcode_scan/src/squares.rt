@@ -4,10 +4,11 @@ ghost use Rattle.std.specs.Prelude.{◌≡◌, ◌+◌, ◌*◌, ◌<◌, ◌≤
 ghost use Rattle.qrcode_render.specs.Layout.{layout};
 ghost use Rattle.qrcode_render.specs.Picture.{picture, is_dark_pixel};
 ghost use Rattle.qrcode_types.specs.declared.types.Color.{Color};
-ghost use Rattle.qrcode_scan.specs.Squares.{IsFramedIn, IsRowOf, IsSquareIn, mark_at, sampled};
+ghost use Rattle.qrcode_scan.specs.Squares.{IsFramedIn, IsRowOf, IsSquareIn, mark_at};
 
 use crate::pixels::Pixels;
-use qrcode_layout::figures::color_of;
+use crate::samples::colours_at;
+use crate::wholes::grid_at;
 use qrcode_types::types::Color;
 use std::alloc::{AllocError, Global};
 
@@ -36,7 +37,7 @@ pub fn square_of(alloc: Global, pixels: &Pixels) -> Result<Option<Square>, Alloc
     ensures value { IfOk result (λ found. IfSome found (λ square.
         IsSquareIn pixels.now square.count square.zone square.scale square.modules.items)) }
     ensures at_most { IfOk result (λ found. IfSome found (λ square.
-        (square.count ≤ 177) × (square.scale ≤ 65535))) }
+        (1 ≤ square.count) × (square.count ≤ 177) × (square.scale ≤ 65535))) }
     ensures least { IfOk result (λ found. IfSome found (λ square.
         (count zone scale column : ℕ) (modules : List Color)
         → IsFramedIn pixels.now count zone scale column modules → square.count ≤ count)) }
@@ -48,9 +49,8 @@ pub fn square_of(alloc: Global, pixels: &Pixels) -> Result<Option<Square>, Alloc
         return Ok(None);
     };
     for count in 1..GREATEST_COUNT + 1 {
-        match square_with_count(alloc, pixels, margin, count)? {
-            Some(square) => return Ok(Some(square)),
-            None => {}
+        if let Some(square) = square_with_count(alloc, pixels, margin, count)? {
+            return Ok(Some(square));
         }
     }
     Ok(None)
@@ -66,11 +66,7 @@ fn margin_of(pixels: &Pixels) -> Option<usize>
         → ¬ IsFramedIn pixels.now count zone scale column modules) }
 {
     let across = pixels.sides().0;
-    let first = match first_dark(pixels.marks()) {
-        Some(first) => first,
-        None => return None,
-    };
-    let margin = first / across;
+    let margin = first_dark(pixels.marks())? / across;
     if 2 * margin < across {
         Some(margin)
     } else {
@@ -87,12 +83,7 @@ fn first_dark(marks: &[bool]) -> Option<usize>
     ensures none { IfNone result (
         (k : ℕ) → k < length marks.now → slice_index_or marks.now k false ≡ false) }
 {
-    for i in 0..marks.len() {
-        if marks[i] {
-            return Some(i);
-        }
-    }
-    None
+    marks.iter().position(|mark| *mark)
 }
 
 // Returns the square of `count` modules a side inside a margin of `margin` pixels, if the picture
@@ -121,7 +112,7 @@ fn square_with_count(
         count,
         zone: margin / scale,
         scale,
-        modules: sampled(alloc, pixels, count, margin, scale)?,
+        modules: colours_at(alloc, pixels, &grid_at(margin, margin, scale, count))?,
     };
     if is_shown(pixels, &square) {
         Ok(Some(square))
@@ -137,31 +128,6 @@ pub(crate) fn mark_at(pixels: &Pixels, x: usize, y: usize) -> bool
     ensures { result ≡ mark_at pixels.now x y }
 {
     matches!(pixels.marks().get(y * pixels.sides().0 + x), Some(true))
-}
-
-// Returns the colours of the first pixels of `count` by `count` modules, `scale` pixels apart,
-// after a margin.
-fn sampled(
-    alloc: Global,
-    pixels: &Pixels,
-    count: usize,
-    margin: usize,
-    scale: usize,
-) -> Result<Vec<Color>, AllocError>
-    requires count { (1 ≤ count) × (count ≤ 177) }
-    requires margin { margin ≤ 65535 }
-    requires scale { scale ≤ 65535 }
-    ensures value { IfOk result (λ modules.
-        modules.items ≡ sampled pixels.now count margin scale) }
-    ensures square { IfOk result (λ modules. length modules.items ≡ count * count) }
-{
-    let mut modules = Vec::with_capacity(alloc, count * count)?;
-    for i in 0..count * count {
-        let x = margin + i % count * scale;
-        let y = margin + i / count * scale;
-        modules.push(color_of(mark_at(pixels, x, y)))?;
-    }
-    Ok(modules)
 }
 
 // Whether the pixels are exactly the picture of a square.

@@ -1,17 +1,14 @@
 //! Finds the squares of modules in whole pixels that have finder patterns in three corners.
 
-ghost use Rattle.std.specs.Prelude.{◌≡◌, ◌⊎◌, ◌*◌, ◌+◌, ◌-◌, ◌/◌, ◌%◌, ◌==◌, ◌<◌, ◌≤◌, ◌++◌, ◌∷◌, [], ℕ, List, All, Any, true, false, not, length, if◌then◌else◌, IsTrue, IsFalse, IfOk, IfSome, IfNone, OnOk};
+ghost use Rattle.std.specs.Prelude.{◌≡◌, ◌⊎◌, ◌*◌, ◌+◌, ◌-◌, ◌/◌, ◌%◌, ◌==◌, ◌<◌, ◌≤◌, ℕ, All, Any, true, false, IsTrue, IsFalse, IfOk, IfSome, IfNone, OnOk};
 ghost use Rattle.qrcode_scan.specs.Squares.{mark_at};
-ghost use Rattle.qrcode_scan.specs.Wholes.{finder_dark, corner_start, marked, AreSame, ArePatterned, BeginsAt, HasFinder, HasMany, HasPatterns, IsGridAt, IsGridOf, IsPatterned, IsPushed, IsRing, IsTriedIn, IsWholeIn, Whole};
+ghost use Rattle.qrcode_scan.specs.Wholes.{finder_dark, corner_start, marked, AreSame, ArePatterned, BeginsAt, HasFinder, HasMany, HasPatterns, IsGridAt, IsGridOf, IsPatterned, IsPushed, IsRing, IsSought, IsTriedIn, IsWholeIn, Whole};
 
-use crate::grids::{Grid, guesses};
+use crate::grids::{Grid, MOST_GRIDS, guesses};
 use crate::pixels::Pixels;
 use crate::samples::{is_inside, mark_in};
 use crate::squares::mark_at;
 use std::alloc::{AllocError, Global};
-
-// The most grids. Bounds memory and time.
-const MOST_GRIDS: usize = 1024;
 
 // A finder pattern: its first pixel, and the pixels of a module.
 #[derive(Clone, Copy)]
@@ -71,9 +68,8 @@ fn push_row(grids: &mut Vec<Grid>, pixels: &Pixels, y: usize) -> Result<(), Allo
         → IsTriedIn grids.new.items w) }
 {
     for x in 0..pixels.sides().0 {
-        match finder_at(pixels, x, y) {
-            Some(finder) => push_sizes(grids, pixels, finder)?,
-            None => {}
+        if let Some(finder) = finder_at(pixels, x, y) {
+            push_sizes(grids, pixels, finder)?;
         }
     }
     Ok(())
@@ -137,13 +133,11 @@ fn is_first_light(pixels: &Pixels, x: usize, y: usize) -> bool
         × (mark_at pixels.now x (y - 1) ≡ true) }
     ensures none { IsFalse result → (w : Whole) → ¬ BeginsAt pixels.now w x y }
 {
-    if x == 0 || y == 0 || mark_at(pixels, x, y) {
-        return false;
-    }
-    if !mark_at(pixels, x - 1, y) {
-        return false;
-    }
-    mark_at(pixels, x, y - 1)
+    x != 0
+        && y != 0
+        && !mark_at(pixels, x, y)
+        && mark_at(pixels, x - 1, y)
+        && mark_at(pixels, x, y - 1)
 }
 
 // Counts the light pixels from a place to the right.
@@ -188,11 +182,9 @@ fn push_sizes(grids: &mut Vec<Grid>, pixels: &Pixels, finder: Pattern) -> Result
 fn push_new(grids: &mut Vec<Grid>, grid: Option<Grid>) -> Result<(), AllocError>
     ensures { OnOk result (IsPushed grids.old.items grid grids.new.items) }
 {
-    let Some(grid) = grid else {
-        return Ok(());
-    };
-    if grids.len() < MOST_GRIDS && !is_known(grids, &grid) {
-        grids.push(grid)?;
+    match grid {
+        Some(grid) if grids.len() < MOST_GRIDS && !is_known(grids, &grid) => grids.push(grid)?,
+        _ => {}
     }
     Ok(())
 }
@@ -202,12 +194,7 @@ fn is_known(grids: &[Grid], grid: &Grid) -> bool
     ensures known { IsTrue result → Any (λ other. AreSame other grid.now) grids.now }
     ensures new { IsFalse result → All (λ other. ¬ AreSame other grid.now) grids.now }
 {
-    for other in grids {
-        if is_same(other, grid) {
-            return true;
-        }
-    }
-    false
+    grids.iter().any(|other| is_same(other, grid))
 }
 
 // Whether two grids have the same modules.
@@ -233,13 +220,11 @@ fn whole_grid(pixels: &Pixels, finder: Pattern, version: usize, corner: Corner) 
         finder.scale }
     ensures patterned { IfSome result (IsPatterned pixels.now) }
     ensures value { IfSome result (λ grid. (w : Whole)
-        → BeginsAt pixels.now w (finder.x + finder.scale) (finder.y + finder.scale)
-        → w.scale ≡ finder.scale → w.version ≡ version → w.is_right ≡ corner.is_right
-        → w.is_lower ≡ corner.is_lower → IsGridOf w grid) }
+        → IsSought pixels.now (finder.x + finder.scale) (finder.y + finder.scale) finder.scale
+        version corner.is_right corner.is_lower w → IsGridOf w grid) }
     ensures none { IfNone result ((w : Whole)
-        → BeginsAt pixels.now w (finder.x + finder.scale) (finder.y + finder.scale)
-        → w.scale ≡ finder.scale → w.version ≡ version → w.is_right ≡ corner.is_right
-        → w.is_lower ≡ corner.is_lower → ⊥) }
+        → ¬ IsSought pixels.now (finder.x + finder.scale) (finder.y + finder.scale) finder.scale
+        version corner.is_right corner.is_lower w) }
 {
     let count = 17 + 4 * version;
     let column = corner_start(corner.is_right, count) * finder.scale;
@@ -303,7 +288,7 @@ fn has_finder(pixels: &Pixels, grid: &Grid, column: usize, row: usize, most: usi
 }
 
 // Whether a module of a finder pattern is dark.
-fn finder_dark(column: usize, row: usize) -> bool
+pub(crate) fn finder_dark(column: usize, row: usize) -> bool
     requires { (column < 7) × (row < 7) }
     ensures { result ≡ finder_dark column row }
 {

@@ -1,5 +1,5 @@
-use Rattle.std.proofs.Common.{◌+◌, ◌/◌, ◌%◌, ◌==◌}
-use Rattle.qrcode_scan.proofs.Tried.{finds_size, push_keeps, push_patterned, sizes_more}
+use Rattle.std.proofs.Common.{◌+◌}
+use Rattle.qrcode_scan.proofs.Tried.{push_keeps, push_patterned, sizes_more}
 use Rattle.qrcode_scan.proofs.wholes.push_sizes.Goals as goal
 
 pub loop-i-preserved : goal.loop-i-preserved
@@ -16,7 +16,5 @@ loop-i-preserved c =
     record {
       patterned = push_patterned b old new grid before.patterned is.patterned pushed;
       kept = λ w tried. push_keeps w old new grid pushed (before.kept w tried);
-      found =
-          sizes_more b old new (f.x + f.scale) (f.y + f.scale) f.scale i grid pushed
-          (finds_size b (f.x + f.scale) (f.y + f.scale) f.scale (1 + i / 4) (i % 2 == 1) (i / 2 % 2 == 1) grid is.value is.none) before.found;
+      found = sizes_more b old new (f.x + f.scale) (f.y + f.scale) f.scale i grid pushed is.value is.none before.found;
     }

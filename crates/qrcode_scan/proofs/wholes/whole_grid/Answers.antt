@@ -5,18 +5,18 @@ use Rattle.qrcode_scan.proofs.Tried.{grid_of, grid_patterned}
 use Rattle.qrcode_scan.proofs.wholes.whole_grid.Goals as goal
 
 pub returns-else-has_patterns-clause-none : goal.returns-else-has_patterns-clause-none
-returns-else-has_patterns-clause-none c = λ w at same version right lower.
+returns-else-has_patterns-clause-none c = λ w is.
     let b = c.args.pixels.now in
     let f = c.args.finder in
     let g = c.grid_at-grid.result in
     let r = c.args.corner.is_right in
     let l = c.args.corner.is_lower in
-    let is : IsGridOf w g =
+    let at : IsGridOf w g =
     grid_of b w g f.x f.y f.scale c.args.version (c.corner_start.result * f.scale) (c.corner_start-2.result * f.scale) r l
-    (ap (λ (k : ℕ). k * f.scale) c.corner_start.ensures.value) (ap (λ (k : ℕ). k * f.scale) c.corner_start-2.ensures.value) c.grid_at-grid.ensures at same version right lower
+    (ap (λ (k : ℕ). k * f.scale) c.corner_start.ensures.value) (ap (λ (k : ℕ). k * f.scale) c.corner_start-2.ensures.value) c.grid_at-grid.ensures is
     in
     let no : HasPatterns b g r l → ⊥ = search rules in
-    no (subst (λ (d : Bool). HasPatterns b g d l) right (subst (λ (d : Bool). HasPatterns b g w.is_right d) lower (patterned b w g at.whole is)))
+    no (subst (λ (d : Bool). HasPatterns b g d l) is.right (subst (λ (d : Bool). HasPatterns b g w.is_right d) is.lower (patterned b w g is.begins.whole at)))
 
 pub returns-then-has_patterns-clause-patterned : goal.returns-then-has_patterns-clause-patterned
 returns-then-has_patterns-clause-patterned c =
